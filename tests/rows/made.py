@@ -304,12 +304,12 @@ def audiences():
 
 
 def holds():
-    """Yields connects that are held at once, more than ten thousand of one shard, each of a session of its own."""
+    """Yields connects that are held at once, more than ten thousand, each behind the handshake of a session of its own."""
     count = 10_001
-    script = "0 P [<handshake>]\n" * count + "".join(f"0 P [<connect {number:x}>]\n" for number in range(1, count + 1))
-    expected = "".join(f"{number} 200 [<opened {number:x}>]\n" for number in range(1, count + 1))
-    expected += "".join(f"{count + number} held\n" for number in range(1, count + 1))
-    yield f"{count} held connects", script, expected, "1 1 30000 0 10000"
+    script = "".join(f"0 P [<handshake>]\n0 P [<connect {number:x}>]\n" for number in range(1, count + 1))
+    expected = "".join(f"{2 * number - 1} 200 [<opened {number:x}>]\n" for number in range(1, count + 1))
+    expected += "".join(f"{2 * number} held\n" for number in range(1, count + 1))
+    yield f"{count} held connects", script, expected
 
 
 def long_arrays():

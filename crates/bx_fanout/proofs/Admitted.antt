@@ -2,7 +2,7 @@
 use Rattle.std.proofs.Common.{◌≡◌, ℕ, ◌+◌, ◌<◌, false, List, [], ◌∷◌, ◌++◌, length, map, filter, refl, sym, ap, subst, ◌∙◌, inl, inr, Option, Some, None, append-nil, add-zero, zero-add}
 use Rattle.std.specs.Prelude.{◌==◌}
 use Rattle.bx_entry.proofs.RequestLemmas.{length-listed}
-use Rattle.bx_entry.specs.Words.{ReadInput, Request, added_by, refusal_of, Listed, request, read_input, Taking, numbers_from, outs, places_of, taken_as, taken_in}
+use Rattle.bx_entry.specs.Words.{ReadInput, Request, added_by, refusal_of, Listed, request, read_input, Taking, outs, places_of, taken_as, taken_in}
 use Rattle.bx_entry.specs.Runs as runs
 use Rattle.bx_entry.specs.declared.{entry.Slot.Slot, input.Input.Input, input.Refusal.Refusal}
 use Rattle.bx_message.specs.declared.reply.Answer.{Answer}

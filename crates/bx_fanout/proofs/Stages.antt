@@ -10,7 +10,7 @@ use Rattle.bx_entry.specs.declared.{input.Refusal.Refusal, entry.Slot.Slot}
 use Rattle.bx_message.specs.declared.reply.{Answer.Answer, Item.Item}
 use Rattle.bx_shard.specs.Words.{Setup, is_taken, given_of}
 use Rattle.bx_world.specs.Worlds.{WorldState}
-use Rattle.bx_fanout.specs.Words.{Row, items_of, outs_of, waits, Drained, filled, AreAnswers, IsCollected, IsWhole, NoneTakenFrom, given_at, next_place, response_of, AllUntaken, IsCollecting, IsGiving, bare, seen_out}
+use Rattle.bx_fanout.specs.Words.{Row, items_of, outs_of, waits, Drained, filled, AreAnswers, NoneTakenFrom, given_at, next_place, response_of, AllUntaken, IsCollecting, IsGiving, bare, seen_out}
 use Rattle.bx_fanout.specs.CurrentInputs as current
 use Rattle.bx_theory.specs.Opens.{Numbered, answers_to, intake_as, is_whole, newest, open_after, out_of, waiting_at}
 use Rattle.bx_theory.specs.Sole.{IsConnect}

@@ -3,7 +3,7 @@ use Rattle.std.proofs.Common.{◌≡◌, ℕ, Bool, ◌+◌, ◌<◌, ◌≤◌,
 use Rattle.std.specs.List.{AllByRecursion}
 use Rattle.std.proofs.lemmas.{List.length-append, List.map-append, List.Sums.fold-append, List.Sums.sum_by-append, Option.slice_get_within}
 use Rattle.bx_advice.specs.declared.config.Config.{Config}
-use Rattle.bx_entry.specs.Words.{ReadInput, added_by, refusal_of, Listed, Judged, PlaceSlot, Waiting, registry, Intake, Taking, outs, places_of, taken_as, taken_in, take_in}
+use Rattle.bx_entry.specs.Words.{ReadInput, added_by, refusal_of, Listed, Judged, PlaceSlot, Waiting, registry, Taking, outs, places_of, taken_as, taken_in, take_in}
 use Rattle.bx_entry.specs.Runs as runs
 use Rattle.bx_entry.specs.declared.input.Refusal.{Refusal}
 use Rattle.bx_theory.proofs.{Lists.judged_length, Lists.judged_more, Sole.open_are_sole}

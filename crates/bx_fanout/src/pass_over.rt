@@ -69,6 +69,6 @@ pub(crate) fn catch_up<R: Threads + Sync, G: Gate + Sync, P: Placing + Send + Sy
     ensures added { state.new.added ≡ state.old.added }
     ensures setup { setup_of state.new.world ≡ setup_of state.old.world }
 {
-    let workers = workers_for(state, workers);
+    let workers = workers_for(&state.world, workers);
     level(rt, alloc, gate, workers, &mut state.world)
 }

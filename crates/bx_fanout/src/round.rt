@@ -55,8 +55,8 @@ impl<P: Placing> Round<P> {
     ///
     /// While no connect is held, an input whose messages are all answered at once needs no shard: its out is added, and
     /// the shards apply its entries later. All shards are brought up together before any other input comes to its end,
-    /// once they lack more than 1,024 entries, and at the end of a run that ends well. Where few events can come of the
-    /// entries that they lack, one worker does that alone.
+    /// once they lack more than 1,024 entries, and at the end of a run that ends well. Where few deliveries are to be
+    /// expected of the entries that they lack, one worker does that alone.
     ///
     /// Where memory is refused, the fault says how many of these inputs were taken in. The outs that they still owe are
     /// added by the next run, also by one of no inputs; none is added twice.

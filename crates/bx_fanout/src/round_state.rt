@@ -1,13 +1,9 @@
 //! What a round has of its inputs, and its steps.
-ghost use Rattle.std.specs.Prelude.{ℕ, ◌≡◌, ◌+◌, ◌++◌, ◌≤◌, ◌<◌, ◌^◌, ◌⊎◌, [], ◌∷◌, false, true, length, slice_get, IsTrue, Some, IfOk, OnErr, OnOk};
+ghost use Rattle.std.specs.Prelude.{ℕ, ◌≡◌, ◌+◌, ◌++◌, ◌≤◌, ◌<◌, ◌^◌, ◌⊎◌, [], ◌∷◌, false, length, slice_get, Some, IfOk, OnErr, OnOk};
 ghost use Rattle.bx_fanout.specs.CurrentInputs.{IsLevel};
 ghost use Rattle.bx_fanout.specs.RoundStates.{AddsOuts, IsCalm, IsDone, Stands};
 ghost use Rattle.bx_fanout.specs.Stages.{is_collecting};
 ghost use Rattle.std.specs.Arc.{arc_value};
-ghost use Rattle.std.specs.Option.{is_some};
-ghost use Rattle.bx_entry.specs.Registry.{entries};
-ghost use Rattle.bx_entry.specs.declared.entry.Entry.{Entry};
-ghost use Rattle.bx_shard.specs.States.{connecting};
 ghost use Rattle.bx_entry.specs.Placings.{placed_by};
 ghost use Rattle.bx_world.specs.Seen.{setup_of, world_of};
 
@@ -21,7 +17,7 @@ use crate::pass_over::pass_over;
 use crate::stage::Stage;
 use crate::take_in::take_in;
 use bx_advice::Config;
-use bx_entry::{EntryKind, Input, Placing, Slot};
+use bx_entry::{EntryKind, Input, Placing};
 use bx_history::History;
 use bx_workers::{Gate, WorkerCount};
 use bx_world::World;
@@ -78,55 +74,40 @@ pub(crate) fn finish<R: Threads + Sync, G: Gate + Sync, P: Placing + Send + Sync
     ensures added { state.new.added ≡ state.old.added }
     ensures setup { setup_of state.new.world ≡ setup_of state.old.world }
 {
-    let workers = workers_for(state, workers);
+    let workers = workers_for(&state.world, workers);
     level(rt, alloc, gate, workers, &mut state.world)?;
     collect_last(alloc, state)
 }
 
-/// How many events make it worth to start and join threads, which takes as long as some hundred deliveries.
+/// How many deliveries make it worth to start and join threads.
 const SHARED_WORK: u64 = 1_024;
 
-/// How many of these workers bring the shards up. A connect reaches its own session alone, and any other entry gives
-/// each session one event at the most: one worker does where few events can come of the entries that shards lack.
-pub(crate) fn workers_for<P: Placing>(state: &RoundState<P>, workers: WorkerCount) -> WorkerCount
+/// How many of these workers bring the shards up: one does where few deliveries are to be expected of the entries that
+/// shards lack.
+pub(crate) fn workers_for<P: Placing>(world: &World<P>, workers: WorkerCount) -> WorkerCount
     ensures { (result ≡ 1) ⊎ (result ≡ workers) }
 {
-    let sessions = state.world.sessions() as u64;
-    let lacking = state.world.lacking();
-    let entries = match state.stage.collecting() {
-        Some(current) if waits_alone(current, &state.world) => lacking.saturating_sub(1),
-        _ => lacking,
-    };
-    if entries.saturating_mul(sessions) < SHARED_WORK {
-        WorkerCount::one()
-    } else {
-        workers
-    }
-}
-
-// Whether its only message is a connect, the answer to which is not here.
-fn waits_alone<P: Placing>(current: &CurrentInput, world: &World<P>) -> bool
-    ensures none { IsTrue result → current.now.answers.items ≡ [] }
-    ensures one { IsTrue result → length current.now.slots.items ≡ 1 }
-{
-    match current.slots.front() {
-        Some(Slot::Waiting(ticket)) => {
-            current.answers.is_empty()
-                && current.slots.len() == 1
-                && is_connect(world, ticket.place)
+    let end = world.entries();
+    let mut work = 0u64;
+    for place in (end - world.lacking())..end {
+        work = work.saturating_add(expected(world, place));
+        if work >= SHARED_WORK {
+            return workers;
         }
-        _ => false,
     }
+    WorkerCount::one()
 }
 
-// Whether the entry at this place, which some shard lacks, is a connect.
-fn is_connect<P: Placing>(world: &World<P>, place: u64) -> bool
-    ensures { IsTrue result → (e : Entry) × ((slice_get (entries (setup_of world.now).config (world_of world.now).list) place ≡ Some e)
-        × (is_some (connecting e.kind) ≡ true)) }
-{
+// How many deliveries are to be expected of the entry at this place: of a publish one to each session that is live by now,
+// of a tick one to each that it closes, of any other one. How many connects a tick ends is not known here: most end few.
+fn expected<P: Placing>(world: &World<P>, place: u64) -> u64 {
     match world.entry(place) {
-        Some(entry) => matches!(entry.kind, EntryKind::Connect { .. }),
-        None => false,
+        Some(entry) => match &entry.kind {
+            EntryKind::Publish(_) => world.sessions() as u64,
+            EntryKind::Tick(closed) => closed.len() as u64,
+            _ => 1,
+        },
+        None => 0,
     }
 }
 

@@ -17,7 +17,7 @@ use std::test::Fail;
 use std::thread::{Threads, yield_now};
 
 // How many sessions are opened before the inputs, a request each. They hear nothing; but with fewer live sessions one worker
-// does for so few entries.
+// does for an event.
 const CROWD: usize = 1_024;
 
 // More than any test has.
@@ -220,10 +220,9 @@ fn open_crowd<R: Threads + Sync>(
 }
 
 // Behind the crowd, a round of so many shards and workers gives the right outs of the inputs, so many of them in a run.
-fn check_round<R: Abort + Threads + Sync, G: Gate + Sync>(
+fn check_round<R: Abort + Threads + Sync>(
     rt: &R,
     alloc: Global,
-    gate: &G,
     sizes: (usize, usize),
     table: &[u8],
     at_once: usize,
@@ -231,13 +230,12 @@ fn check_round<R: Abort + Threads + Sync, G: Gate + Sync>(
     requires { 1 ≤ at_once }
 {
     let mut round = round(alloc, sizes, table)?;
-    check_given(rt, alloc, gate, &mut round, at_once)
+    check_given(rt, alloc, &mut round, at_once)
 }
 
-fn check_given<R: Abort + Threads + Sync, G: Gate + Sync>(
+fn check_given<R: Abort + Threads + Sync>(
     rt: &R,
     alloc: Global,
-    gate: &G,
     round: &mut Round<ByTable>,
     at_once: usize,
 ) -> Result<(), Fail>
@@ -247,9 +245,35 @@ fn check_given<R: Abort + Threads + Sync, G: Gate + Sync>(
     let inputs = inputs(alloc, INPUTS.len())?;
     let mut outs = Vec::new(alloc);
     for part in inputs.chunks(at_once) {
-        run(rt, alloc, gate, round, part, &mut outs)?;
+        run(rt, alloc, &OpenGate, round, part, &mut outs)?;
     }
     check(rt, alloc, &outs, &OUTS)
+}
+
+// The same of a run up to the connect and of a tick, whose workers pass one gate, and of the event, whose workers pass another.
+fn check_gated<R: Abort + Threads + Sync, F: Gate + Sync, G: Gate + Sync>(
+    rt: &R,
+    alloc: Global,
+    (few, many): (&F, &G),
+    sizes: (usize, usize),
+    table: &[u8],
+) -> Result<(), Fail> {
+    let mut round = round(alloc, sizes, table)?;
+    check_passed(rt, alloc, few, many, &mut round)
+}
+
+fn check_passed<R: Abort + Threads + Sync, F: Gate + Sync, G: Gate + Sync>(
+    rt: &R,
+    alloc: Global,
+    few: &F,
+    many: &G,
+    round: &mut Round<ByTable>,
+) -> Result<(), Fail> {
+    let mut outs = Vec::new(alloc);
+    hold(rt, alloc, few, round, &mut outs)?;
+    answer_held(rt, alloc, many, round, &mut outs)?;
+    check(rt, alloc, &outs, &OUTS)?;
+    run(rt, alloc, few, round, &[Input::Tick(20)], &mut outs)
 }
 
 fn check<R: Abort>(
@@ -283,7 +307,7 @@ fn one_run_gives_what_several_give(rt: HostRuntime) -> Result<(), Fail> {
     let alloc = rt.alloc();
     for table in TABLES {
         for (workers, at_once) in [(1, 5), (1, 1), (16, 5), (16, 1)] {
-            check_round(&rt, alloc, &OpenGate, (2, workers), table, at_once)?;
+            check_round(&rt, alloc, (2, workers), table, at_once)?;
         }
     }
     Ok(())
@@ -441,7 +465,7 @@ fn workers_run_beside_one_another(rt: HostRuntime) -> Result<(), Fail> {
     let alloc = rt.alloc();
     for held in [0, 1] {
         let gate = gate_for(held);
-        check_round(&rt, alloc, &gate, (2, 2), &[0, 1, 2], 5)?;
+        check_gated(&rt, alloc, (&OpenGate, &gate), (2, 2), &[0, 1, 2])?;
         assert!(rt;
             gate.is_free.load(Ordering::SeqCst),
             "worker {held} was alone"
@@ -567,26 +591,28 @@ fn check_met<R: Abort>(rt: &R, meeting: &Meeting) {
     assert_eq!(rt; went, team, "team {team:b}");
 }
 
-// No clause says how many threads there are: where they are fewer than the workers, whoever came gives up here.
+// No clause says how many threads there are: where they are fewer than the workers, whoever came gives up here. An event
+// can reach the crowd, and all workers bring it that find a shard; of the other inputs few deliveries are to be expected.
 #[test]
 fn as_many_threads_run_as_workers(rt: HostRuntime) -> Result<(), Fail> {
     let alloc = rt.alloc();
     let table = [3, 62, 17, 40, 9];
-    for (shards, workers, team) in [(64, 16, 0xffff), (4, 4, 0b1111)] {
-        let meeting = meeting_of(team);
-        check_round(&rt, alloc, &meeting, (shards, workers), &table, 5)?;
-        check_met(&rt, &meeting);
+    for (shards, workers, team) in [(64, 16, 0xffff), (4, 16, 0b1111)] {
+        let (one, all) = (meeting_of(0b1), meeting_of(team));
+        check_gated(&rt, alloc, (&one, &all), (shards, workers), &table)?;
+        check_met(&rt, &one);
+        check_met(&rt, &all);
     }
     Ok(())
 }
 
-// Of sixteen workers four find a shard; among more shards, into which a held connect goes with its session, all do.
+// A held connect goes with its session into more shards, and each worker finds some of these.
 #[test]
-fn more_shards_have_more_workers(rt: HostRuntime) -> Result<(), Fail> {
+fn each_worker_finds_a_shard_among_more(rt: HostRuntime) -> Result<(), Fail> {
     let alloc = rt.alloc();
-    let (four, all) = (meeting_of(0b1111), meeting_of(0xffff));
-    check_redistributed(&rt, alloc, &four, &all)?;
-    check_met(&rt, &four);
+    let (one, all) = (meeting_of(0b1), meeting_of(0xffff));
+    check_redistributed(&rt, alloc, &one, &all)?;
+    check_met(&rt, &one);
     check_met(&rt, &all);
     Ok(())
 }
