@@ -19,7 +19,7 @@ use futures::channel::oneshot;
 use futures::channel::oneshot::{Receiver, Sender};
 use log::{error, info, warn};
 use recorder::{RecordFile, make_record};
-use serve::{Place, ServeFault, Serving, serve};
+use serve::{Place, ServeFault, Serving, listen, serve};
 use std::alloc::{AllocError, Global};
 use std::fs::File;
 use std::net::{SocketAddr, ToSocketAddrs};
@@ -68,22 +68,27 @@ fn main(rt: HostRuntime) -> ExitCode {
     };
     let Parts {
         arguments,
-        listen,
+        place,
         readers,
         counts,
         told,
         end,
     } = parts;
     tell_settings(&rt, &settings);
-    let record_file = match record_of(&rt, &settings) {
-        Ok(file) => file,
-        Err(status) => return status,
+    let listening = match listen(&rt, place, readers) {
+        Ok(listening) => listening,
+        Err(fault) => return not_served(&rt, fault),
     };
     if let Some(address) = settings.figures
         && let Err(error) = show_figures(rt, address, &counts)
     {
         return refused_at(&rt, NO_FIGURES, address, &error);
     }
+    // Behind all that is listened at, so that an address that is refused leaves no file.
+    let record_file = match record_of(&rt, &settings) {
+        Ok(file) => file,
+        Err(status) => return status,
+    };
     // Started here, since no other function may hand on the right to read to a thread.
     let _kept = if settings.until_eof {
         let Ok(_reading) = thread::spawn(&rt, move || tell_at_end(&rt, told)) else {
@@ -94,23 +99,28 @@ fn main(rt: HostRuntime) -> ExitCode {
         Some(told)
     };
     let mut writer = io::writer(&rt);
-    let ended = serve(
+    let served = serve(
         rt,
-        listen,
-        readers,
+        listening,
         arguments,
         record_file,
         &counts,
         end,
         &mut writer,
     );
-    status_of(&rt, ended)
+    match served {
+        Ok(()) => {
+            info!(rt; target: "bayeuxd", "ended");
+            ExitCode::SUCCESS
+        }
+        Err(error) => not_served(&rt, ServeFault::CannotServe(error)),
+    }
 }
 
 // What the server is made of.
 struct Parts<'a> {
     arguments: Serving,
-    listen: Place<'a>,
+    place: Place<'a>,
     readers: Option<Place<'a>>,
     counts: Arc<Counts, Global>,
     told: Sender<()>,
@@ -123,7 +133,7 @@ fn parts_of<'a>(rt: &HostRuntime, settings: &Settings<'a>) -> Result<Parts<'a>, 
     let Ok(seed) = seed_of(rt, settings.seed) else {
         return Err(failed(rt, "bayeuxd: cannot read the seed"));
     };
-    let listen = place_of(rt, settings.listen)?;
+    let place = place_of(rt, settings.listen)?;
     let readers = match settings.readers {
         Some(name) => Some(place_of(rt, name)?),
         None => None,
@@ -142,7 +152,7 @@ fn parts_of<'a>(rt: &HostRuntime, settings: &Settings<'a>) -> Result<Parts<'a>, 
             connections: settings.connections,
             until_eof: settings.until_eof,
         },
-        listen,
+        place,
         readers,
         counts,
         told,
@@ -172,18 +182,14 @@ fn body_of(settings: &Settings<'_>) -> BodyLimit {
     }
 }
 
-// The status of a server that ended so.
-fn status_of(rt: &HostRuntime, ended: Result<(), ServeFault<'_>>) -> ExitCode {
-    match ended {
-        Ok(()) => {
-            info!(rt; target: "bayeuxd", "ended");
-            ExitCode::SUCCESS
-        }
-        Err(ServeFault::CannotListen(name, error)) => cannot_listen(rt, name, &error),
-        Err(ServeFault::CannotServe(error)) if error.kind() == io::ErrorKind::OutOfMemory => {
+// The status where nothing is served, or no longer, once it was said why.
+fn not_served(rt: &HostRuntime, fault: ServeFault<'_>) -> ExitCode {
+    match fault {
+        ServeFault::CannotListen(name, error) => cannot_listen(rt, name, &error),
+        ServeFault::CannotServe(error) if error.kind() == io::ErrorKind::OutOfMemory => {
             failed(rt, OUT_OF_MEMORY)
         }
-        Err(ServeFault::CannotServe(error)) => {
+        ServeFault::CannotServe(error) => {
             error!(rt; target: "bayeuxd", "cannot serve: {error}");
             failed(rt, CANNOT_LISTEN)
         }

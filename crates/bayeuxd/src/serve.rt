@@ -73,63 +73,44 @@ pub struct Place<'a> {
     pub addresses: Vec<SocketAddr>,
 }
 
-/// Serves at these places, at the second one for readers, at each on the first of its addresses that the system grants,
-/// and prints these once it listens at all. Once the end is told it takes no more connections, answers held connects,
-/// and cuts what is still open where it was to end so. Where there is a file for a record, what is listed is written
-/// there. It ends once as many connections as were asked for have come and have ended, or standard input has.
-pub fn serve<'a, R, F, W>(
-    rt: R,
-    listen: Place<'a>,
-    readers: Option<Place<'a>>,
-    arguments: Serving,
-    record_file: Option<RecordFile<F>>,
-    counts: &Arc<Counts, Global>,
-    told: Receiver<()>,
-    writer: &mut W,
-) -> Result<(), ServeFault<'a>>
-where
-    R: Wait
-        + Threads
-        + Clock
-        + RandomSource
-        + AllocGlobal
-        + Net
-        + Log
-        + Sync
-        + Send
-        + Copy
-        + Drop
-        + 'static,
-    F: Write + Send + Drop + 'static,
-    W: Write,
-{
-    let runtime = Runtime::new(&rt)?;
-    let listener = bind(&rt, &runtime, listen)?;
-    let readers = match readers {
-        Some(place) => Some(bind(&rt, &runtime, place)?),
-        None => None,
-    };
-    begin(
-        rt,
-        runtime,
-        (listener, readers),
-        arguments,
-        record_file,
-        counts,
-        told,
-        writer,
-    )?;
-    Ok(())
-}
-
 // Where the connections of publishers and those of readers come.
 type Listeners = (TcpListener, Option<TcpListener>);
 
-// Serves from now on.
-fn begin<R, F, W>(
-    rt: R,
+/// The runtime, and where it listens.
+#[derive(Drop)]
+pub struct Listening {
     runtime: Runtime,
     listeners: Listeners,
+}
+
+/// Listens at these places, at the second one for readers, at each on the first of its addresses that the system grants.
+pub fn listen<'a, R>(
+    rt: &R,
+    place: Place<'a>,
+    readers: Option<Place<'a>>,
+) -> Result<Listening, ServeFault<'a>>
+where
+    R: Threads + Clock + RandomSource + AllocGlobal + Net,
+{
+    let runtime = Runtime::new(rt)?;
+    let listener = bind(rt, &runtime, place)?;
+    let readers = match readers {
+        Some(place) => Some(bind(rt, &runtime, place)?),
+        None => None,
+    };
+    Ok(Listening {
+        runtime,
+        listeners: (listener, readers),
+    })
+}
+
+/// Serves where it listens, and prints these addresses. Once the end is told it takes no more connections, answers held
+/// connects, and cuts what is still open where it was to end so. Where there is a file for a record, what is listed is
+/// written there. It ends once as many connections as were asked for have come and have ended, or standard input has.
+/// `Err` where the system refuses a thread, the print or memory.
+pub fn serve<R, F, W>(
+    rt: R,
+    listening: Listening,
     arguments: Serving,
     record_file: Option<RecordFile<F>>,
     counts: &Arc<Counts, Global>,
@@ -152,6 +133,7 @@ where
     F: Write + Send + Drop + 'static,
     W: Write,
 {
+    let Listening { runtime, listeners } = listening;
     let start = Instant::now(&rt)?;
     let placing = Arc::new(rt.alloc(), ByRemainder)?;
     run::<Brand, R, F, W>(

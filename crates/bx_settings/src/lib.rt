@@ -4,8 +4,6 @@
 mod flags;
 mod seed;
 mod settings;
-#[cfg(test)]
-mod tests;
 mod time;
 mod words;
 
