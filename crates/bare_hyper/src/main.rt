@@ -1,4 +1,4 @@
-//! Serves HTTP with nothing behind it: the measure of what a server over the same connections may come to.
+//! A bare HTTP server, as a baseline for measuring `bayeuxd`.
 #![tactic(auto)]
 
 mod answer;
@@ -8,7 +8,7 @@ use serve::serve;
 use std::process::ExitCode;
 use std::{env, io};
 
-/// What standard error says of bad arguments.
+/// Usage text, printed if the arguments are wrong.
 const USAGE: &str = "usage: bare_hyper address connections";
 
 fn main(rt: HostRuntime) -> ExitCode {
@@ -29,7 +29,7 @@ fn main(rt: HostRuntime) -> ExitCode {
     }
 }
 
-// The arguments that the process was given.
+// Returns the command-line arguments.
 fn words(rt: &HostRuntime) -> io::Result<Vec<String>> {
     let mut words = Vec::new(rt.alloc());
     for word in env::args(rt)?.skip(1) {

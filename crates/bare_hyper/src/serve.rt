@@ -18,10 +18,10 @@ use std::time::{Clock, Duration};
 use tokio::net::{TcpListener, TcpStream};
 use tokio::runtime::Runtime;
 
-// For how long no connection is asked for after one could not be accepted, in milliseconds.
+// Pause after a failed accept, in milliseconds.
 const PAUSE: u64 = 20;
 
-/// A future whose output nobody wants.
+/// A future that drops the output of another.
 #[derive(Drop)]
 pub struct Quiet<F> {
     inner: F,
@@ -42,7 +42,7 @@ impl<F: Future<Output = T>, T: Drop> Future for Quiet<F> {
     }
 }
 
-/// Serves each connection over HTTP alone.
+/// A [`Maker`] that serves each connection over HTTP, without time limits.
 #[derive(Drop)]
 pub struct BareServer {
     http: Builder,
@@ -60,8 +60,13 @@ impl Maker for BareServer {
     }
 }
 
-/// Serves as the words say, an address and a number of connections after which it ends or 0, and prints the address once it
-/// listens. False where the words are no such arguments.
+/// Serves with the arguments in `words`: an address and a number of connections, 0 for any.
+///
+/// Prints the address once it listens. Returns `false` if `words` are wrong.
+///
+/// # Errors
+///
+/// The error of a system call, or of memory that runs out.
 pub fn serve<R, W>(rt: R, words: &[String], writer: &mut W) -> io::Result<bool>
 where
     R: Wait + Threads + Clock + RandomSource + AllocGlobal + Net + Sync + Send + Copy + Drop,
@@ -77,7 +82,7 @@ where
     Ok(true)
 }
 
-// Serves so many connections; 0 is any number.
+// Serves `count` connections, or any number if it is 0.
 fn run<R, W>(rt: R, address: SocketAddr, count: u64, writer: &mut W) -> io::Result<()>
 where
     R: Wait + Threads + Clock + RandomSource + AllocGlobal + Net + Sync + Send + Copy + Drop,
@@ -89,13 +94,13 @@ where
     serve_connections(rt, &mut runtime, listener, count)
 }
 
-// Prints the address once it listens.
+// Prints the address on which `listener` listens.
 fn told<W: Write>(listener: &TcpListener, writer: &mut W) -> io::Result<()> {
     writeln!(writer, "listening {}", listener.local_addr()?)?;
     writer.flush()
 }
 
-// Serves the connections of the listener.
+// Serves the connections of `listener`.
 fn serve_connections<R>(
     rt: R,
     runtime: &mut Runtime,

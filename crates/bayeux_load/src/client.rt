@@ -1,4 +1,4 @@
-//! A client of the server, on a connection of its own.
+//! A client of the server, on its own connection.
 use crate::context::Context;
 use crate::fault::Fault;
 use crate::link::Link;
@@ -9,7 +9,7 @@ use serde_json::Value;
 use std::alloc::Global;
 use std::sync::atomic::Ordering;
 
-// After so many nanoseconds without a request a publisher asks something, so that its session and its connection stay.
+// Nanoseconds without a request after which a publisher sends a connect to keep its session.
 const QUIET: u64 = 5_000_000_000;
 
 /// What a client waits for.
@@ -23,19 +23,19 @@ enum Awaited {
     Nothing,
 }
 
-/// A client, which has at most one request under way.
+/// A client, with at most one request at a time.
 #[derive(Drop)]
 pub struct Client {
     link: Link,
     role: Role,
     id: String,
     state: Awaited,
-    // When its last request was sent.
+    // When it last sent a request or became ready; 0 before.
     asked: u64,
 }
 
 impl Client {
-    /// One that has asked nothing.
+    /// Creates a client that has sent nothing.
     pub fn new(alloc: Global, link: Link, role: Role) -> Client {
         Client {
             link,
@@ -46,7 +46,11 @@ impl Client {
         }
     }
 
-    /// Asks for a session. An error says why the load ends.
+    /// Sends a handshake.
+    ///
+    /// # Errors
+    ///
+    /// `Memory`, or as [`Link::send`].
     pub fn begin(&mut self, context: &Context) -> Result<(), Fault> {
         let settings = &context.settings;
         let acknowledges = settings.is_acknowledging && matches!(&self.role, Role::Subscriber(_));
@@ -54,7 +58,7 @@ impl Client {
         self.ask(Awaited::Handshake, request, 0)
     }
 
-    /// How many events did not come.
+    /// Returns how many events did not arrive.
     pub fn lost(&self) -> u64 {
         match &self.role {
             Role::Subscriber(session) => session.lost(),
@@ -62,16 +66,24 @@ impl Client {
         }
     }
 
-    /// Writes and reads what the connection takes and has, and tells whether a response is there. An error says why
-    /// the load ends.
+    /// Writes and reads as much as possible, and returns `true` if a response is complete.
+    ///
+    /// # Errors
+    ///
+    /// As [`Link::flush`], [`Link::fill`] and [`Link::body`].
     pub fn is_answered(&mut self, buffer: &mut [u8]) -> Result<bool, Fault> {
         self.link.flush()?;
         self.link.fill(buffer)?;
         Ok(self.link.body()?.is_some())
     }
 
-    /// Takes the response that is there, and goes on. An error says why the load ends. `now` is in nanoseconds since
-    /// the start.
+    /// Handles the response, if it is complete, and sends what comes next.
+    ///
+    /// `now`: nanoseconds since the load started.
+    ///
+    /// # Errors
+    ///
+    /// `BadResponse`, `Refused`, `Memory`, or as [`Link::send`].
     pub fn take(&mut self, context: &Context, tally: &mut Tally, now: u64) -> Result<(), Fault> {
         let Some(body) = self.link.body()? else {
             return Ok(());
@@ -87,7 +99,7 @@ impl Client {
         self.go_on(context, tally, items.as_slice(), now)
     }
 
-    // Takes the events and the reply.
+    // Records the events, and checks the reply.
     fn take_items(
         &mut self,
         context: &Context,
@@ -124,7 +136,7 @@ impl Client {
         }
     }
 
-    // Does what comes behind the answer.
+    // Sends what comes after the response.
     fn go_on(
         &mut self,
         context: &Context,
@@ -158,7 +170,7 @@ impl Client {
         }
     }
 
-    // Does what comes behind the handshake.
+    // Subscribes after the handshake, or marks a publisher as ready.
     fn subscribe(&mut self, context: &Context, tally: &mut Tally, now: u64) -> Result<(), Fault> {
         match &self.role {
             Role::Subscriber(Subscriber { channel, .. }) => {
@@ -187,8 +199,14 @@ impl Client {
         self.ask(Awaited::Connect, request, now)
     }
 
-    /// Publishes where this is a publisher that waits for nothing, and its next event is due. An error says why the
-    /// load ends. `now` is in nanoseconds since the start.
+    /// Sends the next event if this is a publisher that waits for nothing, and it is due.
+    ///
+    /// Otherwise sends a connect after 5 seconds without a request. `begun` and `now`: nanoseconds
+    /// since the load started.
+    ///
+    /// # Errors
+    ///
+    /// `Memory`, or as [`Link::send`].
     pub fn publish(
         &mut self,
         context: &Context,
@@ -216,7 +234,7 @@ impl Client {
         Ok(())
     }
 
-    // Sends a request, for whose answer it waits from then on.
+    // Sends `request`, and sets what the client waits for.
     fn ask(&mut self, state: Awaited, request: String, now: u64) -> Result<(), Fault> {
         self.state = state;
         self.asked = now;
@@ -224,7 +242,7 @@ impl Client {
     }
 }
 
-// The client id that the first of these items gives.
+// Returns the client id in the first item.
 fn id_of(context: &Context, items: &[Value]) -> Result<String, Fault> {
     let Some(reply) = items.first() else {
         return Err(Fault::BadResponse);

@@ -9,30 +9,30 @@ use std::time::{Clock, Instant};
 /// What the clients of all threads share.
 #[derive(Drop)]
 pub struct Context {
-    /// Where memory is taken.
+    /// The allocator.
     pub alloc: Global,
-    /// How the server is loaded.
+    /// How to load the server.
     pub settings: LoadSettings,
     /// The address of the server.
     pub address: SocketAddr,
-    /// When the load began; moments are counted from here.
+    /// When the load started. Moments count from here.
     pub start: Instant,
-    /// How many clients are not ready yet.
+    /// Number of clients that are not ready yet.
     pub unready: AtomicU64,
-    /// When the publishers began, in nanoseconds since the start; 0 before.
+    /// When the publishers started, in nanoseconds since `start`, or 0 before.
     pub begun: AtomicU64,
-    /// How many publishes were not answered yet.
+    /// Number of publishes not answered yet, sent or not.
     pub unpublished: AtomicU64,
-    /// How many events came.
+    /// Number of events that arrived.
     pub delivered: AtomicU64,
-    /// How many threads have something left to do.
+    /// Number of threads whose events have not all arrived.
     pub working: AtomicU64,
-    /// Whether a thread ended before its end.
+    /// Whether a thread failed.
     pub has_failed: AtomicBool,
 }
 
 impl Context {
-    /// Of so many threads, none of which did anything.
+    /// Creates the context of a load that has not started.
     pub fn new(
         alloc: Global,
         settings: LoadSettings,
@@ -56,14 +56,19 @@ impl Context {
         }
     }
 
-    /// The moment, in nanoseconds since the start. An error means that the clock cannot be read.
+    /// Returns the nanoseconds since the load started.
+    ///
+    /// # Errors
+    ///
+    /// A fault if the clock cannot be read.
     pub fn now(&self, clock: &impl Clock) -> Result<u64, Fault> {
         let passed = self.start.elapsed(clock)?;
         Ok(u64::try_from(passed.as_nanos()).unwrap_or(u64::MAX))
     }
 
-    /// When the publishers began: once all clients are ready, which is now where nobody was told so before;
-    /// in nanoseconds since the start.
+    /// Returns when the publishers started, or `None` while a client is not ready.
+    ///
+    /// The first call after that sets it to `now`. Both are in nanoseconds since the load started.
     pub fn begun(&self, now: u64) -> Option<u64> {
         if self.unready.load(Ordering::SeqCst) > 0 {
             return None;
@@ -77,7 +82,7 @@ impl Context {
         }
     }
 
-    /// How many clients are not ready, how many publishes were not answered, and how many events came.
+    /// Returns `unready`, `unpublished` and `delivered`.
     pub fn progress(&self) -> (u64, u64, u64) {
         (
             self.unready.load(Ordering::SeqCst),

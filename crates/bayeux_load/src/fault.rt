@@ -1,30 +1,30 @@
-//! Why a load ends before its end.
+//! Why a load fails.
 use std::alloc::{AllocError, AllocFailed};
 use std::io;
 
-/// Why a load ends before its end.
+/// Why a load fails.
 #[derive(Clone, Copy)]
 pub enum Fault {
-    /// Memory was refused.
+    /// Memory ran out.
     Memory,
-    /// No address stands for the server's name, or it takes no connection.
+    /// The server's name has no address, or it cannot be reached.
     Unreachable,
-    /// The server ended a connection.
+    /// The server closed a connection.
     Ended,
-    /// The system refused a call.
+    /// A system call failed.
     System,
-    /// The server answered with something else than a status of 200 and an array of replies and events.
+    /// A response was not status 200 with an array of replies and events.
     BadResponse,
-    /// The server refused a message.
+    /// The server rejected a message.
     Refused,
-    /// The server did not answer for so long.
+    /// Nothing progressed for 30 seconds.
     Silent,
-    /// Another thread ended before its end.
+    /// Another thread failed.
     Other,
 }
 
 impl Fault {
-    /// The words for it.
+    /// Returns the error text.
     pub fn text(self) -> &'static str {
         match self {
             Fault::Memory => "out of memory",

@@ -1,4 +1,4 @@
-//! A connection that is kept alive.
+//! A keep-alive connection.
 use crate::fault::Fault;
 use bx_load::{Response, read_response};
 use mio::net::TcpStream;
@@ -8,10 +8,10 @@ use std::io;
 use std::io::{Read, Write};
 use std::net::{Net, SocketAddr};
 
-// What is kept of a response may have so much room, in bytes; a larger one is given back.
+// The largest input buffer that is kept, in bytes.
 const KEPT: usize = 4096;
 
-/// A connection, with what is still to be written and what came.
+/// A connection, with its unwritten output and its input.
 #[derive(Drop)]
 pub struct Link {
     socket: TcpStream,
@@ -21,7 +21,11 @@ pub struct Link {
 }
 
 impl Link {
-    /// Begins to connect. Its readiness is told under the token. An error says why the load ends.
+    /// Starts to connect, and registers the connection under `token`.
+    ///
+    /// # Errors
+    ///
+    /// The [`io::Error`], as a [`Fault`].
     pub fn open(
         net: &impl Net,
         alloc: Global,
@@ -44,16 +48,22 @@ impl Link {
         })
     }
 
-    /// Writes a request, as much of it as is taken at once. The one before it was answered. An
-    /// error says why the load ends.
+    /// Writes as much of `request` as possible. The previous one must be answered.
+    ///
+    /// # Errors
+    ///
+    /// The [`io::Error`], as a [`Fault`].
     pub fn send(&mut self, request: String) -> Result<(), Fault> {
         self.output = request;
         self.written = 0;
         self.flush()
     }
 
-    /// Writes what is left of the request, as much as is taken at once. An error says why the load
-    /// ends.
+    /// Writes as much as possible of the rest of the request.
+    ///
+    /// # Errors
+    ///
+    /// The [`io::Error`], as a [`Fault`].
     pub fn flush(&mut self) -> Result<(), Fault> {
         for _ in 0..u64::MAX {
             let left = self.output.as_bytes().get(self.written..).unwrap_or(&[]);
@@ -70,14 +80,19 @@ impl Link {
         Ok(())
     }
 
-    /// Reads what is there. An error says why the load ends.
+    /// Reads what is available.
+    ///
+    /// # Errors
+    ///
+    /// `Ended` if the server closed the connection; `Memory`; otherwise the [`io::Error`], as a
+    /// [`Fault`].
     pub fn fill(&mut self, buffer: &mut [u8]) -> Result<(), Fault> {
         for _ in 0..u64::MAX {
             match (&self.socket).read(buffer) {
                 Ok(0) => return Err(Fault::Ended),
                 Ok(count) => {
                     self.input.extend_from_slice(&buffer[..count])?;
-                    // What comes from here on is told anew.
+                    // More data causes another event.
                     if count < buffer.len() {
                         break;
                     }
@@ -89,7 +104,11 @@ impl Link {
         Ok(())
     }
 
-    /// The body of the response, once it is there as a whole. An error says why the load ends.
+    /// Returns the body of the response, or `None` if it is not complete.
+    ///
+    /// # Errors
+    ///
+    /// `BadResponse` if it is malformed, its status is not 200, or more data follows.
     pub fn body(&self) -> Result<Option<&[u8]>, Fault> {
         match read_response(self.input.as_slice()) {
             Err(_) => Err(Fault::BadResponse),
@@ -104,7 +123,7 @@ impl Link {
         }
     }
 
-    /// Forgets the response.
+    /// Drops the response.
     pub fn forget(&mut self, alloc: Global) {
         if self.input.capacity() > KEPT {
             self.input = Vec::new(alloc);

@@ -1,4 +1,4 @@
-//! Loads a server by several threads.
+//! Runs a load on several threads.
 use crate::context::Context;
 use crate::fault::Fault;
 use crate::part::LoadPart;
@@ -12,13 +12,18 @@ use std::thread;
 use std::thread::{JoinHandle, Threads};
 use std::time::{Clock, Instant};
 
-// With more threads than that nothing is gained on the machine that is measured.
+// More threads gain nothing on the machine that is measured.
 const MOST_THREADS: u64 = 8;
 
-// A thread that does a part.
+// A thread that runs a part.
 type Other = JoinHandle<Result<Tally, Fault>>;
 
-/// Loads the server as it is told, with a line of progress or without. An error says why the load ends.
+/// Loads the server, and shows a line of progress if `is_shown`.
+///
+/// # Errors
+///
+/// `Unreachable` if the host has no address, `System` if the clock or a thread fails, `Memory`, or
+/// the fault of a part.
 pub fn load<R>(rt: R, settings: LoadSettings, is_shown: bool) -> Result<Tally, Fault>
 where
     R: Net<Listener = TcpListener, Stream = TcpStream>
@@ -42,7 +47,7 @@ where
     }
 }
 
-// What the clients of so many threads share.
+// Creates what all clients share.
 fn context_of<R: Net + Clock + AllocGlobal>(
     rt: &R,
     settings: LoadSettings,
@@ -55,7 +60,7 @@ fn context_of<R: Net + Clock + AllocGlobal>(
     }
 }
 
-// Does all parts, the first on this thread, and adds what comes of them.
+// Runs all parts, the first on this thread, and adds their results to `whole`.
 fn all_parts<R>(
     rt: R,
     context: &Arc<Context, Global>,
@@ -89,7 +94,7 @@ where
     }
 }
 
-// Begins the part of this index on a thread of its own.
+// Spawns a thread that runs part `index`.
 fn begin<R>(
     rt: R,
     context: &Arc<Context, Global>,
@@ -117,7 +122,7 @@ where
     }
 }
 
-// Adds what came of all parts, or says why one ended before its end.
+// Adds the results of all parts, or returns why one failed.
 fn added<R: Threads>(
     rt: R,
     whole: &mut Tally,
@@ -134,7 +139,7 @@ where
     fault
 }
 
-// Adds what came of a part, or says why it ended before its end, which the end of another is no reason of.
+// Adds the result of a part, or returns why it failed, unless that is because another part did.
 fn add(whole: &mut Tally, part: Result<Tally, Fault>) -> Option<Fault> {
     match part {
         Ok(tally) => {
@@ -146,7 +151,7 @@ fn add(whole: &mut Tally, part: Result<Tally, Fault>) -> Option<Fault> {
     }
 }
 
-// Where the server is.
+// Resolves the server's address.
 fn address_of(net: &impl Net, target: &Target) -> Result<SocketAddr, Fault> {
     match target.host.as_str().to_socket_addrs(net) {
         Ok(mut addresses) => addresses.next().ok_or(Fault::Unreachable),
@@ -154,7 +159,7 @@ fn address_of(net: &impl Net, target: &Target) -> Result<SocketAddr, Fault> {
     }
 }
 
-// Half of the processors, since the server has some of them too.
+// Returns half the number of processors, from 1 to 8: the server needs some too.
 fn threads_for(rt: &impl Threads) -> u64 {
     match thread::available_parallelism(rt) {
         Ok(count) => (count.get() as u64 / 2).clamp(1, MOST_THREADS),

@@ -1,4 +1,4 @@
-//! Loads a server of Bayeux, and says how many events it delivered, how fast, and whether any was lost.
+//! The load tester `bayeux_load`: measures how fast a server delivers events, and reports losses.
 #![tactic(auto)]
 
 mod client;
@@ -21,7 +21,7 @@ use std::io::IsTerminal;
 use std::process::ExitCode;
 use tally::Tally;
 
-/// What standard error says of bad arguments.
+/// Usage text, printed if the arguments are wrong.
 const USAGE: &str = "usage: bayeux_load url sessions channels publishers events [rate] [ack]";
 
 fn main(rt: HostRuntime) -> ExitCode {
@@ -38,7 +38,7 @@ fn main(rt: HostRuntime) -> ExitCode {
     }
 }
 
-// What the arguments of the process say.
+// Parses the command-line arguments.
 fn settings(rt: &HostRuntime) -> Result<LoadSettings, SettingsFault> {
     let mut words = Vec::new(rt.alloc());
     for word in env::args(rt)
@@ -50,7 +50,7 @@ fn settings(rt: &HostRuntime) -> Result<LoadSettings, SettingsFault> {
     LoadSettings::read(rt.alloc(), words.as_slice())
 }
 
-// Prints what came of the load.
+// Prints the report. Succeeds if every event arrived once and in order.
 fn reported(rt: &HostRuntime, tally: &Tally) -> ExitCode {
     let Ok(text) = report(rt.alloc(), tally) else {
         return failed(rt, Fault::Memory);
@@ -61,6 +61,7 @@ fn reported(rt: &HostRuntime, tally: &Tally) -> ExitCode {
     }
 }
 
+// Prints why the load failed.
 fn failed(rt: &HostRuntime, fault: Fault) -> ExitCode {
     let text = fault.text();
     let _ = eprintln!(rt; "bayeux_load: {text}");

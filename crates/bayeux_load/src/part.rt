@@ -1,4 +1,4 @@
-//! The part of a load that one thread does.
+//! The part of a load that one thread runs.
 use crate::client::Client;
 use crate::context::Context;
 use crate::fault::Fault;
@@ -11,36 +11,40 @@ use std::net::Net;
 use std::sync::atomic::Ordering;
 use std::time::{Clock, Duration};
 
-// How many clients of a thread are opened at a time.
+// The most clients of a thread that are being opened at a time.
 const AT_ONCE: usize = 32;
 
-// For how long it is waited for events after the last publish was answered, in nanoseconds since the last one came.
+// Nanoseconds to wait for further events once all publishes are answered.
 const PATIENCE: u64 = 5_000_000_000;
 
-// After how many nanoseconds without any answer a load ends.
+// Nanoseconds without progress after which a load fails, while publishes are unanswered.
 const SILENCE: u64 = 30_000_000_000;
 
-/// The part of a load that one thread does.
+/// The part of a load that one thread runs.
 #[derive(Drop)]
 pub struct LoadPart {
     clients: Vec<Client>,
-    // How many of them are sessions, which stand before the publishers.
+    // Number of sessions among them. They precede the publishers.
     sessions: usize,
-    // The number of the next client to be opened, of all clients of all threads, and how many threads there are.
+    // The next client to open, by its number among all threads' clients, and the number of threads.
     next: u64,
     threads: u64,
-    // How many events are to come.
+    // Number of events to receive.
     expected: u64,
     tally: Tally,
-    // What all threads had come to when that last changed, and when that was.
+    // The last progress of all threads, and when it changed.
     progress: (u64, u64, u64),
     changed: u64,
-    // Whether nothing is left to do.
+    // Whether all its events have arrived.
     has_ended: bool,
 }
 
 impl LoadPart {
-    /// The part of this index among so many. An error means that memory was refused.
+    /// Creates part `index` of `threads`.
+    ///
+    /// # Errors
+    ///
+    /// `AllocError` if memory runs out.
     pub fn new(alloc: Global, index: u64, threads: u64) -> Result<LoadPart, AllocError> {
         Ok(LoadPart {
             clients: Vec::new(alloc),
@@ -55,7 +59,11 @@ impl LoadPart {
         })
     }
 
-    /// Opens further clients, unless enough of them are being opened. An error says why the load ends.
+    /// Opens more clients, up to 32 at a time.
+    ///
+    /// # Errors
+    ///
+    /// `Memory`, or as [`Link::open`] and [`Client::begin`].
     pub fn open(
         &mut self,
         net: &impl Net,
@@ -78,7 +86,7 @@ impl LoadPart {
         Ok(())
     }
 
-    // What the next client is for, which is counted as opened.
+    // Creates the role of the next client, and counts the client as opened.
     fn next_role(&mut self, context: &Context) -> Result<Role, AllocError> {
         let (settings, number) = (&context.settings, self.next);
         self.next = number.saturating_add(self.threads);
@@ -93,14 +101,18 @@ impl LoadPart {
         }
     }
 
-    /// For how long it is waited at most.
+    /// Returns how long to wait for connections at most.
     pub fn pause(&self, context: &Context) -> Duration {
         let (unready, unpublished, _) = self.progress;
         let is_paced = unready == 0 && unpublished > 0 && context.settings.rate > 0;
         Duration::from_millis(if is_paced { 1 } else { 10 })
     }
 
-    /// Goes on with the client of this token. An error says why the load ends.
+    /// Reads and writes for a client, and handles its response if it is complete.
+    ///
+    /// # Errors
+    ///
+    /// As [`Client::is_answered`], [`Context::now`] and [`Client::take`].
     pub fn serve(
         &mut self,
         clock: &impl Clock,
@@ -118,8 +130,13 @@ impl LoadPart {
         Ok(())
     }
 
-    /// Lets the publishers publish what is due. An error says why the load ends. `now` is in nanoseconds since the
-    /// start.
+    /// Calls [`Client::publish`] for each publisher.
+    ///
+    /// `now`: nanoseconds since the load started.
+    ///
+    /// # Errors
+    ///
+    /// As [`Client::publish`].
     pub fn publish(&mut self, context: &Context, now: u64) -> Result<(), Fault> {
         let begun = context.begun(now);
         if let Some(begun) = begun {
@@ -133,8 +150,14 @@ impl LoadPart {
         Ok(())
     }
 
-    /// Whether no thread has anything left to do, or nothing has come for long enough. An error says why the load
-    /// ends. `now` is in nanoseconds since the start.
+    /// Returns `true` if every thread has all its events, or without progress for 5 seconds.
+    ///
+    /// In both cases all publishes must be answered. `now`: nanoseconds since the load started.
+    ///
+    /// # Errors
+    ///
+    /// `Other` if another thread failed; `Silent` if publishes are unanswered and there was no
+    /// progress for 30 seconds.
     pub fn is_over(&mut self, context: &Context, now: u64) -> Result<bool, Fault> {
         if context.has_failed.load(Ordering::SeqCst) {
             return Err(Fault::Other);
@@ -159,7 +182,7 @@ impl LoadPart {
         Ok(context.working.load(Ordering::SeqCst) == 0 || quiet > PATIENCE)
     }
 
-    /// What came of it.
+    /// Returns the result of this part.
     pub fn end(self) -> Tally {
         let mut tally = self.tally;
         for client in self.clients.iter() {

@@ -1,10 +1,14 @@
-//! What is printed of a load.
+//! The report of a load.
 ghost use Rattle.std.specs.Prelude.{◌<◌, ◌≤◌};
 
 use crate::tally::Tally;
 use std::alloc::{AllocError, Global};
 
-/// What came of a load, in four lines. An error means that memory was refused.
+/// Formats the results in four lines.
+///
+/// # Errors
+///
+/// `AllocError` if memory runs out.
 pub fn report(alloc: Global, tally: &Tally) -> Result<String, AllocError> {
     let mut text = String::new(alloc);
     rates(&mut text, tally)?;
@@ -26,7 +30,7 @@ pub fn report(alloc: Global, tally: &Tally) -> Result<String, AllocError> {
     Ok(text)
 }
 
-// How many publishes and events there were, and how many a second.
+// Appends the number and the rate of publishes and of events.
 fn rates(text: &mut String, tally: &Tally) -> Result<(), AllocError> {
     let (published, delivered) = (tally.published, tally.delivered);
     let publish_rate = rate(published, tally.begun, tally.last_published);
@@ -37,7 +41,7 @@ fn rates(text: &mut String, tally: &Tally) -> Result<(), AllocError> {
     )
 }
 
-// The latency that so many hundredths did not pass.
+// Appends the latency that `percent` percent of the events do not exceed.
 fn latency(text: &mut String, tally: &Tally, percent: u64) -> Result<(), AllocError>
     requires some { 0 < percent }
     requires within { percent ≤ 100 }
@@ -47,7 +51,7 @@ fn latency(text: &mut String, tally: &Tally, percent: u64) -> Result<(), AllocEr
     write!(text, " {percent} % {whole}.{part:03} ms")
 }
 
-// How many a second so many are between two moments in nanoseconds.
+// Returns `count` per second between two moments in nanoseconds.
 fn rate(count: u64, begin: u64, end: u64) -> u64 {
     let took = end.saturating_sub(begin).max(1);
     u64::try_from(count as u128 * 1_000_000_000 / took as u128).unwrap_or(u64::MAX)

@@ -1,29 +1,33 @@
-//! What a client is for: to receive, or to publish.
+//! The roles of a client: to receive or to publish.
 use bx_load::{Arrivals, LoadSettings, Reception, Stamp, due, events_of};
 use std::alloc::{AllocError, Global};
 
-/// What a client is for.
+/// The role of a client.
 #[derive(Drop)]
 pub enum Role {
-    /// It receives.
+    /// Receives events.
     Subscriber(Subscriber),
-    /// It publishes.
+    /// Publishes events.
     Publisher(Publisher),
 }
 
-/// One that receives the events of a channel.
+/// A session that receives the events of one channel.
 #[derive(Drop)]
 pub struct Subscriber {
-    /// The number of its channel, from 0 on.
+    /// The number of its channel, from 0.
     pub channel: u32,
     /// The batch that its next connect acknowledges.
     pub acknowledged: Option<u64>,
-    // Of each publisher of the channel.
+    // One for each publisher of the channel.
     arrivals: Vec<Arrivals>,
 }
 
 impl Subscriber {
-    /// The session of this number, to which nothing came. An error means that memory was refused.
+    /// Creates session `number`, which has received nothing.
+    ///
+    /// # Errors
+    ///
+    /// `AllocError` if memory runs out.
     pub fn new(
         alloc: Global,
         settings: &LoadSettings,
@@ -44,7 +48,7 @@ impl Subscriber {
         })
     }
 
-    /// How many events are to come.
+    /// Returns how many events it should receive.
     pub fn expected(&self) -> u64 {
         let mut expected: u64 = 0;
         for arrivals in self.arrivals.iter() {
@@ -53,7 +57,7 @@ impl Subscriber {
         expected
     }
 
-    /// How many did not come.
+    /// Returns how many events did not arrive.
     pub fn lost(&self) -> u64 {
         let mut lost: u64 = 0;
         for arrivals in self.arrivals.iter() {
@@ -62,7 +66,7 @@ impl Subscriber {
         lost
     }
 
-    /// The event of this stamp comes.
+    /// Records the arrival of an event, and returns how it arrived.
     pub fn take(&mut self, settings: &LoadSettings, stamp: Stamp) -> Reception {
         let channels = settings.channels as u64;
         if stamp.publisher % channels != self.channel as u64 {
@@ -76,20 +80,20 @@ impl Subscriber {
     }
 }
 
-/// One that publishes its share of the events.
+/// A client that publishes its share of the events.
 #[derive(Drop)]
 pub struct Publisher {
     number: u64,
-    /// The number of its channel, from 0 on.
+    /// The number of its channel, from 0.
     pub channel: u32,
-    // How many it sent.
+    // Number of events sent.
     sent: u64,
-    // The place of its next event among all.
+    // The number of its next event among all events.
     next: u64,
 }
 
 impl Publisher {
-    /// The publisher of this number, which sent nothing.
+    /// Creates publisher `number`, which has sent nothing.
     pub fn new(settings: &LoadSettings, number: u64) -> Publisher {
         Publisher {
             number,
@@ -99,8 +103,10 @@ impl Publisher {
         }
     }
 
-    /// The stamp of its next event where that is due so many nanoseconds after the first; it counts as sent,
-    /// at the moment `now` in nanoseconds since the start.
+    /// Returns the stamp of the next event if it is due, and counts it as sent.
+    ///
+    /// `passed`: nanoseconds since the publishers started. `now`: nanoseconds since the load
+    /// started.
     pub fn next(&mut self, settings: &LoadSettings, passed: u64, now: u64) -> Option<Stamp> {
         if self.next >= settings.events as u64 {
             return None;

@@ -1,36 +1,40 @@
-//! What came of a load.
+//! The results of a load.
 use bx_load::{Latencies, Reception};
 use std::alloc::{AllocError, Global};
 
-/// What came of a load, or of one thread's part of it. Moments are in nanoseconds since it began.
+/// The results of a load or of one thread's part. Moments are in nanoseconds since it started.
 #[derive(Drop)]
 pub struct Tally {
-    /// How long the events took.
+    /// The latencies of events.
     pub latencies: Latencies,
-    /// How many clients of the thread are ready.
+    /// Number of the thread's clients that are ready.
     pub ready: usize,
-    /// When all sessions were ready, and the publishers began.
+    /// When all clients were ready and the publishers started.
     pub begun: u64,
-    /// How many publishes were answered.
+    /// Number of publishes answered.
     pub published: u64,
-    /// When the last of them was.
+    /// When the last publish was answered.
     pub last_published: u64,
-    /// How many events came, each as often as it came.
+    /// Number of events that arrived, with repetitions.
     pub delivered: u64,
-    /// When the last of them did.
+    /// When the last event arrived.
     pub last_delivered: u64,
-    /// How many events did not come.
+    /// Number of events that did not arrive.
     pub lost: u64,
-    /// How many came once more.
+    /// Number of repeated events.
     pub doubled: u64,
-    /// How many came behind a later one of their publisher.
+    /// Number of events that arrived after a later one of their publisher.
     pub out_of_order: u64,
-    /// Events that no publisher of the channel published.
+    /// Number of events that no publisher of the channel published.
     pub unknown: u64,
 }
 
 impl Tally {
-    /// Nothing came. An error means that memory was refused.
+    /// Creates results of 0.
+    ///
+    /// # Errors
+    ///
+    /// `AllocError` if memory runs out.
     pub fn new(alloc: Global) -> Result<Tally, AllocError> {
         Ok(Tally {
             latencies: Latencies::new(alloc)?,
@@ -47,7 +51,7 @@ impl Tally {
         })
     }
 
-    /// An event came at the moment `now`, which was sent at the moment `sent`.
+    /// Records an event that was sent at `sent` and arrived at `now`.
     pub fn arrived(&mut self, arrival: Reception, sent: u64, now: u64) {
         self.delivered = self.delivered.saturating_add(1);
         self.last_delivered = now;
@@ -60,14 +64,14 @@ impl Tally {
         }
     }
 
-    /// How many events came, each once.
+    /// Returns how many events arrived, without repetitions.
     pub fn arrivals(&self) -> u64 {
         self.delivered
             .saturating_sub(self.doubled)
             .saturating_sub(self.unknown)
     }
 
-    /// Adds what came of another thread's part.
+    /// Adds the results of another thread's part, except `ready`.
     pub fn add(&mut self, other: &Tally) {
         self.latencies.add(&other.latencies);
         self.begun = self.begun.max(other.begun);
@@ -81,7 +85,7 @@ impl Tally {
         self.unknown = self.unknown.saturating_add(other.unknown);
     }
 
-    /// Whether each event came to each session once and in order.
+    /// Returns `true` if each event reached each of its sessions once and in order.
     pub fn is_whole(&self) -> bool {
         self.lost == 0 && self.doubled == 0 && self.out_of_order == 0 && self.unknown == 0
     }

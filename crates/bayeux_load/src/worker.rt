@@ -10,21 +10,24 @@ use std::sync::Wait;
 use std::sync::atomic::Ordering;
 use std::time::Clock;
 
-// How often the line of progress is written, in nanoseconds.
+// Nanoseconds between updates of the line of progress.
 const SHOWN: u64 = 200_000_000;
 
-/// What a thread waits with.
+/// What a thread uses to wait and read.
 #[derive(Drop)]
 struct Waiting {
     poll: Poll,
     events: Events,
     buffer: Vec<u8>,
-    // When the line of progress was written; none: it is not to be.
+    // When the line of progress was last written, or `None` if it is not shown.
     shown: Option<u64>,
 }
 
-/// What comes of a part of a load, in which all threads have nothing left to do. An error says why
-/// the load ends.
+/// Runs a part until the load is over, and returns its result.
+///
+/// # Errors
+///
+/// The first fault of this part, or `Other` if another part failed.
 pub fn work<R>(
     rt: &R,
     context: &Context,
@@ -56,7 +59,7 @@ fn make_waiting(net: &impl Net, alloc: Global, is_shown: bool) -> Result<Waiting
     })
 }
 
-// Goes on until all threads have nothing left to do.
+// Takes turns until the load is over.
 fn turns<R>(
     rt: &R,
     context: &Context,
@@ -74,7 +77,7 @@ where
     Ok(())
 }
 
-// Makes one turn, and tells whether all threads have nothing left to do.
+// Takes one turn, and returns `true` if the load is over.
 fn is_last<R>(
     rt: &R,
     context: &Context,
@@ -97,7 +100,7 @@ where
     Ok(is_over)
 }
 
-// Opens what is to be opened, waits, and goes on with the clients whose connections became ready.
+// Opens more clients, waits, and serves those with a ready connection.
 fn serve<R>(
     rt: &R,
     context: &Context,
@@ -117,7 +120,7 @@ where
     Ok(())
 }
 
-// Writes the line of progress, or takes it away at the end.
+// Writes the line of progress, or erases it at the end.
 fn show(rt: &impl Eprint, context: &Context, now: u64, is_over: bool) {
     if is_over {
         let _ = rt.eprint("\r\x1b[K");

@@ -1,4 +1,4 @@
-//! Reads a script of requests on standard input, or a record of what a server took in, and writes what is answered.
+//! The program `bayeux_replay`, which answers a script of requests or the record of a server.
 #![tactic(auto)]
 
 use bx_entry::ByRemainder;
@@ -11,7 +11,7 @@ use std::sync::Arc;
 use std::thread::Threads;
 use std::{env, io};
 
-/// What standard error says of bad arguments.
+/// Usage text, printed if the arguments for a script are wrong.
 const USAGE: &str =
     "usage: bayeux_replay shards workers timeout interval max_interval [options [limit]]";
 
@@ -25,8 +25,8 @@ fn main(rt: HostRuntime) -> ExitCode {
     }
 }
 
-// Replays what the words of the process name: a record in a file or, where the file is `-`, on standard input, or a script
-// on standard input by the words that say how the server is run.
+// Replays the record that `--record` names, in a file or, for `-`, on standard input. Without
+// `--record`, replays the script on standard input.
 fn run<T: Threads + Sync>(rt: &HostRuntime, threads: &T) -> Result<ExitCode, ScriptFault> {
     let words = words(rt).map_err(|error| ScriptFault::of_read(&error))?;
     match words.as_slice() {
@@ -44,7 +44,7 @@ fn run<T: Threads + Sync>(rt: &HostRuntime, threads: &T) -> Result<ExitCode, Scr
     }
 }
 
-// The words that the process was given.
+// Returns the command-line arguments.
 fn words(rt: &HostRuntime) -> io::Result<Vec<String>> {
     let mut words = Vec::new(rt.alloc());
     for word in env::args(rt)?.skip(1) {
@@ -53,6 +53,7 @@ fn words(rt: &HostRuntime) -> io::Result<Vec<String>> {
     Ok(words)
 }
 
+// Replays the script on standard input, or prints what is wrong with the arguments.
 fn replay_script<T: Threads + Sync>(
     rt: &HostRuntime,
     threads: &T,
@@ -77,6 +78,7 @@ fn replay_script<T: Threads + Sync>(
     }
 }
 
+// Replays a record, or prints what is wrong with its first line.
 fn replay_record<T: Threads + Sync, R: Read + Drop>(
     rt: &HostRuntime,
     threads: &T,
@@ -93,7 +95,7 @@ fn replay_record<T: Threads + Sync, R: Read + Drop>(
     }
 }
 
-// Answers all lines that are left.
+// Answers the remaining lines.
 fn answer<T: Threads + Sync, R: BufRead + Drop>(
     rt: &HostRuntime,
     threads: &T,

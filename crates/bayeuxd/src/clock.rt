@@ -1,4 +1,4 @@
-//! The clock and the nonces of the program.
+//! The clock and the nonces of `bayeuxd`.
 ghost use Rattle.std.specs.Prelude.{◌≡◌, ◌-◌, ◌/◌, ◌^◌, min};
 ghost use Rattle.std.specs.Duration.{as_nanos};
 
@@ -10,12 +10,12 @@ use std::sync::{Arc, Mutex, Wait};
 use std::time;
 use std::time::{Duration, Instant};
 
-/// Milliseconds since the program began.
+/// A clock that counts the milliseconds since `start`.
 #[derive(Clone, Copy)]
 pub struct SinceStart<R> {
-    /// The leave to read the clock.
+    /// The right to read the clock.
     pub rt: R,
-    /// When the program began.
+    /// When the server started.
     pub start: Instant,
 }
 
@@ -29,23 +29,24 @@ impl<R: time::Clock> Clock for SinceStart<R> {
     }
 }
 
-// The whole milliseconds of a time; where they are more than a moment can tell, one that the hub refuses.
+// Converts to whole milliseconds, at most `u64::MAX`, which the hub refuses.
 fn millis_of(passed: Duration) -> u64
     ensures { result ≡ min (as_nanos passed / 1_000_000) (2 ^ 64 - 1) }
 {
     u64::try_from(passed.as_millis()).unwrap_or(u64::MAX)
 }
 
-/// Two words each of a generator that all connections share, at whichever door, the upper one first.
+/// Nonces from a generator that all connections of both listeners share.
 #[derive(Drop)]
 pub struct Drawn<R> {
-    /// The leave to wait for the lock.
+    /// The right to wait for the lock.
     pub rt: R,
-    /// The generator, made of a seed of 32 bytes.
+    /// The generator, created from a seed of 32 bytes.
     pub generator: Arc<Mutex<ChaCha20Rng>, Global>,
 }
 
 impl<R: Wait> Nonces for Drawn<R> {
+    // Draws two 64-bit words, the upper one first.
     fn next(&self) -> u128 {
         let mut generator = self.generator.lock(&self.rt);
         let upper = generator.next_u64();

@@ -1,4 +1,4 @@
-//! The end of the server at the end of standard input.
+//! The end of the server when standard input ends.
 use bx_entry::Placing;
 use bx_figures::Counts;
 use bx_hub::{Gate, Hub};
@@ -10,7 +10,7 @@ use std::alloc::Global;
 use std::io::Read;
 use std::sync::{Arc, Wait};
 
-/// Reads standard input to its end, and says so.
+/// Reads standard input until it ends or fails, and then signals `told`.
 pub fn tell_at_end<R: Input>(rt: &R, told: Sender<()>) {
     let mut bytes = [0; 512];
     let mut input = rt.reader();
@@ -23,16 +23,20 @@ pub fn tell_at_end<R: Input>(rt: &R, told: Sender<()>) {
     let _ = told.send(());
 }
 
-/// Ready once the end was told and the hub was closed, which answers held connects.
+/// A future that waits for `told` and closes the hub, which ends held connects.
+///
+/// # Blocking
+///
+/// Polling it locks as [`Hub::close`] does.
 #[derive(Drop)]
 pub struct Closing<J: Naming, P: Placing, G: Gate + Drop, R: Wait + Drop, A> {
-    /// The leave to wait for the hub's locks.
+    /// The right to wait for the hub's locks.
     pub rt: R,
-    /// What is closed.
+    /// The hub to close.
     pub hub: Arc<Hub<J, P, G, R>, Global>,
-    /// Where it is said that the server listens no more.
+    /// Metrics, which then show that the server no longer listens.
     pub counts: Arc<Counts, Global>,
-    /// Tells the end.
+    /// The signal to end.
     pub told: A,
 }
 

@@ -1,4 +1,4 @@
-//! The listener of figures.
+//! The listener for metrics.
 ghost use Rattle.std.specs.Prelude.{◌≤◌, length, IfOk};
 
 use bx_figures::{Asked, Counts, Figure, response_text};
@@ -11,21 +11,24 @@ use std::thread::Threads;
 use std::time::{Clock, Duration, Instant};
 use std::{io, thread};
 
-// How long a client has for the head of its request, and how long a write may bring nothing, in milliseconds. (This
-// server's choice.)
+// Milliseconds for a request's head to arrive, and for a write to make progress. Policy of this
+// server.
 const PATIENCE: u64 = 2000;
 
-// How long nothing is accepted after a failure, as while the process has no descriptor left, in milliseconds. (This
-// server's choice.)
+// Pause after a failure to accept, for example without a free descriptor, in milliseconds. Policy
+// of this server.
 const PAUSE: u64 = 20;
 
-// How many bytes of a request's head are read, and in how many reads at most. (This server's choice.)
+// The most bytes read of a request's head, and the most reads. Policy of this server.
 const HEAD: usize = 4096;
 
 const READS: usize = 16;
 
-/// Answers for figures at this address, by a thread that goes on until the program ends. `Err` where the system refuses
-/// the address or the thread, or there is no memory.
+/// Serves metrics at `address`, on a thread that runs until the program ends.
+///
+/// # Errors
+///
+/// If the system refuses a call, or memory runs out.
 pub fn show_figures<R>(rt: R, address: &str, counts: &Arc<Counts, Global>) -> io::Result<()>
 where
     R: Net<Listener = TcpListener, Stream = TcpStream>
@@ -50,8 +53,8 @@ where
     Ok(())
 }
 
-// Answers one connection after another, each one request. A client that breaks off, or whose head is not there after
-// two seconds, has no answer.
+// Answers one request on each connection, one after another. A head that takes too long gets no
+// response.
 fn answer_all<R: Clock>(
     rt: &R,
     alloc: Global,
@@ -91,8 +94,8 @@ fn answer<R: Clock>(
     stream.write_all(text.as_slice())
 }
 
-// How many bytes of a head have come: to its empty line, to the end of what comes, or as many as are read. `Err` where
-// its time is over.
+// Reads a head up to its empty line, the end of the data or a limit, and returns its length. Fails
+// if it takes too long.
 fn read_head<R: Clock>(rt: &R, stream: &mut TcpStream, head: &mut [u8]) -> io::Result<usize>
     ensures { IfOk result (λ n. n ≤ length head.new) }
 {
@@ -103,7 +106,7 @@ fn read_head<R: Clock>(rt: &R, stream: &mut TcpStream, head: &mut [u8]) -> io::R
             break;
         };
         let left = Duration::from_millis(PATIENCE).saturating_sub(begun.elapsed(rt)?);
-        // (The system refuses a wait of no time.)
+        // The system rejects a timeout of zero.
         stream.set_read_timeout(Some(left))?;
         let read = stream.read(room)?;
         length += read;
@@ -114,7 +117,7 @@ fn read_head<R: Clock>(rt: &R, stream: &mut TcpStream, head: &mut [u8]) -> io::R
     Ok(length)
 }
 
-// Whether a head has its empty line.
+// Returns `true` if `head` contains its empty line.
 fn is_whole(head: &[u8]) -> bool {
     head.windows(4).any(|it| it == b"\r\n\r\n".as_slice())
 }

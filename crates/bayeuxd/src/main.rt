@@ -1,4 +1,4 @@
-//! Serves Bayeux over HTTP.
+//! The daemon `bayeuxd`, which serves Bayeux over HTTP.
 #![tactic(auto)]
 
 mod clock;
@@ -28,29 +28,29 @@ use std::random::RandomSource;
 use std::sync::Arc;
 use std::{env, io, thread};
 
-/// What standard error says where the words are no arguments.
+/// Usage text, printed if positional arguments are wrong.
 const USAGE: &str =
     "usage: bayeuxd address shards timeout interval max_interval seed connections [options [limit]]";
 
-/// What it says below that where there is no word.
+/// Second line of the usage text, if there are no arguments.
 const FLAGS: &str = "or bayeuxd [--listen ADDRESS] [FLAG ..], of which bayeuxd --help tells all";
 
-/// What it says where there is nothing to listen on, below the line of the log that has the address and the reason.
+/// Error text if the server cannot listen or serve. The log has the reason.
 const CANNOT_LISTEN: &str = "bayeuxd: cannot listen";
 
-/// What it says where there is nothing to listen on for those who ask for figures, before it names the address.
+/// Error text if the listener for metrics fails. Its address and the reason follow.
 const NO_FIGURES: &str = "bayeuxd: cannot listen for figures";
 
-/// What it says where the file of a record cannot be made or written, before it names it.
+/// Error text if the record file cannot be created or written. Its name and the reason follow.
 const CANNOT_RECORD: &str = "bayeuxd: cannot record";
 
-/// What it says where the system refuses the thread that waits for the end of standard input.
+/// Error text if the thread that reads standard input cannot start.
 const NO_READER: &str = "bayeuxd: cannot read standard input";
 
-// In milliseconds. A shorter time may have been meant in seconds.
+// One second, in milliseconds. A shorter time may have been meant in seconds.
 const SECOND: u32 = 1000;
 
-/// What it says of memory that was refused.
+/// Error text if memory runs out.
 const OUT_OF_MEMORY: &str = "bayeuxd: out of memory";
 
 fn main(rt: HostRuntime) -> ExitCode {
@@ -84,12 +84,13 @@ fn main(rt: HostRuntime) -> ExitCode {
     {
         return refused_at(&rt, NO_FIGURES, address, &error);
     }
-    // Behind all that is listened at, so that an address that is refused leaves no file.
+    // Created last, so that a failed listener leaves no file.
     let record_file = match record_of(&rt, &settings) {
         Ok(file) => file,
         Err(status) => return status,
     };
-    // Started here, since no other function may hand on the right to read to a thread.
+    // Spawned here, because no other function may give a thread the right to read standard input.
+    // Without `--until-eof`, `told` is kept: dropping it would end the server.
     let _kept = if settings.until_eof {
         let Ok(_reading) = thread::spawn(&rt, move || tell_at_end(&rt, told)) else {
             return failed(&rt, NO_READER);
@@ -117,7 +118,7 @@ fn main(rt: HostRuntime) -> ExitCode {
     }
 }
 
-// What the server is made of.
+// The parts of a server, before it listens.
 struct Parts<'a> {
     arguments: Serving,
     place: Place<'a>,
@@ -127,7 +128,7 @@ struct Parts<'a> {
     end: Receiver<()>,
 }
 
-// What the server is made of, by its settings; or the status, once it was said what is wrong.
+// Creates the parts, or prints what is wrong and returns the exit status.
 fn parts_of<'a>(rt: &HostRuntime, settings: &Settings<'a>) -> Result<Parts<'a>, ExitCode> {
     let alloc = rt.alloc();
     let Ok(seed) = seed_of(rt, settings.seed) else {
@@ -160,7 +161,7 @@ fn parts_of<'a>(rt: &HostRuntime, settings: &Settings<'a>) -> Result<Parts<'a>, 
     })
 }
 
-// The file of the record, where there is to be one; or the status, once it was said what is wrong.
+// Creates the record file, if `--record` names one. Fails as `parts_of` does.
 fn record_of(
     rt: &HostRuntime,
     settings: &Settings<'_>,
@@ -174,7 +175,7 @@ fn record_of(
     }
 }
 
-// How large a body or a query may be.
+// Returns the size limit of a body or a query.
 fn body_of(settings: &Settings<'_>) -> BodyLimit {
     match BodyLimit::new(settings.body) {
         Some(limit) => limit,
@@ -182,7 +183,7 @@ fn body_of(settings: &Settings<'_>) -> BodyLimit {
     }
 }
 
-// The status where nothing is served, or no longer, once it was said why.
+// Reports why serving failed, and returns the exit status.
 fn not_served(rt: &HostRuntime, fault: ServeFault<'_>) -> ExitCode {
     match fault {
         ServeFault::CannotListen(name, error) => cannot_listen(rt, name, &error),
@@ -196,13 +197,13 @@ fn not_served(rt: &HostRuntime, fault: ServeFault<'_>) -> ExitCode {
     }
 }
 
-// Counts that are 0, for so many shards.
+// Creates metrics for `shards` shards, all 0.
 fn counts_of(rt: &HostRuntime, shards: usize) -> io::Result<Arc<Counts, Global>> {
     let alloc = rt.alloc();
     Ok(Arc::new(alloc, Counts::new(alloc, shards)?)?)
 }
 
-// A line with all settings but the seed.
+// Logs all settings except the seed. Warns of a `timeout` or `max_interval` below a second.
 fn tell_settings(rt: &HostRuntime, settings: &Settings<'_>) {
     if let Ok(text) = settings_text(rt.alloc(), settings) {
         info!(rt; target: "bayeuxd", "starting {text}");
@@ -218,7 +219,7 @@ fn tell_settings(rt: &HostRuntime, settings: &Settings<'_>) {
     }
 }
 
-// All settings but the seed.
+// Formats all settings except the seed.
 fn settings_text(alloc: Global, settings: &Settings<'_>) -> Result<String, AllocError> {
     let config = settings.config;
     let mut text = format!(in alloc;
@@ -256,7 +257,7 @@ fn settings_text(alloc: Global, settings: &Settings<'_>) -> Result<String, Alloc
     Ok(text)
 }
 
-// The arguments that the process was given.
+// Returns the command-line arguments.
 fn words(rt: &HostRuntime) -> io::Result<Vec<String>> {
     let mut words = Vec::new(rt.alloc());
     for word in env::args(rt)?.skip(1) {
@@ -265,8 +266,8 @@ fn words(rt: &HostRuntime) -> io::Result<Vec<String>> {
     Ok(words)
 }
 
-// What the words say, as flags where the first begins as one, and else in their order; or the status, once it was said
-// what is wrong.
+// Parses the arguments, as flags or by position. Prints errors, `--help` and `--version`, and
+// returns the exit status for them.
 fn settings_of<'a>(
     rt: &HostRuntime,
     words: &'a [String],
@@ -291,14 +292,14 @@ fn settings_of<'a>(
     }
 }
 
-// Whether these are flags, and not words in their order.
+// Returns `true` if the first argument begins with `-`.
 fn are_flags(words: &[String]) -> bool {
     words
         .first()
         .is_some_and(|it| it.as_bytes().starts_with(b"-"))
 }
 
-// The seed of the generator of nonces.
+// Returns the seed for nonces: from the arguments, a file or the system.
 fn seed_of(rt: &HostRuntime, seed: Seed<'_>) -> io::Result<[u8; 32]> {
     match seed {
         Seed::Said(seed) => Ok(seed),
@@ -311,7 +312,7 @@ fn seed_of(rt: &HostRuntime, seed: Seed<'_>) -> io::Result<[u8; 32]> {
     }
 }
 
-// Where the server listens by this name; or the status, once it was said what is wrong.
+// Resolves an address to listen at. Fails as `parts_of` does.
 fn place_of<'a>(rt: &HostRuntime, name: &'a str) -> Result<Place<'a>, ExitCode> {
     match addresses_of(rt, name) {
         Ok(addresses) => Ok(Place { name, addresses }),
@@ -319,7 +320,7 @@ fn place_of<'a>(rt: &HostRuntime, name: &'a str) -> Result<Place<'a>, ExitCode> 
     }
 }
 
-// The addresses that a name or an address with a port stands for.
+// Resolves a host and a port.
 fn addresses_of(rt: &HostRuntime, name: &str) -> io::Result<Vec<SocketAddr>> {
     let mut addresses = Vec::new(rt.alloc());
     for address in name.to_socket_addrs(rt)? {
@@ -328,13 +329,13 @@ fn addresses_of(rt: &HostRuntime, name: &str) -> io::Result<Vec<SocketAddr>> {
     Ok(addresses)
 }
 
-// The status where there is nothing to listen on at an address, once the log said where and why.
+// Logs where and why the server cannot listen, and returns the exit status.
 fn cannot_listen(rt: &HostRuntime, listen: &str, error: &io::Error) -> ExitCode {
     error!(rt; target: "bayeuxd", "cannot listen at {listen}: {error}");
     failed(rt, CANNOT_LISTEN)
 }
 
-// The status where the system refused something at an address, or a file, once it was said what, where and why.
+// Prints what failed, where and why, and returns the exit status.
 fn refused_at(rt: &HostRuntime, what: &str, place: &str, error: &io::Error) -> ExitCode {
     match format!(in rt.alloc(); "{what} at {place}: {error}") {
         Ok(why) => failed(rt, why.as_str()),
@@ -342,6 +343,7 @@ fn refused_at(rt: &HostRuntime, what: &str, place: &str, error: &io::Error) -> E
     }
 }
 
+// Prints `why` and returns the exit status.
 fn failed(rt: &HostRuntime, why: &str) -> ExitCode {
     let _ = rt.eprintln(why);
     ExitCode::FAILURE

@@ -1,4 +1,4 @@
-//! The record of what the hub lists: its file, and the thread that writes it.
+//! The record of a hub's list: its file, and the thread that writes it.
 use bx_advice::Config;
 use bx_answers::{AnswerLog, TakenAnswers};
 use bx_entry::ByRemainder;
@@ -18,19 +18,22 @@ use std::thread::{JoinHandle, Threads};
 use std::time::Clock;
 use std::{io, thread};
 
-// Who may read the file of a record, and write it: its owner alone.
+// Permissions of the record file: only its owner may read or write it.
 const OWNERS: u32 = 0o600;
 
 /// The file of a record.
 #[derive(Drop)]
 pub struct RecordFile<F> {
     file: CountedFile<F>,
-    /// Whether the digests of answers stand there too.
+    /// Whether digests of answers are recorded too.
     has_answers: bool,
 }
 
-/// Makes the file of a record, with the line that says how the server is run. `Err` where there is such a file, or
-/// where the system refuses it.
+/// Creates the record file at `path`, with the line that describes `config`.
+///
+/// # Errors
+///
+/// If `path` exists, I/O fails or memory runs out. The file may have been created.
 pub fn make_record(
     rt: &HostRuntime,
     path: &str,
@@ -48,7 +51,7 @@ pub fn make_record(
     Ok(RecordFile { file, has_answers })
 }
 
-/// The thread that writes the record, where there is one.
+/// The thread that writes the record, if there is one.
 #[derive(Drop)]
 pub struct Recorder {
     thread: Option<JoinHandle<()>>,
@@ -57,8 +60,18 @@ pub struct Recorder {
 }
 
 impl Recorder {
-    /// Records from now on what this hub lists, in this file, where there is one. A line says so where the record ends
-    /// before the server does. `Err` where it has listed something, or where memory or the thread is refused.
+    /// Starts to record what is appended to the hub's list, if `file` is given.
+    ///
+    /// A thread writes it, and logs a warning if the record ends before the server.
+    ///
+    /// # Errors
+    ///
+    /// If memory runs out, the list is not empty (`InvalidInput`), or the thread cannot start. In
+    /// the last case the hub keeps recording.
+    ///
+    /// # Blocking
+    ///
+    /// Locks admission.
     pub fn start<J, R, F>(
         rt: R,
         hub: &Arc<Hub<J, ByRemainder, OpenGate, R>, Global>,
@@ -101,7 +114,11 @@ impl Recorder {
         })
     }
 
-    /// Where answers are noted, where they are.
+    /// Returns the log of answers' digests, or `None` if they are not recorded.
+    ///
+    /// # Errors
+    ///
+    /// `AllocError` if memory runs out.
     pub fn answers(&self) -> Result<Option<Arc<AnswerLog, Global>>, AllocError> {
         match &self.answers {
             Some(log) => Ok(Some(Arc::try_clone(log)?)),
@@ -109,7 +126,7 @@ impl Recorder {
         }
     }
 
-    /// Writes what waits, and ends.
+    /// Writes what waits, and ends the thread.
     pub fn end<R: Threads>(self, rt: &R) {
         let Recorder {
             thread,
@@ -123,14 +140,14 @@ impl Recorder {
     }
 }
 
-// Why a record goes no further than to a place of the list, the end of what it has.
+// Why a record ended, and up to which place it goes.
 #[derive(Clone, Copy, Debug)]
 struct Ended {
     fault: RecordFault,
     place: u64,
 }
 
-// The record of a hub, as it waits to be written.
+// The lines of a hub's record and of its answers that wait to be written.
 #[derive(Drop)]
 struct HubRecord<J: Naming, R: Wait + Drop> {
     rt: R,
@@ -157,7 +174,7 @@ impl<J: Naming, R: Wait + Log + Drop> Source for HubRecord<J, R> {
         })
     }
 
-    // A request is listed before its answer is noted.
+    // A request is appended to the list before its answer is noted.
     fn take_notes(&mut self, empty: Vec<u8>) -> Vec<u8> {
         let TakenAnswers { bytes, fault, .. } = self.log.take(&self.rt, empty);
         if let Some(fault) = fault {
@@ -173,7 +190,7 @@ impl<J: Naming, R: Wait + Log + Drop> Source for HubRecord<J, R> {
     }
 }
 
-// Says what was written.
+// Logs how much was written, and why the record ended.
 fn tell<R: Log>(rt: &R, written: &Written<Ended>) {
     let count = written.count;
     match &written.end {
@@ -191,7 +208,7 @@ fn tell<R: Log>(rt: &R, written: &Written<Ended>) {
     }
 }
 
-// What a line says of it.
+// Returns the log text for `fault`.
 fn why_of(fault: RecordFault) -> &'static str {
     match fault {
         RecordFault::Full => "more than 64 MiB would wait to be written",

@@ -1,10 +1,9 @@
-//! The lines that say why requests are refused.
+//! Log lines that say why requests were refused.
 use bx_figures::{Counts, Figure, Reason};
 use bx_message::Status;
 use log::{Log, warn};
 
-// Why requests are refused or have no answer, and what a line says of it: how one with 400, 403 or 413 is wrong, and
-// why others get 503 or nothing.
+// Metrics of refused or unanswered requests, each with its log text.
 const CAUSES: [(Figure, &str); 10] = [
     (
         Figure::Responses(Status::BadRequest),
@@ -36,19 +35,19 @@ const CAUSES: [(Figure, &str); 10] = [
     (Figure::Missing, "no memory for a response"),
 ];
 
-/// How many of each cause a line has told.
+/// The number of refusals already logged, by cause.
 #[derive(Clone, Copy)]
 pub struct Refusals {
     told: [u64; 10],
 }
 
 impl Refusals {
-    /// None was told.
+    /// Creates counts of 0.
     pub fn new() -> Refusals {
         Refusals { told: [0; 10] }
     }
 
-    /// A line for each cause of which more came since the last call, with how many those are.
+    /// Logs one line for each cause that occurred since the last call, with how often it did.
     pub fn tell<R: Log>(&mut self, rt: &R, counts: &Counts) {
         for ((figure, text), told) in CAUSES.iter().zip(self.told.iter_mut()) {
             let count = counts.get(*figure);

@@ -1,4 +1,4 @@
-//! Makes the hub, the thread of ticks and the runtime, and serves the connections of an address over them.
+//! Runs the server: the hub, the thread that posts ticks, the record, and the listeners.
 ghost use Rattle.std.specs.Prelude.{◌≡◌};
 ghost use Rattle.bx_entry.specs.Placings.{by_remainder};
 
@@ -33,30 +33,30 @@ use std::{io, thread};
 use tokio::net::TcpListener;
 use tokio::runtime::Runtime;
 
-/// How the server is run.
+/// How the server runs.
 #[derive(Clone, Copy)]
 pub struct Serving {
-    /// How many shards there are, the times in milliseconds, the limits and the options.
+    /// Number of shards, times in milliseconds, limits and options.
     pub config: Config,
-    /// How large a body or a query may be.
+    /// The size limit of a body or a query.
     pub body: BodyLimit,
-    /// Of the generator of nonces.
+    /// The seed for nonces.
     pub seed: [u8; 32],
-    /// After how many connections it ends; 0: never.
+    /// The number of connections after which the server ends, or 0 for no limit.
     pub connections: u64,
-    /// Whether it ends at the end of standard input too.
+    /// Whether the server also ends when standard input does.
     pub until_eof: bool,
 }
 
-// How long connections are served from the end of standard input on, in milliseconds. (This server's choice.)
+// How long connections are served after the signal to end, in milliseconds. Policy of this server.
 const LEAVE: u64 = 1000;
 
-/// Why nothing is served, or no longer.
+/// Why the server cannot start, or stopped.
 #[derive(Debug, Drop)]
 pub enum ServeFault<'a> {
-    /// At this place the system refuses each address, for this reason.
+    /// The name has no usable address. The error is that of the last address.
     CannotListen(&'a str, io::Error),
-    /// It refuses the runtime, a thread or the print, for this reason, or memory.
+    /// The system refuses the runtime, a thread or the print, or memory runs out.
     CannotServe(io::Error),
 }
 
@@ -66,24 +66,30 @@ impl From<io::Error> for ServeFault<'_> {
     }
 }
 
-/// Where the server listens, as it was said, and the addresses that this stands for.
+/// A name to listen at, as it was given, and the addresses that it resolves to.
 #[derive(Drop)]
 pub struct Place<'a> {
     pub name: &'a str,
     pub addresses: Vec<SocketAddr>,
 }
 
-// Where the connections of publishers and those of readers come.
+// The publishers' listener and the read-only listener.
 type Listeners = (TcpListener, Option<TcpListener>);
 
-/// The runtime, and where it listens.
+/// The runtime and its listeners.
 #[derive(Drop)]
 pub struct Listening {
     runtime: Runtime,
     listeners: Listeners,
 }
 
-/// Listens at these places, at the second one for readers, at each on the first of its addresses that the system grants.
+/// Listens at `place`, and at `readers` with the read-only listener.
+///
+/// At each, uses the first address that the system grants.
+///
+/// # Errors
+///
+/// `CannotServe` if the runtime cannot be created; `CannotListen` if a place has no usable address.
 pub fn listen<'a, R>(
     rt: &R,
     place: Place<'a>,
@@ -104,10 +110,19 @@ where
     })
 }
 
-/// Serves where it listens, and prints these addresses. Once the end is told it takes no more connections, answers held
-/// connects, and cuts what is still open where it was to end so. Where there is a file for a record, what is listed is
-/// written there. It ends once as many connections as were asked for have come and have ended, or standard input has.
-/// `Err` where the system refuses a thread, the print or memory.
+/// Serves connections until as many as configured have come and ended, or `told` is ready.
+///
+/// Prints the listeners' addresses, and records the list in `record_file`, if given. Once `told` is
+/// ready, it accepts no more connections and ends held connects. With `until_eof`, it cuts
+/// connections that are still open after a second.
+///
+/// # Errors
+///
+/// If printing or a system call fails, or memory runs out.
+///
+/// # Blocking
+///
+/// Blocks until serving has ended.
 pub fn serve<R, F, W>(
     rt: R,
     listening: Listening,
@@ -151,7 +166,7 @@ where
     )
 }
 
-// Serves over a hub of its own, while a thread lets the clock tick.
+// Serves over a new hub, while a thread posts ticks.
 fn run<J, R, F, W>(
     rt: R,
     opened: Opened,
@@ -216,7 +231,7 @@ where
         counts: Arc::try_clone(counts)?,
         told,
     };
-    // Before anything is listed, as by the first tick.
+    // Started before anything is appended to the list, such as the first tick.
     let recorder = Recorder::start(rt, &hub, record_file)?;
     let doors = Doors {
         rt,
@@ -244,7 +259,7 @@ where
     served
 }
 
-// Says where it listens.
+// Logs and prints a listener's address.
 fn tell<R: Log, W: Write>(
     rt: &R,
     what: &str,
@@ -257,7 +272,7 @@ fn tell<R: Log, W: Write>(
     writer.flush()
 }
 
-// Listens on the first address of a place that the system grants; where it grants none, the error is that of the last.
+// Listens at the first usable address of `place`. If there is none, returns the last error.
 fn bind<'a, R: Net>(
     rt: &R,
     runtime: &Runtime,
@@ -273,7 +288,7 @@ fn bind<'a, R: Net>(
     Err(ServeFault::CannotListen(place.name, refused))
 }
 
-// What all doors share: the hub, its clock, the generator of nonces, and what looks on.
+// What both listeners share.
 #[derive(Drop)]
 struct Doors<J: Naming, R: Wait + Drop> {
     rt: R,
@@ -284,7 +299,7 @@ struct Doors<J: Naming, R: Wait + Drop> {
     answers: Option<Arc<AnswerLog, Global>>,
 }
 
-// A door: where connections come, what answers their requests, and what looks on.
+// A listener with its backend and its observer.
 #[derive(Drop)]
 struct Doorway<S, O> {
     listener: TcpListener,
@@ -293,7 +308,7 @@ struct Doorway<S, O> {
 }
 
 impl<J: Naming, R: Wait + Clock + AllocGlobal + Copy + Drop> Doors<J, R> {
-    // The door of this listener.
+    // Creates the backend and the observer of `listener`.
     fn at(
         &self,
         listener: TcpListener,
@@ -325,8 +340,9 @@ impl<J: Naming, R: Wait + Clock + AllocGlobal + Copy + Drop> Doors<J, R> {
     }
 }
 
-// Serves the connections that come by these doors. What these are made of is not named where the tasks of connections
-// are, which the prover could not compare in reasonable time.
+// Serves both listeners.
+//
+// Prover: generic, because comparing the full types in the connections' tasks takes too long.
 fn serve_doors<S, I, O, R, A>(
     rt: R,
     runtime: &mut Runtime,
@@ -352,7 +368,7 @@ where
     serve_until(rt, runtime, first, other, arguments.connections, end)
 }
 
-// A door as it is served.
+// Adds the service to a listener.
 fn entrance_of<S: Backend, O: Observer>(
     alloc: Global,
     body: BodyLimit,

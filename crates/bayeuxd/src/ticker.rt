@@ -1,4 +1,4 @@
-//! The thread of ticks.
+//! The thread that posts ticks.
 use crate::refusals::Refusals;
 use bx_entry::Placing;
 use bx_figures::{Counts, Figure};
@@ -13,22 +13,27 @@ use std::sync::atomic::{AtomicBool, Ordering};
 use std::time::Duration;
 use std::{thread, time};
 
-// How long a tick is, in milliseconds. (This server's choice.)
+// The pause before each tick, in milliseconds. Policy of this server.
 const TICK: u64 = 100;
 
-// After how many ticks a filed answer that nobody took is dropped: a minute. (This server's
-// choice.)
+// Number of ticks that a filed answer is kept if not taken: a minute. Policy of this server.
 const KEPT: usize = 600;
 
-// The same where more are filed than sessions may live: a second. (This server's choice.)
+// The same if more answers are filed than sessions may live: a second. Policy of this server.
 const KEPT_IN_A_CROWD: usize = 10;
 
-// After how many ticks it is said again why requests are refused: a second. (This server's choice.)
+// Number of ticks between logs of refusals: a second. Policy of this server.
 const TELLING: u64 = 10;
 
-/// Posts a tick every 100 ms until it is told to stop. It counts what came of each, says once a second why requests are
-/// refused, where some were, and drops filed answers that nobody took for too long: sooner where more than `crowd` are
-/// filed.
+/// Posts a tick every 100 ms until `is_over` is set.
+///
+/// Counts each and copies the hub's state to `counts`. Logs once a second why requests were
+/// refused, and drops filed answers that were not taken for too long. With more than `crowd` filed
+/// answers it drops them sooner.
+///
+/// # Blocking
+///
+/// Sleeps between ticks. Locks admission and each shard in turn.
 pub fn tick<J, P, G, H, R, C>(
     rt: &R,
     alloc: Global,
@@ -60,7 +65,7 @@ where
         if turn % TELLING == 0 {
             refusals.tell(rt, counts);
         }
-        // One that is refused, as for want of memory, drops answers all the same.
+        // A refused tick adds no place. Then answers are dropped only if too many are filed.
         match hub.tick(rt, alloc, &mut pass, clock.now()) {
             Ok(ticked) => {
                 count_tick(counts, ticked.brought.behind());
@@ -81,7 +86,7 @@ where
     }
 }
 
-// Takes the places of all ticks but the newest ones, of which so many are kept, and gives the last that it took.
+// Removes all places except the newest `kept`, and returns the last one removed.
 fn last_before(places: &mut VecDeque<u64>, kept: usize) -> Option<u64> {
     let mut last = None;
     for _ in kept..places.len() {
@@ -90,7 +95,7 @@ fn last_before(places: &mut VecDeque<u64>, kept: usize) -> Option<u64> {
     last
 }
 
-// Counts a tick that was taken into the list, with the shards that stayed behind it.
+// Counts an appended tick, and sets how many shards lag after it.
 fn count_tick(counts: &Counts, behind: Lagging) {
     let Lagging {
         memory,
@@ -107,7 +112,7 @@ fn count_tick(counts: &Counts, behind: Lagging) {
     counts.set(Figure::ShardsBehind, shards);
 }
 
-// Writes down how the hub stands, and each of its shards, and gives how many answers are filed.
+// Copies the state of the hub and its shards to `counts`. Returns how many answers are filed.
 fn survey<J: Naming, P: Placing, G: Gate + Drop, H: Wait + Drop, R: Wait>(
     rt: &R,
     hub: &Hub<J, P, G, H>,

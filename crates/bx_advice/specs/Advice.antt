@@ -1,19 +1,21 @@
--- The advice that goes with each outcome of a message.
+-- The advice for each outcome of a message.
 use Rattle.std.specs.Prelude.{Option, Some, None, option_map}
 use Rattle.bx_advice.specs.declared.{error.Error.Error, config.Config.Config, advice.Advice.Advice, advice.Reconnect.Reconnect, advice.Outcome.Outcome}
 use Rattle.bx_advice.specs.declared.error.Error.TheVariants.{UnsupportedVersion, NoSupportedConnectionType, TooManySessions, NoClientId, UnknownClient, QueueOverflow}
 use Rattle.bx_advice.specs.declared.advice.Reconnect.TheVariants.{Retry, Handshake, Never}
 use Rattle.bx_advice.specs.declared.advice.Outcome.TheVariants.{Opened, Connected, Disconnected, Done, Failed}
 
--- connect again
+-- Advice to connect again.
 abbrev pub retry : Config → Advice
 retry c = record { interval = c.interval; reconnect = Retry; timeout = Some c.timeout }
 
--- do this in place of a connect
+-- Advice of `reconnect` instead of another connect.
 abbrev pub instead : Config → Reconnect → Advice
 instead c reconnect = record { interval = c.interval; reconnect = reconnect; timeout = None }
 
--- After an error: a new handshake where the session is gone, can't go on or found no room; nothing more where this client can't be served; else no advice.
+-- What an error advises: to handshake, if the session is unknown, has overflowed or finds no room.
+-- If the client is not supported, not to reconnect; other errors advise nothing.
+-- Policy of this server.
 abbrev pub reconnect_of : Error → Option Reconnect
 reconnect_of UnsupportedVersion = Some Never
 reconnect_of NoSupportedConnectionType = Some Never
@@ -23,7 +25,7 @@ reconnect_of UnknownClient = Some Handshake
 reconnect_of QueueOverflow = Some Handshake
 reconnect_of _ = None
 
--- the advice that goes with each case
+-- The advice for an outcome, if any.
 abbrev pub advice_of : Config → Outcome → Option Advice
 advice_of c Opened = Some (retry c)
 advice_of c Connected = Some (retry c)

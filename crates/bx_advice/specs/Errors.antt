@@ -1,9 +1,9 @@
--- The texts of the errors that replies carry.
+-- The texts of the errors in replies.
 use Rattle.std.specs.Prelude.{ℕ, List, codes}
 use Rattle.bx_advice.specs.declared.error.Error.{Error}
 use Rattle.bx_advice.specs.declared.error.Error.TheVariants.{UnknownMetaChannel, SecondHandshake, UnsupportedVersion, NoSupportedConnectionType, TooManySessions, NoClientId, UnknownClient, UnknownConnectionType, InvalidChannel, InvalidPattern, TooManyPatterns, SubscriptionDenied, MissingSubscription, MissingData, SupersededConnect, QueueOverflow}
 
--- a code of three digits, two colons and a message
+-- A code of three digits, two colons and a message.
 abbrev pub error_text : Error → List ℕ
 error_text UnknownMetaChannel = codes "404::Unknown meta channel"
 error_text SecondHandshake = codes "400::Second handshake"

@@ -1,18 +1,18 @@
--- The server's limits.
+-- The limits of the server.
 use Rattle.std.specs.Prelude.{ℕ, ◌≡◌}
 use Rattle.std.proofs.Common.{lit≤}
 use Rattle.bx_advice.specs.declared.config.Limits.{Limits}
 use Rattle.bx_advice.specs.declared.config.TheConstants.{MAX_MOMENT, MAX_LENGTH, STANDARD_BATCH, STANDARD_BYTES, STANDARD_EVENTS, STANDARD_PATTERNS, STANDARD_SESSIONS, STANDARD_TEXTS}
 
--- the greatest moment that is taken
+-- The greatest moment that is accepted, in milliseconds.
 abbrev pub greatest_moment : ℕ
 greatest_moment = MAX_MOMENT
 
--- how many elements the list may have
+-- How many elements the list may have.
 abbrev pub greatest_length : ℕ
 greatest_length = MAX_LENGTH
 
--- the limits of this server
+-- The standard limits.
 abbrev pub standard_limits : Limits
 standard_limits = record {
   events = STANDARD_EVENTS;
@@ -24,7 +24,7 @@ standard_limits = record {
   some_batch = lit≤ tt;
 }
 
--- the limits are those of this server
+-- The limits are the standard ones.
 pub record IsStandard (limits : Limits) : Type 0 where
   pub events : limits.events ≡ standard_limits.events
   pub bytes : limits.bytes ≡ standard_limits.bytes

@@ -1,9 +1,9 @@
--- Which word says what a server is to do beside what it always does.
+-- The words that select a server's options.
 use Rattle.std.specs.Prelude.{ℕ, if◌then◌else◌, true, false, List, codes, Option, Some, None}
 use Rattle.std.specs.Str.{bytes_eq}
 use Rattle.bx_advice.specs.declared.options.Options.{Options}
 
--- `r`: waiting events ride; `a`: publishes of no session are accepted; `ra`: both; `-`: neither
+-- `r`: waiting events ride; `a`: sessionless publishes are accepted; `ra`: both; `-`: neither.
 abbrev pub options_in : List ℕ → Option Options
 options_in word =
     if bytes_eq word (codes "-") then Some (record { ride = false; anonymous = false })

@@ -1,51 +1,58 @@
+//! Outcomes of messages, and the advice for each.
 ghost use Rattle.std.specs.Prelude.{◌≡◌};
 ghost use Rattle.bx_advice.specs.Advice.{advice_of, reconnect_of};
 
 use crate::config::Config;
 use crate::error::Error;
 
-/// What a reply says of its message.
+/// The outcome of a message, as its reply reports it.
 #[derive(Clone, Copy, Debug, PartialEq, Eq)]
 pub enum Outcome {
-    /// A handshake's success.
+    /// A handshake succeeded.
     Opened,
-    /// A connect's success: given at once, by an event, or by a tick.
+    /// A connect succeeded: at once, by an event, or by a tick.
     Connected,
-    /// A held connect's success that its session's disconnect ended.
+    /// A held connect succeeded because its session disconnected.
     Disconnected,
-    /// Any other message's success.
+    /// Any other message succeeded.
     Done,
-    /// A refusal, or a connect that ended without a success.
+    /// A message was refused, or a connect failed.
     Failed(Error),
 }
 
-/// What a client is to do next. (Bayeux 1.0, the advice field `reconnect`.)
+/// What a client is to do next.
+///
+/// Bayeux 1.0, the advice field `reconnect`.
 #[derive(Clone, Copy, Debug, PartialEq, Eq)]
 pub enum Reconnect {
     /// Connect again.
     Retry,
     /// Handshake again.
     Handshake,
-    /// Neither; it is written as `none`.
+    /// Neither, written as `none` in JSON.
     Never,
 }
 
-/// A reply's advice; times are in milliseconds. (Bayeux 1.0, the field `advice`; that `timeout` stands in
-/// each advice to connect again, and in no other, is this server's choice.)
+/// The advice in a reply.
+///
+/// Bayeux 1.0, the field `advice`. Sending `timeout` with `Retry` only is a policy of this server.
 #[derive(Clone, Copy, Debug, PartialEq, Eq)]
 pub struct Advice {
     /// How long the client is to wait before it connects again, in milliseconds.
     pub interval: u32,
     /// What the client is to do next.
     pub reconnect: Reconnect,
-    /// How long the server holds a connect at most, in milliseconds; some with `Retry` alone.
+    /// How long the server holds a connect at most, in milliseconds; `Some` only with `Retry`.
     pub timeout: Option<u32>,
 }
 
-/// The advice that goes with a case: to connect again after a success of a handshake or a connect, to
-/// handshake again where the session is gone, cannot go on or found no room, not to come again where this
-/// client cannot be served or has left, and else none. (Bayeux 1.0, the field `advice`; which case
-/// advises what is this server's choice.)
+/// Returns the advice for `outcome`, if any.
+///
+/// - `Retry`: a handshake or a connect succeeded.
+/// - `Handshake`: the session is unknown or has overflowed, or there was no room for it.
+/// - `Never`: the server does not support the client, or the session disconnected.
+///
+/// Bayeux 1.0, the field `advice`. The advice for each outcome is a policy of this server.
 pub fn advice_for(outcome: Outcome, config: &Config) -> Option<Advice>
     ensures { result ≡ advice_of config.now outcome }
 {
@@ -62,7 +69,7 @@ pub fn advice_for(outcome: Outcome, config: &Config) -> Option<Advice>
     })
 }
 
-// What an error advises; most errors leave the session as it is and advise nothing.
+// Returns the advice for an error. Most errors leave the session unchanged and need no advice.
 fn reconnect_after(error: Error) -> Option<Reconnect>
     ensures { result ≡ reconnect_of error }
 {

@@ -1,64 +1,65 @@
+//! The configuration and limits of a server.
 ghost use Rattle.std.specs.Prelude.{◌≤◌};
 ghost use Rattle.bx_advice.specs.declared.config.TheConstants.{MAX_SHARDS};
 
 use crate::options::Options;
 use std::marker::Model;
 
-/// The most bytes that the body of a request, or its query, may have.
+/// The maximum size of a request's body or query, in bytes.
 pub const BODY_LIMIT: usize = 1_048_576;
 
-/// The most shards that sessions may be placed in.
+/// The maximum number of shards.
 pub const MAX_SHARDS: usize = 64;
 
-/// The greatest moment, in milliseconds, that a request or a tick may have: 2^62.
+/// The largest moment of a request or a tick, in milliseconds: 2^62.
 pub const MAX_MOMENT: u64 = 4_611_686_018_427_387_904;
 
-/// The most entries that the list of entries may have: 2^62.
+/// The maximum number of entries in the list: 2^62.
 pub const MAX_LENGTH: u64 = 4_611_686_018_427_387_904;
 
-/// The most waiting events of a session that a configuration may allow.
+/// The largest number that [`Config::with_limit`] accepts.
 pub const MAX_EVENTS: u32 = 65_536;
 
-/// The most bytes of waiting events of a session that a configuration may set as a limit: what 32 bits hold.
+/// The largest number that [`Config::with_bytes`] accepts: 2^32-1.
 pub const MAX_BYTES: u32 = 4_294_967_295;
 
-/// The server's limits, which [`STANDARD_LIMITS`] sets.
+/// The limits of a server, by default [`STANDARD_LIMITS`].
 #[derive(Clone, Copy, Debug)]
 pub struct Limits {
-    /// The most events that may wait for a session, given ones that are not acknowledged included.
+    /// The maximum number of a session's waiting and outstanding events.
     pub events: usize,
-    /// The most bytes that the texts of these events may have.
+    /// The maximum size of these events' texts, in bytes.
     pub bytes: usize,
-    /// The most patterns that may be in force for a session.
+    /// The maximum number of a session's active patterns.
     pub patterns: usize,
-    /// The most events that one connect is given.
+    /// The maximum number of events sent to one connect.
     pub batch: usize,
-    /// The most sessions that may be live.
+    /// The maximum number of live sessions.
     pub sessions: usize,
-    /// The most texts that the `subscription` of one message may have.
+    /// The maximum number of strings in the `subscription` of one message.
     pub texts: usize,
     pub ghost some_batch: { 1 ≤ batch },
 }
 
-/// How many events may wait for a session where nothing else is configured.
+/// The default of [`Limits::events`].
 pub const STANDARD_EVENTS: usize = 1024;
 
-/// How many bytes the events that wait for a session may have where nothing else is configured: 2^62, which none ever has.
+/// The default of [`Limits::bytes`]: 2^62, which no session reaches.
 pub const STANDARD_BYTES: usize = 4_611_686_018_427_387_904;
 
-/// How many patterns may be in force for a session.
+/// The default of [`Limits::patterns`], and the maximum for [`Config::with_patterns`].
 pub const STANDARD_PATTERNS: usize = 1024;
 
-/// How many events one connect may be given.
+/// The default of [`Limits::batch`].
 pub const STANDARD_BATCH: usize = 256;
 
-/// How many sessions may be live.
+/// The default of [`Limits::sessions`], and the maximum for [`Config::with_sessions`].
 pub const STANDARD_SESSIONS: usize = 65_536;
 
-/// How many texts the `subscription` of one message may have.
+/// The default of [`Limits::texts`].
 pub const STANDARD_TEXTS: usize = 64;
 
-/// The limits of this server.
+/// The default limits.
 pub const STANDARD_LIMITS: Limits = Limits {
     events: STANDARD_EVENTS,
     bytes: STANDARD_BYTES,
@@ -68,29 +69,34 @@ pub const STANDARD_LIMITS: Limits = Limits {
     texts: STANDARD_TEXTS,
 };
 
-/// How the server is run. Times are in milliseconds.
+/// The configuration of a server, with times in milliseconds.
 #[derive(Clone, Copy, Debug)]
 pub struct Config {
-    /// Into how many shards the sessions are placed: 1 to [`MAX_SHARDS`].
+    /// The number of shards, from 1 to [`MAX_SHARDS`].
     pub shards: usize,
-    /// How long a connect may be held, and the advised timeout.
+    /// The maximum hold of a connect, and the advised timeout.
     pub timeout: u32,
     /// The advised interval between connects.
     pub interval: u32,
-    /// How long a session lives after its last accepted message and that message's hold.
+    /// How long a session lives after its last accepted message, or a hold's deadline if that is
+    /// later.
     pub max_interval: u32,
-    /// How much a session and the server may take; see [`Limits`].
+    /// The limits of sessions and messages.
     pub limits: Limits,
-    /// Whether the waiting events of a session that does not acknowledge go out with the reply to the last message of
-    /// a request that is of this session alone.
+    /// Whether waiting events are also sent with the reply to a request's last message.
+    ///
+    /// All messages of the request must come from one session that does not acknowledge. The last
+    /// must be a subscribe, an unsubscribe or a publish.
     pub ride: bool,
-    /// Whether a publish that has no client id is accepted, as a message of no session.
+    /// Whether a publish without a client id is accepted, as a message of no session.
     pub anonymous: bool,
     pub ghost some_shard: { 1 ≤ shards },
     pub ghost shards_in_range: { shards ≤ MAX_SHARDS },
 }
 
-/// Among how many shards sessions are placed: 1 to [`MAX_SHARDS`]. Contracts see the number.
+/// A number of shards, from 1 to [`MAX_SHARDS`].
+///
+/// Model: the number.
 #[derive(Clone, Copy, Debug, PartialEq, Eq)]
 pub struct ShardCount {
     count: usize,
@@ -112,7 +118,7 @@ impl Model for ShardCount {
 impl ShardCount {
     ghost use Rattle.std.specs.Prelude.{◌≡◌, ◌≤◌, ◌↔◌, IsSome, IfSome};
 
-    /// So many shards; none where they are not 1 to [`MAX_SHARDS`].
+    /// Creates a shard count, or returns `None` if `count` is not from 1 to [`MAX_SHARDS`].
     pub fn new(count: usize) -> Option<ShardCount>
         ensures valid { IsSome result ↔ ((1 ≤ count) × (count ≤ MAX_SHARDS)) }
         ensures count { IfSome result (λ s. s ≡ count) }
@@ -123,7 +129,7 @@ impl ShardCount {
         Some(ShardCount { count })
     }
 
-    /// The number.
+    /// Returns the number.
     pub fn get(self) -> usize
         ensures same { result ≡ self }
         ensures some { 1 ≤ result }
@@ -137,8 +143,9 @@ impl Config {
     ghost use Rattle.std.specs.Prelude.{◌≡◌, ◌≤◌, ◌↔◌, IsSome, IfSome, false};
     ghost use Rattle.bx_advice.specs.Limits.{IsStandard};
 
-    /// The configuration with these settings, the times in milliseconds, and the standard limits, in which events go
-    /// out with connects alone and a publish needs a client id; none where `shards` is not 1 to [`MAX_SHARDS`].
+    /// Creates a configuration with the standard limits and without options.
+    ///
+    /// The times are in milliseconds. Returns `None` if `shards` is not from 1 to [`MAX_SHARDS`].
     pub fn new(shards: usize, timeout: u32, interval: u32, max_interval: u32) -> Option<Config>
         ensures valid { IsSome result ↔ ((1 ≤ shards) × (shards ≤ MAX_SHARDS)) }
         ensures shards { IfSome result (λ c. c.shards ≡ shards) }
@@ -159,7 +166,7 @@ impl Config {
         })
     }
 
-    /// The same, with these options.
+    /// Returns the configuration with `options`.
     pub fn with(self, options: Options) -> Config
         ensures { result ≡ record self { ride = options.ride; anonymous = options.anonymous } }
     {
@@ -169,8 +176,9 @@ impl Config {
         config
     }
 
-    /// The same, with so many events that may wait for each session; none where they are not 1 to
-    /// [`MAX_EVENTS`].
+    /// Returns the configuration with [`Limits::events`] set to `events`.
+    ///
+    /// Returns `None` if `events` is not from 1 to [`MAX_EVENTS`].
     pub fn with_limit(self, events: u32) -> Option<Config>
         ensures valid { IsSome result ↔ ((1 ≤ events) × (events ≤ MAX_EVENTS)) }
         ensures limit { IfSome result (λ c. c ≡ record self { limits = record self.limits { events = events } }) }
@@ -183,8 +191,9 @@ impl Config {
         Some(config)
     }
 
-    /// The same, with so many bytes that the events which wait for each session may have; none where they are not 1 to
-    /// [`MAX_BYTES`].
+    /// Returns the configuration with [`Limits::bytes`] set to `bytes`.
+    ///
+    /// Returns `None` if `bytes` is 0.
     pub fn with_bytes(self, bytes: u32) -> Option<Config>
         ensures valid { IsSome result ↔ ((1 ≤ bytes) × (bytes ≤ MAX_BYTES)) }
         ensures limit { IfSome result (λ c. c ≡ record self { limits = record self.limits { bytes = bytes } }) }
@@ -197,8 +206,9 @@ impl Config {
         Some(config)
     }
 
-    /// The same, with so many patterns that may be in force for each session; none where they are not 1 to
-    /// [`STANDARD_PATTERNS`].
+    /// Returns the configuration with [`Limits::patterns`] set to `patterns`.
+    ///
+    /// Returns `None` if `patterns` is not from 1 to [`STANDARD_PATTERNS`].
     pub fn with_patterns(self, patterns: u32) -> Option<Config>
         ensures valid { IsSome result ↔ ((1 ≤ patterns) × (patterns ≤ STANDARD_PATTERNS)) }
         ensures limit { IfSome result (λ c. c ≡ record self { limits = record self.limits { patterns = patterns } }) }
@@ -212,7 +222,9 @@ impl Config {
         Some(config)
     }
 
-    /// The same, with so many sessions that may be live; none where they are not 1 to [`STANDARD_SESSIONS`].
+    /// Returns the configuration with [`Limits::sessions`] set to `sessions`.
+    ///
+    /// Returns `None` if `sessions` is not from 1 to [`STANDARD_SESSIONS`].
     pub fn with_sessions(self, sessions: u32) -> Option<Config>
         ensures valid { IsSome result ↔ ((1 ≤ sessions) × (sessions ≤ STANDARD_SESSIONS)) }
         ensures limit { IfSome result (λ c. c ≡ record self { limits = record self.limits { sessions = sessions } }) }
@@ -241,7 +253,7 @@ mod tests {
         Ok(())
     }
 
-    // What PROTOCOL and OPERATING tell users, digit by digit.
+    // The values that PROTOCOL and OPERATING document, as literals.
     #[test]
     fn limits_are_the_documented_ones(rt: HostRuntime) -> Result<(), Fail> {
         for (name, limit, documented) in [

@@ -1,50 +1,53 @@
+//! Errors in replies.
 ghost use Rattle.std.specs.Prelude.{◌≡◌};
 ghost use Rattle.bx_advice.specs.Errors.{error_text};
 
 use std::fmt;
 
-/// Why a message was refused, or a connect ended without a success. The variants stand in the order
-/// in which a message is tested; the first that holds is answered. The last two are given to
-/// connects that were accepted. (Bayeux 1.0, the field `error`, leaves codes and texts open: these are
-/// this server's choice.)
+/// Why a message was refused, or a connect failed.
+///
+/// The variants are in the order in which a message is tested; the first that applies is reported.
+/// The last two apply to accepted connects.
+///
+/// Bayeux 1.0, the field `error`, leaves codes and texts open. These are a policy of this server.
 #[derive(Clone, Copy, Debug, PartialEq, Eq, Hash)]
 pub enum Error {
-    /// The channel begins with `/meta/` and is none of the five meta channels.
+    /// The channel begins with `/meta/` and is not one of the five meta channels.
     UnknownMetaChannel,
-    /// A handshake that stands behind another handshake of its request.
+    /// A handshake after another handshake of the same request.
     SecondHandshake,
-    /// `version` is absent, no text, or neither `1` nor a text that begins with `1.`.
+    /// `version` is not a string that equals `1` or begins with `1.`.
     UnsupportedVersion,
-    /// `supportedConnectionTypes` is absent, no array, or has neither of the two polling types.
+    /// `supportedConnectionTypes` is not an array with at least one of the two polling types.
     NoSupportedConnectionType,
-    /// A handshake while as many sessions are live as the server takes.
+    /// A handshake while the maximum number of sessions is live.
     TooManySessions,
-    /// `clientId` is no text, or absent where the message needs one.
+    /// `clientId` is not a string, or is absent though the message needs it.
     NoClientId,
     /// `clientId` is not the id of a live session.
     UnknownClient,
-    /// `connectionType` is present and neither of the two polling types.
+    /// `connectionType` is present and is not one of the two polling types.
     UnknownConnectionType,
-    /// The channel of a publish does not read as a channel name.
+    /// The channel of a publish is not a channel name.
     InvalidChannel,
-    /// Some text of `subscription` does not read as a pattern.
+    /// A string in `subscription` is not a pattern.
     InvalidPattern,
-    /// `subscription` has more texts than one message may have.
+    /// `subscription` has more strings than `Limits::texts`.
     TooManyPatterns,
-    /// Some pattern begins with `/meta/`.
+    /// A pattern begins with `/meta/`.
     SubscriptionDenied,
-    /// `subscription` is absent, or neither a text nor an array of texts.
+    /// `subscription` is absent, or neither a string nor an array of strings.
     MissingSubscription,
     /// A publish without `data`.
     MissingData,
-    /// A held connect that a newer connect of its session ended.
+    /// A held connect that was ended by a newer connect of its session.
     SupersededConnect,
     /// A connect of a session that has overflowed.
     QueueOverflow,
 }
 
 impl Error {
-    /// The text of a reply's member `error`: a code of three digits, two colons and a message.
+    /// Returns the value of `error` in a reply: a three-digit code, two colons and a message.
     pub fn text(self) -> &'static str
         ensures { result.now ≡ error_text self }
     {

@@ -1,5 +1,4 @@
-//! The server's limits and configuration with its options, the errors that a reply can carry, and the advice that
-//! goes with each outcome.
+//! A server's configuration and limits, errors in replies, and the advice for each outcome.
 #![tactic(auto)]
 
 mod advice;

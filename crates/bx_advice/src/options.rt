@@ -1,18 +1,20 @@
+//! Options of a server.
 ghost use Rattle.std.specs.Prelude.{◌≡◌};
 ghost use Rattle.bx_advice.specs.Options.{options_in};
 
-/// What a server is to do beside what it always does.
+/// Features of a server that are off by default.
 #[derive(Clone, Copy, Debug, PartialEq, Eq)]
 pub struct Options {
-    /// Waiting events go out with the replies of other messages than connects too.
+    /// Whether waiting events are also sent with replies to subscribes, unsubscribes and publishes.
     pub ride: bool,
-    /// Publishes without a client id are accepted.
+    /// Whether publishes without a client id are accepted.
     pub anonymous: bool,
 }
 
 impl Options {
-    /// What a word of a command line says: `r` asks for the first, `a` for the second, `ra` for both
-    /// and `-` for neither. None where it is another word.
+    /// Parses an argument: `r` for `ride`, `a` for `anonymous`, `ra` for both, `-` for neither.
+    ///
+    /// Returns `None` for any other argument.
     pub fn read(word: &[u8]) -> Option<Options>
         ensures { result ≡ options_in word.now }
     {

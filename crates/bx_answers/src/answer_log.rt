@@ -1,4 +1,4 @@
-//! The lines of answers, as threads share them.
+//! The log of answers, shared by threads.
 ghost use Rattle.std.specs.Prelude.{◌≡◌, []};
 
 use crate::line::answer_line;
@@ -8,21 +8,30 @@ use bx_record::RecordFault;
 use std::alloc::Global;
 use std::sync::{Mutex, Wait};
 
-/// The lines of answers that wait to be written: threads add to them, and one takes them out. At most 64 MiB wait.
+/// The lines of answers that wait to be written.
+///
+/// Any thread can add lines, and one takes them. At most 64 MiB wait.
 #[derive(Drop)]
 pub struct AnswerLog {
     lines: Mutex<Lines>,
 }
 
 impl AnswerLog {
-    /// Answers are noted from now on.
+    /// Creates an empty log.
     pub fn new(alloc: Global) -> AnswerLog {
         AnswerLog {
             lines: Mutex::new(Lines::new(alloc)),
         }
     }
 
-    /// Notes that these items answered the request whose first message stands at this place, unless no more are noted.
+    /// Appends the line for the items that answer a request, unless the log has ended.
+    ///
+    /// `place`: the place of the request's first message. The log ends if more than 64 MiB would
+    /// wait, or if memory runs out.
+    ///
+    /// # Blocking
+    ///
+    /// Locks the log, but not while the digest is computed.
     pub fn note<R: Wait>(&self, rt: &R, alloc: Global, place: u64, items: &[Item]) {
         if !self.lines.lock(rt).is_open() {
             return;
@@ -33,24 +42,35 @@ impl AnswerLog {
         }
     }
 
-    /// Puts a line behind the others, unless no more are noted. Where more than 64 MiB would wait or memory is refused, it is left out, and none is noted
-    /// from now on.
+    /// Appends `line`, unless the log has ended.
+    ///
+    /// The log ends, without `line`, if more than 64 MiB would wait or memory runs out.
     pub(crate) fn add<R: Wait>(&self, rt: &R, line: &[u8]) {
         self.lines.lock(rt).add(line);
     }
 
-    /// No more answers are noted, for this reason, unless one was found before.
+    /// Ends the log because of `fault`, unless it has ended.
     pub(crate) fn end<R: Wait>(&self, rt: &R, fault: RecordFault) {
         self.lines.lock(rt).end(fault);
     }
 
-    /// No more answers are noted, with nothing to tell, and what waits is let go of.
+    /// Ends the log without a fault, and drops the waiting lines.
+    ///
+    /// # Blocking
+    ///
+    /// Locks the log.
     pub fn stop<R: Wait>(&self, rt: &R, alloc: Global) {
         self.lines.lock(rt).stop(alloc);
     }
 
-    /// Takes out all that waits, and leaves an empty buffer in its place. Each line is of a request that was listed before it was added: what is
-    /// taken out of the hub's record afterwards, or was before, has its request.
+    /// Takes all waiting lines, and leaves the empty buffer `empty` in their place.
+    ///
+    /// A request is listed before its line is added. If the hub's record is taken after these lines
+    /// but written before them, each line follows its request.
+    ///
+    /// # Blocking
+    ///
+    /// Locks the log.
     pub fn take<R: Wait>(&self, rt: &R, empty: Vec<u8>) -> TakenAnswers
         requires { empty.items ≡ [] }
     {

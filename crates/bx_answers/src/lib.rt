@@ -1,4 +1,4 @@
-//! Notes which answers were given: the lines of a record that say their digests, while they wait to be written.
+//! A log of answers: lines with their digests, which wait to be written to a record.
 #![tactic(auto)]
 
 mod answer_log;

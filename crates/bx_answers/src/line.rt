@@ -1,4 +1,4 @@
-//! The line of an answer.
+//! The line of one answer.
 ghost use Rattle.std.specs.Prelude.{◌≡◌, IfOk};
 ghost use Rattle.bx_message.specs.Texts.{body_text};
 ghost use Rattle.bx_record.specs.Answers.{answer_text};
@@ -9,8 +9,14 @@ use bx_record::answer_text;
 use sha2::{Digest, Sha256};
 use std::alloc::{AllocError, Global};
 
-/// The line that says, by the SHA-256 of their JSON array, which items answered the request whose first message stands at this place. An error means that
-/// memory was refused.
+/// Creates the line of the answer to a request: its place and the SHA-256 of its items.
+///
+/// `place`: the place of the request's first message. The digest is that of the JSON array of
+/// `items`.
+///
+/// # Errors
+///
+/// `AllocError` if memory runs out.
 pub fn answer_line(alloc: Global, place: u64, items: &[Item]) -> Result<Vec<u8>, AllocError>
     ensures { IfOk result (λ line. line.items ≡ answer_text place (sha256 (body_text items.now))) }
 {

@@ -1,4 +1,4 @@
-//! The lines that wait to be written.
+//! The lines of answers that wait to be written.
 ghost use Rattle.std.specs.Prelude.{◌≡◌, ◌≤◌, [], length, ◌↔◌, IsTrue};
 ghost use Rattle.bx_answers.specs.Notings.{IsAdded, ended_by, fault_in, told_of};
 ghost use Rattle.bx_answers.specs.declared.lines.Noting.TheVariants.{Open, Over};
@@ -7,28 +7,28 @@ ghost use Rattle.bx_record.specs.declared.waiting.TheConstants.{MOST_WAITING};
 use bx_record::{RecordFault, Waiting};
 use std::alloc::Global;
 
-/// Whether answers are noted.
+/// Whether the log accepts lines.
 #[derive(Clone, Copy, Debug, PartialEq, Eq)]
 pub(crate) enum Noting {
-    /// They are.
+    /// Lines are accepted.
     Open,
-    /// They are not, for this reason, which was not told yet.
+    /// The log ended because of this fault, which is not reported yet.
     Ended(RecordFault),
-    /// They are not, and there is nothing to tell.
+    /// The log ended, and there is nothing to report.
     Over,
 }
 
-/// What was taken out to be written.
+/// The lines taken from a log.
 #[derive(Drop)]
 pub struct TakenAnswers {
-    /// The lines, which come behind all that were taken out before.
+    /// The lines, which follow all lines taken before.
     pub bytes: Vec<u8>,
-    /// Why none come behind them, where that is so and was not told before.
+    /// The fault that ended the log, unless it was reported before.
     pub fault: Option<RecordFault>,
     pub ghost bounded: { length bytes.items ≤ MOST_WAITING },
 }
 
-/// The lines that wait, and whether more may come.
+/// The waiting lines, and whether more are accepted.
 #[derive(Drop)]
 pub(crate) struct Lines {
     waiting: Waiting,
@@ -36,7 +36,7 @@ pub(crate) struct Lines {
 }
 
 impl Lines {
-    /// Nothing waits yet.
+    /// Creates an empty, open log.
     pub(crate) fn new(alloc: Global) -> Lines
         ensures lines { result.waiting ≡ [] }
         ensures noting { result.noting ≡ Open }
@@ -47,14 +47,16 @@ impl Lines {
         }
     }
 
-    /// Whether answers are noted.
+    /// Returns `true` if lines are accepted.
     pub(crate) fn is_open(&self) -> bool
         ensures { IsTrue result ↔ (self.now.noting ≡ Open) }
     {
         self.noting == Noting::Open
     }
 
-    /// Puts a line behind the others, unless no more are noted. Where it finds no room, it is left out, and none is noted from now on.
+    /// Appends `line`, unless the log has ended.
+    ///
+    /// If it does not fit, the log ends without it.
     pub(crate) fn add(&mut self, line: &[u8])
         ensures { IsAdded self.old.noting self.new.noting line.now self.old.waiting self.new.waiting }
     {
@@ -66,7 +68,7 @@ impl Lines {
         }
     }
 
-    /// No more answers are noted, for this reason, unless one was found before.
+    /// Ends the log because of `fault`, unless it has ended.
     pub(crate) fn end(&mut self, fault: RecordFault)
         ensures lines { self.new.waiting ≡ self.old.waiting }
         ensures noting { self.new.noting ≡ ended_by fault self.old.noting }
@@ -76,7 +78,7 @@ impl Lines {
         }
     }
 
-    /// No more answers are noted, with nothing to tell, and what waits is let go of.
+    /// Ends the log without a fault, and drops the waiting lines.
     pub(crate) fn stop(&mut self, alloc: Global)
         ensures lines { self.new.waiting ≡ [] }
         ensures noting { self.new.noting ≡ Over }
@@ -85,7 +87,9 @@ impl Lines {
         self.noting = Noting::Over;
     }
 
-    /// Takes out all that waits, and leaves an empty buffer in its place. It takes no memory, and copies nothing.
+    /// Takes all waiting lines, and leaves the empty buffer `empty` in their place.
+    ///
+    /// Does not allocate or copy.
     pub(crate) fn take(&mut self, empty: Vec<u8>) -> TakenAnswers
         requires { empty.items ≡ [] }
         ensures bytes { result.bytes.items ≡ self.old.waiting }

@@ -1,4 +1,4 @@
-//! The answers of a service, which are noted.
+//! An observer that logs answers.
 ghost use Rattle.std.specs.Prelude.{◌≡◌};
 
 use crate::answer_log::AnswerLog;
@@ -6,7 +6,9 @@ use bx_service::{Event, Observer};
 use std::alloc::Global;
 use std::sync::{Arc, Wait};
 
-/// Notes in a log, where there is one, which items answer the requests that have a place in the list. Without a log nothing is noted, and it costs nothing.
+/// An observer that logs the items of each answered request that has a place in the list.
+///
+/// Without a log it does nothing.
 #[derive(Drop)]
 pub struct NotedAnswers<R> {
     rt: R,
@@ -15,7 +17,7 @@ pub struct NotedAnswers<R> {
 }
 
 impl<R> NotedAnswers<R> {
-    /// They are noted here.
+    /// Creates an observer that writes to `log`.
     pub fn new(rt: R, alloc: Global, log: Option<Arc<AnswerLog, Global>>) -> NotedAnswers<R>
         ensures { result.log ≡ log }
     {

@@ -1,4 +1,4 @@
-//! Answers whose digests `sha256sum` told.
+//! Tests with answers whose digests `sha256sum` computed.
 use crate::{AnswerLog, NotedAnswers, TakenAnswers, answer_line};
 use bx_advice::{Config, Outcome};
 use bx_entry::Refusal;
@@ -11,10 +11,10 @@ use std::process::Abort;
 use std::sync::{Arc, Wait};
 use std::test::Fail;
 
-// Of `[]`.
+// The digest of `[]`.
 const NO_ITEMS: &str = "4f53cda18c2baa0c0354bb5f9a3ecbe5ed12ab4d8e11ba873c2f11161202b945";
 
-// Of the array with the reply to a connect.
+// The digest of the array with the reply to a connect.
 const CONNECTED: &str = "c05f57690a6736a0d8e981284e720d1734dfbc50c79b53ef7be450dc98159062";
 
 fn connected(alloc: Global, config: &Config) -> Result<Vec<Item>, AllocError> {
@@ -30,7 +30,7 @@ fn config() -> Result<Config, Fail> {
     Ok(Config::new(2, 30_000, 0, 10_000).ok_or("no configuration")?)
 }
 
-// What waits is this, with this fault.
+// Asserts which lines and which fault are taken.
 fn check_taken<R: Wait + Abort>(
     rt: &R,
     alloc: Global,
@@ -113,7 +113,7 @@ fn a_full_log_ends(rt: HostRuntime) -> Result<(), Fail> {
     Ok(())
 }
 
-// Threads may share it.
+// Checks that threads may share `value`.
 fn shared<T: Send + Sync>(value: T) -> T {
     value
 }

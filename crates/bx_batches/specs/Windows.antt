@@ -1,8 +1,8 @@
--- A window as the program holds it.
+-- A window as the program stores it.
 use Rattle.std.specs.Prelude.{ℕ}
 use Rattle.bx_entry.specs.Windows.{Window}
 
--- a window, and for how many more events it has room without taking memory
+-- A window, and for how many more events it has room without allocating.
 pub record Windowed : Type 0 where
   pub contents : Window
   pub spare : ℕ

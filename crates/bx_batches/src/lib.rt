@@ -1,4 +1,4 @@
-//! The events that wait for one session, and the batches that they are given in.
+//! The queued events of one session, and their batches.
 #![tactic(auto)]
 
 mod publication;

@@ -1,11 +1,11 @@
-//! What contracts alone see of an event that waits.
+//! Ghost: queued events with their places.
 ghost use Rattle.bx_entry.specs.Windows as windows;
 
 use bx_history::Lists;
 use bx_message::SharedEvent;
 use std::marker::Model;
 
-/// An event with the place of its publish. The program makes none.
+/// Ghost: an event with the place of its publish.
 pub struct Publication {
     ghost publication: { windows.Publication },
 }
@@ -21,7 +21,7 @@ impl Model for Publication {
     ghost also_owns = { λ _. ftrue };
 }
 
-// What is listed of an event and of the place of its publish.
+// Ghost: lists an event with the place of its publish.
 pub(crate) struct Published;
 
 impl<'a> Lists<(u64, &'a SharedEvent), Publication> for Published {

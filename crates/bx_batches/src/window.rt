@@ -1,3 +1,4 @@
+//! The queued events of one session, and their batches.
 ghost use Rattle.std.specs.Prelude.{◌≡◌, ◌<◌, ◌≤◌, ◌+◌, ◌++◌, ◌⊎◌, ◌↔◌, [], not, IsFalse, IsTrue, OnOk, OnErr, IsErrOf, length, take, drop, if◌then◌else◌, ◌^◌};
 ghost use Rattle.std.specs.Vec.{vec_capacity, vec_len};
 ghost use Rattle.std.specs.VecDeque.{deque_capacity};
@@ -15,18 +16,23 @@ use std::collections::VecDeque;
 use std::collections::vec_deque::Iter;
 use std::marker::Model;
 
-/// The events that wait for one session or are outstanding, oldest first, with the batch that is
-/// outstanding. Contracts see the place of each event's publish too, which the program does not keep.
-/// (The acknowledgement extension of CometD.)
+/// The queued events of one session, oldest first: the outstanding batch, then the waiting events.
+///
+/// The outstanding batch was sent and is not acknowledged yet.
+///
+/// Model: the events, each with the place of its publish, and the batch.
+///
+/// CometD's acknowledgement extension.
 #[derive(Drop)]
 pub struct Window {
     events: VecDeque<SharedEvent>,
+    // Ghost: the events with their places.
     queue: History<Publication>,
-    // The first so many events are the outstanding batch.
+    // Number of outstanding events.
     out: usize,
-    // That of the last batch formed.
+    // The last batch's number.
     number: u64,
-    // How many bytes the texts of all events have.
+    // Size of all events' texts, in bytes.
     bytes: usize,
 }
 
@@ -49,17 +55,17 @@ impl Model for Window {
         × (w.bytes ≡ sum_by event_size w.events.items) };
 }
 
-/// What a connect is given: the outstanding batch, and its number.
+/// The outstanding batch and its number.
 #[derive(Drop)]
 pub struct Given<'a> {
-    /// The number of the last batch formed; 0 where there was none.
+    /// The last batch's number, or 0 before the first.
     pub number: u64,
-    /// The events of the outstanding batch, in order.
+    /// The outstanding events, in order.
     pub events: Iter<'a, SharedEvent>,
 }
 
 impl Window {
-    /// A window in which nothing waits.
+    /// Creates an empty window.
     pub fn new(alloc: Global) -> Window
         ensures { result.contents ≡ empty }
     {
@@ -72,7 +78,7 @@ impl Window {
         }
     }
 
-    /// Whether this event is not taken, where at most so many are, whose texts have at most so many bytes.
+    /// Returns `true` if adding `event` would exceed `events` events or `bytes` bytes.
     #[tactic(auto, using(crate::proofs::Parts::bytes_in), unfolding(bx_entry::specs::Windows::has_room))]
     pub fn is_full(&self, events: usize, bytes: usize, event: &SharedEvent) -> bool
         ensures full { result ≡ not (has_room events bytes event.now self.now.contents) }
@@ -84,14 +90,18 @@ impl Window {
         }
     }
 
-    /// How many events wait or are outstanding.
+    /// Returns how many events wait or are outstanding.
     pub fn len(&self) -> usize
         ensures { result ≡ length self.now.contents.queue }
     {
         self.events.len()
     }
 
-    /// Makes room for so many more events, so that they can be added without memory.
+    /// Reserves room for `count` more events.
+    ///
+    /// # Errors
+    ///
+    /// `AllocError` if memory runs out; nothing has changed.
     pub fn reserve(&mut self, count: usize) -> Result<(), AllocError>
         ensures ok { OnOk result (count ≤ self.new.spare) }
         ensures refused { OnErr result (self.old.spare < count) }
@@ -101,7 +111,7 @@ impl Window {
         self.events.reserve(count)
     }
 
-    /// Adds the event of the publish at this place, for which there is room.
+    /// Appends the event published at `place`, for which there must be room.
     #[tactic(auto, using(crate::proofs::Parts::bytes_in, crate::proofs::Parts::pushed_bytes))]
     pub fn push_reserved(&mut self, place: u64, event: SharedEvent)
         requires room { 0 < self.old.spare }
@@ -115,16 +125,17 @@ impl Window {
         self.events.push_back_reserved(event);
     }
 
-    /// How many events a connect gives for good that acknowledges this number: all that are outstanding, where it
-    /// is at or above that of the last batch.
+    /// Returns how many events [`acknowledge`](Self::acknowledge) would drop.
     pub fn acknowledged(&self, number: u64) -> usize
         ensures { result ≡ (if acknowledges number self.now.contents then self.now.contents.out else 0) }
     {
         if self.number <= number { self.out } else { 0 }
     }
 
-    /// How many events a connect is given once the first `done` are given for good, which are none or all that are
-    /// outstanding: the outstanding ones again, or at most `most` of those that wait.
+    /// Returns how many events a connect gets after the first `done` are acknowledged.
+    ///
+    /// `done`: 0 or the number of outstanding events. The connect gets the outstanding batch again
+    /// or, without one, at most `most` events.
     pub fn portion(&self, done: usize, most: usize) -> usize
         requires { (done ≡ 0) ⊎ (done ≡ self.now.contents.out) }
         ensures again { done < self.now.contents.out → result ≡ self.now.contents.out }
@@ -137,8 +148,10 @@ impl Window {
         }
     }
 
-    /// Takes an acknowledgement: a number at or above that of the last batch gives for good what is
-    /// outstanding, a smaller one nothing.
+    /// Acknowledges batch `number`.
+    ///
+    /// Drops the outstanding events if `number` is at least the last batch's; otherwise does
+    /// nothing.
     #[tactic(auto, using(crate::proofs::Parts::front_bytes))]
     pub fn acknowledge(&mut self, number: u64)
         ensures contents { self.new.contents ≡ acknowledged number self.old.contents }
@@ -150,7 +163,7 @@ impl Window {
         self.out -= done;
     }
 
-    /// Forms the next batch, where none is outstanding: of the events that wait, at most `most`.
+    /// Forms the next batch of at most `most` waiting events, unless a batch is outstanding.
     pub fn give(&mut self, most: usize)
         requires { self.old.contents.out ≡ 0 → self.old.contents.number + 1 < 2 ^ 64 }
         ensures contents { self.new.contents ≡ formed most self.old.contents }
@@ -164,7 +177,9 @@ impl Window {
         }
     }
 
-    /// The outstanding batch and its number, again and again until it is acknowledged.
+    /// Returns the outstanding batch and its number.
+    ///
+    /// The result is the same until the batch is acknowledged.
     pub fn given(&self) -> Given<'_>
         ensures number { result.number ≡ self.now.contents.number }
         ensures events { deque_iter_rest result.events ≡ events_of (outstanding self.now.contents) }
@@ -175,14 +190,16 @@ impl Window {
         }
     }
 
-    /// All that wait or are outstanding, in order.
+    /// Returns all events, oldest first.
     pub fn events(&self) -> Iter<'_, SharedEvent>
         ensures { deque_iter_rest result ≡ events_of self.now.contents.queue }
     {
         self.events.iter()
     }
 
-    /// Forgets so many events, which were given without a batch.
+    /// Drops the first `count` events, sent without a batch.
+    ///
+    /// No batch may be outstanding.
     #[tactic(auto, using(crate::proofs::Parts::front_bytes))]
     pub fn forget(&mut self, count: usize)
         requires none_out { self.old.contents.out ≡ 0 }
@@ -193,7 +210,9 @@ impl Window {
         self.bytes -= drop_front(&mut self.events, count);
     }
 
-    /// Moves so many events, which are given without a batch, into a list that is empty and has room for them.
+    /// Moves the first `count` events, sent without a batch, to `into`.
+    ///
+    /// No batch may be outstanding. `into` must be empty and have room.
     #[tactic(auto, using(crate::proofs::Parts::front_bytes))]
     pub fn hand_over(&mut self, count: usize, into: Vec<SharedEvent>) -> Vec<SharedEvent>
         requires none_out { self.old.contents.out ≡ 0 }
@@ -210,7 +229,9 @@ impl Window {
         into
     }
 
-    /// Gives what waits or is outstanding to nobody. The number of the last batch stays.
+    /// Drops all events.
+    ///
+    /// The number of the last batch stays.
     pub fn clear(&mut self)
         ensures contents { self.new.contents ≡ emptied self.old.contents }
         ensures spare { self.old.spare ≤ self.new.spare }
@@ -222,7 +243,7 @@ impl Window {
     }
 }
 
-// Drops so many events from the front of a queue, or all where there are fewer, and tells how many bytes their texts had.
+// Drops up to `count` events from the front, and returns their size in bytes.
 #[tactic(auto, using(crate::proofs::Parts::front_bytes, crate::proofs::Parts::first_bytes))]
 fn drop_front(events: &mut VecDeque<SharedEvent>, count: usize) -> usize
     requires { sum_by event_size events.old.items < 2 ^ 64 }
@@ -241,8 +262,7 @@ fn drop_front(events: &mut VecDeque<SharedEvent>, count: usize) -> usize
     bytes
 }
 
-// Moves so many events from the front of a queue, or all where there are fewer, behind those of a list that has room for
-// them.
+// Moves up to `count` events from the front to the end of `into`, which has room.
 fn move_front(events: &mut VecDeque<SharedEvent>, count: usize, into: &mut Vec<SharedEvent>)
     requires { vec_len into.old + count ≤ vec_capacity into.old }
     ensures moved { into.new.items ≡ into.old.items ++ take count events.old.items }
@@ -258,7 +278,7 @@ fn move_front(events: &mut VecDeque<SharedEvent>, count: usize, into: &mut Vec<S
     }
 }
 
-// How many bytes the texts of these events have.
+// Returns the size of `events`, in bytes.
 #[tactic(auto, using(crate::proofs::Parts::grown_bytes))]
 fn bytes_in(events: &[SharedEvent]) -> usize
     requires { sum_by event_size events.now < 2 ^ 64 }

@@ -1,4 +1,4 @@
-//! Requests in a hub, by one thread or several.
+//! Workloads of a hub, for one thread or several.
 ghost use Rattle.std.specs.Prelude.{◌≡◌};
 ghost use Rattle.bx_entry.specs.Placings.{by_remainder};
 
@@ -14,12 +14,22 @@ use std::marker::Brand;
 use std::sync::{Arc, Wait};
 use std::thread::{Threads, join};
 
-// How many sessions there are while the clock ticks.
+// Number of sessions while the clock ticks.
 const IDLE: u64 = 65_536;
 
 type Served<J, R> = Hub<J, ByRemainder, OpenGate, R>;
 
-/// So many threads, 1, 2 or 4, with a load each, in so many shards. Says how many events were given.
+/// Runs `load` in each of `threads` threads, and returns the number of events delivered.
+///
+/// `threads`: 1, 2 or 4.
+///
+/// # Errors
+///
+/// If `shards` is not 1 to 64, memory runs out, or the hub refuses a request.
+///
+/// # Blocking
+///
+/// Waits for its threads and for the locks of the hub.
 pub fn posts<R: Threads + Wait + Sync>(
     rt: &R,
     alloc: Global,
@@ -58,7 +68,7 @@ fn serves<J: Naming + Send + Sync, R: Threads + Wait + Sync>(
     events.ok_or(anyhow!("not served"))
 }
 
-// Opens a thread's sessions: one that sends, and those that receive.
+// Opens a thread's sessions: one that publishes, and those that receive.
 fn opens<J: Naming, H: Wait + Drop, R: Wait>(
     rt: &R,
     alloc: Global,
@@ -83,7 +93,7 @@ fn opens<J: Naming, H: Wait + Drop, R: Wait>(
     Some(0)
 }
 
-// A thread's load.
+// Runs a thread's load, and returns the number of events delivered.
 fn works<J: Naming, H: Wait + Drop, R: Wait>(
     rt: &R,
     alloc: Global,
@@ -99,7 +109,7 @@ fn works<J: Naming, H: Wait + Drop, R: Wait>(
     Some(events)
 }
 
-// Publishes, and then a connect of each session that receives.
+// Publishes, and then connects each receiving session.
 fn round<J: Naming, H: Wait + Drop, R: Wait>(
     rt: &R,
     alloc: Global,
@@ -120,7 +130,7 @@ fn round<J: Naming, H: Wait + Drop, R: Wait>(
     Some(events)
 }
 
-// Posts a body and takes the answers. Says how many events these have.
+// Posts a body and takes the answers. Returns the number of their events.
 fn post<J: Naming, H: Wait + Drop, R: Wait>(
     rt: &R,
     alloc: Global,
@@ -139,7 +149,7 @@ fn post<J: Naming, H: Wait + Drop, R: Wait>(
     Some(events)
 }
 
-// Two threads with a load each, from this one on.
+// Runs a load in each of two threads, numbered from `thread` on.
 fn two<J: Naming + Send + Sync, H: Wait + Drop + Send, R: Threads + Wait + Sync>(
     rt: &R,
     alloc: Global,
@@ -156,7 +166,7 @@ fn two<J: Naming + Send + Sync, H: Wait + Drop + Send, R: Threads + Wait + Sync>
     a?.checked_add(b?)
 }
 
-// Four threads with a load each.
+// Runs a load in each of four threads.
 fn four<J: Naming + Send + Sync, H: Wait + Drop + Send, R: Threads + Wait + Sync>(
     rt: &R,
     alloc: Global,
@@ -171,7 +181,17 @@ fn four<J: Naming + Send + Sync, H: Wait + Drop + Send, R: Threads + Wait + Sync
     a?.checked_add(b?)
 }
 
-/// 65,536 sessions in 64 shards, and so many ticks that close none. Says how many shards stayed behind.
+/// Opens 65,536 sessions in 64 shards, and makes `count` ticks that close none.
+///
+/// Returns how often a shard ran out of memory.
+///
+/// # Errors
+///
+/// If memory runs out, or the hub refuses a request or a tick.
+///
+/// # Blocking
+///
+/// Waits for the locks of the hub.
 pub fn ticks<R: Threads + Wait + Sync>(rt: &R, alloc: Global, count: u64) -> Result<usize> {
     let config = Config::new(64, 30_000, 0, 10_000).ok_or(anyhow!("no configuration"))?;
     let placing = Arc::new(alloc, ByRemainder)?;

@@ -1,19 +1,27 @@
-//! The bodies that are cut.
+//! Bodies to cut into messages.
 use std::alloc::{AllocError, Global};
 
 const MEGABYTE: usize = 1_048_576;
 
-/// A body of about 1 MB with 256 publishes.
+/// Creates a body of about 1 MB with 256 publishes.
+///
+/// # Errors
+///
+/// `AllocError` if memory runs out.
 pub fn many(alloc: Global) -> Result<Vec<u8>, AllocError> {
     publishes(alloc, 3_900)
 }
 
-/// One with 256 shorter publishes, which makes a form of about 1 MB.
+/// Creates a body with 256 shorter publishes, which takes about 1 MB as a form.
+///
+/// # Errors
+///
+/// `AllocError` if memory runs out.
 pub fn short(alloc: Global) -> Result<Vec<u8>, AllocError> {
     publishes(alloc, 1_950)
 }
 
-// 256 publishes whose data has so many bytes, or a few more.
+// Writes 256 publishes with about `size` bytes of data each.
 fn publishes(alloc: Global, size: usize) -> Result<Vec<u8>, AllocError> {
     let mut body = Vec::with_capacity(alloc, MEGABYTE)?;
     body.push(b'[')?;
@@ -27,7 +35,11 @@ fn publishes(alloc: Global, size: usize) -> Result<Vec<u8>, AllocError> {
     Ok(body)
 }
 
-/// A body of about 1 MB with one publish.
+/// Creates a body of about 1 MB with one publish.
+///
+/// # Errors
+///
+/// `AllocError` if memory runs out.
 pub fn one(alloc: Global) -> Result<Vec<u8>, AllocError> {
     let mut body = Vec::with_capacity(alloc, MEGABYTE)?;
     body.push(b'[')?;
@@ -36,7 +48,7 @@ pub fn one(alloc: Global) -> Result<Vec<u8>, AllocError> {
     Ok(body)
 }
 
-// A publish whose data has so many bytes, or a few more: an array of short texts, numbers and objects.
+// Appends a publish with about `size` bytes of data: an array of short texts, numbers and objects.
 fn add_message(body: &mut Vec<u8>, size: usize) -> Result<(), AllocError> {
     body.extend_from_slice(b"{\"channel\":\"/stock/GOOG\",\"clientId\":\"")?;
     body.extend_from_slice(b"000000000000000000000000000000000000000000000001")?;

@@ -1,14 +1,16 @@
-//! How much a thread does.
+//! Loads of threads that publish and connect.
 
-/// So many rounds, in each of which a thread makes so many publishes, a request each, and each of its sessions then
-/// connects.
+/// The load of one thread, in rounds.
+///
+/// In each round a thread makes `publishes` publishes, a request each, and then each of `sessions`
+/// sessions connects.
 #[derive(Clone, Copy, Debug)]
 pub struct Load {
-    /// How many rounds.
+    /// The number of rounds.
     pub rounds: u64,
-    /// How many publishes a round has.
+    /// The number of publishes in a round.
     pub publishes: u64,
-    /// How many sessions connect in a round.
+    /// The number of sessions that connect in a round.
     pub sessions: u64,
 }
 
@@ -20,22 +22,23 @@ impl Load {
         sessions: 0,
     };
 
-    /// 100,000 publishes that reach ten sessions.
+    /// 100,000 publishes that reach ten sessions each.
     pub const TEN: Load = Load {
         rounds: 500,
         publishes: 200,
         sessions: 10,
     };
 
-    /// 10,000 publishes that reach a thousand sessions.
+    /// 10,000 publishes that reach a thousand sessions each.
     pub const THOUSAND: Load = Load {
         rounds: 50,
         publishes: 200,
         sessions: 1_000,
     };
 
-    /// The number of a thread's first session, counted from 1, where the threads before it have as many each. The first one
-    /// sends, the others receive.
+    /// Returns the number of the first session of `thread`, counted from 1.
+    ///
+    /// Each thread has one session that publishes, the first, and `sessions` that receive.
     pub fn first_of(self, thread: u64) -> u64 {
         thread
             .saturating_mul(self.sessions.saturating_add(1))

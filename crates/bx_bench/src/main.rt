@@ -1,4 +1,4 @@
-//! Workloads of the core and of the hub, to be timed. With no argument it lists them.
+//! Workloads of the core and of the hub, for timing. Without an argument, prints a list of them.
 #![tactic(auto)]
 
 mod bodies;
@@ -86,7 +86,7 @@ fn main(rt: HostRuntime) -> Result<()> {
     Ok(())
 }
 
-// Runs the workload of this name; none of another name.
+// Runs the workload `name`, or returns 0 for an unknown one.
 fn run<R: Threads + Wait + Sync>(rt: &R, alloc: Global, name: &str) -> Result<usize> {
     match name.split_once('-').map_or(name, |parts| parts.0) {
         "check" | "cut" => cuts(alloc, name),

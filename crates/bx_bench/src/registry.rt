@@ -1,4 +1,6 @@
-//! Plans and commits at a registry. Each answers a number that rests on all of its work.
+//! Workloads of a registry, which plan and commit requests and ticks.
+//!
+//! Each returns the list's length; `tick` adds the number of sessions closed.
 ghost use Rattle.std.specs.Prelude.{◌≤◌};
 
 use anyhow::{Result, anyhow};
@@ -12,12 +14,12 @@ const PUBLISHERS: u64 = 10_000;
 
 const PUBLISHES: u64 = 1_000_000;
 
-// As many sessions as may be live.
+// The limit of live sessions.
 const SESSIONS: u64 = 65_536;
 
 const TICKS: u64 = 100_000;
 
-// A message to this channel with nothing else.
+// Creates a message to `channel` with no other members.
 fn message(alloc: Global, channel: &str) -> Result<Message> {
     Ok(Message {
         channel: Text::new(alloc, channel)?,
@@ -47,7 +49,7 @@ fn new_registry(alloc: Global) -> Result<Registry> {
     Ok(Registry::new(alloc, config)?)
 }
 
-// Opens so many sessions.
+// Opens `sessions` sessions.
 fn open_all(alloc: Global, registry: &mut Registry, sessions: u64) -> Result<()> {
     let request = [handshake(alloc)?];
     for _ in 0..sessions {
@@ -56,7 +58,7 @@ fn open_all(alloc: Global, registry: &mut Registry, sessions: u64) -> Result<()>
     Ok(())
 }
 
-// A publish of each of so many sessions.
+// Creates a publish by each of `sessions` sessions.
 fn publishes(alloc: Global, sessions: u64) -> Result<Vec<Message>> {
     let mut publishes = Vec::new(alloc);
     for number in 0..sessions {
@@ -65,7 +67,7 @@ fn publishes(alloc: Global, sessions: u64) -> Result<Vec<Message>> {
     Ok(publishes)
 }
 
-// A publish of the session of this number.
+// Creates a publish by session `number`.
 fn publish_of(alloc: Global, number: u64) -> Result<Message> {
     let mut publish = message(alloc, "/stock/GOOG")?;
     publish.client = client(alloc, number)?;
@@ -73,7 +75,7 @@ fn publish_of(alloc: Global, number: u64) -> Result<Message> {
     Ok(publish)
 }
 
-// The client id of the session of this number.
+// Returns the client id of session `number`.
 fn client(alloc: Global, number: u64) -> Result<TextMember> {
     let id = format!(in alloc; "{number:048x}")?;
     Ok(TextMember::Text(Text::from_string(id)?))
@@ -91,20 +93,32 @@ fn admit(alloc: Global, registry: &mut Registry, messages: &[Message]) -> Result
     Ok(())
 }
 
-/// 10,000 sessions are opened.
+/// Opens 10,000 sessions.
+///
+/// # Errors
+///
+/// If memory runs out.
 pub fn open(alloc: Global) -> Result<usize> {
     let mut registry = new_registry(alloc)?;
     open_all(alloc, &mut registry, PUBLISHERS)?;
     Ok(registry.entries() as usize)
 }
 
-/// 1,000,000 publishes, each a request, in turn by 10,000 sessions.
+/// Makes 1,000,000 publishes, a request each, by 10,000 sessions in turn.
+///
+/// # Errors
+///
+/// If memory runs out.
 pub fn publish(alloc: Global) -> Result<usize> {
     let mut registry = new_registry(alloc)?;
     publish_in(alloc, &mut registry, 1)
 }
 
-/// The same, 100 publishes a request.
+/// Makes the same publishes, 100 a request.
+///
+/// # Errors
+///
+/// If memory runs out.
 pub fn publish_hundreds(alloc: Global) -> Result<usize> {
     let mut registry = new_registry(alloc)?;
     publish_in(alloc, &mut registry, 100)
@@ -121,7 +135,7 @@ fn publish_in(alloc: Global, registry: &mut Registry, at_once: usize) -> Result<
     Ok(registry.entries() as usize)
 }
 
-// Admits so many of the publishes a request.
+// Plans and commits `publishes`, at most `at_once` a request.
 fn admit_each(
     alloc: Global,
     registry: &mut Registry,
@@ -136,7 +150,11 @@ fn admit_each(
     Ok(())
 }
 
-/// 100,000 ticks over 65,536 sessions, of which none is due.
+/// Makes 100,000 ticks with 65,536 live sessions, none of them due.
+///
+/// # Errors
+///
+/// If memory runs out.
 pub fn tick(alloc: Global) -> Result<usize> {
     let mut registry = new_registry(alloc)?;
     tick_in(alloc, &mut registry)
@@ -151,7 +169,7 @@ fn tick_in(alloc: Global, registry: &mut Registry) -> Result<usize> {
     Ok(registry.entries().wrapping_add(closed) as usize)
 }
 
-// Plans and commits a tick, and says how many sessions it closes.
+// Plans and commits a tick, and returns how many sessions it closes.
 fn admit_tick(alloc: Global, registry: &mut Registry) -> Result<u64> {
     let planned = registry.plan_tick(alloc, 100);
     let Plan {

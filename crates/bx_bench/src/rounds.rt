@@ -1,5 +1,7 @@
-//! Rounds of workers, from JSON to outs. Each answers a number that rests on all of its work. A round is left as it is at
-//! the end: a server goes on, and one thread would take what waits apart.
+//! Workloads of rounds with several workers, from JSON to outs.
+//!
+//! Each returns the number of items in all responses. The round is never dropped: a server would go
+//! on, and one thread would take time to drop it.
 use crate::bodies::{HANDSHAKE, arrival, connect};
 use anyhow::{Result, anyhow};
 use bx_advice::Config;
@@ -15,21 +17,21 @@ const SHARDS: usize = 8;
 
 const SESSIONS: u64 = 10_000;
 
-// Each session subscribes to one room by two patterns, so that a publish reaches a thousand sessions.
+// Each session subscribes to one room by two patterns, so a publish reaches 1,000 sessions.
 const ROOMS: u64 = 10;
 
 const TURNS: u64 = 10;
 
-// How often a room is published to in a turn.
+// Number of publishes to each room in a turn.
 const PUBLISHES: u64 = 50;
 
-// After so many turns 1,000 events wait for each session that does not connect.
+// After these turns 1,000 events wait for each session, as none connects.
 const TURNS_OF_WAITING: u64 = 20;
 
-// More than any workload has.
+// More inputs than any workload has.
 const MOST_INPUTS: usize = 1_000_000_000;
 
-// A handshake of the session of this number, and its subscription.
+// Writes a handshake that opens session `number`, and its subscription.
 fn open(alloc: Global, number: u64) -> Result<String> {
     let hello = HANDSHAKE;
     let room = number % ROOMS;
@@ -45,7 +47,7 @@ fn publish(alloc: Global, room: u64) -> Result<String> {
     )?)
 }
 
-// The requests that open the sessions.
+// Creates the requests that open the sessions.
 fn openings(alloc: Global) -> Result<Vec<Input>> {
     let mut inputs = Vec::new(alloc);
     for number in 1..=SESSIONS {
@@ -54,7 +56,7 @@ fn openings(alloc: Global) -> Result<Vec<Input>> {
     Ok(inputs)
 }
 
-// Publishes to all rooms in turn.
+// Creates publishes to all rooms in turn.
 fn publishes(alloc: Global) -> Result<Vec<Input>> {
     let mut inputs = Vec::new(alloc);
     for _ in 0..PUBLISHES {
@@ -65,7 +67,7 @@ fn publishes(alloc: Global) -> Result<Vec<Input>> {
     Ok(inputs)
 }
 
-// A connect of each session.
+// Creates a connect of each session.
 fn connects(alloc: Global) -> Result<Vec<Input>> {
     let mut inputs = Vec::new(alloc);
     for number in 1..=SESSIONS {
@@ -74,7 +76,7 @@ fn connects(alloc: Global) -> Result<Vec<Input>> {
     Ok(inputs)
 }
 
-// Deals with these inputs, and says how many items their outs have.
+// Runs `inputs`, and returns the number of items in their outs.
 fn serve<R: Threads + Sync>(
     rt: &R,
     alloc: Global,
@@ -103,7 +105,11 @@ fn new_round(alloc: Global, workers: usize) -> Result<Round<ByRemainder>> {
     Ok(Round::new(alloc, config, placing, workers)?)
 }
 
-/// 10,000 sessions are opened, each subscribed to one of ten rooms by two patterns.
+/// Opens 10,000 sessions, each subscribed to one of ten rooms by two patterns.
+///
+/// # Errors
+///
+/// If `workers` is not 1 to 16, or memory runs out.
 pub fn opened<R: Threads + Sync>(rt: &R, alloc: Global, workers: usize) -> Result<usize> {
     let mut round = new_round(alloc, workers)?;
     let items = open_all(rt, alloc, &mut round);
@@ -119,8 +125,13 @@ fn open_all<R: Threads + Sync>(
     serve(rt, alloc, round, &openings(alloc)?)
 }
 
-/// The same, and then 5,000 publishes that reach a thousand sessions each, a request each, in ten turns, after each of
-/// which every session connects and is given what waits.
+/// Opens the sessions, and then makes 5,000 publishes, a request each, in ten turns.
+///
+/// Each publish reaches 1,000 sessions. After each turn every session connects and gets its events.
+///
+/// # Errors
+///
+/// If `workers` is not 1 to 16, or memory runs out.
 pub fn run<R: Threads + Sync>(rt: &R, alloc: Global, workers: usize) -> Result<usize> {
     let mut round = new_round(alloc, workers)?;
     let items = run_in(rt, alloc, &mut round);
@@ -140,7 +151,7 @@ fn run_in<R: Threads + Sync>(
     Ok(items.wrapping_add(more))
 }
 
-// The publishes and then the connects, in so many turns.
+// Runs the publishes and then the connects, `TURNS` times.
 fn serve_in_turns<R: Threads + Sync>(
     rt: &R,
     alloc: Global,
@@ -156,7 +167,13 @@ fn serve_in_turns<R: Threads + Sync>(
     Ok(items)
 }
 
-/// The same opening, and then 10,000 publishes that reach a thousand sessions each, a request each. Their events wait.
+/// Opens the sessions, and then makes 10,000 publishes, a request each, whose events wait.
+///
+/// Each publish reaches 1,000 sessions.
+///
+/// # Errors
+///
+/// If `workers` is not 1 to 16, or memory runs out.
 pub fn waiting<R: Threads + Sync>(rt: &R, alloc: Global, workers: usize) -> Result<usize> {
     let mut round = new_round(alloc, workers)?;
     let items = wait_in(rt, alloc, &mut round);

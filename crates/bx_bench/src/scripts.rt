@@ -1,11 +1,11 @@
-//! Scripts of requests, as the replay program reads them.
+//! Workloads of scripts of requests, as `replay` reads them.
 use anyhow::Result;
 use serde_json::Value;
 use std::alloc::Global;
 use std::io::{BufRead, BufReader};
 use std::str;
 
-// How many messages the body of a line has, as `serde_json` reads it.
+// Reads a line's body by `serde_json`, and returns the number of its messages.
 fn messages(alloc: Global, line: &[u8]) -> Result<usize> {
     let Some(start) = line.iter().position(|byte| *byte == b'[') else {
         return Ok(0);
@@ -14,7 +14,11 @@ fn messages(alloc: Global, line: &[u8]) -> Result<usize> {
     Ok(value.as_array().map_or(0, |items| items.len()))
 }
 
-/// `serde_json` reads the body of each line of standard input as a value.
+/// Reads the body of each line of standard input as a `serde_json` value.
+///
+/// # Errors
+///
+/// If reading fails, a body is not UTF-8 or not JSON, or memory runs out.
 pub fn check(rt: &HostRuntime) -> Result<usize> {
     let alloc = rt.alloc();
     let mut reader = BufReader::new(alloc, rt.reader())?;

@@ -1,4 +1,4 @@
-//! Deliveries to 1,000 sessions. Each answers a number that rests on all of its work.
+//! Workloads of 1,000 sessions. Each returns a number of sessions or of events.
 use anyhow::{Result, anyhow};
 use bx_advice::Config;
 use bx_message::{Event, RawJson, SharedEvent, Text};
@@ -8,10 +8,10 @@ use std::alloc::Global;
 
 const SESSIONS: u64 = 1_000;
 
-// No workload forms more batches.
+// More batches than any workload forms.
 const MANY: u64 = 1_000_000_000;
 
-// What a session is delivered before its connect, and how often.
+// Number of events delivered to a session before it connects, in each of `ROUNDS` rounds.
 const ROUND: u64 = 100;
 
 const ROUNDS: u64 = 10;
@@ -51,7 +51,7 @@ impl Setting {
         Ok(sessions)
     }
 
-    // How many events the held connect is given.
+    // Delivers the event, and returns how many events the held connect gets.
     fn deliver(&self, session: &mut Session, place: u64) -> Result<u64> {
         session.reserve()?;
         let event = self.event.clone()?;
@@ -65,7 +65,7 @@ impl Setting {
         }
     }
 
-    // How many events the connect is given, which acknowledges all batches before.
+    // Connects, acknowledging all batches, and returns how many events the connect gets.
     fn connect(&self, alloc: Global, session: &mut Session, hold: u64) -> Result<u64> {
         let number = session.last_batch();
         if number > MANY {
@@ -81,13 +81,21 @@ impl Setting {
     }
 }
 
-/// 1,000 sessions are opened.
+/// Opens 1,000 sessions.
+///
+/// # Errors
+///
+/// If memory runs out.
 pub fn open(alloc: Global) -> Result<usize> {
     let setting = Setting::new(alloc)?;
     Ok(setting.open(alloc)?.len())
 }
 
-/// Each of 1,000 sessions is delivered 1,000 events, which wait.
+/// Delivers 1,000 events to each of 1,000 sessions, where they wait.
+///
+/// # Errors
+///
+/// If memory runs out.
 pub fn wait(alloc: Global) -> Result<usize> {
     let setting = Setting::new(alloc)?;
     let mut sessions = setting.open(alloc)?;
@@ -99,7 +107,11 @@ pub fn wait(alloc: Global) -> Result<usize> {
     Ok(sessions.len())
 }
 
-/// Each is delivered 100 events and then connects, 10 times.
+/// Delivers 100 events to each session, which then connects, 10 times.
+///
+/// # Errors
+///
+/// If memory runs out.
 pub fn batches(alloc: Global) -> Result<usize> {
     let setting = Setting::new(alloc)?;
     let mut sessions = setting.open(alloc)?;
@@ -117,7 +129,11 @@ pub fn batches(alloc: Global) -> Result<usize> {
     Ok(total as usize)
 }
 
-/// Each holds a connect, which an event answers, 1,000 times.
+/// Holds a connect of each session, which an event answers, 1,000 times.
+///
+/// # Errors
+///
+/// If memory runs out.
 pub fn holds(alloc: Global) -> Result<usize> {
     let setting = Setting::new(alloc)?;
     let mut sessions = setting.open(alloc)?;

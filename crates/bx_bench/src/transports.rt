@@ -1,4 +1,4 @@
-//! The same documents as the body of a POST and as a form.
+//! Workloads of taking the same JSON from a POST's body and from a form.
 use crate::inputs;
 use anyhow::{Result, anyhow};
 use bx_cut::Document;
@@ -11,7 +11,11 @@ const RUNS: usize = 20;
 
 const FORM: &[u8] = b"application/x-www-form-urlencoded";
 
-/// The documents are taken from a form of about 1 MB, and cut.
+/// Takes a form of about 1 MB and cuts its document, 20 times.
+///
+/// # Errors
+///
+/// If memory runs out.
 pub fn form(alloc: Global) -> Result<usize> {
     let json = inputs::short(alloc)?;
     let mut form = Serializer::new(String::new(alloc));
@@ -19,7 +23,11 @@ pub fn form(alloc: Global) -> Result<usize> {
     take(alloc, Some(FORM), form.finish().as_bytes())
 }
 
-/// The same JSON is taken as it is, and cut.
+/// Takes the same document as JSON and cuts it, 20 times.
+///
+/// # Errors
+///
+/// If memory runs out.
 pub fn plain(alloc: Global) -> Result<usize> {
     take(alloc, None, inputs::short(alloc)?.as_slice())
 }

@@ -1,4 +1,5 @@
-//! Finds in the tree of patterns, and in a plain list of pairs. Each answers a number that rests on all of its work.
+//! Workloads of the pattern tree and of a plain list. Each returns a number of patterns or
+//! sessions.
 use anyhow::Result;
 use bx_names::{ChannelName, Pattern, matches};
 use bx_tree::Tree;
@@ -10,20 +11,28 @@ const ROOMS: u64 = 1_000;
 
 const STOCKS: u64 = 5_000;
 
-// Patterns of one session besides its own two and its room's.
+// Patterns of a session besides two for its own channels and one for its room.
 const STOCKS_OF_ONE: u64 = 7;
 
 const TREE_FINDS: u64 = 1_000_000;
 
 const PLAIN_FINDS: u64 = 100;
 
-/// 10,000 sessions with ten patterns each: the tree is made.
+/// Builds the tree of 10,000 sessions with ten patterns each.
+///
+/// # Errors
+///
+/// If memory runs out.
 pub fn build(alloc: Global) -> Result<usize> {
     let mut tree = Tree::new(alloc);
     put_all(alloc, &mut tree)
 }
 
-/// The same, and then 1,000,000 finds in it.
+/// Builds the same tree, and looks up 1,000,000 names in it.
+///
+/// # Errors
+///
+/// If memory runs out.
 pub fn find(alloc: Global) -> Result<usize> {
     let mut tree = Tree::new(alloc);
     put_and_find(alloc, &mut tree)
@@ -44,12 +53,20 @@ fn find_all(alloc: Global, tree: &Tree, names: &[ChannelName]) -> Result<usize> 
     Ok(total)
 }
 
-/// The same sessions and patterns as a list of pairs.
+/// Builds a list of the same sessions and patterns.
+///
+/// # Errors
+///
+/// If memory runs out.
 pub fn plain_build(alloc: Global) -> Result<usize> {
     Ok(pairs(alloc)?.len())
 }
 
-/// The same, and then 100 finds in it, each a walk over all pairs.
+/// Builds the same list, and looks up 100 names in it, each by a walk over all pairs.
+///
+/// # Errors
+///
+/// If memory runs out.
 pub fn plain_find(alloc: Global) -> Result<usize> {
     Ok(find_plainly(&pairs(alloc)?, &names(alloc)?))
 }
@@ -65,8 +82,13 @@ fn find_plainly(pairs: &[(u64, Pattern)], names: &[ChannelName]) -> usize {
     total
 }
 
-/// So many sessions with a pattern of their own: the tree is made, and there are so many finds in it, each of
-/// which finds one session.
+/// Builds a tree of `sessions` sessions with a pattern each, and makes `finds` finds.
+///
+/// Each find returns one session.
+///
+/// # Errors
+///
+/// If memory runs out.
 pub fn grown(alloc: Global, sessions: u64, finds: u64) -> Result<usize> {
     let mut tree = Tree::new(alloc);
     grow_and_find(alloc, &mut tree, sessions, finds)
@@ -89,7 +111,8 @@ fn find_one(alloc: Global, tree: &Tree, name: &ChannelName, finds: u64) -> Resul
 
 const NAMES: u64 = 4;
 
-// Of a stock, which 14 sessions ask for; a room, which 10 do; what is below a session's own; and one of no session.
+// Names that 14 sessions subscribe to, a stock; ten sessions, a room; one session, under its own
+// channel; and no session.
 fn names(alloc: Global) -> Result<Vec<ChannelName>> {
     let mut names = Vec::new(alloc);
     names.push(name(alloc, "/stock/4711")?)?;
@@ -103,7 +126,7 @@ fn name(alloc: Global, text: &str) -> Result<ChannelName> {
     Ok(ChannelName::read(alloc, text)?)
 }
 
-// The patterns of all sessions; says how many the first has.
+// Adds the patterns of all sessions, and returns how many the first has.
 fn put_all(alloc: Global, tree: &mut Tree) -> Result<usize> {
     for number in 0..SESSIONS {
         put(alloc, tree, number, &patterns(alloc, number)?)?;
@@ -128,7 +151,7 @@ fn pairs(alloc: Global) -> Result<Vec<(u64, Pattern)>> {
     Ok(pairs)
 }
 
-// The patterns of the session of this number.
+// Creates the patterns of session `number`.
 fn patterns(alloc: Global, number: u64) -> Result<Vec<Pattern>> {
     let mut patterns = Vec::new(alloc);
     patterns.push(pattern(alloc, "/user/", number, "")?)?;
@@ -141,7 +164,7 @@ fn patterns(alloc: Global, number: u64) -> Result<Vec<Pattern>> {
     Ok(patterns)
 }
 
-// The pattern of these two texts and the number between them.
+// Creates the pattern of `before`, `number` and `behind`.
 fn pattern(alloc: Global, before: &str, number: u64, behind: &str) -> Result<Pattern> {
     let text = format!(in alloc; "{before}{number}{behind}")?;
     Ok(Pattern::read(alloc, text.as_str())?)

@@ -1,4 +1,4 @@
-//! What is timed. Each answers a number that rests on all of its work.
+//! Workloads of cutting bodies and of writing responses. Each returns a total over its runs.
 use anyhow::{Result, anyhow};
 use bx_advice::{Config, Outcome};
 use bx_cut::Document;
@@ -10,7 +10,7 @@ use std::str;
 
 const CUT_RUNS: usize = 20;
 
-// Of 1,000 replies and events each.
+// Number of runs, each with 1,000 replies and 1,000 events.
 const TEXT_RUNS: usize = 100;
 
 const MEMBERS: [&str; 10] = [
@@ -26,7 +26,11 @@ const MEMBERS: [&str; 10] = [
     "advice",
 ];
 
-/// `serde_json` reads the body as a value.
+/// Reads `body` as a `serde_json` value, 20 times.
+///
+/// # Errors
+///
+/// If `body` is not UTF-8 or not JSON, or memory runs out.
 pub fn check(alloc: Global, body: &[u8]) -> Result<usize> {
     let mut total = 0usize;
     for _ in 0..CUT_RUNS {
@@ -37,7 +41,11 @@ pub fn check(alloc: Global, body: &[u8]) -> Result<usize> {
     Ok(total)
 }
 
-/// The body is cut into messages, and ten members of each are looked up.
+/// Cuts `body` into messages and looks up ten members of each, 20 times.
+///
+/// # Errors
+///
+/// If `body` cannot be cut, or memory runs out.
 pub fn cut(alloc: Global, body: &[u8]) -> Result<usize> {
     let mut total = 0usize;
     for _ in 0..CUT_RUNS {
@@ -51,7 +59,11 @@ pub fn cut(alloc: Global, body: &[u8]) -> Result<usize> {
     Ok(total)
 }
 
-/// `serde_json` writes 1,000 events and replies, 100 times.
+/// Writes 1,000 events and 1,000 replies from a `serde_json` value, 100 times.
+///
+/// # Errors
+///
+/// If memory runs out.
 pub fn value_texts(alloc: Global) -> Result<usize> {
     let text = body_text(alloc, items(alloc)?.as_slice())?;
     let value = Value::from_str(alloc, str::from_utf8(text.as_slice())?)?;
@@ -62,7 +74,11 @@ pub fn value_texts(alloc: Global) -> Result<usize> {
     Ok(total)
 }
 
-/// The same is written from events and replies.
+/// Writes the same from events and replies, 100 times.
+///
+/// # Errors
+///
+/// If memory runs out.
 pub fn item_texts(alloc: Global) -> Result<usize> {
     let items = items(alloc)?;
     let mut total = 0usize;
@@ -72,7 +88,7 @@ pub fn item_texts(alloc: Global) -> Result<usize> {
     Ok(total)
 }
 
-// 1,000 times an event and the reply to the connect that it is given to.
+// Creates 1,000 events, each followed by the reply to the connect that gets it.
 fn items(alloc: Global) -> Result<Vec<Item>> {
     let config = Config::new(1, 30_000, 0, 10_000).ok_or(anyhow!("no configuration"))?;
     let client = Text::new(alloc, "000000000000000000000000000000000000000000000001")?;

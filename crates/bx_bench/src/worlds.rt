@@ -1,4 +1,6 @@
-//! A whole server for one thread, from JSON to answers. Each answers a number that rests on all of its work.
+//! Workloads of a single-threaded server, from JSON to answers.
+//!
+//! Each returns a number of entries, events or both.
 use crate::bodies::{HANDSHAKE, arrival, connect, handshake, publish, subscription};
 use crate::load::Load;
 use anyhow::{Result, anyhow};
@@ -10,15 +12,15 @@ use std::sync::Arc;
 
 const SESSIONS: u64 = 10_000;
 
-// Each channel has ten sessions that subscribe to it.
+// Ten sessions subscribe to each channel.
 const CHANNELS: u64 = 1_000;
 
 const ROUNDS: u64 = 10;
 
-// How many publishes a request has.
+// Number of publishes in a request.
 const PUBLISHES: u64 = 100;
 
-// A server, the requests that were made, and how many entries its list has.
+// A server, the number of its shards, and the number of entries in its list.
 #[derive(Drop)]
 struct Server {
     world: World<ByRemainder>,
@@ -37,7 +39,7 @@ impl Server {
         })
     }
 
-    // Admits a body, lets every shard apply it, and takes the answers. Says how many events these have.
+    // Admits a body, advances every shard, takes the answers and returns how many events they have.
     fn serve(&mut self, alloc: Global, body: String) -> Result<u64> {
         let admitted = self.world.admit(alloc, &arrival(body));
         let admitted = admitted.map_err(|_| anyhow!("not admitted"))?;
@@ -55,7 +57,7 @@ impl Server {
         Ok(events)
     }
 
-    // Lets a shard apply the list to its end.
+    // Advances a shard to the end of the list.
     fn bring_up(&mut self, alloc: Global, shard: usize) {
         for _ in 0..MAX_LENGTH {
             if self.world.apply(alloc, shard) != Applied::Done {
@@ -64,7 +66,7 @@ impl Server {
         }
     }
 
-    // How many events the answer under a ticket has.
+    // Takes the answer of `ticket`, and returns the number of its events.
     fn taken(&mut self, ticket: Ticket) -> u64 {
         match self.world.take(ticket) {
             Some(answer) => answer.events.len() as u64,
@@ -73,7 +75,7 @@ impl Server {
     }
 }
 
-// Opens the sessions, each with one subscription. Says how many entries that makes.
+// Opens the sessions, each with one subscription. Returns the number of entries.
 fn open(alloc: Global, server: &mut Server) -> Result<usize> {
     for number in 1..=SESSIONS {
         server.serve(alloc, opening(alloc, number)?)?;
@@ -81,7 +83,7 @@ fn open(alloc: Global, server: &mut Server) -> Result<usize> {
     Ok(server.entries as usize)
 }
 
-// A handshake of the session of this number, and its subscription.
+// Writes a handshake that opens session `number`, and its subscription.
 fn opening(alloc: Global, number: u64) -> Result<String> {
     let hello = HANDSHAKE;
     let channel = number % CHANNELS;
@@ -90,7 +92,7 @@ fn opening(alloc: Global, number: u64) -> Result<String> {
     )?)
 }
 
-// A request with publishes to so many channels from this one on.
+// Writes a request with a publish to each of `PUBLISHES` channels, from `first` on.
 fn publishes(alloc: Global, first: u64) -> Result<String> {
     let mut body = String::new(alloc);
     body.push('[')?;
@@ -106,14 +108,23 @@ fn publishes(alloc: Global, first: u64) -> Result<String> {
     Ok(body)
 }
 
-/// 10,000 sessions are opened, in so many shards.
+/// Opens 10,000 sessions in `shards` shards.
+///
+/// # Errors
+///
+/// If `shards` is not 1 to 64, or memory runs out.
 pub fn opened(alloc: Global, shards: usize) -> Result<usize> {
     let mut server = Server::new(alloc, shards)?;
     open(alloc, &mut server)
 }
 
-/// The same, and then 900,000 publishes that reach ten sessions each, 100 in a request, and 100,000 connects that
-/// give what waits.
+/// Opens the sessions, makes 900,000 publishes, 100 a request, and 100,000 connects.
+///
+/// Each publish reaches ten sessions, which get it by their connects.
+///
+/// # Errors
+///
+/// If `shards` is not 1 to 64, or memory runs out.
 pub fn run(alloc: Global, shards: usize) -> Result<usize> {
     let mut server = Server::new(alloc, shards)?;
     run_in(alloc, &mut server)
@@ -129,7 +140,7 @@ fn run_in(alloc: Global, server: &mut Server) -> Result<usize> {
     Ok(server.entries.wrapping_add(events) as usize)
 }
 
-// 90 publishes to each channel.
+// Makes 90 publishes to each channel.
 fn publish_all(alloc: Global, server: &mut Server) -> Result<()> {
     for _ in 0..90 {
         for request in 0..CHANNELS / PUBLISHES {
@@ -139,7 +150,7 @@ fn publish_all(alloc: Global, server: &mut Server) -> Result<()> {
     Ok(())
 }
 
-// A connect of each session. Says how many events they are given.
+// Connects each session, and returns the number of events that they get.
 fn connect_all(alloc: Global, server: &mut Server) -> Result<u64> {
     let mut events = 0u64;
     for number in 1..=SESSIONS {
@@ -148,7 +159,11 @@ fn connect_all(alloc: Global, server: &mut Server) -> Result<u64> {
     Ok(events)
 }
 
-/// One thread's load of a hub, in so many shards. Says how many events were given.
+/// Runs the load of one thread of a hub, and returns the number of events delivered.
+///
+/// # Errors
+///
+/// If `shards` is not 1 to 64, or memory runs out.
 pub fn posts(alloc: Global, shards: usize, load: Load) -> Result<usize> {
     let mut server = Server::new(alloc, shards)?;
     posts_in(alloc, &mut server, load)

@@ -1,4 +1,8 @@
-//! What tests ask of a hub, and a writer of a window whose list is ticks alone.
+//! Calls of a hub for tests, and a window writer that publishes only ticks.
+//!
+//! # Blocking
+//!
+//! Functions with `rt` take locks and wake tasks as [`Hub::post`] and [`Hub::poll_answer`] do.
 #![tactic(auto)]
 
 mod ticker;
@@ -16,67 +20,67 @@ pub use ticker::{Taken, Ticker};
 pub const HANDSHAKE: &str =
     r#"[{"channel":"/meta/handshake","version":"1.0","supportedConnectionTypes":["long-polling"]}]"#;
 
-/// The first session subscribes to `/a/*`.
+/// A subscription of the first session to `/a/*`.
 pub const SUBSCRIBE: &str =
     r#"[{"channel":"/meta/subscribe","clientId":"000000000000000000000000000000000000000000000001","subscription":"/a/*"}]"#;
 
-/// The first session connects.
+/// A connect of the first session.
 pub const CONNECT: &str =
     r#"[{"channel":"/meta/connect","clientId":"000000000000000000000000000000000000000000000001","connectionType":"long-polling"}]"#;
 
-/// The third session subscribes to `/a/*`.
+/// A subscription of the third session to `/a/*`.
 pub const SUBSCRIBE_THIRD: &str =
     r#"[{"channel":"/meta/subscribe","clientId":"000000000000000000000000000000000000000000000003","subscription":"/a/*"}]"#;
 
-/// The third session connects.
+/// A connect of the third session.
 pub const CONNECT_THIRD: &str =
     r#"[{"channel":"/meta/connect","clientId":"000000000000000000000000000000000000000000000003","connectionType":"long-polling"}]"#;
 
-/// A message that is refused, and changes nothing but the list.
+/// A message that fails, and only adds an entry to the list.
 pub const PING: &str = r#"[{"channel":"/meta/ping"}]"#;
 
-/// The second session connects.
+/// A connect of the second session.
 pub const CONNECT_OTHER: &str =
     r#"[{"channel":"/meta/connect","clientId":"000000000000000000000000000000000000000000000002","connectionType":"long-polling"}]"#;
 
-/// The second session publishes 7 to `/a/b`.
+/// A publish of 7 to `/a/b` by the second session.
 pub const PUBLISH: &str =
     r#"[{"channel":"/a/b","clientId":"000000000000000000000000000000000000000000000002","data":7}]"#;
 
-/// The first session publishes an event that it gets itself.
+/// A publish of 8 to `/a/c` by the first session, which subscribes to it.
 pub const PUBLISH_OWN: &str =
     r#"[{"channel":"/a/c","clientId":"000000000000000000000000000000000000000000000001","data":8}]"#;
 
-/// What the first session's connect is answered where it gets what `PUBLISH` publishes.
+/// The response to the first session's connect with the event of [`PUBLISH`].
 pub const ANSWER: &str =
     r#"[{"channel":"/a/b","data":7},{"advice":{"interval":0,"reconnect":"retry","timeout":30000},"channel":"/meta/connect","clientId":"000000000000000000000000000000000000000000000001","successful":true}]"#;
 
-/// What the third session's connect is answered where it gets the same.
+/// The response to the third session's connect with the same event.
 pub const ANSWER_THIRD: &str =
     r#"[{"channel":"/a/b","data":7},{"advice":{"interval":0,"reconnect":"retry","timeout":30000},"channel":"/meta/connect","clientId":"000000000000000000000000000000000000000000000003","successful":true}]"#;
 
-/// What it is answered by a tick, without events.
+/// The response to the first session's connect without events, at its deadline.
 pub const TICKED: &str =
     r#"[{"advice":{"interval":0,"reconnect":"retry","timeout":30000},"channel":"/meta/connect","clientId":"000000000000000000000000000000000000000000000001","successful":true}]"#;
 
-/// What the first session's rider is answered where `PUBLISH` was before `PUBLISH_OWN`.
+/// The response to the first session's rider, [`PUBLISH_OWN`], after [`PUBLISH`].
 pub const RIDDEN: &str =
     r#"[{"channel":"/a/b","data":7},{"channel":"/a/c","data":8},{"channel":"/a/c","successful":true}]"#;
 
-/// What is found under a ticket.
+/// What a poll finds for a ticket.
 #[derive(Clone, Copy, Debug, PartialEq, Eq)]
 pub enum Found {
     /// No answer is filed.
     Nothing,
-    /// An answer with the text that is wanted.
+    /// An answer with the expected text.
     Wanted,
     /// Another answer.
     Other,
-    /// None can be given, for this fault.
+    /// The poll failed with this fault.
     Stopped(HubFault),
 }
 
-/// A call was refused, or was not where it should be.
+/// A call failed, or memory ran out.
 #[derive(Clone, Copy, Debug)]
 pub struct Refused;
 
@@ -86,7 +90,7 @@ impl From<AllocError> for Refused {
     }
 }
 
-// A request of this body, at moment 0.
+// Creates a request with `body`, moment 0 and nonce 0, from the publishers' listener.
 fn arrival_of(body: Vec<u8>) -> Arrival {
     Arrival {
         moment: 0,
@@ -96,19 +100,27 @@ fn arrival_of(body: Vec<u8>) -> Arrival {
     }
 }
 
-/// A request of this body, at moment 0.
+/// Creates a request with `body`, at moment 0.
+///
+/// # Errors
+///
+/// `AllocError` if memory runs out.
 pub fn arrival(alloc: Global, body: &str) -> Result<Arrival, AllocError> {
     Ok(arrival_of(body.as_bytes().to_vec(alloc)?))
 }
 
-/// A ping in a body of so many bytes, at moment 0.
+/// Creates a ping at moment 0, with a body padded with spaces to at least `length` bytes.
+///
+/// # Errors
+///
+/// `AllocError` if memory runs out.
 pub fn long_ping(alloc: Global, length: usize) -> Result<Arrival, AllocError> {
     let mut body = vec![in alloc; b' '; length.saturating_sub(PING.len())]?;
     body.extend_from_slice(PING.as_bytes())?;
     Ok(arrival_of(body))
 }
 
-/// Whether a request is one of this body, at moment 0.
+/// Returns `true` if `arrival` has `body` as its whole body, moment 0 and nonce 0.
 pub fn is_of(arrival: &Arrival, body: &str) -> bool {
     match &arrival.bodies {
         Bodies::Whole(text) => {
@@ -118,7 +130,7 @@ pub fn is_of(arrival: &Arrival, body: &str) -> bool {
     }
 }
 
-// The ticket of the first connect or rider that waits.
+// Returns the ticket of the first connect or rider whose answer is pending.
 fn ticket_of(slots: &[Slot]) -> Option<Ticket> {
     for slot in slots {
         if let Slot::Waiting(ticket) = slot {
@@ -128,7 +140,11 @@ fn ticket_of(slots: &[Slot]) -> Option<Ticket> {
     None
 }
 
-/// Posts a body; says where its first message stands, and gives the ticket of its first connect or rider.
+/// Posts `body`, and returns its first message's place and the first pending ticket.
+///
+/// # Errors
+///
+/// [`Refused`] if memory runs out or the hub refuses the request.
 pub fn post<J: Naming, P: Placing, G: Gate + Drop, H: Wait + Drop, R: Wait>(
     rt: &R,
     alloc: Global,
@@ -143,7 +159,7 @@ pub fn post<J: Naming, P: Placing, G: Gate + Drop, H: Wait + Drop, R: Wait>(
     }
 }
 
-// The text of an answer: its events, and then its reply.
+// Formats an answer: its events, then its reply.
 fn text_of(alloc: Global, answer: Answer) -> Result<Vec<u8>, AllocError> {
     let Answer { events, reply } = answer;
     let mut items = Vec::new(alloc);
@@ -154,7 +170,7 @@ fn text_of(alloc: Global, answer: Answer) -> Result<Vec<u8>, AllocError> {
     body_text(alloc, items.as_slice())
 }
 
-// Whether an answer has this text.
+// Compares an answer's text with `wanted`.
 fn found_in(alloc: Global, answer: Answer, wanted: &str) -> Result<Found, AllocError> {
     if text_of(alloc, answer)?.as_slice() == wanted.as_bytes() {
         Ok(Found::Wanted)
@@ -163,7 +179,11 @@ fn found_in(alloc: Global, answer: Answer, wanted: &str) -> Result<Found, AllocE
     }
 }
 
-/// Whether a connect or a rider is answered with this text. `Refused` means that memory was.
+/// Polls for the answer to a connect or rider, and compares it with `wanted`.
+///
+/// # Errors
+///
+/// [`Refused`] if memory runs out for the answer's text. The answer has then been taken.
 pub fn find<J: Naming, P: Placing, G: Gate + Drop, H: Wait + Drop, R: Wait>(
     rt: &R,
     alloc: Global,
@@ -179,7 +199,11 @@ pub fn find<J: Naming, P: Placing, G: Gate + Drop, H: Wait + Drop, R: Wait>(
     }
 }
 
-/// One more than the number of events that a connect or a rider is answered with; 0 where no answer is filed.
+/// Polls for an answer; returns its number of events plus 1, or 0 if none is filed.
+///
+/// # Errors
+///
+/// [`Refused`] if the poll fails.
 pub fn poll<J: Naming, P: Placing, G: Gate + Drop, H: Wait + Drop, R: Wait>(
     rt: &R,
     alloc: Global,
@@ -194,12 +218,18 @@ pub fn poll<J: Naming, P: Placing, G: Gate + Drop, H: Wait + Drop, R: Wait>(
     }
 }
 
-/// How many shards a hub has in which the first session stands in this one: two, or five for one past the second.
+/// Returns the number of shards for [`in_turn`]: 2 if `home` is below 2, otherwise 5.
 pub fn shards_for(home: usize) -> usize {
     if home < 2 { 2 } else { 5 }
 }
 
-/// Sessions in turn among two shards, the first session in this one; or all in this one, past the second.
+/// Creates a placing with the first session in shard `home`: 0, 1 or 4.
+///
+/// For 0 and 1, sessions alternate between two shards. Otherwise all are in shard 4.
+///
+/// # Errors
+///
+/// `AllocError` if memory runs out.
 pub fn in_turn(alloc: Global, home: usize) -> Result<ByTable, AllocError> {
     match home {
         0 => ByTable::new(alloc, &[1, 0]),
@@ -208,7 +238,11 @@ pub fn in_turn(alloc: Global, home: usize) -> Result<ByTable, AllocError> {
     }
 }
 
-/// Opens the first session, subscribes it, and gives the ticket of its connect, which is held.
+/// Opens and subscribes the first session, and returns the ticket of its connect.
+///
+/// # Errors
+///
+/// [`Refused`] if a post fails or the connect is answered at once.
 pub fn hold<J: Naming, P: Placing, G: Gate + Drop, H: Wait + Drop, R: Wait>(
     rt: &R,
     alloc: Global,
@@ -221,7 +255,11 @@ pub fn hold<J: Naming, P: Placing, G: Gate + Drop, H: Wait + Drop, R: Wait>(
     ticket.ok_or(Refused)
 }
 
-/// Opens the second session, which publishes an event that the first one gets.
+/// Opens the second session and posts [`PUBLISH`].
+///
+/// # Errors
+///
+/// [`Refused`] if a post fails.
 pub fn publish<J: Naming, P: Placing, G: Gate + Drop, H: Wait + Drop, R: Wait>(
     rt: &R,
     alloc: Global,

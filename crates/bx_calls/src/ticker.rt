@@ -1,4 +1,4 @@
-//! A writer whose list is ticks alone.
+//! A window writer that publishes only ticks.
 ghost use Rattle.std.specs.Prelude.{◌≡◌, ◌+◌, ◌<◌, ◌≤◌, ◌^◌, [], IfOk, IfErr, OnErr};
 ghost use Rattle.bx_window.specs.Steps.{list_of};
 ghost use Rattle.bx_calls.specs.Ticks.{ticks, tick_entries};
@@ -10,53 +10,57 @@ use bx_window::{Bundle, Front, LogWriter, Naming, PublishFault};
 use std::alloc::{AllocError, Global};
 use std::sync::Wait;
 
-// The log of a test has fewer steps than this, and its list fewer elements.
+// A writer publishes only while its steps, its list and the batch are each shorter than this.
 const MOST: u64 = 1_000_000;
 
-/// How a batch was taken.
+/// What happened to a batch.
 #[derive(Clone, Copy, Debug, PartialEq, Eq)]
 pub enum Taken {
     /// It was published.
     Published,
-    /// It came back.
+    /// It was returned.
     Refused {
-        /// Why it was not published.
+        /// The reason.
         why: PublishFault,
         /// Its first place.
         first: u64,
-        /// How many entries it has.
+        /// Its number of entries.
         entries: usize,
     },
 }
 
-/// A writer whose list is so many ticks.
+/// A window writer whose list has only ticks.
 #[derive(Drop)]
 pub struct Ticker<J: Naming, R: Wait + Drop> {
     writer: LogWriter<J, R>,
-    /// How many they are.
+    /// Number of ticks published.
     pub end: u64,
     ghost ticks: { list_of writer ≡ ticks end },
 }
 
 impl<J: Naming, R: Wait + Drop> Ticker<J, R> {
-    /// A writer that has published nothing.
+    /// Wraps a writer that has published nothing.
     pub fn new(writer: LogWriter<J, R>) -> Ticker<J, R>
         requires { writer ≡ [] }
     {
         Ticker { writer, end: 0 }
     }
 
-    /// What was published.
+    /// Returns the front of all that was published.
     pub fn tell(&self) -> Front<J> {
         self.writer.tell()
     }
 
-    /// What was published, of which a front is a beginning.
+    /// Returns the front of all that was published, which covers `front`.
     pub fn tell_beyond(&mut self, front: &Front<J>) -> Front<J> {
         self.writer.tell_beyond(front)
     }
 
-    /// Publishes a batch of so many ticks. An error means that memory was refused.
+    /// Publishes a batch of `count` ticks.
+    ///
+    /// # Errors
+    ///
+    /// As for [`bundle`](Self::bundle); nothing has changed.
     pub fn publish(&mut self, alloc: Global, count: u64) -> Result<Taken, AllocError> {
         let bundle = self.bundle(alloc, count)?;
         match self.publish_bundle(alloc, bundle, count) {
@@ -69,8 +73,11 @@ impl<J: Naming, R: Wait + Drop> Ticker<J, R> {
         }
     }
 
-    /// So many ticks behind the list. There are none past the numbers that tests have. An error means that memory was
-    /// refused.
+    /// Creates a batch of `count` ticks that continues the list.
+    ///
+    /// # Errors
+    ///
+    /// `AllocError` if `count` or the list's length is at least 1,000,000, or if memory runs out.
     pub fn bundle(&self, alloc: Global, count: u64) -> Result<Bundle, AllocError>
         ensures first { IfOk result (λ b. b.batch.first ≡ self.now.end) }
         ensures entries { IfOk result (λ b. b.batch.entries ≡ tick_entries self.now.end count) }
@@ -82,8 +89,12 @@ impl<J: Naming, R: Wait + Drop> Ticker<J, R> {
         ticks(alloc, self.end, count)
     }
 
-    /// Publishes so many ticks that were made behind this list. Where they are refused they come back, and the list
-    /// ends where it did. Past the numbers that tests have the window counts as full.
+    /// Publishes `bundle`, the next `count` ticks.
+    ///
+    /// # Errors
+    ///
+    /// `bundle`, and `Full` if `count` is 0 or if `count`, the list's length or the number of steps
+    /// is at least 1,000,000. Otherwise the window's fault. The list is as long as before.
     pub fn publish_bundle(
         &mut self,
         alloc: Global,
@@ -108,7 +119,7 @@ impl<J: Naming, R: Wait + Drop> Ticker<J, R> {
         }
     }
 
-    /// Drops the batches that lie wholly below a place.
+    /// Drops the batches that are wholly below `place`, and returns `true` if that succeeds.
     pub fn trim(&mut self, place: u64) -> bool {
         if self.writer.tell().steps() >= MOST {
             return false;
@@ -117,7 +128,7 @@ impl<J: Naming, R: Wait + Drop> Ticker<J, R> {
     }
 }
 
-// So many ticks from a place on.
+// Creates a batch of `count` ticks of moment 0, from place `first`.
 fn ticks(alloc: Global, first: u64, count: u64) -> Result<Bundle, AllocError>
     requires { first + count < 2 ^ 62 }
     ensures first { IfOk result (λ b. b.batch.first ≡ first) }

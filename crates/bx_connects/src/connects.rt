@@ -1,4 +1,4 @@
-//! The connects of a shard, from their place in the list until their answers are taken.
+//! The connects of a shard, from their entries until their answers are taken.
 ghost use Rattle.std.specs.Prelude.{◌≡◌, ◌<◌, ℕ, nat_eq, nat_lt, not, Some, None, if◌then◌else◌, OnOk, OnErr, IfSome, IfNone, Option, option_map, option_to_list, is_some, [], ◌++◌};
 ghost use Rattle.std.specs.Map.{keys_of};
 ghost use Rattle.std.specs.Option.{option_or};
@@ -18,46 +18,49 @@ use indexmap::IndexMap;
 use std::alloc::{AllocError, Global};
 use std::marker::Model;
 
-/// What became of a connect, as contracts see it. A waker stands beside a held connect alone, so that no filed answer has
-/// one left.
+/// Ghost: the state of a known connect or rider.
+///
+/// Only a held connect has a waker.
 #[derive(Drop)]
 pub enum ConnectState {
-    /// It is held until a tick at or past the deadline.
+    /// Held, at the latest until a tick at or after the deadline.
     Held {
         /// The number of the session that holds it.
         session: u64,
-        /// When its hold ends, in milliseconds; none where no tick can be that late.
+        /// The deadline, in milliseconds, or `None` if no tick can be that late.
         deadline: Option<u64>,
-        /// Who waits for its answer, if anybody does. A waker is woken where it is dropped.
+        /// The waker of the task that waits for the answer, if any. Dropping it wakes the task.
         waker: Option<Waker>,
     },
-    /// The answer to it was filed.
+    /// Answered; the answer is not taken yet.
     Filed {
-        /// The number of the session that gave it.
+        /// The number of the session that gave the answer.
         session: u64,
-        /// The place of the entry that gave it.
+        /// The place of the entry that gave the answer.
         place: u64,
-        /// The answer, until it is taken.
+        /// The answer.
         answer: Answer,
     },
 }
 
-/// An answer, with the session of its connect and the place of the entry that gave it.
+/// A filed answer, with its session and the place of the entry that gave it.
 #[derive(Drop)]
 pub struct FiledAnswer {
-    /// The number of the session that gave it.
+    /// The number of the session that gave the answer.
     pub session: u64,
-    /// The place of the entry that gave it.
+    /// The place of the entry that gave the answer.
     pub place: u64,
     /// The answer.
     pub answer: Answer,
 }
 
-/// What became of each connect, by its place in the list: those that are held, and the answers that are filed, those of riders
-/// among them, which are never held. The room
-/// for a connect's answer and for a waker is there from the first on, so that filing is not refused for want of memory.
+/// The held connects and the filed answers of a shard, by the place of the connect or rider.
 ///
-/// Where a held connect is answered or forgotten, the waker beside it goes to the caller's list of those that are to be woken.
+/// Riders are never held. While a connect is held, room for its waker and its answer is reserved,
+/// so that neither `watch` nor `file` allocates. If it is answered or forgotten, its waker moves to
+/// the caller's list.
+///
+/// Model: the held connects and the filed answers, each with its place.
 #[derive(Drop)]
 pub struct Connects {
     held: HeldConnects,
@@ -77,7 +80,7 @@ impl Model for Connects {
 }
 
 impl Connects {
-    /// No connect is known.
+    /// Creates a collection without connects.
     pub fn new(alloc: Global) -> Connects
         ensures { (p : ℕ) → connect_at result p ≡ None }
     {
@@ -87,8 +90,14 @@ impl Connects {
         }
     }
 
-    /// A session holds the connect at this place, of which nothing was known, until the deadline, in milliseconds.
-    /// Without a deadline no tick ends the hold. An error means that memory was refused, and nothing changes then.
+    /// Holds the connect at `place` for `session`.
+    ///
+    /// `deadline`: milliseconds since the server started. Without one, no tick ends the hold. No
+    /// connect or answer may be known at `place`.
+    ///
+    /// # Errors
+    ///
+    /// `AllocError` if memory runs out; nothing has changed.
     pub fn hold(
         &mut self,
         place: u64,
@@ -104,7 +113,7 @@ impl Connects {
         self.held.hold(place, session, deadline)
     }
 
-    /// Nothing is known of the connect at this place any longer. A waker beside it is to be woken.
+    /// Forgets the connect at `place`, held or answered, and moves its waker to `wakers`.
     pub fn forget(&mut self, place: u64, wakers: &mut Wakers)
         ensures forgotten { (p : ℕ) → connect_at self.new p ≡ (if nat_eq place p then None else connect_at self.old p) }
         ensures woken { wakers.new ≡ wakers.old ++ option_to_list (waker_of (connect_at self.old place)) }
@@ -115,7 +124,10 @@ impl Connects {
         }
     }
 
-    /// Files the answer to a held connect, which the entry at this place gives. A waker beside it is to be woken.
+    /// Files the answer to a known connect, given by the entry at `place`.
+    ///
+    /// Moves the connect's waker to `wakers`. Replaces an answer filed before. Does nothing if the
+    /// connect is not known.
     pub fn file(&mut self, place: u64, answered: Answered, wakers: &mut Wakers)
         ensures filed { (p : ℕ) → connect_at self.new p
             ≡ (if nat_eq answered.place p then filed_as place answered.answer (connect_at self.old answered.place)
@@ -147,8 +159,13 @@ impl Connects {
         }
     }
 
-    /// Files an answer under a place of which nothing was known, which this session gives there. An error means that
-    /// memory was refused, and nothing changes then.
+    /// Files `answer`, which `session` gives at `place`.
+    ///
+    /// No connect or answer may be known at `place`.
+    ///
+    /// # Errors
+    ///
+    /// `AllocError` if memory runs out; nothing has changed.
     pub fn prepare(&mut self, place: u64, session: u64, answer: Answer) -> Result<(), AllocError>
         requires { connect_at self.old place ≡ None }
         ensures ok { OnOk result ((p : ℕ) → connect_at self.new p
@@ -165,7 +182,7 @@ impl Connects {
         Ok(())
     }
 
-    /// Puts these events into the answer that is filed for this place.
+    /// Replaces the events of the answer filed for `place`, if any.
     pub fn complete(&mut self, place: u64, events: Vec<SharedEvent>)
         ensures { (p : ℕ) → connect_at self.new p
             ≡ (if nat_eq place p then completed events.items (connect_at self.old place) else connect_at self.old p) }
@@ -175,7 +192,7 @@ impl Connects {
         }
     }
 
-    /// Files an answer, where there is one. A waker beside its connect is to be woken.
+    /// Files an answer, if there is one, as [`file`](Self::file) does.
     pub fn file_if(&mut self, place: u64, answered: Option<Answered>, wakers: &mut Wakers)
         ensures filed { (p : ℕ) → connect_at self.new p ≡ filing place answered (connect_at self.old) p }
         ensures woken { AreWoken (connect_at self.old) (connect_at self.new) wakers.old wakers.new }
@@ -185,7 +202,9 @@ impl Connects {
         }
     }
 
-    /// The session of a held connect whose deadline is this moment, in milliseconds, or before it.
+    /// Returns the session of a held connect whose deadline is at or before `moment`, if any.
+    ///
+    /// `moment`: milliseconds since the server started.
     pub fn first_due(&self, moment: u64) -> Option<u64>
         ensures due { IfSome result (λ session. IsDue self.now session moment) }
         ensures none { IfNone result ((place session deadline : ℕ)
@@ -195,7 +214,7 @@ impl Connects {
         Some(session)
     }
 
-    /// Gives the answer to the connect at this place, and takes it.
+    /// Removes and returns the answer filed for `place`, if any.
     pub fn take(&mut self, place: u64) -> Option<Answer>
         ensures answer { result ≡ filed_answer (connect_at self.old place) }
         ensures taken { (p : ℕ) → connect_at self.new p
@@ -205,7 +224,7 @@ impl Connects {
         Some(answer)
     }
 
-    /// Gives some answer that is filed, and takes it.
+    /// Removes and returns a filed answer, or `None` if there is none.
     pub fn take_any(&mut self) -> Option<Filing>
         ensures filed { IfSome result (λ f. (session : ℕ) × (connect_at self.old f.connect ≡ Some (Filed session f.place f.answer))) }
         ensures taken { IfSome result (λ f. (p : ℕ) → connect_at self.new p
@@ -221,8 +240,10 @@ impl Connects {
         })
     }
 
-    /// Stores a waker beside the connect at this place, where it is held and the shard is not shut. The older one there is
-    /// given back.
+    /// Registers `waker` with the connect at `place`, and returns the waker that it replaces.
+    ///
+    /// Returns `waker` itself if the answer is filed (`Ready`), no connect is held at `place`
+    /// (`Unknown`), or `is_shut` is `true` (`Shut`).
     pub fn watch(&mut self, place: u64, waker: Waker, is_shut: bool) -> Watch
         ensures watch { result ≡ watched is_shut waker (connect_at self.old place) }
         ensures stored { (p : ℕ) → connect_at self.new p
@@ -234,8 +255,9 @@ impl Connects {
         self.held.watch(place, waker, is_shut)
     }
 
-    /// Drops the answers that were filed below this place, and says how many they were. It costs the answers that are
-    /// filed, not the connects that are held.
+    /// Drops the answers filed by entries before place `before`, and returns how many.
+    ///
+    /// The cost depends on how many answers are filed, not on how many connects are held.
     pub fn sweep(&mut self, before: u64) -> usize
         ensures swept { self.new ≡ swept before self.old }
         ensures kept { (p : ℕ) → connect_at self.new p ≡ unswept before (connect_at self.old p) }
@@ -250,21 +272,23 @@ impl Connects {
         len - self.filed.len()
     }
 
-    /// Drops all wakers of held connects, which wakes them. It costs the connects that are held, not the answers that are filed.
+    /// Drops the wakers of all held connects, which wakes their tasks.
+    ///
+    /// The cost depends on how many connects are held, not on how many answers are filed.
     pub fn unwatch_all(&mut self)
         ensures { (p : ℕ) → connect_at self.new p ≡ option_map unwatched (connect_at self.old p) }
     {
         self.held.unwatch_all();
     }
 
-    /// The places of the connects that are held.
+    /// Returns the places of the held connects.
     pub fn held_places(&self) -> &[u64]
         ensures { result.now ≡ keys_of self.now.held }
     {
         self.held.places()
     }
 
-    /// The places of the connects whose answers are filed.
+    /// Returns the places of the connects and riders whose answers are filed.
     pub fn filed_places(&self) -> &[u64]
         ensures places { result.now ≡ keys_of self.now.filed }
         ensures apart { AreApart self.now.held self.now.filed }
@@ -272,7 +296,9 @@ impl Connects {
         self.filed.keys().as_slice()
     }
 
-    /// The session of the connect at this place, and until when it is held, where it is known.
+    /// Returns the session and the deadline of the connect at `place`, if it is known.
+    ///
+    /// An answered connect has no deadline.
     pub fn known(&self, place: u64) -> Option<(u64, Option<u64>)>
         ensures { result ≡ known_as (connect_at self.now place) }
     {
@@ -283,7 +309,7 @@ impl Connects {
         Some((filed.session, None))
     }
 
-    /// Takes an answer that is filed, the last of them, with the place of its connect.
+    /// Removes the last filed answer, and returns it with the place of its connect or rider.
     pub fn pop_filed(&mut self) -> Option<(u64, FiledAnswer)>
         ensures filed { self.old.filed ≡ self.new.filed ++ option_to_list result }
         ensures held { self.new.held ≡ self.old.held }
@@ -293,8 +319,13 @@ impl Connects {
         self.filed.pop()
     }
 
-    /// Makes room for a connect of which nothing is known, as if the session held it until the deadline, in
-    /// milliseconds. An error means that memory was refused.
+    /// Reserves a connect that `session` holds at `place`, unless one is known there.
+    ///
+    /// `deadline`: milliseconds since the server started. Without one, no tick ends the hold.
+    ///
+    /// # Errors
+    ///
+    /// `AllocError` if memory runs out; nothing has changed.
     pub fn lend(
         &mut self,
         place: u64,
@@ -311,7 +342,7 @@ impl Connects {
         self.hold(place, session, deadline)
     }
 
-    // Whether the connect at this place is known.
+    // Returns `true` if the connect at `place` is held or answered.
     fn is_known(&self, place: u64) -> bool
         ensures { result ≡ is_some (connect_at self.now place) }
     {

@@ -1,21 +1,23 @@
-//! When the holds of a shard end.
+//! The deadlines of held connects.
 ghost use Rattle.std.specs.Prelude.{◌≡◌, ◌≤◌, ◌<◌, ℕ, true, false, None, if◌then◌else◌, OnOk, OnErr, IfSome, IfNone};
 ghost use Rattle.bx_connects.specs.Deadlines.{is_noted, same_hold};
 
 use std::alloc::{AllocError, Global};
 use std::collections::BTreeSet;
 
-/// A hold: the moment at which it ends, in milliseconds, the place of its connect, and the number of its session.
+/// A hold: its deadline in milliseconds, the place of its connect and its session's number.
 pub(crate) type Hold = (u64, u64, u64);
 
-/// The holds of a shard, those that end first before the others, so that a tick looks at those that end and one more.
+/// The holds of a shard, ordered by deadline.
+///
+/// A tick looks only at the holds that end, and at one more.
 #[derive(Drop)]
 pub(crate) struct Deadlines {
     holds: BTreeSet<Hold>,
 }
 
 impl Deadlines {
-    /// No hold.
+    /// Creates an empty set of holds.
     pub(crate) fn new(alloc: Global) -> Deadlines
         ensures { (q : ℕ × ℕ × ℕ) → is_noted result q ≡ false }
     {
@@ -24,7 +26,7 @@ impl Deadlines {
         }
     }
 
-    /// Notes a hold.
+    /// Adds a hold. On error, nothing has changed.
     pub(crate) fn note(&mut self, hold: Hold) -> Result<(), AllocError>
         ensures ok { OnOk result ((q : ℕ × ℕ × ℕ) → is_noted self.new q
             ≡ (if same_hold hold q then true else is_noted self.old q)) }
@@ -34,7 +36,7 @@ impl Deadlines {
         Ok(())
     }
 
-    /// Notes a hold no longer.
+    /// Removes a hold.
     pub(crate) fn forget(&mut self, hold: Hold)
         ensures { (q : ℕ × ℕ × ℕ) → is_noted self.new q
             ≡ (if same_hold hold q then false else is_noted self.old q) }
@@ -42,7 +44,7 @@ impl Deadlines {
         self.holds.remove(&hold);
     }
 
-    /// A hold that ends at this moment or before it, if there is one.
+    /// Returns the first hold to end, if its deadline is at or before `moment`.
     pub(crate) fn first_due(&self, moment: u64) -> Option<Hold>
         ensures due { IfSome result (λ hold. hold.0 ≤ moment) }
         ensures noted { IfSome result (λ hold. is_noted self.now hold ≡ true) }

@@ -1,12 +1,12 @@
-//! An answer that was filed, and for which connect or rider.
+//! A filed answer and its connect or rider.
 use bx_message::Answer;
 
-/// The answer to the connect or the rider at a place of the list, with the place of the entry that gave it.
+/// The answer to a connect or a rider, with the place of the entry that gave it.
 #[derive(Drop)]
 pub struct Filing {
-    /// The place of the connect, or of the rider.
+    /// The place of the connect or rider.
     pub connect: u64,
-    /// The place of the entry that answered it. A rider's is its own.
+    /// The place of the entry that gave the answer. For a rider, it is the rider's own.
     pub place: u64,
     /// The answer.
     pub answer: Answer,

@@ -1,4 +1,4 @@
-//! The connects of a shard that are held, and when their holds end.
+//! The held connects of a shard, and their deadlines.
 ghost use Rattle.std.specs.Prelude.{◌≡◌, ◌≤◌, ◌<◌, ◌+◌, ℕ, nat_eq, true, false, is_some, None, Some, [], length, if◌then◌else◌, OnOk, OnErr, IfSome, IfNone, Option, option_map};
 ghost use Rattle.std.specs.Map.{keys_of};
 ghost use Rattle.futures.specs.declared.task.waker.Waker.{Waker};
@@ -12,8 +12,9 @@ use indexmap::IndexMap;
 use std::alloc::{AllocError, Global};
 use std::marker::Model;
 
-/// A connect that the session with this number holds, until a tick at or past the deadline, if a tick can be that late. A
-/// waker is woken where it is dropped.
+/// A connect held by `session` until a tick at or after `deadline`, if it has one.
+///
+/// Dropping `waker` wakes its task.
 #[derive(Drop)]
 pub(crate) struct HeldConnect {
     pub(crate) session: u64,
@@ -22,7 +23,7 @@ pub(crate) struct HeldConnect {
 }
 
 impl HeldConnect {
-    // Stores a waker, where the shard is not shut, and gives the older one back.
+    // Stores `waker` and returns the one that it replaces, unless the shard was shut.
     fn watch(&mut self, waker: Waker, is_shut: bool) -> Watch
         ensures watch { result ≡ watched_hold is_shut waker (Some self.old) }
         ensures stored { self.new ≡ stored_at is_shut waker self.old }
@@ -34,7 +35,9 @@ impl HeldConnect {
     }
 }
 
-/// The held connects, by their places in the list, and when the holds end. Contracts see the connects with their places.
+/// The held connects by place, and their deadlines.
+///
+/// Model: the connects, each with its place.
 #[derive(Drop)]
 pub(crate) struct HeldConnects {
     by_place: IndexMap<u64, HeldConnect>,
@@ -54,7 +57,7 @@ impl Model for HeldConnects {
 }
 
 impl HeldConnects {
-    /// No connect is held.
+    /// Creates a collection without connects.
     pub(crate) fn new(alloc: Global) -> HeldConnects
         ensures { result ≡ [] }
     {
@@ -64,7 +67,7 @@ impl HeldConnects {
         }
     }
 
-    /// How many connects are held.
+    /// Returns how many connects are held.
     pub(crate) fn len(&self) -> usize
         ensures len { result ≡ length self.now }
         ensures small { result < 9223372036854775808 }
@@ -72,7 +75,9 @@ impl HeldConnects {
         self.by_place.len()
     }
 
-    /// A session holds the connect at this place, which was not held, until this moment.
+    /// Holds the connect at `place`, which must not be held, for `session` until `deadline`.
+    ///
+    /// On error, no connect has changed.
     pub(crate) fn hold(
         &mut self,
         place: u64,
@@ -102,7 +107,7 @@ impl HeldConnects {
         noted
     }
 
-    /// The connect at this place is held no longer. It is given, where it was held.
+    /// Removes and returns the connect at `place`, if it is held.
     pub(crate) fn release(&mut self, place: u64) -> Option<HeldConnect>
         ensures was { result ≡ hold_at self.old place }
         ensures released { (p : ℕ) → hold_at self.new p ≡ (if nat_eq place p then None else hold_at self.old p) }
@@ -115,7 +120,7 @@ impl HeldConnects {
         Some(held)
     }
 
-    /// A hold that ends at this moment or before it, if there is one.
+    /// Returns the first hold to end, if its deadline is at or before `moment`.
     pub(crate) fn first_due(&self, moment: u64) -> Option<Hold>
         ensures due { IfSome result (λ hold. hold.0 ≤ moment) }
         ensures held { IfSome result (λ hold. is_held_until (hold_at self.now hold.1) hold.2 hold.0 ≡ true) }
@@ -125,8 +130,9 @@ impl HeldConnects {
         self.deadlines.first_due(moment)
     }
 
-    /// Stores a waker beside the connect at this place, where it is held and the shard is not shut. The older one there is
-    /// given back.
+    /// Registers `waker` with the connect at `place`, and returns the waker that it replaces.
+    ///
+    /// Returns `waker` itself if no connect is held there, or if the shard was shut.
     pub(crate) fn watch(&mut self, place: u64, waker: Waker, is_shut: bool) -> Watch
         ensures watch { result ≡ watched_hold is_shut waker (hold_at self.old place) }
         ensures stored { (p : ℕ) → hold_at self.new p
@@ -139,7 +145,7 @@ impl HeldConnects {
         }
     }
 
-    /// Drops all wakers, which wakes them.
+    /// Drops all wakers, which wakes their tasks.
     pub(crate) fn unwatch_all(&mut self)
         ensures unwatched { (p : ℕ) → hold_at self.new p ≡ option_map unwatched_hold (hold_at self.old p) }
         ensures bound { length self.new ≤ length self.old }
@@ -154,14 +160,14 @@ impl HeldConnects {
         );
     }
 
-    /// The places of the connects.
+    /// Returns the places of the held connects.
     pub(crate) fn places(&self) -> &[u64]
         ensures { result.now ≡ keys_of self.now }
     {
         self.by_place.keys().as_slice()
     }
 
-    /// The session of the connect at this place, and until when it is held, where it is.
+    /// Returns the session and the deadline of the connect at `place`, if it is held.
     pub(crate) fn known(&self, place: u64) -> Option<(u64, Option<u64>)>
         ensures { result ≡ option_map hold_of (hold_at self.now place) }
     {
@@ -169,7 +175,7 @@ impl HeldConnects {
         Some((held.session, held.deadline))
     }
 
-    /// Whether the connect at this place is held.
+    /// Returns `true` if the connect at `place` is held.
     pub(crate) fn has(&self, place: u64) -> bool
         ensures { result ≡ is_some (hold_at self.now place) }
     {

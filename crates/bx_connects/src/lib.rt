@@ -1,4 +1,4 @@
-//! Connects that are held, and the answers that are filed for them.
+//! Held connects, filed answers, and the wakers of tasks that wait for them.
 #![tactic(auto)]
 
 mod connects;

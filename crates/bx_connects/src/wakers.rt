@@ -1,4 +1,4 @@
-//! The wakers of those whose connects are answered.
+//! The wakers of tasks whose connects are no longer held.
 ghost use Rattle.std.specs.Prelude.{◌≡◌, [], ◌∷◌, ◌++◌, length, option_to_list, ◌≤◌};
 
 use bx_history::History;
@@ -6,13 +6,16 @@ use futures::task::Waker;
 use std::alloc::Global;
 use std::marker::Model;
 
-/// The wakers that are to be woken, in the order in which they came. Whoever has connects answered makes the list before it
-/// takes the lock that lies round them, and drops it, which wakes them, once it has let go of that lock. Where there is no
-/// memory for one more, that one is woken at once.
+/// A list of wakers to be woken, in the order in which they were added.
+///
+/// Dropping the list wakes their tasks. Create it before you lock a shard, and drop it after you
+/// unlock the shard. If memory runs out for a waker, its task is woken at once.
+///
+/// Model: all wakers that were added.
 #[derive(Drop)]
 pub struct Wakers {
     list: Vec<Waker>,
-    // Which of them came, and which of those were woken at once, for contracts alone.
+    // Ghost: the wakers that were added, and those of them that were woken at once.
     given: History<Waker>,
     at_once: History<Waker>,
 }
@@ -26,12 +29,12 @@ impl Model for Wakers {
 
     ghost view = { λ w. w.given };
 
-    // Each that came lies in the list or was woken at once, and no other.
+    // Each waker that was added is in the list or was woken at once. There are no others.
     ghost invariant = { λ w. IsPermutation w.given (w.at_once ++ w.list.items) };
 }
 
 impl Wakers {
-    /// No waker.
+    /// Creates an empty list.
     pub fn new(alloc: Global) -> Wakers
         ensures { result ≡ [] }
     {
@@ -42,7 +45,7 @@ impl Wakers {
         }
     }
 
-    /// One waker more is to be woken.
+    /// Adds a waker, or wakes its task at once if memory runs out.
     #[tactic(auto, using(crate::proofs::WakingLemmas::pushed))]
     pub fn push(&mut self, waker: Waker)
         ensures { self.new ≡ self.old ++ waker ∷ [] }
@@ -53,7 +56,7 @@ impl Wakers {
         }
     }
 
-    /// One waker more is to be woken, where there is one.
+    /// Adds `waker`, if there is one.
     pub(crate) fn push_if(&mut self, waker: Option<Waker>)
         ensures { self.new ≡ self.old ++ option_to_list waker }
     {
@@ -62,7 +65,9 @@ impl Wakers {
         }
     }
 
-    /// How many of them are still to be woken: fewer than came where some were woken at once.
+    /// Returns how many wakers are still to be woken.
+    ///
+    /// Those that were woken at once do not count.
     pub fn len(&self) -> usize
         ensures { result ≤ length self.now }
     {

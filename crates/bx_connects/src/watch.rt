@@ -1,15 +1,17 @@
-//! What comes of waiting for an answer.
+//! The result of registering a waker.
 use futures::task::Waker;
 
-/// What comes of a waker that is to be woken once a connect is answered.
+/// The result of registering a waker with a connect.
+///
+/// `Ready`, `Unknown` and `Shut` return the waker itself.
 #[derive(Drop)]
 pub enum Watch {
-    /// It is stored under the connect's ticket. An older one that was there is given back: it is woken where it is dropped.
+    /// The waker is stored. Returns the one that it replaces; dropping that wakes its task.
     Stored(Option<Waker>),
-    /// The answer is filed and can be taken. The waker is given back.
+    /// The answer is filed and can be taken.
     Ready(Waker),
-    /// No connect of this shard is held under the ticket, and no answer is filed. The waker is given back.
+    /// No connect of this shard is held under the ticket, and no answer is filed.
     Unknown(Waker),
-    /// The shard was shut. The waker is given back.
+    /// The shard was shut.
     Shut(Waker),
 }

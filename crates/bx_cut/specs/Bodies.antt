@@ -1,9 +1,9 @@
--- The documents that a transport hands on.
+-- The documents that a transport passes on.
 use Rattle.std.specs.Prelude.{ℕ, List, [], ◌∷◌, map, string_bytes}
 use Rattle.bx_cut.specs.declared.bodies.Bodies.{Bodies}
 use Rattle.bx_cut.specs.declared.bodies.Bodies.TheVariants.{Whole, Decoded}
 
--- the bytes of each document, in order
+-- The bytes of each document, in order.
 abbrev pub texts_of : Bodies → List (List ℕ)
 texts_of (Whole body) = body.items ∷ []
 texts_of (Decoded texts) = map string_bytes texts.items

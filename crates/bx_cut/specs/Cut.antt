@@ -1,4 +1,4 @@
--- How far the parts of a JSON text reach, on its bytes. What is no JSON text is cut too, to no purpose.
+-- The length of the parts of a JSON text, in bytes. For other texts it has no meaning.
 use Rattle.std.specs.Prelude.{◌≡◌, ◌≤◌, ℕ, zero, suc, ◌+◌, ◌-◌, ◌==◌, ◌||◌, List, [], ◌∷◌, length, take, drop, Bool, false, not, cond, Option, Some, None, option_map, option_and_then}
 use Rattle.std.specs.{List.prefix_len, Str.IsCharBoundary}
 use Rattle.json.specs.Word.{is_operator, is_space}
@@ -6,7 +6,7 @@ use Rattle.json.specs.Lex.{in_string}
 use Rattle.json.specs.Align.{span}
 use Rattle.json.specs.Ascii as ascii
 
--- without the white space in front
+-- The text without leading white space.
 abbrev pub past_blank : List ℕ → List ℕ
 past_blank t = drop (prefix_len is_space t) t
 
@@ -24,7 +24,8 @@ pub data Scan : Type 0 where
   quoted : Scan
   escaped : Scan
 
--- how many bytes reach up to and with the bracket that closes what was opened before them, with `depth` more brackets open
+-- The length up to and including the bracket that closes one opened before the text. Another
+-- `depth` brackets inside it are open.
 unfoldable pub nest_len : Scan → ℕ → List ℕ → ℕ
 nest_len m depth [] = 0
 nest_len outside depth (x ∷ xs) =
@@ -32,30 +33,30 @@ nest_len outside depth (x ∷ xs) =
 nest_len quoted depth (x ∷ xs) = 1 + cond (x == ascii.quote) (nest_len outside depth xs) (cond (x == ascii.backslash) (nest_len escaped depth xs) (nest_len quoted depth xs))
 nest_len escaped depth (x ∷ xs) = 1 + nest_len quoted depth xs
 
--- how long the value is that a text begins with: a string, an array or an object, or a number or a literal
+-- The length of the value at the start of a text: a string, array, object, number or literal.
 unfoldable pub value_len : List ℕ → ℕ
 value_len [] = 0
 value_len (x ∷ xs) = cond (x == ascii.quote) (1 + span in_string xs) (cond (opens x) (1 + nest_len outside 0 xs) (prefix_len is_word_byte (x ∷ xs)))
 
--- ---- taking a text apart, from its front on; each pair ends with what is left
+-- ---- Splitting a text from its start; each pair ends with the rest
 
 abbrev pub begins_with : ℕ → List ℕ → Bool
 begins_with b [] = false
 begins_with b (x ∷ xs) = x == b
 
--- what follows the byte b, where a text begins with it
+-- The rest after the byte `b`, if the text begins with it.
 unfoldable pub after_first : ℕ → List ℕ → Option (List ℕ)
 after_first b t = cond (begins_with b t) (Some (drop 1 t)) None
 
--- what follows the byte b, where it is next after white space
+-- The rest after the byte `b`, if it comes next after white space.
 abbrev pub past_byte : ℕ → List ℕ → Option (List ℕ)
 past_byte b t = after_first b (past_blank t)
 
--- the value that is next after white space
+-- The value that comes next after white space, and the rest.
 unfoldable pub split_value : List ℕ → Option (List ℕ × List ℕ)
 split_value t = cond (value_len (past_blank t) == 0) None (Some (take (value_len (past_blank t)) (past_blank t), drop (value_len (past_blank t)) (past_blank t)))
 
--- a key, with its quotes, and the text of its value
+-- A key with its quotation marks, and the text of its value.
 abbrev pub Member : Type 0
 Member = List ℕ × List ℕ
 
@@ -65,19 +66,20 @@ with_value key v = option_map (λ p. ((key, p.0), p.1)) v
 abbrev pub after_key : List ℕ × List ℕ → Option (Member × List ℕ)
 after_key p = cond (begins_with ascii.quote p.0) (option_and_then (λ r. with_value p.0 (split_value r)) (past_byte ascii.colon p.1)) None
 
--- the member that is next after white space
+-- The member that comes next after white space, and the rest.
 unfoldable pub split_member : List ℕ → Option (Member × List ℕ)
 split_member t = option_and_then after_key (split_value t)
 
--- what is left of a text is its back
+-- `rest` is the end of `text`, from a character boundary on.
 pub record IsRest (rest text : List ℕ) : Type 0 where
   pub within : length rest ≤ length text
   pub same : rest ≡ drop (length text - length rest) text
   pub boundary : IsCharBoundary text (length text - length rest)
 
--- ---- what commas separate
+-- ---- Parts separated by commas
 
--- With what is left: after a thing that no comma follows, and before what is no such thing. The number bounds the turns; the text's length is always enough.
+-- The parts and the rest. The last part has no comma after it, or no part after its comma. A number
+-- limits the turns; the text's length is always enough.
 module _ {A : Type 0} (split : List ℕ → Option (A × List ℕ)) where
   abbrev pub then_more : (List ℕ → List A × List ℕ) → List ℕ → Option (List ℕ) → List A × List ℕ
   then_more more t None = ([], t)

@@ -1,4 +1,4 @@
--- Which bodies are not cut, and why.
+-- Which bodies are not split, and why.
 use Rattle.std.specs.Prelude.{ℕ, List, Bool, true, cond, ◌&&◌, nat_lt, is_some, Option, Some, None}
 use Rattle.std.specs.Str.{is_utf8}
 use Rattle.serde_json.specs.Data.{Data, Items, no_items, item}
@@ -13,7 +13,7 @@ abbrev pub all_objects : Items → Bool
 all_objects no_items = true
 all_objects (item d ds) = is_some (as_object d) && all_objects ds
 
--- an array's, or that of what is none
+-- The fault of an array, or of a value that is not one.
 abbrev pub array_fault : Option Items → Option CutError
 array_fault None = Some NotObject
 array_fault (Some ds) = cond (all_objects ds) (cond (nat_lt MAX_MESSAGES (items_len ds)) (Some TooMany) None) (Some NotObject)
@@ -22,6 +22,6 @@ abbrev pub value_fault : Option Data → Option CutError
 value_fault None = Some NotJson
 value_fault (Some d) = cond (is_some (as_object d)) None (array_fault (as_array d))
 
--- the first fault of a body, where it has one
+-- The first fault of a body, if any.
 unfoldable pub fault : List ℕ → Option CutError
 fault body = cond (is_utf8 body) (value_fault (read body)) (Some NotJson)

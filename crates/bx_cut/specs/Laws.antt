@@ -1,4 +1,4 @@
--- What the messages and the members are, by the grammar that `serde_json` reads.
+-- What messages and members are, by the grammar that `serde_json` reads.
 use Rattle.std.specs.Prelude.{◌≡◌, ℕ, List, [], ◌∷◌, ◌++◌, length, Some, false, option_and_then, IfSome, ⊤, ◌⊎◌}
 use Rattle.std.specs.List.{prefix_len}
 use Rattle.json.specs.Word.{is_space}
@@ -8,19 +8,20 @@ use Rattle.serde_json.specs.Read.{read}
 use Rattle.bx_cut.specs.Cut.{past_blank}
 use Rattle.bx_cut.specs.Pieces.{Object, members, last_member}
 
--- no white space stands in front
+-- No white space is at the start.
 abbrev pub BeginsBare : List ℕ → Type 0
 BeginsBare t = past_blank t ≡ t
 
--- the last byte is no white space
+-- No white space is at the end.
 abbrev pub EndsBare : List ℕ → Type 0
 EndsBare t = (front : List ℕ) (last : ℕ) → t ≡ front ++ (last ∷ []) → is_space last ≡ false
 
--- no white space stands round it
+-- No white space is at the start or the end.
 abbrev pub IsBare : List ℕ → Type 0
 IsBare t = BeginsBare t × EndsBare t
 
--- the message's text reads as the value, its members are those of its text, and what is found under a name reads as what `get` finds under it
+-- The text of `o` reads as `d`, and its members are those of the text. The value under a name reads
+-- as what `get` finds. Neither has white space around it.
 pub record IsObjectOf (o : Object) (d : Data) : Type 0 where
   pub reads : read o.0 ≡ Some d
   pub trim : IsBare o.0
@@ -37,34 +38,36 @@ abbrev pub IsOnlyObject : List Object → Data → Type 0
 IsOnlyObject (o ∷ []) d = IsObjectOf o d
 IsOnlyObject _ d = ⊥
 
--- one message for each element of the array, in order, or the one object; of another value nothing is said
+-- There is one message for each element of an array, in order, or the only object. Nothing is
+-- claimed about other values.
 abbrev pub ArePiecesOf : List Object → Data → Type 0
 ArePiecesOf os (array ds) = AreObjectsOf os ds
 ArePiecesOf os (object ms) = IsOnlyObject os (object ms)
 ArePiecesOf os _ = ⊤
 
--- ---- nested values
+-- ---- Nested values
 
 abbrev pub AreTextsOf : List (List ℕ) → Items → Type 0
 AreTextsOf [] no_items = ⊤
 AreTextsOf (v ∷ vs) (item d ds) = (read v ≡ Some d) × IsBare v × AreTextsOf vs ds
 AreTextsOf _ _ = ⊥
 
--- one text for each element of an array, in order; none where the value is no array
+-- There is one text for each element of an array, in order, and none for another value.
 abbrev pub AreElementsOf : List (List ℕ) → Data → Type 0
 AreElementsOf vs (array ds) = AreTextsOf vs ds
 AreElementsOf vs _ = vs ≡ []
 
--- ---- where the messages lie
+-- ---- Positions of the messages
 
 abbrev pub IsBlank : List ℕ → Type 0
 IsBlank w = prefix_len is_space w ≡ length w
 
--- the closing bracket stands with white space alone on either side of it
+-- The text is a closing bracket and white space.
 abbrev pub IsShut : List ℕ → Type 0
 IsShut t = (w : List ℕ) × (rest : List ℕ) × (t ≡ w ++ (93 ∷ rest)) × IsBlank w × IsBlank rest
 
--- white space alone stands before each message, and before each but the first one comma as well, with white space on either side of it
+-- The messages come in order, up to the closing bracket. Only white space is before the first, and
+-- only a comma and white space before each other one.
 abbrev mutual
   pub StandsIn : List Object → List ℕ → Type 0
   StandsIn [] t = IsShut t
@@ -74,15 +77,15 @@ abbrev mutual
   GoesOnIn [] t = IsShut t
   GoesOnIn (o ∷ os) t = (w : List ℕ) × (rest : List ℕ) × (t ≡ w ++ (44 ∷ rest)) × IsBlank w × (v : List ℕ) × (more : List ℕ) × (rest ≡ v ++ (o.0 ++ more)) × IsBlank v × GoesOnIn os more
 
--- between an opening bracket and its closing one
+-- The messages are between an opening bracket and its closing bracket.
 abbrev pub IsBracketed : List Object → List ℕ → Type 0
 IsBracketed os t = (w : List ℕ) × (rest : List ℕ) × (t ≡ w ++ (91 ∷ rest)) × IsBlank w × StandsIn os rest
 
--- one message, with white space alone on either side of it
+-- The text is one message and white space.
 abbrev pub IsAlone : List Object → List ℕ → Type 0
 IsAlone (o ∷ []) t = (w : List ℕ) × (rest : List ℕ) × (t ≡ w ++ (o.0 ++ rest)) × IsBlank w × IsBlank rest
 IsAlone _ t = ⊥
 
--- the document is its messages joined by commas inside its brackets, or its one message, and white space: so the messages are slices of it, in order
+-- The messages are slices of the document, in order: the elements of its array, or its one object.
 abbrev pub LieIn : List Object → List ℕ → Type 0
 LieIn os t = IsBracketed os t ⊎ IsAlone os t

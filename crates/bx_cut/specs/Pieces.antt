@@ -5,23 +5,23 @@ use Rattle.json.specs.Ascii as ascii
 use Rattle.bx_cut.specs.Cut.{past_blank, after_first, past_byte, split_value, Member, split_member, listed}
 use Rattle.bx_cut.specs.Strings.{spelled}
 
--- ---- arrays
+-- ---- Arrays
 
 abbrev pub elements_inside : Option (List ℕ) → List (List ℕ)
 elements_inside None = []
 elements_inside (Some inside) = (listed split_value inside).0
 
--- the texts of an array's elements; none of what is no array
+-- The texts of an array's elements; none if the value is not an array.
 abbrev pub elements : List ℕ → List (List ℕ)
 elements array = elements_inside (past_byte ascii.open_bracket array)
 
--- ---- objects
+-- ---- Objects
 
 abbrev pub members_inside : Option (List ℕ) → List Member
 members_inside None = []
 members_inside (Some inside) = (listed split_member inside).0
 
--- an object's keys and the texts of their values; none of what is no object
+-- An object's keys and the texts of their values; none if the value is not an object.
 abbrev pub members : List ℕ → List Member
 members object = members_inside (past_byte ascii.open_brace object)
 
@@ -33,7 +33,7 @@ abbrev pub later_or : Option (List ℕ) → Option (List ℕ) → Option (List �
 later_or None earlier = earlier
 later_or (Some value) earlier = Some value
 
--- the text of the value of the last member whose key, unescaped, is the name
+-- The text of the value of the last member whose unescaped key is `name`.
 abbrev pub last_member : List ℕ → List Member → Option (List ℕ)
 last_member name [] = None
 last_member name (m ∷ ms) = later_or (last_member name ms) (cond (is_name name (spelled m.0)) (Some m.1) None)
@@ -41,16 +41,16 @@ last_member name (m ∷ ms) = later_or (last_member name ms) (cond (is_name name
 abbrev pub member_text : List ℕ → List ℕ → Option (List ℕ)
 member_text name object = last_member name (members object)
 
--- ---- messages
+-- ---- Messages
 
--- an object's text and its members
+-- The text of an object, and its members.
 abbrev pub Object : Type 0
 Object = List ℕ × List Member
 
 abbrev pub closed : List ℕ → List Member × List ℕ → Option (Object × List ℕ)
 closed t ms = option_map (λ rest. ((take (length t - length rest) t, ms.0), rest)) (past_byte ascii.close_brace ms.1)
 
--- the object that is next after white space, and what follows it
+-- The object that comes next after white space, and the rest.
 unfoldable pub split_object : List ℕ → Option (Object × List ℕ)
 split_object t = option_and_then (λ inside. closed (past_blank t) (listed split_member inside)) (after_first ascii.open_brace (past_blank t))
 
@@ -62,6 +62,6 @@ abbrev pub pieces_of : List ℕ → Option (List ℕ) → List Object
 pieces_of text None = only (split_object text)
 pieces_of text (Some inside) = (listed split_object inside).0
 
--- the messages of a document: its one object, or the objects of its array
+-- The messages of a document: its one object, or the objects of its array.
 abbrev pub pieces : List ℕ → List Object
 pieces text = pieces_of text (past_byte ascii.open_bracket text)

@@ -1,4 +1,4 @@
--- What a JSON string spells.
+-- The text that a JSON string spells.
 use Rattle.std.specs.Prelude.{◌≡◌, ℕ, ◌<◌, ◌≤◌, ◌-◌, List, [], ◌∷◌, ◌++◌, length, drop, slice_index, Option, Some, None, option_and_then, MatchOption}
 use Rattle.std.specs.Char.{encode_utf8}
 use Rattle.json.specs.Text.{Within, content, plain, prepend}
@@ -7,17 +7,18 @@ use Rattle.bx_cut.specs.Cut.{after_first}
 use Rattle.bx_cut.specs.declared.string.Part.{Part}
 use Rattle.bx_cut.specs.declared.string.Part.TheVariants.{End, Escape, Fault}
 
--- the text that a JSON value spells, where it is a string
+-- The text that a JSON value spells, if it is a string.
 abbrev pub spelled : List ℕ → Option (List ℕ)
 spelled value = option_and_then (content plain) (after_first ascii.quote value)
 
--- a JSON string of bytes that stand for themselves
+-- A JSON string of bytes that need no escape.
 abbrev pub quoted : List ℕ → List ℕ
 quoted text = ascii.quote ∷ (text ++ (ascii.quote ∷ []))
 
--- what a string's text goes on with; the rest is for private clauses
+-- The rest is for private clauses, about the next part of a string.
 
--- of the text within a string, the character r.0 is next and takes r.1 bytes, of which the last is ASCII
+-- The next character of a string is `r.0`, in `r.1` bytes of which the last is ASCII. Without one
+-- the string is faulty.
 abbrev pub Unescapes : Within → List ℕ → Option (ℕ × ℕ) → Type 0
 Unescapes within text r =
     MatchOption r (content within text ≡ None)

@@ -1,4 +1,4 @@
--- What the types of the code stand for.
+-- What the types of the code represent in the definitions.
 use Rattle.bx_cut.specs.Cut as cut
 use Rattle.bx_cut.specs.declared.split.Member.{Member}
 

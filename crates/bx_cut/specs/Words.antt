@@ -1,4 +1,4 @@
--- The words of this crate's definitions, for those who import several.
+-- The definitions of this crate, for files that import several.
 pub use Rattle.bx_cut.specs.Bodies.{texts_of}
 pub use Rattle.bx_cut.specs.Cut.{IsRest, Member, begins_with, closes, first_and_more, is_word_byte, listed, opens, outside, past_blank, past_byte, then_more}
 unfoldable pub use Rattle.bx_cut.specs.Cut.{after_first, nest_len, separated, split_member, split_value, value_len}

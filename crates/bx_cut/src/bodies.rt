@@ -1,17 +1,18 @@
+//! The documents of a request.
 ghost use Rattle.std.specs.Prelude.{◌≡◌, ◌<◌, ◌==◌, ℕ, List, [], length, get_or};
 ghost use Rattle.bx_cut.specs.Bodies.{texts_of};
 
-/// The documents of one request, as a transport took them from the wire.
+/// The documents of one request, as received by a transport.
 #[derive(Drop)]
 pub enum Bodies {
     /// A body that is one document.
     Whole(Vec<u8>),
-    /// Documents that were decoded one by one, as the parameters of a form or of a query are.
+    /// Decoded documents, such as the parameters of a form or a query.
     Decoded(Vec<String>),
 }
 
 impl Bodies {
-    /// How many documents there are.
+    /// Returns the number of documents.
     pub fn len(&self) -> usize
         ensures { result ≡ length (texts_of self.now) }
     {
@@ -21,14 +22,14 @@ impl Bodies {
         }
     }
 
-    /// Whether there is no document.
+    /// Returns `true` if there are no documents.
     pub fn is_empty(&self) -> bool
         ensures { result ≡ (length (texts_of self.now) == 0) }
     {
         self.len() == 0
     }
 
-    /// The bytes of the document at `index`, counted from 0.
+    /// Returns the bytes of document `index`, counted from 0.
     pub fn get(&self, index: usize) -> &[u8]
         requires { index < length (texts_of self.now) }
         ensures { result.now ≡ get_or (texts_of self.now) index [] }

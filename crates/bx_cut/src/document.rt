@@ -1,3 +1,4 @@
+//! Documents, split into messages.
 ghost use Rattle.std.specs.Prelude.{◌≡◌, ◌≢◌, ◌<◌, length, map, option_map, is_some, IfOk, IfErr, OnOk, IfSome, Some, None};
 ghost use Rattle.std.specs.List.{list_all};
 ghost use Rattle.serde_json.specs.Data.{Data};
@@ -18,18 +19,22 @@ use serde_json::Value;
 use std::alloc::{AllocError, Global};
 use std::marker::Model;
 
-/// How many messages a document may have (this server's choice).
+/// The maximum number of messages in a document.
+///
+/// Policy of this server.
 pub const MAX_MESSAGES: usize = 256;
 
-/// A body that is JSON, cut into its messages. It borrows the body. A contract sees the list of
-/// the messages.
+/// A JSON document, split into its messages, which borrow the body.
+///
+/// Model: the list of the messages.
 #[derive(Debug, Drop)]
 pub struct Document<'a> {
     pieces: Vec<Piece<'a>>,
 }
 
-/// A message: the slice of the body that is one JSON object, with no white space round it. A
-/// contract sees its text, and its members as pairs of a key, with its quotes, and a value's text.
+/// A message: the part of a body that is one JSON object, without surrounding white space.
+///
+/// Model: its text, and its members as pairs of a quoted key and the text of a value.
 #[derive(Debug, Drop)]
 pub struct Piece<'a> {
     text: &'a str,
@@ -54,15 +59,18 @@ impl<'a> Model for Document<'a> {
 }
 
 impl<'a> Document<'a> {
-    /// Cuts a body into its one object, or into the objects of its array. `NotJson` comes before
-    /// `NotObject`, and that before `TooMany`. `Memory` means that memory was refused, and says
-    /// nothing of the body.
+    /// Splits a body into its object or the objects of its array.
+    ///
+    /// # Errors
+    ///
+    /// - `NotJson`, `NotObject`, `TooMany`: the first that applies.
+    /// - `Memory`: memory ran out; the body may be valid or not.
     pub fn read(alloc: Global, body: &'a [u8]) -> Result<Document<'a>, CutError>
         ensures ok { OnOk result (fault body.now ≡ None) }
         ensures fault { IfErr result (λ e. e ≢ CutError.Memory → fault body.now ≡ Some e) }
         ensures pieces { IfOk result (λ document. document ≡ pieces body.now) }
 
-        // Each piece reads as its element, and what `member` finds as what `get` finds in that.
+        // A piece reads as its element, and `member` finds in it what `get` finds in the element.
         ensures reads { IfOk result (λ document. (d : Data) → read body.now ≡ Some d
             → ArePiecesOf document d) }
         ensures order { IfOk result (λ document. LieIn document body.now) }
@@ -76,7 +84,7 @@ impl<'a> Document<'a> {
         })
     }
 
-    /// The messages, in order.
+    /// Returns the messages in order.
     pub fn pieces(&self) -> &[Piece<'a>]
         ensures { result.now ≡ self.now }
     {
@@ -85,15 +93,17 @@ impl<'a> Document<'a> {
 }
 
 impl<'a> Piece<'a> {
-    /// The object's text.
+    /// Returns the text of the object.
     pub fn text(&self) -> &'a str
         ensures { result.now ≡ self.now.0 }
     {
         self.text
     }
 
-    /// The text of the value of the last member whose key, unescaped, is `name`. It takes no
-    /// memory.
+    /// Returns the text of the value of member `name`, if there is one.
+    ///
+    /// Keys are compared after unescaping. If a key occurs more than once, the last member counts.
+    /// Does not allocate.
     pub fn member(&self, name: &str) -> Option<&'a str>
         ensures { option_map (λ value. value.now) result ≡ last_member name.now self.now.1 }
     {
@@ -107,7 +117,7 @@ impl<'a> Piece<'a> {
     }
 }
 
-// Whether the text is a value that may be cut.
+// Checks that `text` is a JSON object, or an array of at most `MAX_MESSAGES` objects.
 fn check(alloc: Global, text: &str) -> Result<(), CutError>
     ensures ok { OnOk result (value_fault (read text.now) ≡ None) }
     ensures fault { IfErr result (λ e. e ≢ CutError.Memory
@@ -124,7 +134,7 @@ fn check(alloc: Global, text: &str) -> Result<(), CutError>
     }
 }
 
-// The fault of a document that is this value.
+// Returns why a value is not a valid document.
 #[tactic(auto, using(crate::proofs::Checks::faults))]
 fn fault_of(value: &Value) -> Option<CutError>
     ensures { result ≡ value_fault (Some (view value.now)) }
@@ -150,7 +160,7 @@ fn are_objects(items: &[Value]) -> bool
     items.iter().all(|item| item.is_object())
 }
 
-// The messages of a text that is a value which may be cut.
+// Splits a valid document into its messages.
 fn cut(alloc: Global, text: &str) -> Result<Vec<Piece<'_>>, AllocError>
     ensures { IfOk result (λ found. found.items ≡ pieces text.now) }
 {
@@ -171,7 +181,7 @@ fn cut(alloc: Global, text: &str) -> Result<Vec<Piece<'_>>, AllocError>
     Ok(pieces)
 }
 
-// The object that is next after white space, and what follows it.
+// Splits off the next object, after white space.
 fn split_object<'a>(
     alloc: Global,
     text: &'a str,
@@ -191,7 +201,7 @@ fn split_object<'a>(
     Ok(Some((Piece { text, members }, after)))
 }
 
-// The members up to the end of an object, and what follows them.
+// Splits off the members up to the end of an object.
 fn split_members<'a>(alloc: Global, text: &'a str) -> Result<(Vec<Member<'a>>, &'a str), AllocError>
     ensures value { IfOk result (λ parts. (map member_view parts.0.items, parts.1.now)
         ≡ listed split_member text.now) }

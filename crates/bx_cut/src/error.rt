@@ -1,3 +1,4 @@
+//! Errors of documents.
 ghost use Rattle.std.specs.Prelude.{◌≡◌};
 ghost use Rattle.bx_cut.specs.declared.error.CutError.TheVariants.{Memory};
 
@@ -5,18 +6,24 @@ use std::alloc::{AllocError, AllocFailed};
 use std::error::Error;
 use std::fmt;
 
-/// Why a body was not cut into messages. Of several faults the first named here is told.
+/// Why a body cannot be split into messages.
+///
+/// The variants are in the order in which they are tested, except `Memory`.
 #[derive(Clone, Copy, Debug, PartialEq, Eq)]
 pub enum CutError {
-    /// The bytes are no UTF-8, or no JSON value that `serde_json` reads: it refuses more than 127
-    /// levels of arrays and objects, and numbers too large for a float.
+    /// The bytes are not UTF-8, or not JSON that `serde_json` accepts.
+    ///
+    /// It refuses more than 127 levels of arrays and objects, and numbers too large for a float.
     NotJson,
-    /// The value is neither an object nor an array of objects (Bayeux 1.0, messages: a message is
-    /// a JSON object, and a request an array of messages).
+    /// The value is neither an object nor an array of objects.
+    ///
+    /// Bayeux 1.0, messages.
     NotObject,
-    /// More messages than `MAX_MESSAGES`, this server's choice.
+    /// There are more than `MAX_MESSAGES` messages.
+    ///
+    /// Policy of this server.
     TooMany,
-    /// An allocation was refused.
+    /// Memory ran out.
     Memory,
 }
 

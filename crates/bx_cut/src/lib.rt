@@ -1,4 +1,4 @@
-//! Cutting request bodies into messages, and messages into members, as slices of the body.
+//! Splits request bodies into messages, and messages into members, without copying.
 #![tactic(auto)]
 
 mod bodies;

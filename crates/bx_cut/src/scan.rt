@@ -1,4 +1,4 @@
-// How far the parts of a JSON text reach.
+//! Lengths of the parts of a JSON text, in bytes.
 ghost use Rattle.std.specs.Prelude.{◌≡◌, ◌<◌, ◌≤◌, false, length, slice_index, option_map, IsTrue, IfSome};
 ghost use Rattle.std.specs.List.{prefix_len};
 ghost use Rattle.std.specs.Str.{IsCharBoundary};
@@ -15,7 +15,7 @@ fn is_space(byte: u8) -> bool
     matches!(byte, b' ' | b'\t' | b'\n' | b'\r')
 }
 
-// The white space in front.
+// Returns the length of the white space at the front.
 pub(crate) fn blank_len(text: &str) -> usize
     ensures value { result ≡ prefix_len is_space text.now }
     ensures boundary { IsCharBoundary text.now result }
@@ -28,7 +28,7 @@ pub(crate) fn blank_len(text: &str) -> usize
     at
 }
 
-// The bytes of a string that stand for themselves.
+// Returns the length of the front up to a quote, a backslash or a control character.
 pub(crate) fn plain_len(text: &str) -> usize
     ensures value { result ≡ prefix_len is_plain text.now }
     ensures boundary { IsCharBoundary text.now result }
@@ -41,7 +41,7 @@ pub(crate) fn plain_len(text: &str) -> usize
     at
 }
 
-// What follows an opening quote, up to and with the closing one.
+// Returns the length of a string after its opening quote, including the closing one.
 #[tactic(auto, using(crate::proofs::Reach::string_ends))]
 fn string_len(text: &[u8]) -> usize
     ensures value { result ≡ span in_string text.now }
@@ -60,7 +60,7 @@ fn string_len(text: &[u8]) -> usize
     text.len()
 }
 
-// What follows an opening bracket, up to and with the one that closes it.
+// Returns the length of an array or object after its opening bracket, including the closing one.
 #[tactic(auto, using(crate::proofs::Reach::nest_ends))]
 fn nested_len(text: &[u8]) -> usize
     ensures value { result ≡ nest_len outside 0 text.now }
@@ -101,7 +101,7 @@ fn word_len(text: &[u8]) -> usize
     at
 }
 
-// The value in front, or nothing where none begins.
+// Returns the length of the value at the front, or 0 without one.
 #[tactic(auto, using(crate::proofs::Reach::value_ends))]
 pub(crate) fn value_len(text: &str) -> usize
     ensures value { result ≡ value_len text.now }
@@ -128,7 +128,7 @@ pub(crate) fn begins_with(text: &str, byte: u8) -> bool
     }
 }
 
-// What follows `byte`, where the text begins with it.
+// Returns the rest of `text` after `byte`, if `text` begins with it.
 #[tactic(auto, unfolding(crate::specs::Cut::after_first))]
 pub(crate) fn after_first(text: &str, byte: u8) -> Option<&str>
     requires { byte < 128 }

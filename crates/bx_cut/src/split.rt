@@ -1,4 +1,4 @@
-// Taking a text apart, from its front on.
+//! Splits the text of JSON values from the front.
 ghost use Rattle.std.specs.Prelude.{◌≡◌, ◌<◌, length, Some, option_map, option_and_then, IsSome, IfSome};
 ghost use Rattle.std.specs.Iterator.{YieldsFirstRef, item_count};
 ghost use Rattle.serde_json.specs.Data.{Data};
@@ -13,7 +13,7 @@ use crate::scan::{after_first, begins_with, blank_len, value_len};
 use crate::string::spells;
 use std::marker::Model;
 
-// A member of an object, as its text has it.
+// The text of a member of an object.
 #[derive(Clone, Copy, Debug, Drop)]
 pub(crate) struct Member<'a> {
     // With its quotes.
@@ -28,7 +28,7 @@ pub(crate) fn past_blank(text: &str) -> &str
     text.split_at(blank_len(text)).1
 }
 
-// What follows `byte`, where it is next after white space.
+// Returns the rest of `text` after white space and `byte`, if they come first.
 pub(crate) fn past(text: &str, byte: u8) -> Option<&str>
     requires { byte < 128 }
     ensures value { option_map (λ rest. rest.now) result ≡ past_byte byte text.now }
@@ -38,7 +38,7 @@ pub(crate) fn past(text: &str, byte: u8) -> Option<&str>
     after_first(past_blank(text), byte)
 }
 
-// The value that is next after white space, and what follows it.
+// Splits off the next value, after white space.
 #[tactic(auto, unfolding(crate::specs::Cut::split_value))]
 fn split_value(text: &str) -> Option<(&str, &str)>
     ensures value { option_map (λ parts. (parts.0.now, parts.1.now)) result
@@ -55,7 +55,7 @@ fn split_value(text: &str) -> Option<(&str, &str)>
     }
 }
 
-// The member that is next after white space, and what follows it.
+// Splits off the next member, after white space.
 #[tactic(auto, unfolding(crate::specs::Cut::split_member))]
 pub(crate) fn split_member(text: &str) -> Option<(Member<'_>, &str)>
     ensures value { option_map (λ parts. (member_view parts.0, parts.1.now)) result
@@ -71,8 +71,10 @@ pub(crate) fn split_member(text: &str) -> Option<(Member<'_>, &str)>
     Some((Member { key, value }, rest))
 }
 
-/// The text of the value of the last member of `object` whose key, unescaped, is `name`. `object`
-/// is the text of a JSON value, as `Piece::member` gives it; none is found in what is no object.
+/// Returns the text of the value of member `name`, if `object` has one.
+///
+/// `object`: the text of a JSON value, possibly not an object. Keys are compared as by
+/// [`Piece::member`](crate::Piece::member).
 pub fn member_of<'a>(object: &'a str, name: &str) -> Option<&'a str>
     ensures value { option_map (λ value. value.now) result ≡ member_text name.now object.now }
     ensures reads { (d : Data) → read object.now ≡ Some d
@@ -93,8 +95,9 @@ pub fn member_of<'a>(object: &'a str, name: &str) -> Option<&'a str>
     found
 }
 
-/// The texts of an array's elements, in order, with no white space round them. A contract sees the
-/// list of those that are left.
+/// An iterator over the texts of an array's elements, without surrounding white space.
+///
+/// Model: the remaining elements.
 #[derive(Debug, Drop)]
 pub struct Elements<'a> {
     rest: &'a str,
@@ -109,7 +112,9 @@ impl<'a> Model for Elements<'a> {
     ghost view = { λ elements. (listed split_value elements.rest.now).0 };
 }
 
-/// The elements of `array`, the text of a JSON value, in order; none of what is no array.
+/// Returns an iterator over the elements of `array`, the text of a JSON value.
+///
+/// It is empty if the value is not an array.
 pub fn elements_of(array: &str) -> Elements<'_>
     ensures value { result ≡ elements array.now }
     ensures reads { (d : Data) → read array.now ≡ Some d → AreElementsOf result d }

@@ -1,4 +1,4 @@
-// What a JSON string spells.
+//! Decodes JSON strings.
 ghost use Rattle.std.specs.Prelude.{◌≡◌, ◌≢◌, ◌↔◌, ℕ, ◌+◌, ◌<◌, ◌≤◌, List, ◌++◌, length, drop, slice_index, Some, None, option_map, string_bytes, IsTrue, IfNone, IfOk, IfSome, SomeIff, MatchOption, true};
 ghost use Rattle.std.specs.List.{list_all, prefix_len};
 ghost use Rattle.std.specs.Char.{digit_value, encode_utf8};
@@ -13,15 +13,15 @@ ghost use Rattle.bx_cut.specs.Strings.{spelled, quoted, IsPart, Unescapes};
 use crate::scan::{after_first, begins_with, plain_len};
 use std::alloc::{AllocError, Global};
 
-// What follows the plain bytes of a string.
+// What follows a run of plain bytes in a string.
 enum Part<'a> {
     End,
-    // A character that an escape stands for, and what follows the escape.
+    // A decoded escape, and the text after it.
     Escape(char, &'a str),
     Fault,
 }
 
-// The number that the four hexadecimal digits from `at` on spell.
+// Parses the four hexadecimal digits from `at` on.
 #[tactic(auto, unfolding(json::specs::Text::code_unit))]
 fn unit_at(text: &[u8], at: usize) -> Option<u32>
     requires { at + 4 ≤ length text.now }
@@ -60,7 +60,7 @@ fn short_escape(letter: u8) -> Option<char>
     }
 }
 
-// The character that a high surrogate and the escape in front of `text` make.
+// Decodes a surrogate pair from `high` and the escape at the front of `text`.
 #[tactic(auto, using(crate::proofs::Contents::low_half))]
 fn with_low_half(high: u32, text: &[u8]) -> Option<char>
     requires high { (0xd800 ≤ high) × (high < 0xdc00) }
@@ -80,7 +80,7 @@ fn with_low_half(high: u32, text: &[u8]) -> Option<char>
     char::from_u32(0x10000 + (high - 0xd800) * 1024 + (low - 0xdc00))
 }
 
-// The character that a backslash and the front of `text` stand for, and how long that front is.
+// Decodes the escape after a backslash, and returns its character and length.
 #[tactic(auto, using(crate::proofs::Contents::escapes))]
 fn escape(text: &[u8]) -> Option<(char, usize)>
     ensures { Unescapes after_backslash text.now result }
@@ -120,7 +120,7 @@ fn next_part(text: &str) -> Part<'_>
     }
 }
 
-// What follows `front` in `text`, where it begins with it.
+// Returns the rest of `text` after `front`, if `text` begins with it.
 fn without<'a>(text: &'a [u8], front: &[u8]) -> Option<&'a [u8]>
     ensures { MatchOption result ((rest : List ℕ) → text.now ≢ front.now ++ rest)
         (λ rest. text.now ≡ front.now ++ rest.now) }
@@ -132,7 +132,8 @@ fn without<'a>(text: &'a [u8], front: &[u8]) -> Option<&'a [u8]>
     }
 }
 
-// Whether the rest of a string spells another text, as its first byte tells; one that begins with an escape tells nothing.
+// Returns `true` if the first byte of `rest` shows that it does not spell `text`. This is unknown
+// if `rest` begins with an escape.
 #[tactic(auto, using(crate::proofs::Contents::differing))]
 fn differs_at_once(rest: &str, text: &str) -> bool
     ensures { IsTrue result → content plain rest.now ≢ Some text.now }
@@ -143,7 +144,9 @@ fn differs_at_once(rest: &str, text: &str) -> bool
     }
 }
 
-/// Whether the JSON value is the string that spells `text`. It takes no memory.
+/// Returns `true` if `value` is a JSON string that equals `text` after unescaping.
+///
+/// Does not allocate.
 pub fn spells(value: &str, text: &str) -> bool
     ensures value { IsTrue result ↔ (spelled value.now ≡ Some text.now) }
     ensures reads { (d : Data) → read value.now ≡ Some d → BeginsBare value.now
@@ -176,7 +179,7 @@ pub fn spells(value: &str, text: &str) -> bool
     }
 }
 
-/// The text of a JSON value that is a string without an escape, as it stands there; none of any other value.
+/// Returns the content of a JSON string that has no escapes, and `None` for any other value.
 pub fn plain_text_of(value: &str) -> Option<&str>
     ensures value { IfSome result (λ text. spelled value.now ≡ Some text.now) }
     ensures plain { IfSome result (λ text. list_all is_plain text.now ≡ true) }
@@ -191,7 +194,11 @@ pub fn plain_text_of(value: &str) -> Option<&str>
     }
 }
 
-/// The unescaped text of a JSON value that is a string, and none of any other. An error means that memory was refused.
+/// Returns the unescaped content of a JSON string, and `None` for any other value.
+///
+/// # Errors
+///
+/// `AllocError` if memory runs out.
 pub fn text_of(alloc: Global, value: &str) -> Result<Option<String>, AllocError>
     ensures value { IfOk result (λ text. option_map string_bytes text ≡ spelled value.now) }
     ensures reads { IfOk result (λ text. (d : Data) → read value.now ≡ Some d → BeginsBare value.now

@@ -1,4 +1,4 @@
--- The answer to the message at a place of the list.
+-- The answer to the message at each place of the list.
 use Rattle.std.specs.Prelude.{ℕ, ◌==◌, List, [], map, find, Option, Some, None, option_map, slice_get}
 use Rattle.bx_entry.specs.Listing.{Listed}
 use Rattle.bx_advice.specs.declared.config.Config.{Config}
@@ -7,39 +7,40 @@ use Rattle.bx_entry.specs.declared.entry.Entry.{Entry}
 use Rattle.bx_entry.specs.Registry.{PlaceSlot, Ready, Waiting, NoSlot, Judged, Registry, registry, entries_of}
 use Rattle.bx_entry.specs.Sessions.{Publication, Filed, session}
 
--- the place at which the message is answered, the events that stand before its reply, and the reply
+-- An answer: the place where it is given, its events and its reply.
 pub record PlacedAnswer : Type 0 where
   pub place : ℕ
   pub events : List Event
   pub reply : Reply
 
--- the events without their places
+-- The events without their places.
 abbrev pub events_of : List Publication → List Event
 events_of ps = map (λ (p : Publication). p.event) ps
 
--- what the client gets of an answer that was filed
+-- A filed answer, without the places of its events.
 abbrev pub answer_of : Filed → PlacedAnswer
 answer_of f = record { place = f.place; events = events_of f.publications; reply = f.reply }
 
--- the answer that was given to the connect or the rider at this place
+-- The answer to the connect or rider at `place`, if it is filed.
 abbrev pub filed_for : ℕ → List Filed → Option PlacedAnswer
 filed_for place answers = option_map answer_of (find (λ (f : Filed). f.connect == place) answers)
 
--- a connect or a rider is answered by its session, every other message at its own place; a tick is answered by nothing
+-- A connect or a rider is answered by its session, any other message at its own place, and a tick
+-- not at all.
 abbrev pub answer_by : Config → List Entry → ℕ → PlaceSlot → Option PlacedAnswer
 answer_by config es place (Ready reply) = Some (record { place = place; events = []; reply = reply })
 answer_by config es place (Waiting number) = filed_for place (session config number es).answers
 answer_by config es place NoSlot = None
 
--- the same of what was found at the place, if the list goes so far
+-- The answer at a place with this result, if any.
 abbrev pub answer_at : Config → List Entry → ℕ → Option Judged → Option PlacedAnswer
 answer_at config es place None = None
 answer_at config es place (Some j) = answer_by config es place j.slot
 
--- the same over a registry
+-- The answer at a place of a registry, if it is given.
 abbrev pub answer_in : Config → Registry → ℕ → Option PlacedAnswer
 answer_in config r place = answer_at config (entries_of r) place (slice_get r.judged place)
 
--- none yet, or the answer
+-- The answer at a place of the list, if it is given.
 abbrev pub answer : Config → List Listed → ℕ → Option PlacedAnswer
 answer config list place = answer_in config (registry config list) place

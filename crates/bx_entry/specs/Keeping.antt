@@ -1,4 +1,4 @@
--- What a server keeps of a session: all that a rule asks, and nothing that only tells what came of it so far.
+-- What a server keeps of a session: all that the rules read, and no history.
 use Rattle.std.specs.Prelude.{ℕ, ◌≡◌, ◌<◌, ◌≤◌, Bool, true, false, List, [], ◌++◌, length, fold, Option, is_some}
 use Rattle.bx_names.specs.Globs.{Glob}
 use Rattle.bx_advice.specs.declared.config.Config.{Config}
@@ -6,9 +6,9 @@ use Rattle.bx_entry.specs.declared.entry.Entry.{Entry}
 use Rattle.bx_entry.specs.Windows.{bytes_of}
 use Rattle.bx_entry.specs.Sessions.{Session, Publication, Pending, Filed, Stage, unopened, step, session}
 
--- ---- the state
+-- ---- State
 
--- a session without its events so far, how many of them are done, and its answers
+-- A session without its history: `events`, `done` and `answers`.
 pub record Kept : Type 0 where
   pub number : ℕ
   pub stage : Stage
@@ -20,7 +20,7 @@ pub record Kept : Type 0 where
   pub out : ℕ
   pub num : ℕ
 
--- what is kept of a session
+-- What is kept of a session.
 abbrev pub kept : Session → Kept
 kept s = record {
   number = s.number;
@@ -34,7 +34,7 @@ kept s = record {
   num = s.num;
 }
 
--- a session of which this is kept, as if nothing had come of it yet
+-- A session with this state and an empty history.
 abbrev pub resumed : Kept → Session
 resumed k = record {
   number = k.number;
@@ -51,45 +51,45 @@ resumed k = record {
   answers = [];
 }
 
--- what is kept after a change of the session
+-- What is kept after a change to a session.
 abbrev pub after : (Session → Session) → Kept → Kept
 after change k = kept (change (resumed k))
 
--- the answers that the change gives
+-- The answers that a change gives.
 abbrev pub answers_of : (Session → Session) → Kept → List Filed
 answers_of change k = (change (resumed k)).answers
 
--- what is kept after an entry
+-- What is kept after an entry.
 abbrev pub kept_step : Config → Kept → Entry → Kept
 kept_step config k e = after (λ s. step config s e) k
 
--- the answers that an entry gives
+-- The answers that an entry gives.
 abbrev pub kept_answers : Config → Kept → Entry → List Filed
 kept_answers config k e = answers_of (λ s. step config s e) k
 
--- ---- the laws
+-- ---- Laws
 
--- what is kept settles what is kept after an entry, and the answers that it gives
+-- What is kept determines what is kept after an entry, and the answers that the entry gives.
 pub record StepsAlike (config : Config) (s : Session) (e : Entry) : Type 0 where
   pub state : kept (step config s e) ≡ kept_step config (kept s) e
   pub answers : (step config s e).answers ≡ s.answers ++ kept_answers config (kept s) e
 
--- so it is for every session and every entry
+-- What is kept is enough to apply any entry to any session.
 abbrev pub KeptSteps : Type 0
 KeptSteps = (config : Config) (s : Session) (e : Entry) → StepsAlike config s e
 
--- all entries, one after another, of which never more is kept
+-- All entries, applied in order to what is kept.
 abbrev pub kept_run : Config → ℕ → List Entry → Kept
 kept_run config number es = fold (kept_step config) (kept (unopened number)) es
 
--- that comes to what is kept of the session
+-- Applying the entries to what is kept gives what is kept of the session after them.
 abbrev pub KeptRuns : Type 0
 KeptRuns = (config : Config) (number : ℕ) (es : List Entry) → kept (session config number es) ≡ kept_run config number es
 
--- ---- what holds of what is kept
+-- ---- Bounds
 
--- The queue never passes its limits, nor the outstanding batch its own, which is the front of the queue; a plain session has no batch; while a
--- connect is held the queue is empty.
+-- The queue and the outstanding batch, which is its front, are within their limits. A plain session
+-- has no batch, and the queue is empty while a connect is held.
 pub record InBounds (config : Config) (k : Kept) : Type 0 where
   pub queue : length k.queue ≤ config.limits.events
   pub bytes : bytes_of k.queue ≤ config.limits.bytes
@@ -98,6 +98,6 @@ pub record InBounds (config : Config) (k : Kept) : Type 0 where
   pub plain : k.ack ≡ false → k.out ≡ 0
   pub idle : is_some k.held ≡ true → k.queue ≡ []
 
--- so it is after any entries
+-- What is kept is within these bounds after any entries, if batches are not empty.
 abbrev pub KeptInBounds : Type 0
 KeptInBounds = (config : Config) (number : ℕ) (es : List Entry) → 0 < config.limits.batch → InBounds config (kept (session config number es))

@@ -1,37 +1,39 @@
--- In which shard a session stands, by its number and the number of shards.
+-- Placings: in which shard each session lives.
 use Rattle.std.specs.Prelude.{ℕ, ◌%◌, ◌<◌, ◌≤◌, List, [], ◌∷◌, length, slice_index}
 use Rattle.bx_advice.specs.declared.config.Config.{Config}
 use Rattle.std.proofs.Common.{arith}
 use Rattle.std.proofs.Math.Nat.{mod-lt}
 
--- the configuration, how many shards there are, and in which of them each session stands, by its number and the number of shards
+-- A configuration, the number of shards, and the placing of sessions in them.
 pub record Setup : Type 0 where
   pub config : Config
   pub shards : ℕ
   pub placing : ℕ → ℕ → ℕ
 
--- this configuration with so many shards and a placing of sessions
+-- This configuration, with `shards` shards and a placing.
 abbrev pub placed_by : Config → ℕ → (ℕ → ℕ → ℕ) → Setup
 placed_by config shards placing = record { config = config; shards = shards; placing = placing }
 
--- sessions in turn
+-- Sessions go to the shards in turn.
 abbrev pub by_remainder : ℕ → ℕ → ℕ
 by_remainder number shards = number % shards
 
--- all sessions in the first shard
+-- All sessions go to the first shard.
 abbrev pub all_first : ℕ → ℕ → ℕ
 all_first number shards = 0
 
--- sessions by a table, over and over; with an empty one all stand in the first shard
+-- Sessions go to the shards of a table, over and over; if it is empty, to the first.
 abbrev pub by_table : List ℕ → ℕ → ℕ → ℕ
 by_table [] number shards = 0
 by_table (x ∷ xs) number shards = slice_index (x ∷ xs) (number % length (x ∷ xs)) % shards
 
--- ---- each names one of the shards
+-- ---- Each placing names a shard
 
+-- Placing in turn names one of the shards.
 pub by_remainder-below : (number shards : ℕ) → 1 ≤ shards → by_remainder number shards < shards
 by_remainder-below number shards some = mod-lt number (omega arith)
 
+-- Placing by a table names one of the shards.
 pub by_table-below : (table : List ℕ) (number shards : ℕ) → 1 ≤ shards → by_table table number shards < shards
 by_table-below [] number shards some = omega arith
 by_table-below (x ∷ xs) number shards some = mod-lt (slice_index (x ∷ xs) (number % length (x ∷ xs))) (omega arith)

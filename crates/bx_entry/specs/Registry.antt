@@ -1,4 +1,4 @@
--- Who is live: the sessions, their ids and due moments, which message is refused and why, and the entry at each place.
+-- The registry: who is live, which messages are refused, and the entry at each place.
 use Rattle.std.specs.Prelude.{ℕ, zero, suc, ◌+◌, ◌/◌, ◌%◌, ◌==◌, ◌&&◌, ◌||◌, not, min, max, Bool, true, false, List, [], ◌∷◌, ◌++◌, length, map, filter, find, fold, nat_lt, nat_le, nat_eq, codes, if◌then◌else◌, Option, Some, None, is_some, is_none, unwrap_or, option_map}
 use Rattle.std.specs.{List.list_any, List.starts_with, Str.bytes_eq, Char.digit_char}
 use Rattle.bx_names.specs.Words.{first_case, name_fault, pattern_fault, Glob, glob_of, segments, is_meta, is_service}
@@ -18,9 +18,9 @@ use Rattle.bx_entry.specs.declared.{entry.Entry.Entry, entry.EntryKind.EntryKind
 use Rattle.bx_entry.specs.declared.entry.EntryKind.TheVariants.{Opened, Connect, Subscribe, Unsubscribe, Publish, Disconnect, Refused, Tick}
 use Rattle.bx_entry.specs.declared.senders.Senders.TheVariants.{NoneYet, Only, Mixed}
 
--- ---- the state
+-- ---- State
 
--- a session that was opened: its id, whether acknowledgement is on, when it is due, and whether it is still live
+-- A session that was opened, with its client id and its due moment.
 pub record Registered : Type 0 where
   pub number : ℕ
   pub client : List ℕ
@@ -28,39 +28,42 @@ pub record Registered : Type 0 where
   pub due : ℕ
   pub live : Bool
 
--- how the element at a place is answered: at once by this reply, as a connect or a rider of this session, or not at all
+-- How an element is answered: by a reply, by its session (a connect or a rider), or not at all (a
+-- tick).
 pub data PlaceSlot : Type 0 where
   Ready : (reply : Reply) → PlaceSlot
   Waiting : (session : ℕ) → PlaceSlot
   NoSlot : PlaceSlot
 
--- what was found at a place: its entry, the session whose accepted message stands there, if any, the hold granted to it, and its slot
+-- The result for one element: its entry, the session of an accepted message, its hold, and its
+-- slot.
 pub record Judged : Type 0 where
   pub entry : Entry
   pub sender : Option ℕ
   pub hold : ℕ
   pub slot : PlaceSlot
 
--- the greatest moment so far, the sessions that were ever opened in the order of their numbers, whose the messages so far of the request at hand are,
--- and what was found at each place
+-- The greatest moment so far, all sessions ever opened, in order, the current request's senders so
+-- far, and the result at each place.
 pub record Registry : Type 0 where
   pub clock : ℕ
   pub sessions : List Registered
   pub senders : Senders
   pub judged : List Judged
 
--- nothing was opened and nothing found
+-- The registry of an empty list.
 abbrev pub empty_registry : Registry
 empty_registry = record { clock = 0; sessions = []; senders = NoneYet; judged = [] }
 
--- what a rule asks: the sessions, how many were ever opened, and whose the messages so far of the request at hand are
+-- What the rules read: the sessions, how many were ever opened, and the current request's senders
+-- so far.
 pub record State : Type 0 where
   pub sessions : List Registered
   pub opened : ℕ
   pub senders : Senders
 
--- what an element comes to: the state behind it, the kind of its entry and the rider that it is, the session whose accepted message it is, the hold
--- granted to it, and its slot
+-- The verdict on an element: the state after it, its entry's kind and rider, the session of an
+-- accepted message, its hold, and its slot.
 pub record Verdict : Type 0 where
   pub state : State
   pub kind : EntryKind
@@ -69,57 +72,58 @@ pub record Verdict : Type 0 where
   pub hold : ℕ
   pub slot : PlaceSlot
 
--- ---- ids
+-- ---- Client ids
 
--- the last `width` hexadecimal digits of n, lower case
+-- The last `width` hexadecimal digits of `n`, in lower case.
 abbrev pub hex_digits : ℕ → ℕ → List ℕ
 hex_digits zero n = []
 hex_digits (suc width) n = hex_digits width (n / 16) ++ digit_char (n % 16) ∷ []
 
--- 32 digits of the nonce and 16 of the session's number
+-- A client id: 32 digits of the nonce, then 16 of the session's number.
 abbrev pub client_id : ℕ → ℕ → List ℕ
 client_id nonce number = hex_digits 32 nonce ++ hex_digits 16 number
 
--- ---- who is live
+-- ---- Live sessions
 
--- the live session with this id
+-- The live session with this client id, if any.
 abbrev pub live_with_id : List Registered → List ℕ → Option Registered
 live_with_id sessions client = find (λ r. r.live && bytes_eq r.client client) sessions
 
--- how many sessions are live
+-- How many sessions are live.
 abbrev pub count_live : List Registered → ℕ
 count_live sessions = length (filter (λ r. r.live) sessions)
 
--- the live session that the client id names
+-- The live session that a message's `clientId` names, if any.
 abbrev pub sender_of : List Registered → TextMember → Option Registered
 sender_of sessions Absent = None
 sender_of sessions NotText = None
 sender_of sessions (Text client) = live_with_id sessions client
 
--- ---- refusals
+-- ---- Refusals
 
--- whether a member is a text
+-- Whether a member is a string.
 abbrev pub is_text : TextMember → Bool
 is_text Absent = false
 is_text NotText = false
 is_text (Text text) = true
 
--- the text `1`, or one that begins with `1.`
+-- Whether a version is the string `1`, or begins with `1.`.
 abbrev pub is_version : TextMember → Bool
 is_version Absent = false
 is_version NotText = false
 is_version (Text text) = bytes_eq text (codes "1") || starts_with nat_eq text (codes "1.")
 
--- whether a text names one of the two supported connection types
+-- Whether a connection type is `long-polling` or `callback-polling`.
 abbrev pub is_polling : List ℕ → Bool
 is_polling text = bytes_eq text (codes "long-polling") || bytes_eq text (codes "callback-polling")
 
--- a connect's type is one of the two, or absent
+-- Whether a connect's connection type is supported or absent.
 abbrev pub is_connection : TextMember → Bool
 is_connection Absent = true
 is_connection NotText = false
 is_connection (Text text) = is_polling text
 
+-- The errors of a handshake, in order.
 abbrev pub handshake_cases : Config → List Registered → Posted → List (Bool × Error)
 handshake_cases config sessions p =
     (p.second, SecondHandshake)
@@ -128,24 +132,24 @@ handshake_cases config sessions p =
     ∷ (nat_le config.limits.sessions (count_live sessions), TooManySessions)
     ∷ []
 
--- whether a publish with this client id has to be of a session: where it has none, the configuration says so
+-- A publish needs a session, unless it has no client id and `--anonymous` is set.
 abbrev pub needs_session : Config → TextMember → Bool
 needs_session config Absent = not config.anonymous
 needs_session config NotText = true
 needs_session config (Text client) = true
 
--- what refuses any other message, but for one to an unknown meta channel, by its sender, where it needs one
+-- A message that needs a session is refused if its client id is missing or names no live session.
 abbrev pub client_cases : Bool → List Registered → Message → List (Bool × Error)
 client_cases needed sessions m =
     (needed && not (is_text m.client), NoClientId)
     ∷ (needed && is_none (sender_of sessions m.client), UnknownClient)
     ∷ []
 
--- what else refuses a connect
+-- The further error of a connect.
 abbrev pub connect_cases : Message → List (Bool × Error)
 connect_cases m = (not (is_connection m.connection), UnknownConnectionType) ∷ []
 
--- what else refuses a subscription or an unsubscription
+-- The further errors of a subscription or an unsubscription, in order.
 abbrev pub subscription_cases : Config → Message → List (Bool × Error)
 subscription_cases config m =
     (list_any (λ text. is_some (pattern_fault text)) m.texts, InvalidPattern)
@@ -154,14 +158,14 @@ subscription_cases config m =
     ∷ (not m.listed, MissingSubscription)
     ∷ []
 
--- what else refuses a publish
+-- The further errors of a publish, in order.
 abbrev pub publish_cases : Message → List (Bool × Error)
 publish_cases m =
     (is_some (name_fault m.channel), InvalidChannel)
     ∷ (is_none m.payload, MissingData)
     ∷ []
 
--- the cases that can hold for a message of this kind, in the order of the errors
+-- All errors that a message of this kind can have, in the order of testing.
 abbrev pub cases_of : Config → List Registered → Posted → MessageKind → List (Bool × Error)
 cases_of config sessions p MessageKind.Handshake = handshake_cases config sessions p
 cases_of config sessions p MessageKind.Connect = client_cases true sessions p.message ++ connect_cases p.message
@@ -171,104 +175,105 @@ cases_of config sessions p MessageKind.Disconnect = client_cases true sessions p
 cases_of config sessions p MessageKind.Publish = client_cases (needs_session config p.message.client) sessions p.message ++ publish_cases p.message
 cases_of config sessions p MessageKind.UnknownMeta = (true, UnknownMetaChannel) ∷ []
 
--- the first case that holds refuses the message
+-- The first error that applies, if any, refuses a message.
 abbrev pub refusal : Config → List Registered → Posted → Option Error
 refusal config sessions p = first_case (cases_of config sessions p (message_kind_of p.message.channel))
 
--- ---- accepted messages
+-- ---- Accepted messages
 
--- how long a connect may be held: only a request's sole message is
+-- Only a sole connect may be held, for the smaller of the server's timeout and its own.
 abbrev pub hold_of : Config → Posted → ℕ
 hold_of config p = if p.sole && is_connect p.message then min config.timeout (unwrap_or p.message.timeout config.timeout) else 0
 
--- when a session is due by a message at this moment that is held so long
+-- When a silent session expires, after a message at `moment`, held for `hold`.
 abbrev pub due_of : Config → ℕ → ℕ → ℕ
 due_of config moment hold = moment + hold + config.max_interval
 
--- an accepted message of a session moves its due moment on, never back
+-- An accepted message moves its session's due moment forward, never back.
 abbrev pub extended : ℕ → ℕ → List Registered → List Registered
 extended number due sessions = map (λ (r : Registered). if r.number == number then record r { due = max r.due due } else r) sessions
 
--- the sessions when this one is closed
+-- The session with this number is closed.
 abbrev pub closed : ℕ → List Registered → List Registered
 closed number sessions = map (λ (r : Registered). if r.number == number then record r { live = false } else r) sessions
 
--- a tick closes each live session whose due moment has passed
+-- Whether a tick at `moment` closes a session: it is live and was due before.
 abbrev pub is_overdue : ℕ → Registered → Bool
 is_overdue moment r = r.live && nat_lt r.due moment
 
--- the sessions after a tick
+-- A tick closes the overdue sessions.
 abbrev pub swept : ℕ → List Registered → List Registered
 swept moment sessions = map (λ (r : Registered). if is_overdue moment r then record r { live = false } else r) sessions
 
--- the numbers of the sessions that a tick closes, ascending
+-- The numbers of the sessions that a tick closes, in ascending order.
 abbrev pub overdue : ℕ → List Registered → List ℕ
 overdue moment sessions = map (λ (r : Registered). r.number) (filter (is_overdue moment) sessions)
 
--- whether a handshake turns acknowledgement on
+-- Whether a handshake turns acknowledgement on.
 abbrev pub is_ack : AckMember → Bool
 is_ack NoAck = false
 is_ack AckTrue = true
 is_ack (AckNumber number) = false
 
--- the number that a connect acknowledges
+-- The batch that a connect acknowledges, if any.
 abbrev pub acked_by : AckMember → Option ℕ
 acked_by NoAck = None
 acked_by AckTrue = None
 acked_by (AckNumber number) = Some number
 
--- a subscription's patterns, without those of service channels
+-- The patterns of a subscription or an unsubscription, except those of service channels.
 abbrev pub patterns_of : Message → List Glob
 patterns_of m = map (λ text. glob_of (segments text)) (filter (λ text. not (is_service text)) m.texts)
 
--- the event of a publish, without the publisher's id
+-- The event of a publish, without the publisher's client id.
 abbrev pub event_of : Message → Event
 event_of m = record { channel = m.channel; payload = unwrap_or m.payload []; id = m.id }
 
--- ---- riders
+-- ---- Riders
 
--- whose the messages of a request are with one more, which is an accepted one of this session
+-- The senders after one more accepted message of this session.
 abbrev pub joined : Senders → ℕ → Senders
 joined NoneYet number = Only number
 joined (Only other) number = if other == number then Only other else Mixed
 joined Mixed number = Mixed
 
--- once its last message was judged, the next request is at hand
+-- The senders before the next message: none yet if that begins another request.
 abbrev pub senders_behind : Posted → Senders → Senders
 senders_behind p senders = if p.last then NoneYet else senders
 
--- whether they are all of one session
+-- Whether all messages so far come from one session.
 abbrev pub is_one : Senders → Bool
 is_one NoneYet = false
 is_one (Only number) = true
 is_one Mixed = false
 
--- what a session's waiting events may go out before: the reply of any message but a connect or a disconnect (a handshake is of no session yet)
+-- Only the reply to a subscription, an unsubscription or a publish may carry waiting events.
 abbrev pub may_ride : MessageKind → Bool
 may_ride MessageKind.Subscribe = true
 may_ride MessageKind.Unsubscribe = true
 may_ride MessageKind.Publish = true
 may_ride _ = false
 
--- whether an accepted message is a rider: its request's last, where all of them are accepted ones of this session, which does not acknowledge
+-- Under `--ride`, an accepted message that may ride is a rider if it ends a request of accepted
+-- messages from one session, which does not acknowledge.
 abbrev pub is_rider : Config → Senders → MessageKind → Posted → Registered → Bool
 is_rider config senders message_kind p s = config.ride && (p.last && (not s.ack && (is_one (joined senders s.number) && may_ride message_kind)))
 
--- the rider that a message is which would be answered so
+-- The rider that a message becomes, if it is one, with the reply from its slot.
 abbrev pub rider_for : Bool → ℕ → PlaceSlot → Option Rider
 rider_for true number (Ready reply) = Some (record { session = number; reply = reply })
 rider_for true number (Waiting session) = None
 rider_for true number NoSlot = None
 rider_for false number slot = None
 
--- a rider is answered by its session
+-- A rider waits for its session's answer.
 abbrev pub slot_with : Option Rider → PlaceSlot → PlaceSlot
 slot_with None slot = slot
 slot_with (Some rider) slot = Waiting rider.session
 
--- ---- what an element comes to
+-- ---- Verdicts
 
--- a refused message changes nothing but the list
+-- A refused message changes no session and gets its error at once.
 abbrev pub refused : Config → State → Posted → Error → Option Registered → Verdict
 refused config state p error sender = record {
   state = record state { senders = senders_behind p Mixed };
@@ -279,12 +284,12 @@ refused config state p error sender = record {
   slot = Ready (reply_to config (message_kind_of p.message.channel) p.message (option_map (λ (s : Registered). s.client) sender) (Failed error) replies.NoAck);
 }
 
--- a session as it is opened
+-- A session as its handshake opens it.
 abbrev pub newcomer : Config → ℕ → Posted → ℕ → Registered
 newcomer config moment p number =
     record { number = number; client = client_id p.nonce number; ack = is_ack p.message.ack; due = due_of config moment 0; live = true }
 
--- a new session, under the next number
+-- An accepted handshake opens session `number` and is answered at once.
 abbrev pub opened : Config → State → ℕ → Posted → ℕ → Verdict
 opened config state moment p number = record {
   state = record { sessions = state.sessions ++ newcomer config moment p number ∷ []; opened = number; senders = senders_behind p Mixed };
@@ -295,7 +300,7 @@ opened config state moment p number = record {
   slot = Ready (reply_to config MessageKind.Handshake p.message (Some (client_id p.nonce number)) advice.Opened (if is_ack p.message.ack then replies.AckTrue else replies.NoAck));
 }
 
--- the entry's kind for an accepted message of a live session (no such message is a handshake or to an unknown meta channel)
+-- The kind of entry for a live session's message, never a handshake or to an unknown meta channel.
 abbrev pub kind_for : MessageKind → Posted → Registered → ℕ → EntryKind
 kind_for MessageKind.Handshake p s hold = Refused
 kind_for MessageKind.Connect p s hold = Connect s.number s.client p.message.id (acked_by p.message.ack) hold
@@ -305,7 +310,7 @@ kind_for MessageKind.Disconnect p s hold = Disconnect s.number
 kind_for MessageKind.Publish p s hold = Publish (event_of p.message)
 kind_for MessageKind.UnknownMeta p s hold = Refused
 
--- connects wait for their answer, every other message has its success at once, unless it is a rider
+-- A connect waits for its answer; any other message succeeds at once.
 abbrev pub slot_for : Config → MessageKind → Posted → Registered → PlaceSlot
 slot_for config MessageKind.Connect p s = Waiting s.number
 slot_for config MessageKind.Handshake p s = Ready (reply_to config MessageKind.Handshake p.message (Some s.client) Done replies.NoAck)
@@ -315,16 +320,16 @@ slot_for config MessageKind.Disconnect p s = Ready (reply_to config MessageKind.
 slot_for config MessageKind.Publish p s = Ready (reply_to config MessageKind.Publish p.message (Some s.client) Done replies.NoAck)
 slot_for config MessageKind.UnknownMeta p s = Ready (reply_to config MessageKind.UnknownMeta p.message (Some s.client) Done replies.NoAck)
 
--- a disconnect ends its session
+-- A disconnect closes its session.
 abbrev pub left_by : MessageKind → ℕ → List Registered → List Registered
 left_by MessageKind.Disconnect number sessions = closed number sessions
 left_by _ number sessions = sessions
 
--- the rider that an accepted message of a live session is, if it is one
+-- The rider that an accepted message of a live session is, if any.
 abbrev pub rider_by : Config → Senders → MessageKind → Posted → Registered → Option Rider
 rider_by config senders message_kind p s = rider_for (is_rider config senders message_kind p s) s.number (slot_for config message_kind p s)
 
--- an accepted message of a live session
+-- An accepted message of a live session extends the session, or closes it.
 abbrev pub served : Config → State → ℕ → Posted → MessageKind → Registered → ℕ → Verdict
 served config state moment p message_kind s hold = record {
   state = record {
@@ -339,12 +344,12 @@ served config state moment p message_kind s hold = record {
   slot = slot_with (rider_by config state.senders message_kind p s) (slot_for config message_kind p s);
 }
 
--- the entry's kind for an accepted message of no session (no such message is any but a publish)
+-- The kind of entry for an accepted message without a session, always a publish.
 abbrev pub sessionless_kind : MessageKind → Message → EntryKind
 sessionless_kind MessageKind.Publish m = Publish (event_of m)
 sessionless_kind _ m = Refused
 
--- an accepted message of no session changes no session, and has its success at once
+-- An accepted publish without a session changes no session and succeeds at once.
 abbrev pub sessionless : Config → State → Posted → MessageKind → Verdict
 sessionless config state p message_kind = record {
   state = record state { senders = senders_behind p Mixed };
@@ -355,33 +360,33 @@ sessionless config state p message_kind = record {
   slot = Ready (reply_to config message_kind p.message None Done replies.NoAck);
 }
 
--- an accepted message that names no session: a handshake opens one, any other is a message of none
+-- An accepted message that names no session is a handshake or a publish.
 abbrev pub unnamed : Config → State → ℕ → Posted → Bool → Verdict
 unnamed config state moment p true = opened config state moment p (state.opened + 1)
 unnamed config state moment p false = sessionless config state p (message_kind_of p.message.channel)
 
--- an accepted message, by the session that it names
+-- The verdict on an accepted message, by the session that it names.
 abbrev pub accepted : Config → State → ℕ → Posted → Option Registered → Verdict
 accepted config state moment p None = unnamed config state moment p (is_handshake p.message)
 accepted config state moment p (Some s) = served config state moment p (message_kind_of p.message.channel) s (hold_of config p)
 
--- a message is refused or accepted
+-- A message is refused with this error, or accepted if there is none.
 abbrev pub judged_by : Config → State → ℕ → Posted → Option Registered → Option Error → Verdict
 judged_by config state moment p sender (Some error) = refused config state p error sender
 judged_by config state moment p sender None = accepted config state moment p sender
 
--- the session that a message names; a handshake names none
+-- The live session that a message names. Handshakes and unknown meta channels name none.
 abbrev pub named_by : List Registered → MessageKind → Message → Option Registered
 named_by sessions MessageKind.Handshake m = None
 named_by sessions MessageKind.UnknownMeta m = None
 named_by sessions _ m = sender_of sessions m.client
 
--- what a message comes to at this moment
+-- The verdict on a message when the clock is `moment`.
 abbrev pub verdict : Config → State → ℕ → Posted → Verdict
 verdict config state moment p =
     judged_by config state moment p (named_by state.sessions (message_kind_of p.message.channel) p.message) (refusal config state.sessions p)
 
--- a tick closes the sessions that are overdue
+-- A tick closes the overdue sessions and is not answered.
 abbrev pub tick_verdict : State → ℕ → Verdict
 tick_verdict state moment = record {
   state = record state { sessions = swept moment state.sessions };
@@ -392,33 +397,33 @@ tick_verdict state moment = record {
   slot = NoSlot;
 }
 
--- ---- one element after another
+-- ---- The whole list
 
--- what was found at this place
+-- The result at `place`.
 abbrev pub found_at : ℕ → ℕ → Verdict → Judged
 found_at place moment v = record { entry = record { place = place; moment = moment; kind = v.kind; rides = v.rides }; sender = v.sender; hold = v.hold; slot = v.slot }
 
--- the registry with one more place
+-- The registry after one more element.
 abbrev pub noted : Registry → ℕ → Verdict → Registry
 noted r moment v = record { clock = moment; sessions = v.state.sessions; senders = v.state.senders; judged = r.judged ++ found_at (length r.judged) moment v ∷ [] }
 
--- what a rule asks of the registry
+-- What the rules read of the registry.
 abbrev pub state_of : Registry → State
 state_of r = record { sessions = r.sessions; opened = length r.sessions; senders = r.senders }
 
--- the next element has the greatest moment so far, and is judged by the sessions before it
+-- An element is judged by the sessions before it, at the greatest moment so far.
 abbrev pub judge : Config → Registry → Listed → Registry
 judge config r (Post p) = noted r (max r.clock p.moment) (verdict config (state_of r) (max r.clock p.moment) p)
 judge config r (messages.Tick moment) = noted r (max r.clock moment) (tick_verdict (state_of r) (max r.clock moment))
 
--- the registry after the whole list
+-- The registry after the whole list.
 abbrev pub registry : Config → List Listed → Registry
 registry config list = fold (judge config) empty_registry list
 
--- the entries of the list
+-- The entries of a registry.
 abbrev pub entries_of : Registry → List Entry
 entries_of r = map (λ (j : Judged). j.entry) r.judged
 
--- the entries of a list
+-- The entries that a list becomes.
 abbrev pub entries : Config → List Listed → List Entry
 entries config list = entries_of (registry config list)

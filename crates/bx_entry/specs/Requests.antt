@@ -1,4 +1,4 @@
--- The messages of a request's documents, or why they can't be read.
+-- The messages of a request's documents, or their fault.
 use Rattle.std.specs.Prelude.{ℕ, ⊤, ◌≡◌, ◌||◌, if◌then◌else◌, Bool, true, false, List, [], ◌∷◌, length, map, flat_map, nat_lt, Option, Some, None, option_map, option_and_then, Result, Ok, Err}
 use Rattle.std.specs.List.{list_any}
 use Rattle.bx_names.specs.Faults.{first_case}
@@ -17,21 +17,22 @@ use Rattle.bx_entry.specs.declared.input.Door.TheVariants.{Publishers, Readers}
 use Rattle.bx_entry.specs.declared.input.Input.TheVariants.{Post}
 use Rattle.bx_entry.specs.declared.input.BodyError.TheVariants.{NotJson, NotObject, TooMany, NoChannel, Forbidden}
 
--- ---- documents
+-- ---- Documents
 
--- the messages' objects of a document, or its fault
+-- A document, cut into its messages' objects, or its fault.
 abbrev pub Cut : Type 0
 Cut = Result (List Object) CutError
 
--- the fault, where there is one
+-- The fault of a document, if any, and otherwise its objects.
 abbrev pub cut_by : Option CutError → List Object → Cut
 cut_by None objects = Ok objects
 cut_by (Some e) objects = Err e
 
--- a document as it is cut
+-- How a document is cut.
 abbrev pub cut_of : List ℕ → Cut
 cut_of document = cut_by (fault document) (pieces document)
 
+-- Whether a document is not JSON.
 abbrev pub is_not_json : Cut → Bool
 is_not_json (Ok objects) = false
 is_not_json (Err cuts.NotJson) = true
@@ -39,6 +40,7 @@ is_not_json (Err cuts.NotObject) = false
 is_not_json (Err cuts.TooMany) = false
 is_not_json (Err cuts.Memory) = false
 
+-- Whether a JSON document is neither an object nor an array of objects.
 abbrev pub is_not_object : Cut → Bool
 is_not_object (Ok objects) = false
 is_not_object (Err cuts.NotJson) = false
@@ -46,6 +48,7 @@ is_not_object (Err cuts.NotObject) = true
 is_not_object (Err cuts.TooMany) = false
 is_not_object (Err cuts.Memory) = false
 
+-- Whether a document by itself has too many messages.
 abbrev pub is_too_many : Cut → Bool
 is_too_many (Ok objects) = false
 is_too_many (Err cuts.NotJson) = false
@@ -53,18 +56,18 @@ is_too_many (Err cuts.NotObject) = false
 is_too_many (Err cuts.TooMany) = true
 is_too_many (Err cuts.Memory) = false
 
--- the objects of a document without a fault
+-- The objects of a document, or none if it has a fault.
 abbrev pub objects_in : Cut → List Object
 objects_in (Ok objects) = objects
 objects_in (Err e) = []
 
--- those of all documents, in order
+-- The objects of all documents, in order.
 abbrev pub objects_of : List Cut → List Object
 objects_of cs = flat_map objects_in cs
 
--- ---- a request
+-- ---- Requests
 
--- what is wrong with the documents as they are cut: the first of these that holds for any of them, the number of messages counted over all
+-- The first of these faults that any document has. Messages are counted over all documents.
 abbrev pub cut_fault : List Cut → Option BodyError
 cut_fault cs = first_case (
     (list_any is_not_json cs, NotJson)
@@ -72,60 +75,60 @@ cut_fault cs = first_case (
     ∷ (list_any is_too_many cs || nat_lt MAX_MESSAGES (length (objects_of cs)), TooMany)
     ∷ [])
 
--- the messages that these objects are, where each has a channel
+-- The messages that these objects are, if each has a channel.
 abbrev pub all_messages : List Object → Option (List Message)
 all_messages [] = Some []
 all_messages (o ∷ os) = option_and_then (λ m. option_map (λ ms. m ∷ ms) (all_messages os)) (message_in o.1)
 
--- or that some has none
+-- A message without a channel is a fault.
 abbrev pub with_channels : Option (List Message) → Result (List Message) BodyError
 with_channels None = Err NoChannel
 with_channels (Some ms) = Ok ms
 
--- the messages, unless there is a fault
+-- The messages, unless the documents have a fault.
 abbrev pub messages_by : List Cut → Option BodyError → Result (List Message) BodyError
 messages_by cs None = with_channels (all_messages (objects_of cs))
 messages_by cs (Some f) = Err f
 
--- what documents as they are cut are read as
+-- The messages of cut documents, or the first fault.
 abbrev pub messages_of : List Cut → Result (List Message) BodyError
 messages_of cs = messages_by cs (cut_fault cs)
 
--- the messages of all documents in order, or the first fault
+-- The messages of all documents in order, or the first fault.
 abbrev pub request_messages : List (List ℕ) → Result (List Message) BodyError
 request_messages documents = messages_of (map cut_of documents)
 
--- ---- a door
+-- ---- Listeners
 
--- whether some message is to a broadcast channel
+-- Whether some message is to a broadcast channel.
 abbrev pub has_broadcast : List Message → Bool
 has_broadcast ms = list_any (λ m. is_broadcast m.channel) ms
 
--- the messages that came by a door, where it lets them in: that of readers lets in none to a broadcast channel, nor any beside one
+-- The read-only listener refuses every request that has a message to a broadcast channel.
 abbrev pub let_in : Door → Result (List Message) BodyError → Result (List Message) BodyError
 let_in Publishers messages = messages
 let_in Readers (Ok ms) = if has_broadcast ms then Err Forbidden else Ok ms
 let_in Readers (Err f) = Err f
 
--- the messages of a request as it came in, or the first fault
+-- The messages of a request as it arrived, or the first fault.
 abbrev pub arrival_messages : Arrival → Result (List Message) BodyError
 arrival_messages a = let_in a.door (request_messages (texts_of a.bodies))
 
--- a program gives no messages for their fault, or for want of memory
+-- A program that returns no messages reports their fault, or that it ran out of memory.
 abbrev pub IsUnread : Result (List Message) BodyError → AdmitFault → Type 0
 IsUnread messages (Refused (Body fault)) = messages ≡ Err fault
 IsUnread messages (Refused BadMoment) = ⊥
 IsUnread messages (Refused Ended) = ⊥
 IsUnread messages Memory = ⊤
 
--- ---- an input
+-- ---- Inputs
 
--- a request as it is read
+-- The input that a request becomes.
 abbrev pub read_by : ℕ → ℕ → Result (List Message) BodyError → ReadInput
 read_by moment nonce (Ok ms) = Request moment nonce ms
 read_by moment nonce (Err f) = Unread f
 
--- what is handed in, once its documents are read
+-- An input after its documents are read.
 abbrev pub read_input : Input → ReadInput
 read_input (Post a) = read_by a.moment a.nonce (arrival_messages a)
 read_input (Input.Tick moment) = ReadInput.Tick moment

@@ -1,73 +1,73 @@
--- The events that wait for a session, and the batch of them that is outstanding.
+-- The queued events of one session, and its outstanding batch.
 use Rattle.std.specs.Prelude.{ℕ, ◌+◌, ◌==◌, ◌&&◌, min, Bool, List, [], ◌∷◌, ◌++◌, length, take, drop, nat_lt, nat_le, if◌then◌else◌}
 use Rattle.bx_message.specs.declared.event.Event.{Event}
 use Rattle.bx_message.specs.Events.{event_size}
 
--- an event with the place of its publish, so that two publishes of equal data are two
+-- An event, with the place of its publish, so that two publishes of equal data differ.
 pub record Publication : Type 0 where
   pub place : ℕ
   pub event : Event
 
--- What is in the queue waits or is outstanding, in the order in which it came; the first `out` of it are the outstanding batch; `number` is that of the
--- last batch formed.
+-- A session's queued events, oldest first: the outstanding batch, the first `out`, and then those
+-- that wait. `number` is the last batch's number.
 pub record Window : Type 0 where
   pub queue : List Publication
   pub out : ℕ
   pub number : ℕ
 
--- nothing waits, and no batch was formed
+-- No events, and no batch so far.
 abbrev pub empty : Window
 empty = record { queue = []; out = 0; number = 0 }
 
--- how many bytes the texts of these events have, as they are given
+-- The size of these events' texts, in bytes.
 unfoldable pub bytes_of : List Publication → ℕ
 bytes_of [] = 0
 bytes_of (p ∷ ps) = event_size p.event + bytes_of ps
 
--- whether this event is taken too, where at most so many are, with so many bytes
+-- Whether one more event stays within `events` events and `bytes` bytes.
 unfoldable pub has_room : ℕ → ℕ → Event → Window → Bool
 has_room events bytes e w = nat_lt (length w.queue) events && nat_le (bytes_of w.queue + event_size e) bytes
 
--- one more event waits
+-- An event joins the end of the queue.
 abbrev pub with_event : Publication → Window → Window
 with_event e w = record w { queue = w.queue ++ e ∷ [] }
 
--- the outstanding batch
+-- The outstanding batch.
 abbrev pub outstanding : Window → List Publication
 outstanding w = take w.out w.queue
 
--- the outstanding batch is given for good
+-- The outstanding batch is acknowledged and dropped.
 abbrev pub cleared : Window → Window
 cleared w = record w { queue = drop w.out w.queue; out = 0 }
 
--- a number at or above that of the last batch acknowledges all that was given
+-- A number acknowledges the outstanding batch if it is at least the last batch's number.
 abbrev pub acknowledges : ℕ → Window → Bool
 acknowledges number w = nat_le w.number number
 
--- the number of a batch is taken
+-- A client acknowledges batch `number`.
 abbrev pub acknowledged : ℕ → Window → Window
 acknowledged number w = if acknowledges number w then cleared w else w
 
--- how many events are given at once: as many as wait, but at most so many
+-- How many events are sent at once, if no batch is outstanding: all that wait, up to `most`.
 abbrev pub portion : ℕ → Window → ℕ
 portion most w = min most (length w.queue)
 
--- so many events become the next batch
+-- The first `count` events become the next batch.
 abbrev pub with_batch : ℕ → Window → Window
 with_batch count w = record w { out = count; number = w.number + 1 }
 
--- whether the next batch is formed: none is outstanding, and events wait
+-- Whether the next batch is formed: none is outstanding, and events wait.
 abbrev pub forms : ℕ → Window → Bool
 forms most w = (w.out == 0) && nat_lt 0 (portion most w)
 
--- it is formed
+-- The next batch is formed, if it can be, of up to `most` events.
 abbrev pub formed : ℕ → Window → Window
 formed most w = if forms most w then with_batch (portion most w) w else w
 
--- so many events are given for good at once, outside any batch
+-- The first `count` events are sent without a batch and dropped.
 abbrev pub forgotten : ℕ → Window → Window
 forgotten count w = record w { queue = drop count w.queue }
 
--- the events that wait or are outstanding are given to nobody
+-- All events are dropped; the last batch's number stays.
 abbrev pub emptied : Window → Window
 emptied w = record w { queue = []; out = 0 }

@@ -1,4 +1,4 @@
--- The words of this crate's definitions, for those who import several.
+-- Names of this crate's definitions, for files that import several.
 pub use Rattle.bx_entry.specs.Answers.{PlacedAnswer, answer, answer_at, answer_by, answer_in, answer_of, events_of, filed_for}
 pub use Rattle.bx_entry.specs.Inputs.{IsFault, ReadInput, Request, Unread, added_by, refusal_of, refused_beyond}
 pub use Rattle.bx_entry.specs.Keeping.{Kept, StepsAlike, after, answers_of, kept, kept_answers, kept_step, resumed}

@@ -1,48 +1,49 @@
+//! Entries of the list, and how messages are answered.
 use bx_message::{RawJson, Reply, Sequence, SharedEvent, Text};
 use bx_names::Pattern;
 
-/// What the message or the tick at a place of the list came to.
+/// The result of a message or a tick.
 #[derive(Drop)]
 pub enum EntryKind {
     /// An accepted handshake.
     Opened {
-        /// The number of the session that it opens, from 1 on.
+        /// The number of the new session, from 1.
         session: u64,
-        /// Whether it turned acknowledgement on.
+        /// Whether acknowledgement is on.
         ack: bool,
     },
-    /// An accepted connect, with all that it is answered by.
+    /// An accepted connect, with all that its reply needs.
     Connect {
-        /// The number of its session.
+        /// The session's number.
         session: u64,
-        /// The client id of its session, which the reply repeats.
+        /// The session's client id, which the reply repeats.
         client: Text,
-        /// The message's `id`, as the sender wrote it, which the reply repeats.
+        /// The message's `id` as the sender wrote it, which the reply repeats.
         id: Option<RawJson>,
-        /// The number of the batch that it acknowledges, where it names one.
+        /// The batch number that it acknowledges, if any.
         acked: Option<u64>,
-        /// How long it may be held, in milliseconds; 0 where it is to be answered at once.
+        /// How long it may be held, in milliseconds; 0 to answer it at once.
         hold: u64,
     },
-    /// An accepted subscription, with its patterns but those of service channels.
+    /// An accepted subscription.
     Subscribe {
-        /// The number of its session.
+        /// The session's number.
         session: u64,
-        /// The patterns, in the order of the message.
+        /// The patterns, in the message's order, except those of service channels.
         patterns: Sequence<Pattern>,
     },
-    /// An accepted unsubscription, with its patterns but those of service channels.
+    /// An accepted unsubscription.
     Unsubscribe {
-        /// The number of its session.
+        /// The session's number.
         session: u64,
-        /// The patterns, in the order of the message.
+        /// The patterns, in the message's order, except those of service channels.
         patterns: Sequence<Pattern>,
     },
-    /// An accepted publish, to a service channel too.
+    /// An accepted publish, also to a service channel.
     Publish(SharedEvent),
     /// An accepted disconnect.
     Disconnect {
-        /// The number of the session that it ends.
+        /// The number of the session that it closes.
         session: u64,
     },
     /// A refused message.
@@ -51,44 +52,51 @@ pub enum EntryKind {
     Tick(Sequence<u64>),
 }
 
-/// A message with whose reply the waiting events of its session go out: the last of a request that is of this session alone.
+/// A message whose reply carries the waiting events of its session.
+///
+/// It is a subscribe, an unsubscribe or a publish, and the last message of a request whose messages
+/// all come from this session.
 #[derive(Drop)]
 pub struct Rider {
-    /// The number of its session.
+    /// The session's number.
     pub session: u64,
-    /// The reply behind the events.
+    /// The reply, which follows the events.
     pub reply: Reply,
 }
 
-/// An element of the list that orders everything.
+/// An element of the list of everything that was admitted.
 #[derive(Drop)]
 pub struct Entry {
-    /// Its place, counted from 0.
+    /// The place, counted from 0.
     pub place: u64,
-    /// The greatest moment that was handed in so far, in milliseconds.
+    /// The greatest moment in the list so far, in milliseconds since the server started.
     pub moment: u64,
-    /// What the message or the tick came to.
+    /// The result of the message or tick.
     pub kind: EntryKind,
-    /// The rider that its message is, if it is one. Its events go out behind what the entry itself does.
+    /// The rider, if the message is one.
+    ///
+    /// It gets its events after the entry has taken effect.
     pub rides: Option<Rider>,
 }
 
-/// The entries of one admission.
+/// The entries of one request or tick.
 #[derive(Drop)]
 pub struct Batch {
-    /// The place of its first entry.
+    /// The place of the first entry.
     pub first: u64,
-    /// The entries, one for each message in order, or the tick's, at places that follow one another.
+    /// The entries, at consecutive places: one for each message in order, or one for the tick.
     pub entries: Sequence<Entry>,
 }
 
-/// Where the answer to a connect or a rider is filed: under its place, in this shard. It is good for as long as the
-/// sessions stand in the shards as they do: once they are redistributed, the answer may stand in another shard.
+/// The place and the shard under which the answer to a connect or a rider is filed.
+///
+/// A ticket is valid until the sessions are redistributed, which may move the answer to another
+/// shard.
 #[derive(Clone, Copy, Debug, PartialEq, Eq)]
 pub struct Ticket {
     /// The message's place in the list.
     pub place: u64,
-    /// The shard of its session.
+    /// The shard of the message's session.
     pub shard: usize,
 }
 
@@ -97,15 +105,15 @@ pub struct Ticket {
 pub enum Slot {
     /// At once, by this reply.
     Ready(Reply),
-    /// A connect or a rider, whose answer is filed under this ticket.
+    /// Later: the answer to a connect or a rider is filed under this ticket.
     Waiting(Ticket),
 }
 
-/// Where the messages of an admitted request stand, and how they are answered; or where a tick stands.
+/// The place of an admitted request or tick, and how its messages are answered.
 #[derive(Drop)]
 pub struct Admitted {
-    /// The place of the first message; of a request without messages the length of the list.
+    /// The place of the tick or the first message, or the list's length without messages.
     pub first: u64,
-    /// For each message in order how it is answered; none for a tick.
+    /// How each message is answered, in order; empty for a tick.
     pub slots: Sequence<Slot>,
 }

@@ -1,3 +1,4 @@
+//! Requests and ticks, and why they are refused.
 ghost use Rattle.std.specs.Prelude.{◌≡◌};
 ghost use Rattle.bx_entry.specs.Statuses.{refusal_status};
 ghost use Rattle.bx_entry.specs.declared.input.AdmitFault.TheVariants.{Memory, Refused};
@@ -7,75 +8,82 @@ use bx_cut::Bodies;
 use bx_message::Status;
 use std::alloc::{AllocError, AllocFailed};
 
-/// The door by which a request came. (This server's choice.)
+/// The listener that received a request.
+///
+/// Policy of this server.
 #[derive(Clone, Copy, Debug, PartialEq, Eq)]
 pub enum Door {
-    /// Every request is let in.
+    /// The main listener, which accepts every request.
     Publishers,
-    /// A request with a message to a broadcast channel is not let in: who comes by it reads alone.
+    /// The read-only listener, which refuses requests with a message to a broadcast channel.
     Readers,
 }
 
-/// A request as it came in.
+/// A request as it arrived.
 #[derive(Drop)]
 pub struct Arrival {
-    /// In milliseconds.
+    /// Milliseconds since the server started.
     pub moment: u64,
-    /// 128 bits for the client id of a session that it opens.
+    /// 128 bits for the client id of a session that the request opens.
     pub nonce: u128,
-    /// By which it came.
+    /// The listener that received it.
     pub door: Door,
-    /// Its documents.
+    /// The request's documents.
     pub bodies: Bodies,
 }
 
-/// What is handed in: a request, or a tick of the clock.
+/// A request or a tick of the clock.
 #[derive(Drop)]
 pub enum Input {
+    /// A request.
     Post(Arrival),
-    /// The tick's moment, in milliseconds.
+    /// A tick, with its moment in milliseconds since the server started.
     Tick(u64),
 }
 
-/// Why the documents of a request are not taken as messages. The variants stand in the order in which
-/// they are looked for, each over all documents of the request.
+/// Why the documents of a request are not accepted as messages.
+///
+/// The variants are in the order in which they are tested, each over all documents of the request.
 #[derive(Clone, Copy, Debug, PartialEq, Eq, PartialOrd, Ord)]
 pub enum BodyError {
-    /// Some document is no JSON text.
+    /// A document is not JSON.
     NotJson,
-    /// Some document is neither an object nor an array, or is an array with an element that is no
-    /// object.
+    /// A document is neither an object nor an array of objects.
     NotObject,
-    /// The documents together have more messages than a request may have.
+    /// The documents together have more than `MAX_MESSAGES` messages.
     TooMany,
-    /// Some message has no `channel` that is a text.
+    /// A message has no `channel`, or one that is not a string.
     NoChannel,
-    /// The door by which the request came does not let in its messages.
+    /// The listener does not accept the messages.
     Forbidden,
 }
 
-/// Why a request or a tick is not admitted. Nothing is changed then.
+/// Why a request or a tick is refused.
+///
+/// The variants are in the order in which they are tested. A refusal changes nothing.
 #[derive(Clone, Copy, Debug, PartialEq, Eq)]
 pub enum Refusal {
-    /// The request's documents are not taken as messages.
+    /// The documents of the request are not accepted as messages.
     Body(BodyError),
-    /// The moment is above the greatest that is taken.
+    /// The moment exceeds `MAX_MOMENT`.
     BadMoment,
-    /// The list would pass the greatest length that it may have.
+    /// The list would exceed `MAX_LENGTH` entries.
     Ended,
 }
 
-/// Why a program does not admit a request or a tick. Nothing is changed then.
+/// Why a request or a tick is not admitted.
+///
+/// In either case, nothing has changed.
 #[derive(Clone, Copy, Debug, PartialEq, Eq)]
 pub enum AdmitFault {
-    /// It is refused.
+    /// It was refused.
     Refused(Refusal),
-    /// Memory was refused.
+    /// Memory ran out.
     Memory,
 }
 
 impl AdmitFault {
-    /// The documents of a request are not taken as messages.
+    /// Creates the fault for documents that are not accepted as messages.
     pub(crate) fn unread(fault: BodyError) -> AdmitFault
         ensures { result ≡ Refused (Body fault) }
     {
@@ -100,7 +108,9 @@ impl<T: Drop> From<AllocFailed<T>> for AdmitFault {
 }
 
 impl Refusal {
-    /// The status of a request that is not admitted for this. (This server's choice.)
+    /// Returns the HTTP status for this refusal.
+    ///
+    /// Policy of this server.
     pub fn status(self) -> Status
         ensures { result ≡ refusal_status self }
     {

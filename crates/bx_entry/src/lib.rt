@@ -1,4 +1,4 @@
-//! What is handed in, the list of entries that it becomes, and where sessions are placed.
+//! Requests and ticks, the entries that they become, and the placing of sessions in shards.
 #![tactic(auto)]
 
 mod entry;

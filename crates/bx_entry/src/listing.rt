@@ -1,4 +1,4 @@
-//! The list that orders everything, for contracts alone.
+//! The list of all admitted messages and ticks, for contracts only.
 ghost use Rattle.std.specs.Prelude.{◌≡◌, [], ◌∷◌, ◌++◌};
 ghost use Rattle.bx_entry.specs.Listing.{Listed};
 ghost use Rattle.bx_entry.specs.Listing as elements;
@@ -7,7 +7,7 @@ use bx_history::{History, Lists};
 use bx_message::Message;
 use std::marker::Model;
 
-/// An element of the list, a message or a tick. The program makes none.
+/// Ghost: an element of the list, a message or a tick.
 pub struct Element {
     ghost listed: { Listed },
 }
@@ -23,8 +23,10 @@ impl Model for Element {
     ghost also_owns = { λ _. ftrue };
 }
 
-/// Messages and ticks in the order in which they are admitted, for contracts alone. It takes no bytes, and a program can
-/// read nothing off it.
+/// Ghost: messages and ticks in the order of their admission.
+///
+/// It needs no memory, and a program cannot read it. Moments are in milliseconds since the server
+/// started.
 #[derive(Drop)]
 pub struct Listing {
     elements: History<Element>,
@@ -40,7 +42,7 @@ impl Model for Listing {
 }
 
 impl Listing {
-    /// Nothing is admitted.
+    /// Creates an empty listing.
     pub fn new() -> Listing
         ensures { result ≡ [] }
     {
@@ -49,7 +51,7 @@ impl Listing {
         }
     }
 
-    /// The messages of a request at this moment, in milliseconds, come behind the others.
+    /// Appends the messages of a request.
     pub fn post(&mut self, moment: u64, nonce: u128, messages: &[Message])
         ensures { self.new ≡ self.old ++ elements.request moment nonce messages.now }
     {
@@ -62,21 +64,21 @@ impl Listing {
             .join(&History::of::<Request<'_>, Messages>(&request));
     }
 
-    /// A tick at this moment, in milliseconds, comes behind the others.
+    /// Appends a tick.
     pub fn tick(&mut self, moment: u64)
         ensures { self.new ≡ self.old ++ elements.Tick moment ∷ [] }
     {
         self.elements.join(&History::of::<u64, Tick>(&moment));
     }
 
-    /// All of another list comes behind the others.
+    /// Appends all of `later`.
     pub fn join(&mut self, later: &Listing)
         ensures { self.new ≡ self.old ++ later.now }
     {
         self.elements.join(&later.elements);
     }
 
-    /// The same list once more. It takes no memory, so it cannot fail.
+    /// Returns a copy of the listing without allocating.
     pub fn again(&self) -> Listing
         ensures { result ≡ self.now }
     {
@@ -86,7 +88,7 @@ impl Listing {
     }
 }
 
-// A request whose messages are read.
+// A request whose messages have been read.
 #[derive(Drop)]
 struct Request<'a> {
     moment: u64,
@@ -94,7 +96,7 @@ struct Request<'a> {
     messages: &'a [Message],
 }
 
-// What is listed of a request, and of a tick.
+// What a request and a tick append.
 
 struct Messages;
 

@@ -1,15 +1,17 @@
+//! Rules that place sessions in shards.
 ghost use Rattle.std.specs.Prelude.{◌≡◌, ◌≤◌, ◌<◌, ℕ, IfOk};
 ghost use Rattle.bx_entry.specs.Placings.{all_first, by_remainder, by_remainder-below, by_table, by_table-below};
 
 use std::alloc::{AllocError, Global};
 use std::marker::Model;
 
-/// Says in which shard a session is placed.
+/// A rule that places each session in a shard.
 pub trait Placing {
     ghost place_of: { Self → ℕ → ℕ → ℕ };
 
-    /// The shard, counted from 0, of the session with this number among so many shards: the same
-    /// whenever it is asked.
+    /// Returns the shard of session `number`, from 0 to `shards - 1`.
+    ///
+    /// `shards`: from 1 to 64. Equal arguments give equal results.
     fn place(&self, number: u64, shards: usize) -> usize
         requires some_shard { 1 ≤ shards }
         requires shards_in_range { shards ≤ 64 }
@@ -19,7 +21,7 @@ pub trait Placing {
     ghost is_below: { (placing : Self) (number shards : ℕ) → 1 ≤ shards → shards ≤ 64 → place_of placing number shards < shards };
 }
 
-/// Sessions in turn: the number's remainder by the number of shards.
+/// Places sessions in turn: session `number` in shard `number % shards`.
 #[derive(Clone, Copy, Debug)]
 pub struct ByRemainder;
 
@@ -33,7 +35,7 @@ impl Placing for ByRemainder {
     }
 }
 
-/// All sessions in the first shard.
+/// Places all sessions in the first shard.
 #[derive(Clone, Copy, Debug)]
 pub struct AllFirst;
 
@@ -47,7 +49,9 @@ impl Placing for AllFirst {
     }
 }
 
-/// Sessions by a table of shards, over and over. Contracts see it as the table.
+/// Places session `number` in shard `table[number % table.len()] % shards`.
+///
+/// Model: the table.
 #[derive(Drop)]
 pub struct ByTable {
     table: Vec<u8>,
@@ -62,8 +66,13 @@ impl Model for ByTable {
 }
 
 impl ByTable {
-    /// The placing by this table; with an empty one all sessions stand in the first shard. An error
-    /// means that memory was refused.
+    /// Creates a placing from `table`.
+    ///
+    /// An empty table places all sessions in the first shard.
+    ///
+    /// # Errors
+    ///
+    /// `AllocError` if memory runs out.
     pub fn new(alloc: Global, table: &[u8]) -> Result<ByTable, AllocError>
         ensures { IfOk result (λ t. t ≡ table.now) }
     {

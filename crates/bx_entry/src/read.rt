@@ -1,4 +1,4 @@
-//! Reading the messages of a request.
+//! Reads the messages of a request.
 ghost use Rattle.std.specs.Prelude.{◌≡◌, ◌++◌, ◌<◌, IfOk, IfErr, OnOk, IsErrOf, map, length, nat_lt, Some, None, Ok, option_map};
 ghost use Rattle.std.specs.List.{list_any};
 ghost use Rattle.bx_cut.specs.Bodies.{texts_of};
@@ -13,7 +13,12 @@ use bx_names::is_broadcast;
 use std::alloc::{AllocError, Global};
 
 impl Arrival {
-    /// The messages of all its documents in order, where its door lets them in; or the first of the faults.
+    /// Reads the messages of all documents in order, if the listener accepts them.
+    ///
+    /// # Errors
+    ///
+    /// - `Refused(Body(_))`: the first [`BodyError`] that applies.
+    /// - `Memory`: memory ran out, at any step.
     pub fn read(&self, alloc: Global) -> Result<Vec<Message>, AdmitFault>
         ensures messages { IfOk result (λ ms. arrival_messages self.now ≡ Ok ms.items) }
         ensures fault { IfErr result (IsUnread (arrival_messages self.now)) }
@@ -29,7 +34,7 @@ impl Arrival {
     }
 }
 
-// Whether some message is to a broadcast channel.
+// Returns `true` if a message is to a broadcast channel.
 fn has_broadcast(messages: &[Message]) -> bool
     ensures { result ≡ has_broadcast messages.now }
 {
@@ -38,10 +43,15 @@ fn has_broadcast(messages: &[Message]) -> bool
         .any(|message| is_broadcast(message.channel.as_str()))
 }
 
-// A document, or what is wrong with it.
+// A document, or why it is not one.
 type Cut<'a> = Result<Document<'a>, CutError>;
 
-/// The messages of all documents in order, or the first of the faults that holds for any of them.
+/// Reads the messages of all documents in order, regardless of the listener.
+///
+/// # Errors
+///
+/// - `Refused(Body(_))`: the first [`BodyError`] that applies, except `Forbidden`.
+/// - `Memory`: memory ran out, at any step.
 pub fn read_messages(alloc: Global, bodies: &Bodies) -> Result<Vec<Message>, AdmitFault>
     ensures messages { IfOk result (λ ms. request_messages (texts_of bodies.now) ≡ Ok ms.items) }
     ensures fault { IfErr result (IsUnread (request_messages (texts_of bodies.now))) }
@@ -57,7 +67,7 @@ pub fn read_messages(alloc: Global, bodies: &Bodies) -> Result<Vec<Message>, Adm
     }
 }
 
-// Every document is cut, since the faults are ordered over all of them.
+// Splits every document, because the errors are ordered over all of them.
 fn cut_all(alloc: Global, bodies: &Bodies) -> Result<Vec<Cut<'_>>, AllocError>
     ensures { IfOk result (λ cuts. cuts.items ≡ map cut_of (texts_of bodies.now)) }
 {
@@ -71,7 +81,7 @@ fn cut_all(alloc: Global, bodies: &Bodies) -> Result<Vec<Cut<'_>>, AllocError>
     Ok(cuts)
 }
 
-// What is wrong with the documents, besides messages without a channel.
+// Returns the first error of the documents, except messages without a channel.
 fn fault_in(cuts: &[Cut<'_>]) -> Option<BodyError>
     ensures { result ≡ cut_fault cuts.now }
 {
@@ -105,7 +115,7 @@ fn has_too_many(cuts: &[Cut<'_>]) -> bool
     cuts.iter().any(|cut| matches!(cut, Err(CutError::TooMany)))
 }
 
-// Whether the documents together have more messages than a request may have.
+// Returns `true` if the documents together have more than [`MAX_MESSAGES`] messages.
 fn are_too_many(cuts: &[Cut<'_>]) -> bool
     ensures { result ≡ nat_lt MAX_MESSAGES (length (objects_of cuts.now)) }
 {
@@ -136,7 +146,7 @@ fn read_all(alloc: Global, cuts: &[Cut<'_>]) -> Result<Vec<Message>, MessageErro
     Ok(messages)
 }
 
-// Adds the messages of a document that has no fault.
+// Appends the messages of a document, unless it has an error.
 fn read_cut(alloc: Global, cut: &Cut<'_>, messages: &mut Vec<Message>) -> Result<(), MessageError>
     ensures added { OnOk result (option_map (λ ms. messages.old.items ++ ms)
         (all_messages (objects_in cut.now)) ≡ Some messages.new.items) }

@@ -1,19 +1,20 @@
+//! The sessions that a request's messages come from.
 ghost use Rattle.std.specs.Prelude.{◌≡◌};
 ghost use Rattle.bx_entry.specs.Registry.{is_one, joined};
 
-/// Whose the messages of a request are, as far as they were judged.
+/// Whether the messages of a request judged so far all come from one session.
 #[derive(Clone, Copy, Debug, PartialEq, Eq)]
 pub enum Senders {
-    /// None was judged.
+    /// No message has been judged yet.
     NoneYet,
     /// All are accepted messages of this session.
     Only(u64),
-    /// Some other is among them: a refused one, a handshake, or one of no session or of another.
+    /// A message was refused, is a handshake, or has no session or another one.
     Mixed,
 }
 
 impl Senders {
-    /// With one more message, which is an accepted one of this session.
+    /// Returns `self` with one more accepted message, which comes from `session`.
     pub fn joined(self, session: u64) -> Senders
         ensures { result ≡ joined self session }
     {
@@ -24,7 +25,7 @@ impl Senders {
         }
     }
 
-    /// Whether all are of one session.
+    /// Returns `true` if there are messages, and all come from one session.
     pub fn is_one(self) -> bool
         ensures { result ≡ is_one self }
     {

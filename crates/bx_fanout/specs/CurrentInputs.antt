@@ -1,4 +1,4 @@
--- The last input that was taken in, and the answers to its messages as they are collected.
+-- The last input, and the answers to its messages as they are collected.
 use Rattle.std.specs.Prelude.{ℕ, ◌+◌, ◌<◌, ◌≤◌, ◌≡◌, Bool, true, false, List, [], ◌∷◌, ◌++◌, length, flat_map, slice_get, option_map, Option, Some, None, Result, Ok, Err, ⊤}
 use Rattle.bx_advice.specs.declared.config.Config.{Config}
 use Rattle.bx_entry.specs.Words.{answer, Listed}
@@ -10,65 +10,65 @@ use Rattle.bx_message.specs.declared.reply.{Answer.Answer, Item.Item}
 use Rattle.bx_shard.specs.Words.{Setup, is_taken, given_of}
 use Rattle.bx_world.specs.Words.{EachSlot, WorldState}
 
--- every shard has applied the whole list
+-- Every shard has applied the whole list.
 abbrev pub IsLevel : WorldState → Type 0
 IsLevel w = (k n : ℕ) → slice_get w.applied k ≡ Some n → length w.list ≤ n
 
--- what the client gets of the answer to the message at this place, if the list has it
+-- What the client gets of the answer to the message at `place`, if the list has it.
 abbrev pub given_at : Config → List Listed → ℕ → Option Answer
 given_at config list place = option_map given_of (answer config list place)
 
--- these are the answers to the messages from this place on, in order
+-- The answers are those to the messages from `place` on, in order.
 abbrev pub AreAnswers : Config → List Listed → ℕ → List Answer → Type 0
 AreAnswers config list place [] = ⊤
 AreAnswers config list place (a ∷ answers) = (given_at config list place ≡ Some a) × AreAnswers config list (place + 1) answers
 
--- no answer was taken of a message at this place or behind it
+-- No answer to a message at `place` or later was taken.
 abbrev pub NoneTakenFrom : ℕ → List ℕ → Type 0
 NoneTakenFrom place taken = (p : ℕ) → place ≤ p → is_taken taken p ≡ false
 
--- the world but for the answers that were taken of the messages from this place on
+-- The world is unchanged, except for answers taken to messages at `place` or later.
 pub record Keeps (place : ℕ) (old new : WorldState) : Type 0 where
   pub list : new.list ≡ old.list
   pub applied : new.applied ≡ old.applied
   pub earlier : (p : ℕ) → p < place → is_taken new.taken p ≡ is_taken old.taken p
 
--- ---- one answer
+-- ---- One answer
 
--- the answer to the message at this place was missing, or it was taken and its slot went
+-- The list has no answer to the message at `place`, or it was taken and its slot removed.
 abbrev pub NextBy : Setup → WorldState → ℕ → List Slot → List Slot → WorldState → Option Answer → Type 0
 NextBy setup old place before after new None = (given_at setup.config old.list place ≡ None) × (after ≡ before) × (new ≡ old)
 NextBy setup old place before after new (Some a) =
     (given_at setup.config old.list place ≡ Some a) × EachSlot setup old.list (place + 1) after × (length before ≡ length after + 1) × NoneTakenFrom (place + 1) new.taken × Keeps place old new
 
--- so it is wherever every shard has applied the whole list, and these are the slots of the messages from a place on, none of which was taken
+-- `NextBy` holds if all shards have applied the list and the slots from `place` on are untaken.
 abbrev pub Next : Setup → WorldState → List Slot → List Slot → WorldState → Option Answer → Type 0
 Next setup old before after new result =
     (place : ℕ) → IsLevel old → EachSlot setup old.list place before → NoneTakenFrom place old.taken → 0 < length before → NextBy setup old place before after new result
 
--- the reply to the first message was there, and its slot went; or the first message waits, or there is none
+-- The first slot's reply was returned and the slot removed, or the slots are unchanged.
 abbrev pub NextReady : List Slot → List Slot → Option Answer → Type 0
 NextReady before after None = after ≡ before
 NextReady before after (Some a) = (before ≡ Ready a.reply ∷ after) × (a.events ≡ [])
 
--- ---- all answers
+-- ---- All answers
 
--- the place of the first message whose answer is not here
+-- The place of the first message whose answer is not collected.
 abbrev pub next_place : CurrentInput → ℕ
 next_place n = n.first + length n.answers.items
 
--- the answers that are here are those of the first messages, and the slots are those of the others, none of which was taken
+-- The first messages' answers are collected; the slots are those of the others, untaken.
 pub record IsCollected (setup : Setup) (w : WorldState) (n : CurrentInput) : Type 0 where
   pub answers : AreAnswers setup.config w.list n.first n.answers.items
   pub slots : EachSlot setup w.list (next_place n) n.slots.items
   pub fresh : NoneTakenFrom (next_place n) w.taken
 
--- all answers are here, or the next one is missing
+-- All answers are collected (`true`), or the next one is missing (`false`).
 abbrev pub IsWhole : Config → List Listed → CurrentInput → Bool → Type 0
 IsWhole config list n true = n.slots.items ≡ []
 IsWhole config list n false = (0 < length n.slots.items) × (given_at config list (next_place n) ≡ None)
 
--- answers went from the slots to those that are here
+-- Only the answers and slots change; their total number stays the same.
 pub record Collects (old new : CurrentInput) : Type 0 where
   pub number : new.number ≡ old.number
   pub first : new.first ≡ old.first
@@ -76,13 +76,13 @@ pub record Collects (old new : CurrentInput) : Type 0 where
   pub items : new.items.items ≡ old.items.items
   pub many : length new.answers.items + length new.slots.items ≡ length old.answers.items + length old.slots.items
 
--- ---- its response
+-- ---- The response
 
--- the items that are there, and those of the answers that are here
+-- The items so far, and then those of the collected answers.
 abbrev pub response_of : CurrentInput → List Item
 response_of n = n.items.items ++ flat_map items_of n.answers.items
 
--- its response, or its refusal
+-- The response, or the refusal if there is one.
 abbrev pub result_of : List Item → Option Refusal → Result (List Item) Refusal
 result_of items None = Ok items
 result_of items (Some refusal) = Err refusal
@@ -90,7 +90,7 @@ result_of items (Some refusal) = Err refusal
 abbrev pub out_of : CurrentInput → Out
 out_of n = record { input = n.number; result = result_of (response_of n) n.refusal }
 
--- all but its items and answers
+-- Everything except the items and answers is unchanged.
 pub record OthersStay (old new : CurrentInput) : Type 0 where
   pub number : new.number ≡ old.number
   pub first : new.first ≡ old.first

@@ -1,4 +1,4 @@
--- Held connects to which all answers are put that the shards have filed.
+-- Assigning all filed answers to the held connects that wait for them.
 use Rattle.std.specs.Prelude.{ℕ, ◌≡◌, ◌<◌, false, slice_index, List, length, map, if◌then◌else◌, Some, None}
 use Rattle.std.specs.List.{AllByRecursion}
 use Rattle.bx_advice.specs.declared.config.Config.{Config}
@@ -9,24 +9,25 @@ use Rattle.bx_world.specs.Words.{slot_at, WorldState}
 use Rattle.bx_fanout.specs.HeldInputs.{Row}
 use Rattle.bx_fanout.specs.CurrentInputs.{IsLevel, NoneTakenFrom, given_at}
 
--- a connect that waits here, whose answer was not taken
+-- A held connect without an answer, whose answer was not taken.
 pub record Waits (setup : Setup) (w : WorldState) (row : Row) : Type 0 where
   pub session : ℕ
   pub slot : slot_at setup.config w.list row.0 ≡ Some (Waiting session)
   pub bare : row.1.answer ≡ None
   pub untaken : is_taken w.taken row.0 ≡ false
 
--- so does each, and every shard has applied the whole list
+-- All held connects wait, all shards have applied the list, and no answer past its end was taken.
 pub record CanDrain (setup : Setup) (w : WorldState) (rows : List Row) : Type 0 where
   pub level : IsLevel w
   pub each : AllByRecursion (Waits setup w) rows
   pub fresh : NoneTakenFrom (length w.list) w.taken
 
--- the connect with its answer, if the list has it
+-- A held connect with its answer, if the list has it.
 abbrev pub filled : Config → List Listed → Row → Row
 filled config list row = (row.0, record { number = row.1.number; answer = given_at config list row.0 })
 
--- Each connect has its answer, if the list has it; the answers of the others were not taken, nor any of a message behind the list.
+-- Each connect has its answer if the list has it. The other connects' answers were not taken, nor
+-- were any past the list's end.
 pub record Drained (setup : Setup) (old : WorldState) (before : List Row) (new : WorldState) (after : List Row) : Type 0 where
   pub list : new.list ≡ old.list
   pub applied : new.applied ≡ old.applied
@@ -34,18 +35,19 @@ pub record Drained (setup : Setup) (old : WorldState) (before : List Row) (new :
   pub untaken : AllByRecursion (λ (row : Row). given_at setup.config old.list row.0 ≡ None → is_taken new.taken row.0 ≡ false) before
   pub fresh : NoneTakenFrom (length old.list) new.taken
 
--- ---- shard after shard
+-- ---- One shard after another
 
--- the connect with its answer, if it was taken
+-- A held connect with its answer, if that was taken.
 abbrev pub put_if : Config → List Listed → List ℕ → Row → Row
 put_if config list taken row = (row.0, record { number = row.1.number; answer = if is_taken taken row.0 then given_at config list row.0 else None })
 
--- a connect of a session that stands in this shard has no answer, or it was taken
+-- The list has no untaken answer to a connect or rider of `shard`.
 abbrev pub IsEmptied : Setup → List Listed → List ℕ → ℕ → Type 0
 IsEmptied setup list taken shard = (place session : ℕ) → slot_at setup.config list place ≡ Some (Waiting session) → setup.placing session setup.shards ≡ shard → is_taken taken place ≡ false →
     given_at setup.config list place ≡ None
 
--- the first shards have no more answers, and each answer that was taken was put to its connect
+-- The first `shard` shards have no more answers, and each answer that was taken is with its
+-- connect.
 pub record Draining (setup : Setup) (before : List Row) (w : WorldState) (rows : List Row) (shard : ℕ) : Type 0 where
   pub level : IsLevel w
   pub put : rows ≡ map (put_if setup.config w.list w.taken) before
@@ -53,6 +55,6 @@ pub record Draining (setup : Setup) (before : List Row) (w : WorldState) (rows :
   pub fresh : NoneTakenFrom (length w.list) w.taken
   pub emptied : (k : ℕ) → k < shard → IsEmptied setup w.list w.taken k
 
--- how many answers the shard has filed that were not taken
+-- How many answers `shard` has filed that were not taken.
 abbrev pub count_filed : Setup → WorldState → ℕ → ℕ
 count_filed setup w shard = length (shard_at setup w.list w.taken shard (slice_index w.applied shard)).filed

@@ -1,4 +1,4 @@
--- The held connects, and the answers that came for them.
+-- The held connects, and their answers.
 use Rattle.std.specs.Prelude.{ℕ, ◌+◌, ◌==◌, ◌&&◌, ◌<◌, ◌≤◌, ◌≡◌, Bool, List, [], ◌∷◌, ◌++◌, filter, map, length, count_by, is_none, is_some, option_map, if◌then◌else◌, Option, Some, None, Ok}
 use Rattle.std.specs.{List.AllByRecursion, List.Sorted.IsStrictlySortedBy, Map.keys_of, Ordering.nat_cmp}
 use Rattle.bx_history.specs.Members.{has}
@@ -6,7 +6,7 @@ use Rattle.bx_fanout.specs.declared.{held_inputs.HeldInput.HeldInput, out.Out.Ou
 use Rattle.bx_message.specs.declared.reply.{Answer.Answer, Item.Item}
 use Rattle.bx_message.specs.declared.reply.Item.TheVariants.{EventItem, ReplyItem}
 
--- the place of a connect, and what is held of it
+-- The place of a connect, and what is held of it.
 abbrev pub Row : Type 0
 Row = ℕ × HeldInput
 
@@ -16,27 +16,27 @@ is_answered row = is_some row.1.answer
 abbrev pub waits : Row → Bool
 waits row = is_none row.1.answer
 
--- each connect stands below this place
+-- Each connect is before `place`.
 abbrev pub AllBelow : ℕ → List Row → Type 0
 AllBelow place rows = AllByRecursion (λ (row : Row). row.0 < place) rows
 
--- ---- an answer came
+-- ---- An answer arrives
 
--- whether this row is a connect of this place that waits
+-- Whether a row is a connect that waits at `place`.
 abbrev pub waits_there : ℕ → Row → Bool
 waits_there place row = (row.0 == place) && waits row
 
--- the row with this answer
+-- The row with an answer.
 abbrev pub with_answer : Answer → Row → Row
 with_answer answer row = (row.0, record row.1 { answer = Some answer })
 
--- the connect that waits at this place gets this answer
+-- The connect that waits at `place` gets `answer`.
 abbrev pub answered_at : ℕ → Answer → List Row → List Row
 answered_at place answer rows = map (λ (row : Row). if waits_there place row then with_answer answer row else row) rows
 
--- ---- what is given
+-- ---- Outs
 
--- what the client gets: the events, and then the reply
+-- What the client gets: the events, and then the reply.
 abbrev pub items_of : Answer → List Item
 items_of a = map EventItem a.events ++ ReplyItem a.reply ∷ []
 
@@ -47,38 +47,39 @@ items_by (Some a) = items_of a
 abbrev pub out_of : Row → Out
 out_of row = record { input = row.1.number; result = Ok (items_by row.1.answer) }
 
--- the outs of those that are answered, in order
+-- The outs of the answered connects, in order.
 abbrev pub outs_of : List Row → List Out
 outs_of rows = map out_of (filter is_answered rows)
 
--- the out of what is held of a connect, where its answer came
+-- The out of a held connect, if it is answered.
 abbrev pub out_by : Option HeldInput → Option Out
 out_by None = None
 out_by (Some h) = option_map (λ (a : Answer). record { input = h.number; result = Ok (items_of a) }) h.answer
 
--- how many items that has
+-- How many items that out has.
 abbrev pub room_by : Option HeldInput → ℕ
 room_by None = 0
 room_by (Some h) = elim h.answer [ None ↦ 0 | Some a ↦ length a.events + 1 ]
 
--- the numbers of the inputs
+-- The numbers of the inputs.
 abbrev pub numbers : List Row → List ℕ
 numbers rows = map (λ (row : Row). row.1.number) rows
 
--- The first of these outs were added, and nothing else changed.
+-- The first outs of answered connects were appended; the waiting connects are unchanged.
 pub record Gives (old : List Row) (before after : List Out) (new : List Row) : Type 0 where
   pub more : List Out
   pub behind : after ≡ before ++ more
   pub given : outs_of old ≡ more ++ outs_of new
   pub others : filter waits new ≡ filter waits old
 
--- ---- what is kept beside the held connects
+-- ---- What is kept with the held connects
 
--- the places of those that are answered, ascending
+-- The places of the answered connects, in order.
 abbrev pub answered_places : List Row → List ℕ
 answered_places rows = map (λ (row : Row). row.0) (filter is_answered rows)
 
--- the places ascend, those of the answered connects are marked, in any order, and there is room for the others
+-- The places ascend, the answered ones are marked in any order, and there is room to mark the
+-- others.
 pub record IsMarked (rows : List Row) (answered : List ℕ) (capacity : ℕ) : Type 0 where
   pub ordered : IsStrictlySortedBy nat_cmp (keys_of rows)
   pub marked : (n : ℕ) → has n answered ≡ has n (answered_places rows)

@@ -1,4 +1,4 @@
--- What stands of a round's state is a fact: what else it speaks of is determined by them.
+-- `Stands` is a proposition: a round's state determines all data in it.
 use Rattle.std.specs.Prelude.{ℕ, ◌+◌, ◌≡◌, List, [], ◌∷◌, ◌++◌, Some}
 use Rattle.std.specs.Coded.{×_prop, Unit-prop}
 use Rattle.std.proofs.Common.{refl, sym, ap, ◌∙◌}
@@ -20,23 +20,23 @@ use Rattle.bx_fanout.specs.Stages.{IsCollecting, IsTakenIn, IsStaged}
 use Rattle.bx_fanout.specs.declared.{current_input.CurrentInput.CurrentInput, stage.Stage.Stage, round_state.RoundState.RoundState}
 use Rattle.bx_fanout.specs.declared.stage.Stage.TheVariants.{Collecting, Complete, Idle}
 
--- ---- facts of what is determined
+-- ---- Determined data
 
--- a fact of something that it determines
+-- Data with a fact that determines them form a proposition.
 one-prop : {A : Type 0} (P : A → Type 0) → ((x : A) → IsProp (P x)) → ((x y : A) → P x → P y → x ≡ y) → IsProp ((x : A) × P x)
 one-prop P each same u v = Σ_prop_path each (same u.0 v.0 u.1 v.1)
 
--- what goes to a fact and back is one
+-- A type is a proposition if it maps to one and back unchanged.
 back-prop : {A B : Type 0} (to : A → B) (from : B → A) → ((x : A) → from (to x) ≡ x) → IsProp B → IsProp A
 back-prop to from back fact x y = sym (back x) ∙ ap from (fact (to x) (to y)) ∙ back y
 
--- ---- answers and slots
+-- ---- Answers and slots
 
 answers-prop : (config : Config) (list : List Listed) (place : ℕ) (answers : List Answer) → IsProp (AreAnswers config list place answers)
 answers-prop config list place [] = Unit-prop
 answers-prop config list place (a ∷ answers) = ×_prop (hlevel props) (answers-prop config list (place + 1) answers)
 
--- a ticket of a session
+-- A ticket of `session`.
 abbrev Tickets : Setup → List Listed → ℕ → Ticket → ℕ → Type 0
 Tickets setup list here t session = (slot_at setup.config list here ≡ Some (Waiting session)) × (t.place ≡ here) × (t.shard ≡ setup.placing session setup.shards)
 
@@ -58,9 +58,9 @@ slots-prop : (setup : Setup) (list : List Listed) (place : ℕ) (slots : List Sl
 slots-prop setup list place [] = Unit-prop
 slots-prop setup list place (slot ∷ slots) = ×_prop (slot-prop setup list place slot) (slots-prop setup list (place + 1) slots)
 
--- ---- the last input
+-- ---- The last input
 
--- two ways to take the last one off are the same
+-- A list has only one last element, with only one list before it.
 same-ends : (xs ys : List ReadInput) (x y : ReadInput) → xs ++ x ∷ [] ≡ ys ++ y ∷ [] → ◌≡◌ {A = List ReadInput × ReadInput} (xs, x) (ys, y)
 same-ends xs ys x y e = let same = same_from_push xs ys x y e in λ i. (same.0 i, same.1 i)
 
@@ -79,7 +79,7 @@ intake-prop setup inputs w rows n added = back-prop {B = (ends : List ReadInput 
     (λ ends. hlevel (collecting-prop, props))
     (λ a b p q. same-ends a.0 b.0 a.1 b.1 (sym p.0 ∙ q.0)))
 
--- ---- all that stands
+-- ---- The whole state
 
 staged-prop : (setup : Setup) (inputs : List ReadInput) (w : WorldState) (rows : List Row) (stage : Stage) (added : List runs.Out) → IsProp (IsStaged setup inputs w rows stage added)
 staged-prop setup inputs w rows Idle added = hlevel props

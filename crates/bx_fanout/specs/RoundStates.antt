@@ -1,4 +1,4 @@
--- What stands of a round's state between two calls.
+-- The state of a round between two calls.
 use Rattle.std.specs.Prelude.{ℕ, ◌≡◌, ◌≤◌, List, ◌++◌, false, filter, length, map, slice_get, Some}
 use Rattle.bx_entry.specs.declared.Placing.{Ghosts}
 use Rattle.bx_entry.specs.Requests.{read_input}
@@ -10,29 +10,29 @@ use Rattle.bx_fanout.specs.declared.{out.Out.Out, round_state.RoundState.RoundSt
 use Rattle.bx_fanout.specs.declared.stage.Stage.TheVariants.{Idle}
 
 module _ {P : Type 0} {g : Ghosts P} where
-  -- how many inputs there are, and how far the last one has come
+  -- The number of inputs, and the progress of the last one.
   pub record Stands (p : RoundState P g) : Type 0 where
     pub counted : p.intake ≡ length p.inputs
     pub staged : IsStaged (setup_of p.world) (map read_input p.inputs) (world_of p.world) p.held p.stage (map seen_out p.added)
 
-  -- all answers to the last input are collected, and every shard is at the end of the list
+  -- No answer to the last input is left to collect, and every shard is at the end of the list.
   pub record IsDone (p : RoundState P g) : Type 0 where
     pub none : is_collecting p.stage ≡ false
     pub level : IsLevel (world_of p.world)
     pub within : (k n : ℕ) → slice_get (world_of p.world).applied k ≡ Some n → n ≤ length (world_of p.world).list
 
-  -- nothing is collected, and no out is left to be added; the shards may be behind
+  -- No answer is left to collect and no out to append; the shards may lag.
   pub record IsCalm (p : RoundState P g) : Type 0 where
     pub idle : p.stage ≡ Idle
     pub held : p.held ≡ filter waits p.held
 
-  -- so it is, and every shard is at the end of the list
+  -- The state is calm, and every shard is at the end of the list.
   pub record IsSettled (p : RoundState P g) : Type 0 where
     pub calm : IsCalm p
     pub level : IsLevel (world_of p.world)
     pub within : (k n : ℕ) → slice_get (world_of p.world).applied k ≡ Some n → n ≤ length (world_of p.world).list
 
-  -- outs were added behind those that were there
+  -- Outs were appended; the setup is unchanged.
   pub record AddsOuts (old : RoundState P g) (before after : List Out) (new : RoundState P g) : Type 0 where
     pub more : List Out
     pub behind : after ≡ before ++ more

@@ -1,4 +1,4 @@
--- How far the last input that was taken in has come.
+-- The progress of the last input that was taken in.
 use Rattle.std.specs.Prelude.{ℕ, ◌+◌, ◌≡◌, Bool, true, false, List, [], ◌∷◌, ◌++◌, filter, length, map, None}
 use Rattle.std.specs.List.{AllByRecursion}
 use Rattle.bx_entry.specs.Words.{ReadInput, outs, places_of, taken_in}
@@ -12,19 +12,20 @@ use Rattle.bx_theory.specs.Opens.{Numbered, newest, open_after}
 use Rattle.bx_fanout.specs.declared.{current_input.CurrentInput.CurrentInput, out.Out.Out, stage.Stage.Stage}
 use Rattle.bx_fanout.specs.declared.stage.Stage.TheVariants.{Collecting, Complete, Idle}
 
--- an out, as the definitions have it
+-- An out in the definitions' form.
 abbrev pub seen_out : Out → runs.Out
 seen_out o = record { input = o.input; result = o.result }
 
--- an input that is a connect, as it is held
+-- An open input as a held connect without an answer.
 abbrev pub bare : Numbered → Row
 bare o = (o.intake.first, record { number = o.number; answer = None })
 
--- no answer to such an input was taken
+-- No answer to the first message of any of these inputs was taken.
 abbrev pub AllUntaken : List ℕ → List Numbered → Type 0
 AllUntaken taken os = AllByRecursion (λ (o : Numbered). is_taken taken o.intake.first ≡ false) os
 
--- The answers to the last input are collected: the earlier inputs that are not whole are held, and the outs of the others were added.
+-- The last input's answers are being collected. Earlier incomplete inputs are held, and the outs of
+-- the others were appended.
 pub record IsCollecting (setup : Setup) (inputs : List ReadInput) (input : ReadInput) (w : WorldState) (rows : List Row) (n : CurrentInput) (added : List runs.Out) : Type 0 where
   pub list : w.list ≡ (taken_in (inputs ++ input ∷ [])).list
   pub number : n.number ≡ length inputs
@@ -37,7 +38,8 @@ pub record IsCollecting (setup : Setup) (inputs : List ReadInput) (input : ReadI
   pub untaken : AllUntaken w.taken (open_after setup.config inputs)
   pub outs_before : added ≡ outs setup.config inputs
 
--- All answers are here, and the outs that are left to be added are those of the held connects that are answered, and then these.
+-- All answers are collected. The outs of answered held connects, and then `own`, are left to
+-- append.
 pub record IsGiving (setup : Setup) (inputs : List ReadInput) (w : WorldState) (rows : List Row) (own : List runs.Out) (added : List runs.Out) : Type 0 where
   pub list : w.list ≡ (taken_in inputs).list
   pub rest : filter waits rows ≡ map bare (open_after setup.config inputs)
@@ -45,32 +47,32 @@ pub record IsGiving (setup : Setup) (inputs : List ReadInput) (w : WorldState) (
   pub fresh : NoneTakenFrom (length w.list) w.taken
   pub left : added ++ map seen_out (outs_of rows) ++ own ≡ outs setup.config inputs
 
--- the answers to the last of these inputs are collected
+-- The answers to the last of `inputs` are being collected.
 pub record IsTakenIn (setup : Setup) (inputs : List ReadInput) (w : WorldState) (rows : List Row) (n : CurrentInput) (added : List runs.Out) : Type 0 where
   pub earlier : List ReadInput
   pub last : ReadInput
   pub are : inputs ≡ earlier ++ last ∷ []
   pub collecting : IsCollecting setup earlier last w rows n added
 
--- whether the answers to the last input are collected
+-- Whether the answers to the last input are being collected.
 abbrev pub is_collecting : Stage → Bool
 is_collecting Idle = false
 is_collecting (Collecting n) = true
 is_collecting (Complete n) = false
 
--- whether all are here, and its out is not given
+-- Whether they are all collected and the out is not appended yet.
 abbrev pub is_complete : Stage → Bool
 is_complete Idle = false
 is_complete (Collecting n) = false
 is_complete (Complete n) = true
 
--- the out that is left of the last input
+-- The last input's out, if it is left to append.
 abbrev pub own : Stage → List Out
 own Idle = []
 own (Collecting n) = []
 own (Complete n) = out_of n ∷ []
 
--- The first of the outs that were left were added, and nothing else changed.
+-- The first outs of those left were appended; the waiting connects are unchanged.
 pub record GivesOut (rows : List Row) (stage : Stage) (before after : List Out) (rows' : List Row) (stage' : Stage) : Type 0 where
   pub more : List Out
   pub behind : after ≡ before ++ more
@@ -78,7 +80,7 @@ pub record GivesOut (rows : List Row) (stage : Stage) (before after : List Out) 
   pub others : filter waits rows' ≡ filter waits rows
   pub collecting : is_collecting stage' ≡ is_collecting stage
 
--- how far the last input has come: its answers are collected, or outs are left to be added, or nothing is left
+-- What each stage means: answers are left to collect, or at most outs to append.
 abbrev pub IsStaged : Setup → List ReadInput → WorldState → List Row → Stage → List runs.Out → Type 0
 IsStaged setup inputs w rows Idle added = IsGiving setup inputs w rows [] added
 IsStaged setup inputs w rows (Collecting n) added = IsTakenIn setup inputs w rows n added

@@ -1,4 +1,4 @@
-//! The answers that the last input brings.
+//! Collecting the answers to the last input and to held connects.
 ghost use Rattle.std.specs.Prelude.{◌≡◌, [], ◌∷◌, map, if◌then◌else◌, IfOk, OnErr};
 ghost use Rattle.bx_entry.specs.Requests.{read_input};
 ghost use Rattle.bx_fanout.specs.CurrentInputs.{IsLevel, out_of};
@@ -14,8 +14,14 @@ use bx_history::History;
 use bx_world::World;
 use std::alloc::{AllocError, Global};
 
-/// Collects the answers to the last input where every shard has applied the whole list, holds it where one is missing,
-/// and puts the other answers to the connects that wait for them. Says whether the input is whole.
+/// Collects the filed answers to the last input and to held connects.
+///
+/// Every shard must have applied the whole list. Returns `true` if the last input is complete;
+/// otherwise holds it.
+///
+/// # Errors
+///
+/// `AllocError` if memory runs out; the next call continues.
 pub(crate) fn bring_in<P: Placing>(
     alloc: Global,
     world: &mut World<P>,

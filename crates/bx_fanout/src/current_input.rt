@@ -1,4 +1,4 @@
-//! The last input that was taken in.
+//! The last input, until its response is given or it is held.
 ghost use Rattle.std.specs.Prelude.{◌≡◌, [], IfOk};
 ghost use Rattle.bx_fanout.specs.CurrentInputs.{Collects, IsCollected, IsLevel, IsWhole, Keeps, Next, OthersStay, out_of, response_of};
 ghost use Rattle.bx_world.specs.Seen.{setup_of, world_of};
@@ -11,26 +11,29 @@ use bx_world::World;
 use std::alloc::{AllocError, Global};
 use std::collections::VecDeque;
 
-/// An input whose response is not given yet, and that is not held.
+/// An input that is not held, and whose response is not given yet.
 #[derive(Drop)]
 pub(crate) struct CurrentInput {
-    /// Its number.
+    /// The input's number.
     pub(crate) number: usize,
-    /// The place of its first message.
+    /// The length of the list before it was taken in, where its messages begin.
     pub(crate) first: u64,
-    /// Why it was refused.
+    /// Why it was refused, if it was.
     pub(crate) refusal: Option<Refusal>,
     /// The first items of its response.
     pub(crate) items: Vec<Item>,
-    /// The answers from which the next items come, in order.
+    /// The answers that the next items come from, in order.
     pub(crate) answers: VecDeque<Answer>,
-    /// How the other messages are answered.
+    /// How the remaining messages are answered.
     pub(crate) slots: VecDeque<Slot>,
 }
 
 impl CurrentInput {
-    /// Takes the answers to its messages, in order, up to the first one that is not there, and says whether all are. What
-    /// was taken is kept where memory is refused.
+    /// Collects answers in order until one is missing; returns `true` if none is.
+    ///
+    /// # Errors
+    ///
+    /// `AllocError` if memory runs out; the answers collected so far are kept.
     pub(crate) fn collect<P: Placing>(
         &mut self,
         alloc: Global,
@@ -54,8 +57,11 @@ impl CurrentInput {
         Ok(true)
     }
 
-    /// Makes the answers that are here items of the response. Where memory is refused the first of them are, and the next
-    /// call goes on.
+    /// Converts the collected answers to items of the response.
+    ///
+    /// # Errors
+    ///
+    /// `AllocError` if memory runs out, perhaps after some answers; the next call continues.
     pub(crate) fn write(&mut self) -> Result<(), AllocError>
         ensures items { response_of self.new ≡ response_of self.old }
         ensures all { IfOk result (λ _. self.new.answers.items ≡ []) }
@@ -70,7 +76,7 @@ impl CurrentInput {
         Ok(())
     }
 
-    /// Its out, once all items of its response are there.
+    /// Converts the input, whose answers must be [written](Self::write), to its out.
     pub(crate) fn into_out(self) -> Out
         requires { self.answers.items ≡ [] }
         ensures { result ≡ out_of self }
@@ -91,7 +97,7 @@ impl CurrentInput {
     }
 }
 
-// Takes the answer to the message of the first slot, where it is there, and drops the slot.
+// Takes the answer to the first slot's message, if it is there, and drops the slot.
 fn next_answer<P: Placing>(
     alloc: Global,
     slots: &mut VecDeque<Slot>,

@@ -1,4 +1,4 @@
-//! The answers that the shards have filed, put to the connects that wait for them.
+//! Moving filed answers to the held connects that wait for them.
 ghost use Rattle.std.specs.Prelude.{◌≡◌, ◌+◌, List};
 ghost use Rattle.bx_fanout.specs.HeldInputs.{Row};
 ghost use Rattle.bx_fanout.specs.Draining.{CanDrain, Drained, Draining};
@@ -8,7 +8,7 @@ use crate::held_inputs::HeldInputs;
 use bx_entry::Placing;
 use bx_world::World;
 
-/// Puts to each connect that waits its answer, where one is filed.
+/// Takes all filed answers, and assigns each to the held connect that waits for it.
 pub(crate) fn drain<P: Placing>(world: &mut World<P>, held: &mut HeldInputs)
     requires can { CanDrain (setup_of world.old) (world_of world.old) held.old }
     ensures drained { Drained (setup_of world.old) (world_of world.old) held.old (world_of world.new) held.new }
@@ -19,7 +19,7 @@ pub(crate) fn drain<P: Placing>(world: &mut World<P>, held: &mut HeldInputs)
     }
 }
 
-// The same of one shard.
+// Does the same for one shard.
 fn drain_shard<P: Placing>(world: &mut World<P>, shard: usize, held: &mut HeldInputs)
     ensures draining { (before : List Row) → Draining (setup_of world.old) before (world_of world.old) held.old shard
         → Draining (setup_of world.old) before (world_of world.new) held.new (shard + 1) }

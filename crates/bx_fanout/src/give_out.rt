@@ -1,4 +1,4 @@
-//! The outs that are left to be added.
+//! Appending the outs that are ready.
 ghost use Rattle.std.specs.Prelude.{◌≡◌, ◌++◌, [], filter, IfOk, OnErr};
 ghost use Rattle.bx_fanout.specs.HeldInputs.{waits};
 ghost use Rattle.bx_fanout.specs.Stages.{GivesOut, is_collecting, own};
@@ -8,8 +8,11 @@ use crate::out::Out;
 use crate::stage::Stage;
 use std::alloc::{AllocError, Global};
 
-/// Adds the outs of the held connects that are answered, and then that of the input that is whole. Where memory is
-/// refused the first of them are added, and the next call goes on.
+/// Appends the outs of answered held connects, and then that of the complete input, if any.
+///
+/// # Errors
+///
+/// `AllocError` if memory runs out, perhaps after some outs; the next call continues.
 pub(crate) fn give_out(
     alloc: Global,
     held: &mut HeldInputs,
@@ -24,7 +27,7 @@ pub(crate) fn give_out(
     give_own(stage, outs)
 }
 
-// Adds the out of the input that is whole.
+// Appends the out of the complete input, if any.
 fn give_own(stage: &mut Stage, outs: &mut Vec<Out>) -> Result<(), AllocError>
     ensures all { IfOk result (λ _. own stage.new ≡ []) }
     ensures added { IfOk result (λ _. outs.new.items ≡ outs.old.items ++ own stage.old) }

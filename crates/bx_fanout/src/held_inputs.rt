@@ -1,4 +1,4 @@
-//! The connects that wait for an answer.
+//! The held connects of a round.
 ghost use Rattle.std.specs.Prelude.{◌≡◌, ◌↔◌, ◌+◌, ◌++◌, ◌≤◌, IsTrue, [], ◌∷◌, filter, is_none, if◌then◌else◌, length, vec_capacity, vec_len, IfOk, OnOk, OnErr, reverse};
 ghost use Rattle.std.specs.List.{list_any};
 ghost use Rattle.std.specs.Map.{remove_entry};
@@ -13,23 +13,24 @@ use std::alloc::{AllocError, Global};
 use std::collections::BTreeMap;
 use std::marker::Model;
 
-/// What is known of a held connect.
+/// A held connect.
 #[derive(Drop)]
 pub(crate) struct HeldInput {
     /// The number of its input.
     pub(crate) number: usize,
-    /// Its answer, once that came.
+    /// Its answer, once there is one.
     pub(crate) answer: Option<Answer>,
 }
 
-/// The connects of the inputs that are not whole, and the answers that came for them. Contracts see them by the places
-/// of the connects, ascending.
+/// The connects of incomplete inputs, by place, and the answers that have arrived for them.
 ///
-/// An answer is put to its connect, and the outs of those that are answered are given, without a look at the others.
+/// To assign an answer, or to append the outs of answered connects, does not scan the others.
+///
+/// Model: the connects, in ascending order of their places.
 #[derive(Drop)]
 pub(crate) struct HeldInputs {
     held: BTreeMap<u64, HeldInput>,
-    // The places of those that are answered, in any order. There is room for all that are held.
+    // The places of the answered connects, in any order. There is room for all held connects.
     answered: Vec<u64>,
 }
 
@@ -45,7 +46,7 @@ impl Model for HeldInputs {
 }
 
 impl HeldInputs {
-    /// None is held.
+    /// Creates an empty collection.
     pub(crate) fn new(alloc: Global) -> HeldInputs
         ensures { result ≡ [] }
     {
@@ -55,7 +56,13 @@ impl HeldInputs {
         }
     }
 
-    /// Holds a connect at this place, behind all that are held. Where memory is refused they are as before.
+    /// Holds the connect at `place`, which must be after all held ones.
+    ///
+    /// `number`: the number of its input.
+    ///
+    /// # Errors
+    ///
+    /// `AllocError` if memory runs out; nothing has changed.
     pub(crate) fn hold(&mut self, place: u64, number: usize) -> Result<(), AllocError>
         requires { AllBelow place self.old }
         ensures ok { OnOk result (self.new ≡ self.old ++ (place, record { number = number; answer = None }) ∷ []) }
@@ -70,7 +77,7 @@ impl HeldInputs {
         Ok(())
     }
 
-    /// Puts an answer to the connect that waits at this place. Where none waits there, nothing is done.
+    /// Assigns `answer` to the connect that waits at `place`, or drops it if there is none.
     pub(crate) fn answer(&mut self, place: u64, answer: Answer)
         ensures { self.new ≡ answered_at place answer self.old }
     {
@@ -79,8 +86,11 @@ impl HeldInputs {
         }
     }
 
-    /// Adds the outs of those that are answered behind the others, in the order of their places, and forgets them. Where
-    /// memory is refused the first of them are added and forgotten, and the next call goes on.
+    /// Removes the answered connects, and appends their outs in the order of their places.
+    ///
+    /// # Errors
+    ///
+    /// `AllocError` if memory runs out, perhaps after some outs; the next call continues.
     pub(crate) fn give(&mut self, alloc: Global, outs: &mut Vec<Out>) -> Result<(), AllocError>
         ensures gives { Gives self.old outs.old.items outs.new.items self.new }
         ensures all { IfOk result (λ _. self.new ≡ filter waits self.old) }
@@ -91,14 +101,18 @@ impl HeldInputs {
         give_from(alloc, &mut self.held, &mut self.answered, outs)
     }
 
-    /// Whether none is held.
+    /// Returns `true` if no connect is held.
     pub(crate) fn is_empty(&self) -> bool
         ensures { IsTrue result ↔ (self.now ≡ []) }
     {
         self.held.is_empty()
     }
 
-    /// The numbers of the inputs whose connects have no answer, in the order of the places.
+    /// Returns the input numbers of the connects without an answer, in the order of their places.
+    ///
+    /// # Errors
+    ///
+    /// `AllocError` if memory runs out.
     pub(crate) fn waiting(&self, alloc: Global) -> Result<Vec<usize>, AllocError>
         ensures { IfOk result (λ ns. ns.items ≡ numbers (filter waits self.now)) }
     {
@@ -113,7 +127,7 @@ impl HeldInputs {
 }
 
 impl HeldInput {
-    // Puts an answer to the connect if it waits, and says whether it does.
+    // Sets the answer, unless there is one, and returns `true` if it did.
     fn put(&mut self, answer: Answer) -> bool
         ensures number { self.new.number ≡ self.old.number }
         ensures answer { self.new.answer ≡ (if is_none self.old.answer then Some answer else self.old.answer) }
@@ -127,7 +141,7 @@ impl HeldInput {
     }
 }
 
-// Puts an answer to the connect that waits at this place, and says whether one does.
+// Sets the answer to the connect that waits at `place`, and returns `true` if there is one.
 fn put(held: &mut BTreeMap<u64, HeldInput>, place: u64, answer: Answer) -> bool
     requires { IsOrdered nat_cmp held.old }
     ensures put { held.new.entries ≡ answered_at place answer held.old.entries }
@@ -140,8 +154,8 @@ fn put(held: &mut BTreeMap<u64, HeldInput>, place: u64, answer: Answer) -> bool
     }
 }
 
-// Gives the outs of those that are answered from the least place on. Their places are marked, the least last, and each
-// mark goes with its out.
+// Removes answered connects in the order of their places, and appends their outs. `answered` has
+// their places, the lowest last, and loses each with its connect.
 fn give_from(
     alloc: Global,
     held: &mut BTreeMap<u64, HeldInput>,
@@ -167,7 +181,7 @@ fn give_from(
     Ok(())
 }
 
-// Takes what is held of the connect at this place, and gives its out where its answer came.
+// Removes the connect at `place`, and returns its out if it is answered.
 fn take_out(
     alloc: Global,
     held: &mut BTreeMap<u64, HeldInput>,
@@ -192,7 +206,7 @@ fn take_out(
     }))
 }
 
-// How many items the response of the connect at this place has, as far as that is known.
+// Returns how many items the response at `place` has, or 0 if there is no answer.
 fn room_at(held: &BTreeMap<u64, HeldInput>, place: u64) -> usize
     ensures { result ≡ room_by (get nat_cmp held.now place) }
 {

@@ -4,7 +4,7 @@ ghost use Rattle.bx_fanout.specs.HeldInputs.{items_of};
 
 use bx_message::{Answer, Item};
 
-/// Adds what the client gets of an answer behind the others: its events, and then its reply.
+/// Appends the events of `answer` and then its reply, for which there must be room.
 pub(crate) fn add_items(items: &mut Vec<Item>, answer: Answer)
     requires room { vec_len items.old + length answer.events + 1 ≤ vec_capacity items.old }
     ensures { items.new.items ≡ items.old.items ++ items_of answer }

@@ -1,4 +1,4 @@
-//! Every shard at the end of the list.
+//! Advancing every shard to the end of the list.
 ghost use Rattle.std.specs.Prelude.{ℕ, ◌≡◌, ◌≤◌, length, slice_get, IfOk, Some};
 ghost use Rattle.bx_fanout.specs.CurrentInputs.{IsLevel};
 ghost use Rattle.bx_world.specs.Seen.{setup_of, world_of};
@@ -9,7 +9,11 @@ use bx_world::World;
 use std::alloc::{AllocError, Global};
 use std::thread::Threads;
 
-/// Brings every shard up to the end of the list. Where memory is refused, some shards stayed behind.
+/// Advances every shard to the end of the list.
+///
+/// # Errors
+///
+/// `AllocError` if memory runs out. Some shards lag then.
 pub(crate) fn level<R: Threads + Sync, G: Gate + Sync, P: Placing + Send + Sync>(
     rt: &R,
     alloc: Global,

@@ -1,4 +1,4 @@
-//! Inputs in order, each answered as one thread would answer it, by many workers.
+//! Rounds: inputs answered in order, as one thread would answer them, by many workers.
 #![tactic(auto)]
 
 mod bring_in;

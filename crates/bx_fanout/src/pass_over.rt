@@ -1,4 +1,4 @@
-//! Inputs that are whole at once, while the shards stay behind.
+//! Completing inputs without the shards.
 ghost use Rattle.std.specs.Prelude.{◌≡◌, IsTrue, false, IfOk};
 ghost use Rattle.bx_fanout.specs.RoundStates.{IsCalm, IsSettled, Stands};
 ghost use Rattle.bx_fanout.specs.Stages.{is_collecting};
@@ -13,12 +13,18 @@ use bx_workers::{Gate, WorkerCount};
 use std::alloc::{AllocError, Global};
 use std::thread::Threads;
 
-/// Up to how many entries the shards may lack where an input is passed over.
+/// Most entries that the slowest shard may lack while inputs are completed without the shards.
 const DEFERRED_LIMIT: u64 = 1_024;
 
-/// Brings the last input to its end where no connect is held, the shards lack few entries, and all its messages are
-/// answered at once, and says whether nothing is left to be collected. The shards stay as they are: nobody waits for what
-/// they would file.
+/// Completes the last input if no shard is needed; returns `true` if nothing is left to collect.
+///
+/// No shard is needed if no connect is held, the slowest shard lacks at most `DEFERRED_LIMIT`
+/// entries, and all messages are answered at once. No client then waits for what the shards would
+/// file.
+///
+/// # Errors
+///
+/// `AllocError` if memory runs out; the next call continues.
 pub(crate) fn pass_over<P: Placing>(
     alloc: Global,
     state: &mut RoundState<P>,
@@ -53,7 +59,11 @@ pub(crate) fn pass_over<P: Placing>(
     }
 }
 
-/// Brings every shard up to the end of the list, where nothing else is left to be done.
+/// Advances every shard to the end of the list, when nothing else is left to do.
+///
+/// # Errors
+///
+/// `AllocError` if memory runs out. Some shards lag then.
 pub(crate) fn catch_up<R: Threads + Sync, G: Gate + Sync, P: Placing + Send + Sync>(
     rt: &R,
     alloc: Global,

@@ -10,8 +10,13 @@ use bx_message::{Answer, Sequence};
 use std::alloc::{AllocError, Global};
 use std::collections::VecDeque;
 
-/// Takes the replies that stand before the first connect or rider that waits, and says whether all messages are answered with
-/// them. No shard is needed for that. What was taken is kept where memory is refused.
+/// Collects the replies before the first connect or rider that waits; returns `true` if none waits.
+///
+/// No shard is needed for that.
+///
+/// # Errors
+///
+/// `AllocError` if memory runs out; the replies collected so far are kept.
 pub(crate) fn collect_ready(alloc: Global, current: &mut CurrentInput) -> Result<bool, AllocError>
     ensures so_far { (setup : Setup) (w : WorldState) → IsCollected setup w current.old → IsCollected setup w current.new }
     ensures collects { Collects current.old current.new }
@@ -27,7 +32,7 @@ pub(crate) fn collect_ready(alloc: Global, current: &mut CurrentInput) -> Result
     Ok(true)
 }
 
-// Takes the reply of the first slot, where it has one, and drops the slot.
+// Takes the reply of the first slot, if it has one, and drops the slot.
 fn next_ready(alloc: Global, slots: &mut VecDeque<Slot>) -> Option<Answer>
     ensures { NextReady slots.old.items slots.new.items result }
 {

@@ -1,4 +1,4 @@
-//! Another number of shards.
+//! Changing the number of shards.
 ghost use Rattle.std.specs.Prelude.{◌≡◌, MatchResult, IfOk};
 ghost use Rattle.std.specs.Arc.{arc_value};
 ghost use Rattle.bx_fanout.specs.RoundStates.{IsDone, Stands};
@@ -11,9 +11,14 @@ use bx_entry::Placing;
 use std::alloc::{AllocError, Global};
 use std::sync::Arc;
 
-/// Redistributes the sessions among so many shards, by this placing, where every shard is at the end of the list and all
-/// answers to the last input are collected. What was taken in and what was added stay. Where memory is refused, the state
-/// comes back as it was.
+/// Redistributes the sessions among `shards` shards, by `placing`.
+///
+/// Every shard must be at the end of the list, and all answers to the last input collected. What
+/// was taken in and what was appended stay.
+///
+/// # Errors
+///
+/// The unchanged state and an `AllocError` if memory runs out.
 pub(crate) fn redistribute<P: Placing + Drop>(
     alloc: Global,
     state: RoundState<P>,

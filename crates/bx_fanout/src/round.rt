@@ -1,4 +1,4 @@
-//! Inputs that are taken in, in order, over several runs.
+//! A round: inputs answered in order, over several runs.
 ghost use Rattle.bx_fanout.specs.RoundStates.{Stands};
 ghost use Rattle.bx_fanout.specs.Props.{stands-prop};
 
@@ -13,10 +13,9 @@ use std::alloc::{AllocError, Global};
 use std::sync::Arc;
 use std::thread::Threads;
 
-/// Inputs that are taken in, in order, each answered as one thread would answer it, by many workers.
+/// Inputs that are answered in order, as one thread would answer them, by many workers.
 ///
-/// Contracts see the configuration with its placing, how many workers there are, the inputs that all runs took in, and the
-/// outs that all runs added.
+/// Model: the configuration with its placing, the number of workers, and all runs' inputs and outs.
 #[derive(Drop)]
 pub struct Round<P: Placing> {
     state: RoundState<P>,
@@ -32,7 +31,11 @@ impl<P: Placing> Round<P> {
     ghost use Rattle.bx_fanout.specs.Runs.{AreHeldBefore};
     ghost use Rattle.bx_entry.specs.Placings.{placed_by};
 
-    /// A round with so many workers that has taken in no input. An error means that memory was refused.
+    /// Creates a round with `workers` workers and no inputs.
+    ///
+    /// # Errors
+    ///
+    /// `AllocError` if memory runs out.
     pub fn new(
         alloc: Global,
         config: Config,
@@ -50,16 +53,24 @@ impl<P: Placing> Round<P> {
         Ok(Round { state, workers })
     }
 
-    /// Takes these inputs in, in order. Each is brought to its end before the next one is taken in, and the outs of
-    /// those that it makes whole are added behind the others, in the order of their numbers.
+    /// Takes in `inputs` in order, and appends the outs of all inputs that become complete.
     ///
-    /// While no connect is held, an input whose messages are all answered at once needs no shard: its out is added, and
-    /// the shards apply its entries later. All shards are brought up together before any other input comes to its end,
-    /// once they lack more than 1,024 entries, and at the end of a run that ends well. Where few deliveries are to be
-    /// expected of the entries that they lack, one worker does that alone.
+    /// Each input is completed or held before the next one is taken in. Outs that become ready
+    /// together are appended in the order of their numbers.
     ///
-    /// Where memory is refused, the fault says how many of these inputs were taken in. The outs that they still owe are
-    /// added by the next run, also by one of no inputs; none is added twice.
+    /// While no connect is held, an input whose messages are all answered at once needs no shard:
+    /// the shards apply its entries later. All shards advance together:
+    ///
+    /// - before an input that needs them is completed or held,
+    /// - when the slowest lacks more than 1,024 entries,
+    /// - at the end of a run that succeeds.
+    ///
+    /// One worker does this alone if it expects few deliveries.
+    ///
+    /// # Errors
+    ///
+    /// `Memory` if memory runs out, with the number of `inputs` that were taken in. The next run,
+    /// even one without inputs, appends their remaining outs; none is appended twice.
     pub fn run<R: Threads + Sync, G: Gate + Sync>(
         &mut self,
         rt: &R,
@@ -77,9 +88,14 @@ impl<P: Placing> Round<P> {
         run(rt, alloc, gate, self.workers, &mut self.state, inputs, outs)
     }
 
-    /// Redistributes the sessions among so many shards, by this placing. First every shard is brought up to the end of the
-    /// list, by the thread that calls and with no gate. What was taken in and what was added stay. Where memory is refused,
-    /// the round comes back with the same shards and placing.
+    /// Redistributes the sessions among `shards` shards, by `placing`.
+    ///
+    /// First, the calling thread advances every shard to the end of the list, with no gate. What
+    /// was taken in and what was appended stay.
+    ///
+    /// # Errors
+    ///
+    /// The round, with its former shards and placing, and an `AllocError` if memory runs out.
     pub fn reshard<R: Threads + Sync>(
         self,
         rt: &R,
@@ -107,18 +123,22 @@ impl<P: Placing> Round<P> {
         }
     }
 
-    /// How many inputs all runs took in.
+    /// Returns how many inputs all runs took in.
     pub fn intake(&self) -> usize
         ensures { result ≡ length (inputs_of self.now) }
     {
         self.state.intake
     }
 
-    /// The numbers of the inputs that are not whole, ascending. Such an input is a connect that is held. So it is after
-    /// every run that ended well, and also where memory was refused while outs were added.
+    /// Returns the numbers of the incomplete inputs, in ascending order.
     ///
-    /// Where memory was refused before the answers to the last input were all collected, these are the numbers of the
-    /// inputs that were not whole before it, and its own.
+    /// After a run that succeeded, or that ran out of memory while it appended outs, each is a held
+    /// connect. If memory ran out before all answers to the last input were collected, they are the
+    /// inputs that were incomplete before it, and the last input itself.
+    ///
+    /// # Errors
+    ///
+    /// `AllocError` if memory runs out.
     pub fn held(&self, alloc: Global) -> Result<Vec<usize>, AllocError>
         ensures held { IfOk result (λ numbers. is_collecting self.now ≡ false
             → numbers.items ≡ runs.held (setup_in self.now).config (inputs_of self.now)) }

@@ -1,4 +1,4 @@
-//! What a round has of its inputs, and its steps.
+//! The state of a round, and its steps.
 ghost use Rattle.std.specs.Prelude.{ℕ, ◌≡◌, ◌+◌, ◌++◌, ◌≤◌, ◌<◌, ◌^◌, ◌⊎◌, [], ◌∷◌, false, length, slice_get, Some, IfOk, OnErr, OnOk};
 ghost use Rattle.bx_fanout.specs.CurrentInputs.{IsLevel};
 ghost use Rattle.bx_fanout.specs.RoundStates.{AddsOuts, IsCalm, IsDone, Stands};
@@ -25,20 +25,26 @@ use std::alloc::{AllocError, Global};
 use std::sync::Arc;
 use std::thread::Threads;
 
-/// What a round has of the inputs that were taken in.
+/// The state of a round.
 #[derive(Drop)]
 pub(crate) struct RoundState<P: Placing> {
     pub(crate) world: World<P>,
     pub(crate) held: HeldInputs,
-    /// How far the last input has come.
+    /// The progress of the last input.
     pub(crate) stage: Stage,
-    /// How many inputs were taken in.
+    /// Number of inputs that were taken in.
     pub(crate) intake: usize,
+    // Ghost: the inputs that were taken in.
     pub(crate) inputs: History<Input>,
+    // Ghost: the outs that were appended.
     pub(crate) added: History<Out>,
 }
 
-/// No input was taken in.
+/// Creates a state with no inputs.
+///
+/// # Errors
+///
+/// `AllocError` if memory runs out.
 pub(crate) fn new_state<P: Placing + Drop>(
     alloc: Global,
     config: Config,
@@ -59,7 +65,11 @@ pub(crate) fn new_state<P: Placing + Drop>(
     })
 }
 
-/// Brings every shard up to the end of the list, and collects the answers that the last input brings.
+/// Advances every shard to the end of the list, and collects the answers to the last input.
+///
+/// # Errors
+///
+/// `AllocError` if memory runs out; the next call continues.
 pub(crate) fn finish<R: Threads + Sync, G: Gate + Sync, P: Placing + Send + Sync>(
     rt: &R,
     alloc: Global,
@@ -79,11 +89,10 @@ pub(crate) fn finish<R: Threads + Sync, G: Gate + Sync, P: Placing + Send + Sync
     collect_last(alloc, state)
 }
 
-/// How many deliveries make it worth to start and join threads.
+/// How many deliveries make it worthwhile to start and join threads.
 const SHARED_WORK: u64 = 1_024;
 
-/// How many of these workers bring the shards up: one does where few deliveries are to be expected of the entries that
-/// shards lack.
+/// Returns one worker if few deliveries are expected of pending entries, and otherwise `workers`.
 pub(crate) fn workers_for<P: Placing>(world: &World<P>, workers: WorkerCount) -> WorkerCount
     ensures { (result ≡ 1) ⊎ (result ≡ workers) }
 {
@@ -98,8 +107,9 @@ pub(crate) fn workers_for<P: Placing>(world: &World<P>, workers: WorkerCount) ->
     WorkerCount::one()
 }
 
-// How many deliveries are to be expected of the entry at this place: of a publish one to each session that is live by now,
-// of a tick one to each that it closes, of any other one. How many connects a tick ends is not known here: most end few.
+// Estimates the deliveries of the entry at `place`. A publish has one for each live session, a tick
+// one for each session that it closes, any other entry one. The connects that a tick answers are
+// not known here, and mostly few.
 fn expected<P: Placing>(world: &World<P>, place: u64) -> u64 {
     match world.entry(place) {
         Some(entry) => match &entry.kind {
@@ -111,7 +121,11 @@ fn expected<P: Placing>(world: &World<P>, place: u64) -> u64 {
     }
 }
 
-/// Collects the answers that the last input brings, where every shard has come to the end of the list.
+/// Collects the answers to the last input, when every shard is at the end of the list.
+///
+/// # Errors
+///
+/// `AllocError` if memory runs out; the next call continues.
 pub(crate) fn collect_last<P: Placing>(
     alloc: Global,
     state: &mut RoundState<P>,
@@ -148,7 +162,11 @@ pub(crate) fn collect_last<P: Placing>(
     }
 }
 
-/// Adds the outs that are left.
+/// Appends the outs that are ready.
+///
+/// # Errors
+///
+/// `AllocError` if memory runs out; the next call continues.
 pub(crate) fn add_outs<P: Placing>(
     alloc: Global,
     state: &mut RoundState<P>,
@@ -167,8 +185,11 @@ pub(crate) fn add_outs<P: Placing>(
     given
 }
 
-/// Brings the last input to its end, with no shard where none is needed for that. Where memory is refused, the next call
-/// goes on.
+/// Completes or holds the last input, without the shards if they are not needed, and appends outs.
+///
+/// # Errors
+///
+/// `AllocError` if memory runs out; the next call continues.
 pub(crate) fn settle<R: Threads + Sync, G: Gate + Sync, P: Placing + Send + Sync>(
     rt: &R,
     alloc: Global,
@@ -189,7 +210,11 @@ pub(crate) fn settle<R: Threads + Sync, G: Gate + Sync, P: Placing + Send + Sync
     add_outs(alloc, state, outs)
 }
 
-/// Takes one more input in, where the last one came to its end.
+/// Takes in one more input, once nothing is left to do for the last one.
+///
+/// # Errors
+///
+/// `AllocError` if memory runs out; the input is not taken in.
 pub(crate) fn take_in_next<P: Placing>(
     alloc: Global,
     state: &mut RoundState<P>,

@@ -1,4 +1,4 @@
-//! Several inputs, one after another.
+//! One run of a round.
 ghost use Rattle.bx_fanout.specs.RoundStates.{Stands};
 ghost use Rattle.bx_fanout.specs.Runs.{Runs};
 ghost use Rattle.std.specs.Prelude.{◌+◌, ◌≤◌, ◌^◌, length};
@@ -11,8 +11,13 @@ use bx_workers::{Gate, WorkerCount};
 use std::alloc::Global;
 use std::thread::Threads;
 
-/// Takes these inputs in, in order, and adds the outs of each before it goes on to the next. At the end all shards are
-/// brought up.
+/// Finishes the former run, takes in `inputs` in order, and advances every shard at the end.
+///
+/// The outs of each input are appended before the next input is taken in.
+///
+/// # Errors
+///
+/// As [`Round::run`](crate::Round::run).
 pub(crate) fn run<R: Threads + Sync, G: Gate + Sync, P: Placing + Send + Sync>(
     rt: &R,
     alloc: Global,

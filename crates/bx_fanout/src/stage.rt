@@ -1,4 +1,4 @@
-//! How far the last input has come.
+//! The progress of the last input.
 ghost use Rattle.std.specs.Prelude.{◌≡◌, false, IfNone, IfSome};
 ghost use Rattle.bx_fanout.specs.Stages.{is_collecting, is_complete};
 ghost use Rattle.bx_fanout.specs.declared.stage.Stage.TheVariants.{Collecting, Complete, Idle};
@@ -6,19 +6,19 @@ ghost use Rattle.bx_fanout.specs.declared.stage.Stage.TheVariants.{Collecting, C
 use crate::current_input::CurrentInput;
 use std::mem;
 
-/// How far the last input that was taken in has come.
+/// The progress of the last input that was taken in.
 #[derive(Drop)]
 pub(crate) enum Stage {
-    /// Nothing is left of it, or its connect is held.
+    /// Nothing is left to do for it, or its connect is held.
     Idle,
-    /// The answers to its messages are collected.
+    /// Its answers are being collected.
     Collecting(CurrentInput),
-    /// All answers are here, and its out is not given.
+    /// All its answers are collected; its out is not appended yet.
     Complete(CurrentInput),
 }
 
 impl Stage {
-    /// The input whose answers are collected.
+    /// Returns the input whose answers are being collected, if any.
     pub(crate) fn collecting(&self) -> Option<&CurrentInput>
         ensures some { IfSome result (λ current. self.now ≡ Collecting current.now) }
         ensures none { IfNone result (is_collecting self.now ≡ false) }
@@ -29,7 +29,7 @@ impl Stage {
         }
     }
 
-    /// Takes out the input whose answers are collected, which leaves nothing.
+    /// Takes the input whose answers are being collected, if any, and leaves `Idle`.
     pub(crate) fn take_collecting(&mut self) -> Option<CurrentInput>
         ensures some { IfSome result (λ current. (self.old ≡ Collecting current) × (self.new ≡ Idle)) }
         ensures none { IfNone result ((is_collecting self.old ≡ false) × (self.new ≡ self.old)) }
@@ -43,7 +43,7 @@ impl Stage {
         }
     }
 
-    /// Takes out the input whose out is not given, which leaves nothing.
+    /// Takes the input whose out is not appended yet, if any, and leaves `Idle`.
     pub(crate) fn take_complete(&mut self) -> Option<CurrentInput>
         ensures some { IfSome result (λ current. (self.old ≡ Complete current) × (self.new ≡ Idle)) }
         ensures none { IfNone result ((is_complete self.old ≡ false) × (self.new ≡ self.old)) }

@@ -1,4 +1,4 @@
-//! An input is taken in.
+//! Taking in one input.
 ghost use Rattle.std.specs.Prelude.{◌≡◌, ◌++◌, [], ◌∷◌, filter, length, map, IfOk, OnErr};
 ghost use Rattle.bx_entry.specs.Requests.{read_input};
 ghost use Rattle.bx_fanout.specs.HeldInputs.{waits};
@@ -17,8 +17,13 @@ use bx_world::World;
 use std::alloc::{AllocError, Global};
 use std::collections::VecDeque;
 
-/// Takes an input into the list, or finds its refusal. So many inputs were taken in, and all outs that those owe were
-/// added.
+/// Appends `input` to the list, or finds its refusal.
+///
+/// `number`: how many inputs were taken in before. All their outs that were due must be appended.
+///
+/// # Errors
+///
+/// `AllocError` if memory runs out; the world is unchanged.
 pub(crate) fn take_in<P: Placing>(
     alloc: Global,
     world: &mut World<P>,
@@ -63,7 +68,7 @@ fn admit<P: Placing>(
     }
 }
 
-// An input of which no answer is collected.
+// Creates an input with no answers collected.
 fn current_of(
     alloc: Global,
     number: usize,

@@ -10,7 +10,7 @@ use Rattle.bx_hub.specs.declared.fault.PostFault.{PostFault}
 use Rattle.bx_hub.specs.declared.fault.PostFault.TheVariants as faults
 use Rattle.bx_message.specs.declared.{message_kind.MessageKind.MessageKind, reply.Reply.Reply}
 
--- the reason of a fault
+-- The reason that is counted for a fault.
 abbrev pub reason_of : PostFault → Reason
 reason_of (faults.Refused (refusals.Body bodies.Forbidden)) = reasons.Forbidden
 reason_of (faults.Refused (refusals.Body fault)) = reasons.Body
@@ -22,11 +22,11 @@ reason_of (faults.Overrun shard place) = reasons.Overrun
 reason_of (faults.Misplaced shard found) = reasons.Misplaced
 reason_of faults.Memory = reasons.Memory
 
--- what a reply of this kind with this outcome counts as
+-- The metric that counts a reply of this kind with this outcome.
 abbrev pub figure_for : MessageKind → Outcome → Figure
 figure_for kind (outcomes.Failed error) = Errors error
 figure_for kind outcome = Replies kind
 
--- what a reply counts as
+-- The metric that counts a reply.
 abbrev pub figure_of : Reply → Figure
 figure_of reply = figure_for reply.message_kind reply.outcome

@@ -1,29 +1,29 @@
--- What the listener of figures answers.
+-- What the metrics listener responds.
 use Rattle.std.specs.Prelude.{ℕ, List, [], ◌++◌, Bool, true, false, codes, decimal, length, nat_eq, if◌then◌else◌}
 use Rattle.std.specs.{List.starts_with}
 use Rattle.bx_figures.specs.declared.response.Asked.{Asked}
 use Rattle.bx_figures.specs.declared.response.Asked.TheVariants.{Metrics, Health, Other, NoGet}
 
--- what a request with this head asks for, by how it begins
+-- What a request asks for, by how its head begins.
 abbrev pub asked_of : List ℕ → Asked
 asked_of head =
     if starts_with nat_eq head (codes "GET /metrics ") then Metrics
     else (if starts_with nat_eq head (codes "GET /healthz ") then Health
     else (if starts_with nat_eq head (codes "GET ") then Other else NoGet))
 
--- a number with what stands before it and behind it
+-- A number between two texts.
 abbrev pub with_number : List ℕ → ℕ → List ℕ → List ℕ
 with_number before number behind = before ++ decimal number ++ behind
 
--- the fields that each response has, for a body of so many bytes, and their end
+-- The fields of every response, for a body of `size` bytes, and their end.
 abbrev pub fields_text : ℕ → List ℕ
 fields_text size = with_number (codes "\r\ncontent-length: ") size (codes "\r\nconnection: close\r\n\r\n")
 
--- a response: its status, perhaps with a field, and its body
+-- A response: its status, perhaps with a field, and its body.
 abbrev pub message_text : List ℕ → List ℕ → List ℕ
 message_text status body = codes "HTTP/1.1 " ++ status ++ fields_text (length body) ++ body
 
--- the response to what is asked, where the server listens or does not, and this is the page of its figures
+-- The response to a request; `listens`: whether the server listens; `page`: its metrics.
 abbrev pub response_text : Asked → Bool → List ℕ → List ℕ
 response_text Metrics listens page = message_text (codes "200 OK\r\ncontent-type: text/plain; version=0.0.4; charset=utf-8") page
 response_text Health true page = message_text (codes "200 OK") (codes "listening\n")

@@ -1,12 +1,13 @@
-//! The counts, and what is read of them.
+//! The current values of the metrics, and a copy to read.
 ghost use Rattle.std.specs.Prelude.{◌≡◌, slice_get, unwrap_or};
 
 use crate::figure::{FIGURES, Figure};
 use std::alloc::{AllocError, Global};
 use std::sync::atomic::{AtomicBool, AtomicU64, Ordering};
 
-/// A count for each figure, to which any thread adds without a lock, how far each shard is behind, and whether the
-/// server listens.
+/// The current metrics, the lag of each shard, and whether the server listens.
+///
+/// Any thread can read and change them without a lock.
 #[derive(Drop)]
 pub struct Counts {
     counts: Vec<AtomicU64>,
@@ -15,7 +16,11 @@ pub struct Counts {
 }
 
 impl Counts {
-    /// All are 0 for so many shards, and nothing listens. An error means that memory was refused.
+    /// Creates metrics for `shards` shards, all 0, of a server that does not listen.
+    ///
+    /// # Errors
+    ///
+    /// `AllocError` if memory runs out.
     pub fn new(alloc: Global, shards: usize) -> Result<Counts, AllocError> {
         Ok(Counts {
             counts: zeros(alloc, FIGURES.len())?,
@@ -24,40 +29,40 @@ impl Counts {
         })
     }
 
-    /// So many more.
+    /// Adds `more` to `figure`.
     pub fn add(&self, figure: Figure, more: u64) {
         if let Some(count) = self.counts.get(figure.place()) {
             count.fetch_add(more, Ordering::SeqCst);
         }
     }
 
-    /// One fewer.
+    /// Subtracts 1 from `figure`.
     pub fn remove_one(&self, figure: Figure) {
         if let Some(count) = self.counts.get(figure.place()) {
             count.fetch_sub(1, Ordering::SeqCst);
         }
     }
 
-    /// It is so many from here on.
+    /// Sets `figure` to `value`.
     pub fn set(&self, figure: Figure, value: u64) {
         if let Some(count) = self.counts.get(figure.place()) {
             count.store(value, Ordering::SeqCst);
         }
     }
 
-    /// How many shards there are.
+    /// Returns the number of shards.
     pub fn shards(&self) -> usize {
         self.lags.len()
     }
 
-    /// A shard has applied the entries below this place from here on, of a list of so many.
+    /// Records that `shard` has applied the first `place` of `entries` entries.
     pub fn set_lag(&self, shard: usize, entries: u64, place: u64) {
         if let Some(lag) = self.lags.get(shard) {
             lag.store(entries.saturating_sub(place), Ordering::SeqCst);
         }
     }
 
-    /// How many it is.
+    /// Returns the value of `figure`.
     pub fn get(&self, figure: Figure) -> u64 {
         match self.counts.get(figure.place()) {
             Some(count) => count.load(Ordering::SeqCst),
@@ -65,18 +70,23 @@ impl Counts {
         }
     }
 
-    /// Says whether the server listens.
+    /// Records whether the server listens.
     pub fn set_listens(&self, listens: bool) {
         self.listens.store(listens, Ordering::SeqCst);
     }
 
-    /// Whether it was said that the server listens.
+    /// Returns `true` if the server listens, as [`set_listens`](Self::set_listens) recorded.
     pub fn listens(&self) -> bool {
         self.listens.load(Ordering::SeqCst)
     }
 
-    /// The counts as they are read, one after the other; others may add meanwhile. An error means that memory was
-    /// refused.
+    /// Copies all values.
+    ///
+    /// They are read one after the other, so others may change in the meantime.
+    ///
+    /// # Errors
+    ///
+    /// `AllocError` if memory runs out.
     pub fn read(&self, alloc: Global) -> Result<Figures, AllocError> {
         Ok(Figures {
             values: loaded(alloc, &self.counts)?,
@@ -85,7 +95,7 @@ impl Counts {
     }
 }
 
-// So many counts of 0.
+// Creates `count` values of 0.
 fn zeros(alloc: Global, count: usize) -> Result<Vec<AtomicU64>, AllocError> {
     let mut zeros = Vec::with_capacity(alloc, count)?;
     for _ in 0..count {
@@ -94,7 +104,7 @@ fn zeros(alloc: Global, count: usize) -> Result<Vec<AtomicU64>, AllocError> {
     Ok(zeros)
 }
 
-// The counts as they are read.
+// Reads each value.
 fn loaded(alloc: Global, counts: &Vec<AtomicU64>) -> Result<Vec<u64>, AllocError> {
     let mut values = Vec::with_capacity(alloc, counts.len())?;
     for count in counts {
@@ -103,7 +113,7 @@ fn loaded(alloc: Global, counts: &Vec<AtomicU64>) -> Result<Vec<u64>, AllocError
     Ok(values)
 }
 
-/// A value of each figure, and how many entries of the list each shard is behind.
+/// A copy of all metrics, with each shard's lag in entries.
 #[derive(Drop)]
 pub struct Figures {
     values: Vec<u64>,
@@ -111,21 +121,23 @@ pub struct Figures {
 }
 
 impl Figures {
-    /// These values, in the order of the page's rows, of which those that lack are 0; and those of the shards.
+    /// Creates a copy from `values`, in the order of the page, and `lags`, by shard.
+    ///
+    /// A value that is missing is 0.
     pub fn of(values: Vec<u64>, lags: Vec<u64>) -> Figures
         ensures { (result.values ≡ values) × (result.lags ≡ lags) }
     {
         Figures { values, lags }
     }
 
-    /// How far each shard is behind, in their order.
+    /// Returns the lag of each shard.
     pub(crate) fn lags(&self) -> &[u64]
         ensures { result.now ≡ self.now.lags.items }
     {
         self.lags.as_slice()
     }
 
-    /// The value at this place; 0 where there is none.
+    /// Returns the value at `place`, or 0 if it is missing.
     pub(crate) fn value(&self, place: usize) -> u64
         ensures { result ≡ unwrap_or (slice_get self.now.values.items place) 0 }
     {

@@ -1,4 +1,4 @@
-//! What is counted, and at which place.
+//! The metrics: their order, names, help texts and types.
 ghost use Rattle.std.specs.Prelude.{◌≡◌, Some, slice_get};
 ghost use Rattle.bx_figures.specs.declared.figure.Figure.TheVariants.{Errors, Refused, Replies, Responses};
 ghost use Rattle.bx_figures.specs.declared.figure.TheConstants.{FIGURES};
@@ -6,31 +6,31 @@ ghost use Rattle.bx_figures.specs.declared.figure.TheConstants.{FIGURES};
 use bx_advice::Error;
 use bx_message::{MessageKind, Status};
 
-/// Why a request is not taken into the list.
+/// Why a request was not added to the list.
 #[derive(Clone, Copy, Debug, PartialEq, Eq)]
 pub enum Reason {
-    /// Its documents cannot be read as messages.
+    /// The documents are not messages.
     Body,
-    /// Its door does not let its messages in.
+    /// The read-only listener forbids its messages.
     Forbidden,
-    /// The clock tells no moment that is taken.
+    /// The moment is too large.
     BadMoment,
-    /// The list is as long as it may be.
+    /// The list would become too long.
     Ended,
     /// The hub was closed.
     Closed,
-    /// The window is full, since a shard lags behind.
+    /// The window is full, because a shard lags behind.
     Behind,
-    /// The window is full, and begins past the place of a shard.
+    /// The window is full, and no longer has a shard's next entry.
     Overrun,
-    /// Another shard stood under the lock of one.
+    /// The lock of a shard guarded another one.
     Misplaced,
-    /// Memory was refused.
+    /// Memory ran out.
     Memory,
 }
 
 impl Reason {
-    /// Its name, as a label has it.
+    /// Returns its name in a label.
     pub fn name(self) -> &'static str {
         match self {
             Reason::Body => "body",
@@ -46,58 +46,60 @@ impl Reason {
     }
 }
 
-/// A figure of the server. (All are this server's choice.)
+/// A metric of the server.
+///
+/// Policy of this server.
 #[derive(Clone, Copy, Debug, PartialEq, Eq)]
 pub enum Figure {
-    /// For how many seconds the program has run.
+    /// How long the program has run, in seconds.
     Uptime,
-    /// Connections that are open.
+    /// Open connections.
     Connections,
-    /// Connections that came.
+    /// Connections accepted so far.
     Accepted,
-    /// Requests that have no response yet.
+    /// Requests in progress.
     Requests,
-    /// Admitted requests some of whose answers are waited for.
+    /// Admitted requests in progress.
     Held,
-    /// Requests that were taken into the list.
+    /// Requests admitted to the list.
     Admitted,
-    /// Events in responses.
+    /// Events in answers to requests.
     Events,
-    /// Admitted requests of whose items none could be given.
+    /// Admitted requests whose answers were unavailable.
     Unanswered,
-    /// Requests that have no response for want of memory.
+    /// Requests without a response because memory ran out.
     Missing,
-    /// Entries of the list, as the last tick found it.
+    /// Length of the list at the last tick.
     Entries,
-    /// Ticks that were taken into the list.
+    /// Ticks added to the list.
     Ticks,
-    /// Ticks that were refused.
+    /// Ticks refused.
     RefusedTicks,
-    /// Shards that stayed behind the last tick.
+    /// Shards behind the last tick.
     ShardsBehind,
-    /// Answers that nobody took, and that were dropped.
+    /// Answers dropped because nobody took them.
     Swept,
-    /// Sessions that are live, as the last tick found it.
+    /// Live sessions at the last tick.
     Sessions,
-    /// Sessions that were opened, as the last tick found it.
+    /// Sessions opened up to the last tick.
     Opened,
-    /// Batches in the window, as the last tick found it.
+    /// Batches in the window at the last tick.
     Batches,
-    /// Connects that shards hold, as the last tick found it.
+    /// Held connects at the last tick.
     Connects,
-    /// Answers that are filed and that nobody has taken, as the last tick found it.
+    /// Filed answers that nobody has taken, at the last tick.
     Filed,
-    /// Responses of this status.
+    /// Responses with this status.
     Responses(Status),
-    /// Requests that were not taken into the list, for this reason.
+    /// Requests refused for this reason.
     Refused(Reason),
-    /// Replies of success to messages of this kind.
+    /// Successful replies to messages of this kind.
     Replies(MessageKind),
     /// Replies with this error.
     Errors(Error),
 }
 
-/// All figures, as the page has them: those that differ in a label alone stand side by side.
+/// All metrics in the order of the page, with those of the same name adjacent.
 pub(crate) const FIGURES: [Figure; 59] = [
     Figure::Uptime,
     Figure::Connections,
@@ -161,7 +163,7 @@ pub(crate) const FIGURES: [Figure; 59] = [
 ];
 
 impl Figure {
-    /// Its place among all figures.
+    /// Returns its place in [`FIGURES`].
     pub(crate) fn place(self) -> usize
         ensures { slice_get FIGURES result ≡ Some self }
     {
@@ -192,7 +194,7 @@ impl Figure {
         }
     }
 
-    /// Its name. Figures that differ in a label alone have one name.
+    /// Returns its name, which metrics that differ only in a label share.
     pub(crate) fn name(self) -> &'static str {
         match self {
             Figure::Uptime => "bayeux_uptime_seconds",
@@ -221,7 +223,7 @@ impl Figure {
         }
     }
 
-    /// What the page says of its name.
+    /// Returns the help text of its name.
     pub(crate) fn help(self) -> &'static str {
         match self {
             Figure::Uptime => "Seconds since the program began.",
@@ -250,7 +252,7 @@ impl Figure {
         }
     }
 
-    /// Its type, as the page's format has it: whether it grows alone, or falls too.
+    /// Returns its type in Prometheus' format: `gauge` or `counter`.
     pub(crate) fn type_name(self) -> &'static str {
         match self {
             Figure::Uptime
@@ -267,7 +269,7 @@ impl Figure {
         }
     }
 
-    /// Whether it is the first one of its name.
+    /// Returns `true` if it is the first metric with its name.
     pub(crate) fn is_first(self) -> bool {
         match self {
             Figure::Responses(Status::Ok)
@@ -281,7 +283,7 @@ impl Figure {
     }
 }
 
-// The place of the responses of this status.
+// Returns the place of the responses with `status`.
 fn response_place(status: Status) -> usize
     ensures { slice_get FIGURES result ≡ Some (Responses status) }
 {
@@ -297,7 +299,7 @@ fn response_place(status: Status) -> usize
     }
 }
 
-// The place of the requests that are refused for this reason.
+// Returns the place of the requests refused for `reason`.
 fn refused_place(reason: Reason) -> usize
     ensures { slice_get FIGURES result ≡ Some (Refused reason) }
 {
@@ -314,7 +316,7 @@ fn refused_place(reason: Reason) -> usize
     }
 }
 
-// The place of the replies of success to messages of this kind.
+// Returns the place of the successful replies to messages of `kind`.
 fn reply_place(kind: MessageKind) -> usize
     ensures { slice_get FIGURES result ≡ Some (Replies kind) }
 {
@@ -329,7 +331,7 @@ fn reply_place(kind: MessageKind) -> usize
     }
 }
 
-// The place of the replies with this error.
+// Returns the place of the replies with `error`.
 fn error_place(error: Error) -> usize
     ensures { slice_get FIGURES result ≡ Some (Errors error) }
 {

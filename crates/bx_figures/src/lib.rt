@@ -1,4 +1,4 @@
-//! The figures of the server: what is counted, and the page and the responses that show them.
+//! The server's metrics, and the listener's responses that show them.
 #![tactic(auto)]
 
 mod counts;

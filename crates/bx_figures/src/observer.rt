@@ -1,4 +1,4 @@
-//! What is counted of connections and requests.
+//! Counts connections, requests and answers.
 ghost use Rattle.std.specs.Prelude.{◌≡◌};
 ghost use Rattle.bx_figures.specs.Outcomes.{figure_of, reason_of};
 
@@ -37,7 +37,7 @@ impl Observer for Counts {
     }
 }
 
-// Counts what came of a request: its events and replies, or that there are none.
+// Counts a request's events and replies, or that its answers are unavailable.
 fn count_all(counts: &Counts, items: Option<&[Item]>) {
     let Some(items) = items else {
         counts.add(Figure::Unanswered, 1);
@@ -55,7 +55,7 @@ fn count_all(counts: &Counts, items: Option<&[Item]>) {
     }
 }
 
-// The reason of a fault.
+// Returns the reason for `fault`.
 fn reason_of(fault: PostFault) -> Reason
     ensures { result ≡ reason_of fault }
 {
@@ -72,7 +72,7 @@ fn reason_of(fault: PostFault) -> Reason
     }
 }
 
-// What a reply counts as: by its kind where it says a success, and else by its error.
+// Returns the metric that counts `reply`: by its error, or by its kind if it succeeds.
 fn figure_of(reply: &Reply) -> Figure
     ensures { result ≡ figure_of reply.now }
 {

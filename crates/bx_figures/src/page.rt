@@ -1,19 +1,26 @@
-//! The page of figures, in Prometheus' text format 0.0.4.
+//! The page of metrics, in Prometheus' text format 0.0.4.
 use crate::counts::Figures;
 use crate::figure::{FIGURES, Figure};
 use bx_message::MessageKind;
 use std::alloc::{AllocError, Global};
 
-// Room for a page of 64 shards: more than its names and words have, and twenty digits for each figure.
+// Initial capacity: enough for 64 shards if each value has twenty digits.
 const ROOM: usize = 16384;
 
-// The rows of how far each shard is behind: their name, and what the page says of it.
+// Name and help text of the lag of each shard.
 const LAG: &str = "bayeux_shard_lag_entries";
 
 const LAG_HELP: &str = "Entries of the list that a shard has not applied.";
 
-/// The page of these figures: a row for each, and one for each shard, with two lines before the first one of a name. An
-/// error means that memory was refused. (Prometheus' text format 0.0.4.)
+/// Formats the page: a row for each metric and for each shard's lag.
+///
+/// The lines `# HELP` and `# TYPE` precede the first row of each name.
+///
+/// Prometheus' text format 0.0.4.
+///
+/// # Errors
+///
+/// `AllocError` if memory runs out.
 pub fn page_text(alloc: Global, figures: &Figures) -> Result<String, AllocError> {
     let mut page = String::with_capacity(alloc, ROOM)?;
     for (place, figure) in FIGURES.iter().enumerate() {
@@ -32,7 +39,7 @@ pub fn page_text(alloc: Global, figures: &Figures) -> Result<String, AllocError>
     Ok(page)
 }
 
-// Puts what is said of a name behind the page.
+// Appends the lines `# HELP` and `# TYPE` of a name.
 fn push_head(
     alloc: Global,
     page: &mut String,
@@ -44,7 +51,7 @@ fn push_head(
     page.push_str(head.as_str())
 }
 
-// The label that tells a figure from others of its name.
+// Returns the label that distinguishes `figure` from others with its name.
 fn label_of(alloc: Global, figure: Figure) -> Result<String, AllocError> {
     match figure {
         Figure::Responses(status) => format!(in alloc; "{{status=\"{}\"}}", status.code()),
@@ -55,7 +62,7 @@ fn label_of(alloc: Global, figure: Figure) -> Result<String, AllocError> {
     }
 }
 
-// The name of a kind of message.
+// Returns the name of a kind of message.
 fn kind_name(kind: MessageKind) -> &'static str {
     match kind {
         MessageKind::Handshake => "handshake",

@@ -1,4 +1,4 @@
-//! What the listener of figures answers.
+//! The responses of the listener for metrics.
 ghost use Rattle.std.specs.Prelude.{◌≡◌, ◌++◌, List, ℕ, IfOk, OnOk};
 ghost use Rattle.bx_figures.specs.Responses.{asked_of, fields_text, message_text, response_text, with_number};
 
@@ -7,21 +7,21 @@ use crate::page::page_text;
 use itoa::Buffer;
 use std::alloc::{AllocError, Global};
 
-/// What a request asks the listener for.
+/// What a request asks for.
 #[derive(Clone, Copy, Debug, PartialEq, Eq)]
 pub enum Asked {
-    /// The page of figures: `GET /metrics`.
+    /// The page of metrics: `GET /metrics`.
     Metrics,
     /// Whether the server listens: `GET /healthz`.
     Health,
-    /// Something else by a GET, which is not there.
+    /// An unknown target of a GET.
     Other,
-    /// Something by another method than GET, or by none.
+    /// Another method than GET, or none.
     NoGet,
 }
 
 impl Asked {
-    /// What the request with this head asks for. Only its first line is looked at.
+    /// Parses the head of a request, of which only the first line matters.
     pub fn of(head: &[u8]) -> Asked
         ensures { result ≡ asked_of head.now }
     {
@@ -37,9 +37,16 @@ impl Asked {
     }
 }
 
-/// The response to what is asked, where the server listens or does not, and these are the figures: the page with status
-/// 200; 200, or 503 where the server does not listen; 404; and 405. The connection ends behind it. An error means that
-/// memory was refused.
+/// Creates the response to `asked`, after which the connection closes.
+///
+/// - `Metrics`: 200 with the page of `figures`
+/// - `Health`: 200 if `listens`, otherwise 503
+/// - `Other`: 404
+/// - `NoGet`: 405
+///
+/// # Errors
+///
+/// `AllocError` if memory runs out.
 pub fn response_text(
     alloc: Global,
     asked: Asked,
@@ -55,7 +62,7 @@ pub fn response_text(
     respond(alloc, asked, listens, page.as_str())
 }
 
-// The response to what is asked, where the server listens or does not, and this is the page of its figures.
+// Creates the response to `asked`, given the page.
 fn respond(alloc: Global, asked: Asked, listens: bool, page: &str) -> Result<Vec<u8>, AllocError>
     ensures { IfOk result (λ text. text.items ≡ response_text asked listens page.now) }
 {
@@ -72,7 +79,7 @@ fn respond(alloc: Global, asked: Asked, listens: bool, page: &str) -> Result<Vec
     }
 }
 
-// A response: its status, perhaps with a field, and its body.
+// Creates a response with a body. `status` may contain another field.
 fn message(alloc: Global, status: &str, body: &[u8]) -> Result<Vec<u8>, AllocError>
     ensures { IfOk result (λ text. text.items ≡ message_text status.now body.now) }
 {
@@ -84,7 +91,7 @@ fn message(alloc: Global, status: &str, body: &[u8]) -> Result<Vec<u8>, AllocErr
     Ok(text)
 }
 
-// Puts the fields that each response has behind its status.
+// Appends the fields that follow the status in every response.
 fn push_fields(text: &mut Vec<u8>, length: usize) -> Result<(), AllocError>
     ensures { OnOk result (text.new.items ≡ text.old.items ++ fields_text length) }
 {
@@ -96,7 +103,7 @@ fn push_fields(text: &mut Vec<u8>, length: usize) -> Result<(), AllocError>
     )
 }
 
-// Puts a number behind the text, with what stands before it and behind it.
+// Appends `number` between two texts.
 fn push_number(
     text: &mut Vec<u8>,
     before: &str,

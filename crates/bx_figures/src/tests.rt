@@ -4,8 +4,8 @@ use bx_message::{MessageKind, Status};
 use bx_service::{Event, Observer};
 use std::test::Fail;
 
-// The page of figures that are 1, the greatest number, 3 and so on to 57, of two that are not there, and of two shards,
-// as the format has it.
+// The page of 57 values: 1, the greatest number, then 3 to 57; the last two are missing. There are
+// two shards.
 const PAGE: &str = r#"# HELP bayeux_uptime_seconds Seconds since the program began.
 # TYPE bayeux_uptime_seconds gauge
 bayeux_uptime_seconds 1

@@ -1,4 +1,4 @@
--- What a held connect is given.
+-- What the wait for an answer returns.
 use Rattle.std.specs.Prelude.{◌≡◌, ◌≤◌, ◌⊎◌, List, Bool, false, Option, Result, Ok, Err, Some, None}
 use mathlib.Core.List.{IsPrefix}
 use Rattle.bx_entry.specs.declared.entry.Ticket.{Ticket}
@@ -9,25 +9,25 @@ use Rattle.bx_hub.specs.Faults.{IsStopped}
 use Rattle.bx_hub.specs.Held.{IsLevelWithout, answer_over}
 use Rattle.bx_hub.specs.declared.{desk.evidence.Stopped.Stopped, fault.HubFault.HubFault}
 
--- the ticket names no shard, or the shard that it names was at the end of this front and had filed no answer under the
--- ticket
+-- The ticket names no shard, or its shard was at the end of `front` and had no answer for it.
 abbrev pub HasNone : Setup → Ticket → List LogStep → Type 0
 HasNone setup ticket front = (setup.shards ≤ ticket.shard) ⊎ IsLevelWithout setup ticket front
 
 module _ {J : Type 0} where
-  -- an output by its fault alone
+  -- The output, with only the fault of an error.
   abbrev pub output_of : Result (Option Answer) (Stopped J) → Result (Option Answer) HubFault
   output_of (Ok answer) = Ok answer
   output_of (Err stopped) = Err stopped.fault
 
--- The output for a ticket, by a front of the list: an answer is what one thread gives over that front; there is none
--- where nothing is known of the ticket; and a fault holds of the ticket's shard.
+-- What each output claims about a front of the list.
+-- An answer is the one that a single thread gives over the front. `None`: the ticket names no
+-- shard, or no answer is filed for it. A fault holds of the ticket's shard.
 abbrev pub IsGiven : Setup → Ticket → List LogStep → Result (Option Answer) HubFault → Type 0
 IsGiven setup ticket front (Ok (Some a)) = answer_over setup.config front ticket.place ≡ Some a
 IsGiven setup ticket front (Ok None) = HasNone setup ticket front
 IsGiven setup ticket front (Err fault) = IsStopped fault ticket.shard front
 
--- the output of one that has given none yet, by some front that begins with what was seen
+-- An output that may be given, by some front that extends `seen`, unless one was given before.
 abbrev pub MayGive : Setup → Ticket → List LogStep → Bool → Result (Option Answer) HubFault → Type 0
 MayGive setup ticket seen is_done output =
     is_done ≡ false → (front : List LogStep) × IsPrefix seen front × IsGiven setup ticket front output

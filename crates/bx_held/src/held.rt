@@ -1,5 +1,4 @@
-//! What waits for an answer: each poll asks the hub, and leaves a waker beside the connect while the answer is not
-//! filed.
+//! The pending answer to a connect or a rider.
 ghost use Rattle.std.specs.Prelude.{◌≡◌, ◌≢◌, ◌<◌, true, false, length, Option, None, Result, Ok, IfErr, IfSome, IfNone};
 ghost use mathlib.Core.List.{IsPrefix};
 ghost use Rattle.futures.specs.Poll.{IfReady, OnPending};
@@ -19,27 +18,26 @@ use futures::task::{Context, Poll, Source, Waker};
 use std::alloc::Global;
 use std::sync::Wait;
 
-/// What waits for the answer to a connect or a rider, until it is filed.
+/// The pending answer to a connect or a rider.
 ///
-/// Each poll asks the hub for the answer. While there is none, it leaves a waker of the task that polls beside the
-/// connect, so that this task is woken once the connect is answered, also where what waits went from one task to
-/// another meanwhile.
+/// While no answer is filed, each poll registers a waker of its task with the connect, or has the
+/// task polled again if memory runs out. The task that polled last is woken once the connect is
+/// answered.
 #[derive(Drop)]
 pub struct PendingAnswer<J: Naming> {
     pass: Pass<J>,
     ticket: Ticket,
-    // Names what it waits for: that the connect is answered.
+    // Identifies what it waits for: the answer to the connect.
     source: Source,
-    // A waker that does not lie beside the connect. It is kept, since a waker that is dropped wakes its task.
+    // A waker that is not registered. It is kept because dropping a waker wakes its task.
     own: Option<Waker>,
-    // It has given its output.
+    // Whether the output was returned.
     is_done: bool,
     ghost reached: { ticket.place < length (list_of pass) },
 }
 
 impl<J: Naming> PendingAnswer<J> {
-    /// What waits for the answer under the ticket of a connect, or of a rider, that stands in what the pass has seen of
-    /// a hub's list.
+    /// Creates a pending answer for `ticket`, whose connect or rider `pass` has seen.
     pub fn new(pass: Pass<J>, ticket: Ticket) -> PendingAnswer<J>
         requires { ticket.place < length (list_of pass) }
         ensures { (result.pass ≡ pass) × (result.ticket ≡ ticket) × (result.is_done ≡ false) }
@@ -53,7 +51,7 @@ impl<J: Naming> PendingAnswer<J> {
         }
     }
 
-    // What the hub says: the output, if there is one by now.
+    // Polls the hub for the output.
     fn ask<P: Placing, G: Gate + Drop, H: Wait + Drop, R: Wait>(
         &mut self,
         rt: &R,
@@ -81,10 +79,22 @@ impl<J: Naming> PendingAnswer<J> {
         }
     }
 
-    /// The output, once the hub has it: the answer; or none where no connect is known under the ticket, which the token
-    /// says that comes with it, and after its output; or why the ticket's shard was not brought up, as that or its shut
-    /// lock said. While there is none, a waker of the task that polls was left beside the connect, which the token says
-    /// too, or that task is polled again in any case.
+    /// Polls for the answer.
+    ///
+    /// The output is `None` if no connect is known under the ticket, or if the output was returned
+    /// before. While pending, a waker of the polling task is registered with the connect, or the
+    /// task is polled again in any case.
+    ///
+    /// The second value proves that the waker is registered, or that no connect is known. It is
+    /// `None` otherwise, or if the ticket names no shard.
+    ///
+    /// # Errors
+    ///
+    /// [`Stopped`], with why there is no answer, as in [`Hub::poll_answer`].
+    ///
+    /// # Blocking
+    ///
+    /// Locks the ticket's shard, up to three times. Tasks are woken as in [`Hub::poll_answer`].
     pub fn poll<P: Placing + Drop, G: Gate + Drop, H: Wait + Drop, R: Wait>(
         &mut self,
         rt: &R,
@@ -140,11 +150,11 @@ impl<J: Naming> PendingAnswer<J> {
                 return (Poll::Ready(Err(shut.stopped(&self.ticket))), None);
             }
         }
-        // It was answered meanwhile.
+        // It was answered in the meantime.
         if let Some(output) = self.ask(rt, alloc, hub) {
             return (Poll::Ready(output), None);
         }
-        // Another has taken the answer since then.
+        // The answer was taken or swept since then.
         (cx.yield_now(), None)
     }
 }

@@ -1,4 +1,4 @@
-//! A connect that is held: what waits for its answer.
+//! Waits for the answer to a held connect or a rider.
 #![tactic(auto)]
 
 mod held;

@@ -1,4 +1,4 @@
-//! Requests in forms of HTTP that few clients send, each over a connection of its own.
+//! Requests in rare forms of HTTP, each on its own connection.
 use crate::host::{Host, add_written};
 use crate::wire::Wire;
 use anyhow::Result;
@@ -10,13 +10,13 @@ use hyper::body::Incoming;
 use hyper::service::Service;
 use std::alloc::{AllocError, Global};
 
-// What stands behind this comes once something was written.
+// Marks the point after which bytes arrive only once the server has written something.
 const GO_ON: &str = "<goes on>";
 
-// In place of this come as many blanks as a body may have bytes.
+// Replaced by `BODY_LIMIT` spaces.
 const BLANKS: &str = "<blanks>";
 
-// Each has a name and the bytes that come.
+// Names of the requests, and their bytes.
 const FORMS: [(&str, &str); 20] = [
     (
         "in chunks",
@@ -97,7 +97,7 @@ const FORMS: [(&str, &str); 20] = [
     ),
 ];
 
-// The bytes with blanks in their place, where they have one.
+// Copies `bytes`, with spaces in place of `BLANKS`.
 fn filled(alloc: Global, bytes: &str) -> Result<String, AllocError> {
     match bytes.split_once(BLANKS) {
         Some((front, back)) => {
@@ -113,7 +113,11 @@ where
     S: Service<Request<Incoming<Wire>>, Response = Response<Pieces<Bytes>>, Error = E> + Clone,
     E: Into<anyhow::Error> + Drop,
 {
-    /// Adds for each what is written to its connection.
+    /// Serves each form, and appends its name and what the server wrote to `text`.
+    ///
+    /// # Errors
+    ///
+    /// If memory runs out or a connection does not end.
     pub fn add_forms(&self, text: &mut String) -> Result<()>
         requires { (each : S) → S.can_call each }
     {

@@ -1,4 +1,4 @@
-//! A request right behind a connect that is held.
+//! A request right after a held connect, on the same connection.
 use crate::host::{Host, add_written, post};
 use crate::wire::Wire;
 use anyhow::Result;
@@ -9,7 +9,7 @@ use hyper::body::Incoming;
 use hyper::service::Service;
 use std::alloc::{AllocError, Global};
 
-// What the second session sends, and what it publishes to itself.
+// Bodies of the second session: two that open and subscribe it, a connect, and a publish.
 const OPENING: [&str; 2] = [
     r#"[{"channel":"/meta/handshake","version":"1.0","supportedConnectionTypes":["long-polling"]}]"#,
     r#"[{"channel":"/meta/subscribe","clientId":"000000000000000000000000000000000000000000000002","subscription":"/a/*"}]"#,
@@ -21,7 +21,7 @@ const CONNECT: &str =
 const PUBLISH: &str =
     r#"[{"channel":"/a/b","clientId":"000000000000000000000000000000000000000000000002","data":7}]"#;
 
-// The connect, and a request without messages behind it.
+// Formats the connect, followed by a request without messages.
 fn both(alloc: Global) -> Result<String, AllocError> {
     let mut both = post(alloc, CONNECT)?;
     both.push_str(post(alloc, "[]")?.as_str())?;
@@ -33,9 +33,14 @@ where
     S: Service<Request<Incoming<Wire>>, Response = Response<Pieces<Bytes>>, Error = E> + Clone,
     E: Into<anyhow::Error> + Drop,
 {
-    /// A session opens, subscribes and connects, and right behind the connect asks for nothing; over another connection it publishes
-    /// what it has subscribed to. Adds all that is written, in this order: the publish is answered first, since the connect waits
-    /// for it.
+    /// Lets a session publish to itself while its connect is held and another request follows it.
+    ///
+    /// Appends what the server wrote to `text`. The publish, on its own connection, comes first,
+    /// because the connect waits for it.
+    ///
+    /// # Errors
+    ///
+    /// If memory runs out, the connect is not held, or a connection does not end.
     pub fn add_held(&self, text: &mut String) -> Result<()>
         requires { (each : S) → S.can_call each }
     {

@@ -1,4 +1,4 @@
-//! A service, and the connections that it is given. One function owns each connection.
+//! A service, and the connections in memory that it serves.
 ghost use Rattle.std.specs.Prelude.{◌≡◌, false};
 
 use crate::wire::Wire;
@@ -14,21 +14,21 @@ use hyper::server::conn::http1;
 use hyper::service::Service;
 use std::alloc::{AllocError, Global};
 
-// How often a task is polled that is woken each time.
+// How often a task that wakes itself is polled.
 const POLLS: u32 = 100;
 
-/// A service, how its connections are served, and the task that serves each to its end. Another task serves one that waits.
+/// A service, and the tasks that serve its connections.
 #[derive(Drop)]
 pub struct Host<'a, S> {
-    /// Where memory is taken.
+    /// Allocator.
     pub alloc: Global,
-    /// The service of which each connection has a copy.
+    /// The service, which each connection clones.
     pub service: &'a S,
-    /// How a connection is served.
+    /// Settings for serving a connection.
     pub http: &'a http1::Builder,
-    /// The task that serves a connection to its end.
+    /// Task that serves a connection to its end.
     pub task: &'a MockTask,
-    /// The task that serves a connection that waits.
+    /// Task that serves a connection that waits.
     pub waiting: &'a MockTask,
 }
 
@@ -37,7 +37,11 @@ where
     S: Service<Request<Incoming<Wire>>, Response = Response<Pieces<Bytes>>, Error = E> + Clone,
     E: Into<anyhow::Error> + Drop,
 {
-    /// Serves a connection until its end, which may be an error, and gives what was written to it.
+    /// Serves `wire` until its end, which may be an error, and returns what was written to it.
+    ///
+    /// # Errors
+    ///
+    /// If memory runs out or the connection does not end.
     pub fn serve(&self, wire: Wire) -> Result<Vec<u8>>
         requires { (each : S) → S.can_call each }
     {
@@ -52,8 +56,13 @@ where
         }
     }
 
-    /// Serves a connection that waits, POSTs this body over another one then, and goes on until the first one is over. Gives what
-    /// was written to it, and adds what was written to the other one.
+    /// Serves `wire` to its end, and posts `body` on another connection while `wire` waits.
+    ///
+    /// Returns what was written to `wire`, and appends what was written to the other to `text`.
+    ///
+    /// # Errors
+    ///
+    /// If memory runs out, `wire` does not wait, or a connection does not end.
     pub fn serve_around(&self, wire: Wire, body: &str, text: &mut String) -> Result<Vec<u8>>
         requires { (each : S) → S.can_call each }
     {
@@ -85,7 +94,11 @@ where
         }
     }
 
-    /// Serves a POST of this body over a connection of its own, and adds what was written to it.
+    /// Posts `body` on its own connection, and appends what was written to it to `text`.
+    ///
+    /// # Errors
+    ///
+    /// If memory runs out or the connection does not end.
     pub fn post(&self, body: &str, text: &mut String) -> Result<()>
         requires { (each : S) → S.can_call each }
     {
@@ -96,7 +109,7 @@ where
     }
 }
 
-// Polls a future as often as it wakes itself, and says whether it has its output then.
+// Polls `future` while it wakes itself, up to `POLLS` times, and returns `true` if it completes.
 fn ends<F>(task: &MockTask, future: &mut F) -> bool
 where
     F: Future,
@@ -117,7 +130,11 @@ where
     false
 }
 
-/// A POST of this body, of JSON.
+/// Formats a POST request with the JSON body `body`.
+///
+/// # Errors
+///
+/// `AllocError` if memory runs out.
 pub fn post(alloc: Global, body: &str) -> Result<String, AllocError> {
     let length = body.len();
     format!(in alloc;
@@ -125,7 +142,11 @@ pub fn post(alloc: Global, body: &str) -> Result<String, AllocError> {
     )
 }
 
-/// Adds what was written to a connection, each line ended by a line feed alone.
+/// Appends the lines of `written` to `text`, each ended by a line feed alone.
+///
+/// # Errors
+///
+/// `AllocError` if memory runs out.
 pub fn add_written(text: &mut String, alloc: Global, written: &[u8]) -> Result<(), AllocError> {
     let written = String::from_utf8_lossy(alloc, written)?;
     add_lines(text, written.as_str())

@@ -1,5 +1,7 @@
-//! Requests over connections in memory, and what is answered: a POST of which not all bytes come, forms of HTTP that few clients
-//! send, and a request that comes behind one that is held.
+//! Requests over connections in memory, and the responses to them.
+//!
+//! They include POSTs that end early, forms of HTTP that few clients send, a request after a held
+//! connect, and one to a closed hub.
 #![tactic(auto)]
 
 mod forms;

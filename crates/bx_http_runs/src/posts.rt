@@ -1,4 +1,4 @@
-//! A POST of which not all bytes come: the list of the hub stays as it is.
+//! POSTs that end early, which leave the hub's list unchanged.
 use crate::host::{Host, post};
 use crate::wire::Wire;
 use anyhow::{Result, anyhow};
@@ -17,10 +17,10 @@ use std::sync::Wait;
 const HANDSHAKE: &str =
     r#"[{"channel":"/meta/handshake","version":"1.0","supportedConnectionTypes":["long-polling"]}]"#;
 
-/// A hub as the runs have it.
+/// The type of hub that is served.
 pub type Served<J, R> = Hub<J, ByRemainder, OpenGate, R>;
 
-// A request without messages.
+// Creates a request without messages.
 fn nothing(alloc: Global) -> Result<Arrival, AllocError> {
     Ok(Arrival {
         moment: 0,
@@ -30,7 +30,7 @@ fn nothing(alloc: Global) -> Result<Arrival, AllocError> {
     })
 }
 
-// How long the list of the hub is.
+// Returns the length of the hub's list.
 fn entries<J: Naming, H: Wait + Drop, R: Wait>(
     rt: &R,
     alloc: Global,
@@ -43,7 +43,7 @@ fn entries<J: Naming, H: Wait + Drop, R: Wait>(
     }
 }
 
-// What stands behind the head of a response.
+// Returns the body of a response.
 fn body_of(alloc: Global, written: &[u8]) -> Result<String> {
     match String::from_utf8_lossy(alloc, written)?
         .as_str()
@@ -59,8 +59,18 @@ where
     S: Service<Request<Incoming<Wire>>, Response = Response<Pieces<Bytes>>, Error = E> + Clone,
     E: Into<anyhow::Error> + Drop,
 {
-    /// A handshake, of which a connection has no byte, one byte, and so on, and at last all. Says behind how many connections that
-    /// broke off the list is empty still, what the whole post is given, and how many entries the list then has.
+    /// Sends each proper prefix of a handshake, from no bytes on, and then the whole handshake.
+    ///
+    /// Returns a text: after how many prefixes the list was empty, the response's body, and the
+    /// list's length.
+    ///
+    /// # Errors
+    ///
+    /// If memory runs out, the hub refuses a request, or the handshake is not answered.
+    ///
+    /// # Blocking
+    ///
+    /// Takes the hub's locks.
     pub fn posts<J, H, R>(&self, rt: &R, hub: &Served<J, H>) -> Result<String>
     where
         J: Naming,
@@ -76,7 +86,7 @@ where
         Ok(format!(in alloc; "empty behind {empty}\n{body}\n{entries} entries\n")?)
     }
 
-    // Behind how many connections that broke off the list is empty.
+    // Sends each proper prefix, and returns after how many the list was empty.
     fn empty_behind<J, H, R>(&self, rt: &R, hub: &Served<J, H>, bytes: &[u8]) -> Result<usize>
     where
         J: Naming,
@@ -94,7 +104,7 @@ where
         Ok(empty)
     }
 
-    // A connection on which these bytes come.
+    // Serves a connection that ends after `bytes`.
     fn break_off(&self, bytes: &[u8]) -> Result<(), AllocError>
         requires { (each : S) → S.can_call each }
     {
@@ -103,7 +113,7 @@ where
         Ok(())
     }
 
-    // The body of the response to these bytes.
+    // Returns the body of the response to `bytes`.
     fn body_for(&self, bytes: &[u8]) -> Result<String>
         requires { (each : S) → S.can_call each }
     {

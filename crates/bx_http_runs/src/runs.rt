@@ -1,4 +1,4 @@
-//! A hub of two shards that is served over connections in memory.
+//! A hub of two shards, served over connections in memory.
 ghost use Rattle.std.specs.Prelude.{◌≡◌};
 ghost use Rattle.bx_entry.specs.Placings.{by_remainder};
 
@@ -24,7 +24,7 @@ use std::marker::Brand;
 use std::random::RandomSource;
 use std::sync::{Arc, Wait};
 
-// A clock that stands still at 0.
+// A clock that always reads 0.
 #[derive(Clone, Copy)]
 struct Still;
 
@@ -34,7 +34,7 @@ impl Clock for Still {
     }
 }
 
-// Draws no other number than 0.
+// A source of nonces that are all 0.
 #[derive(Clone, Copy)]
 struct Zeros;
 
@@ -44,7 +44,11 @@ impl Nonces for Zeros {
     }
 }
 
-/// What all runs print.
+/// Does all runs, and returns what they print.
+///
+/// # Errors
+///
+/// If memory runs out or a run fails.
 pub fn run<R>(rt: R) -> Result<String>
 where
     R: Wait + RandomSource + AllocGlobal + Copy + Drop,
@@ -97,7 +101,7 @@ where
     serve_all(&rt, alloc, hub, &service, http)
 }
 
-// All runs, with two tasks.
+// Does all runs, with two tasks.
 fn serve_all<J, S, E, H, R>(
     rt: &R,
     alloc: Global,

@@ -7,7 +7,9 @@ use std::alloc::{AllocError, Global};
 use std::{io, mem};
 use tokio::io::{AsyncRead, AsyncWrite};
 
-/// A connection on which some bytes come, others once something was written to it, and then its end. What is written is kept.
+/// A connection in memory, which keeps what is written to it.
+///
+/// It yields its first bytes, then later ones once something has been written, and then its end.
 #[derive(Drop)]
 pub struct Wire {
     coming: Bytes,
@@ -16,7 +18,11 @@ pub struct Wire {
 }
 
 impl Wire {
-    /// A connection on which the first bytes come, and the others, if there are any, once something was written.
+    /// Creates a connection that yields `coming`, and `later` once something has been written.
+    ///
+    /// # Errors
+    ///
+    /// `AllocError` if memory runs out.
     pub fn new(alloc: Global, coming: &[u8], later: &[u8]) -> Result<Wire, AllocError> {
         Ok(Wire {
             coming: Bytes::copy_from_slice(alloc, coming)?,
@@ -25,7 +31,7 @@ impl Wire {
         })
     }
 
-    /// What was written.
+    /// Returns what was written.
     pub fn into_written(self) -> Vec<u8> {
         let Wire { written, .. } = self;
         written

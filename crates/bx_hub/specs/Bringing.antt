@@ -1,4 +1,4 @@
--- That every shard was brought up to a note.
+-- Evidence that a hub tried to advance every shard to a note.
 use Rattle.std.specs.Prelude.{ℕ, ◌≡◌, ◌<◌, List, length}
 use Rattle.bx_hub.specs.Walks.{walked_at}
 use Rattle.bx_hub.specs.declared.walk.AllBrought.{AllBrought}
@@ -6,13 +6,13 @@ use Rattle.bx_window.specs.declared.law.Naming as Naming
 use Rattle.bx_window.specs.declared.law.LogStep.{LogStep}
 
 module _ {J : Type 0} {g : Naming.Ghosts J} where
-  -- the step at which a shard was brought up
+  -- A step of the walk that visits shard `index`.
   pub record IsWalked (round : AllBrought J g) (index : ℕ) : Type 0 where
     pub step : ℕ
     pub done : step < length round.stays
     pub is : walked_at round.first round.shards step ≡ index
 
-  -- each of so many shards was brought up to this front
+  -- The walk to `front` visited each of `shards` shards.
   pub record IsOfAll (shards : ℕ) (front : List LogStep) (round : AllBrought J g) : Type 0 where
     pub note : round.note.value ≡ front
     pub all : length round.stays ≡ shards

@@ -1,4 +1,4 @@
--- What is done to shards besides bringing them up.
+-- Pausing, resuming, closing and sweeping shards.
 use Rattle.std.specs.Prelude.{ℕ, ◌≡◌, ◌≢◌, true, length}
 use Rattle.bx_connects.specs.Connects.{unswept}
 use Rattle.bx_shard.specs.States.{State, Swept, WasShut, connect_in}
@@ -7,21 +7,21 @@ use Rattle.bx_hub.specs.declared.{activity.Activity.Activity, desk.evidence.Chan
 use Rattle.bx_hub.specs.declared.activity.Activity.TheVariants.{Active, Paused, Closed}
 use Rattle.bx_hub.specs.declared.desk.evidence.Change.TheVariants.{Pause, Resume, Shut, Sweep}
 
--- whether a shard goes on, after a change
+-- The activity of a shard after a change.
 abbrev pub activity_after : Change → Activity → Activity
 activity_after Pause activity = paused activity
 activity_after Resume activity = resumed activity
 activity_after Shut activity = Closed
 activity_after (Sweep before) activity = activity
 
--- what a change makes of a shard
+-- What a change does to a shard's state.
 abbrev pub MakesOf : Change → State → State → Type 0
 MakesOf Pause old new = new ≡ old
 MakesOf Resume old new = new ≡ old
 MakesOf Shut old new = WasShut old new
 MakesOf (Sweep before) old new = Swept before old new
 
--- how a shard stands after a change
+-- What holds of a shard after a change.
 abbrev pub IsAfter : Change → Activity → State → Type 0
 IsAfter Pause activity s = activity ≢ Active
 IsAfter Resume activity s = activity ≢ Paused
@@ -29,10 +29,10 @@ IsAfter Shut activity s = (activity ≡ Closed) × (s.shut ≡ true)
 IsAfter (Sweep before) activity s = (place : ℕ) → unswept before (connect_in s place) ≡ connect_in s place
 
 module _ {J : Type 0} where
-  -- this was done to this shard
+  -- `change` was applied to shard `shard`.
   abbrev pub IsChanged : ℕ → Change → Changed J → Type 0
   IsChanged shard change changed = (changed.shard.value ≡ shard) × (changed.change.value ≡ change)
 
-  -- this was done to each of so many shards
+  -- `change` was applied to each of `shards` shards.
   abbrev pub AreAllChanged : ℕ → Change → AllChanged J → Type 0
   AreAllChanged shards change all = (length all.done ≡ shards) × (all.change.value ≡ change)

@@ -1,4 +1,4 @@
--- Why a post is refused, and how many shards stay behind.
+-- Why posts are refused, and how many shards lag.
 use Rattle.std.specs.Prelude.{ℕ, ◌≡◌, ◌≢◌, ◌+◌, ◌<◌, List}
 use Rattle.bx_entry.specs.declared.input.AdmitFault.{AdmitFault}
 use Rattle.bx_entry.specs.declared.input.AdmitFault.TheVariants as admissions
@@ -9,16 +9,16 @@ use Rattle.bx_hub.specs.declared.activity.Activity.TheVariants.{Active, Paused, 
 use Rattle.bx_hub.specs.declared.fault.HubFault.TheVariants as stops
 use Rattle.bx_hub.specs.declared.fault.PostFault.TheVariants.{Refused, Memory}
 
--- why nothing is admitted, as why a post is refused
+-- The fault of a post, from the fault of its admission.
 abbrev pub of_admission : AdmitFault → PostFault
 of_admission (admissions.Refused refusal) = Refused refusal
 of_admission admissions.Memory = Memory
 
--- how many shards stay behind
+-- How many shards lag.
 abbrev pub count_of : Lagging → ℕ
 count_of l = l.memory + l.overrun + l.paused + l.closed + l.misplaced
 
--- with one shard more, which this fault stopped
+-- The counts with one more shard, stopped by this fault.
 abbrev pub one_more : HubFault → Lagging → Lagging
 one_more stops.Closed l = record l { closed = l.closed + 1 }
 one_more stops.Paused l = record l { paused = l.paused + 1 }
@@ -26,31 +26,30 @@ one_more (stops.Overrun shard place) l = record l { overrun = l.overrun + 1 }
 one_more stops.Memory l = record l { memory = l.memory + 1 }
 one_more (stops.Misplaced found) l = record l { misplaced = l.misplaced + 1 }
 
--- where the shard of this index is overrun, it is this one that is told, and the window of this front begins past its place; where another is found
--- under its lock, it is another
+-- `Overrun` names this shard and a place before the window; `Misplaced` names another shard.
 abbrev pub IsStopped : HubFault → ℕ → List LogStep → Type 0
 IsStopped (stops.Overrun shard place) index front = (shard ≡ index) × (place < begin_of front)
 IsStopped (stops.Misplaced found) index front = found ≢ index
 IsStopped _ index front = Unit {0}
 
--- an overrun shard stands at the place that is told
+-- `Overrun` reports the shard's own place.
 abbrev pub IsAt : HubFault → ℕ → Type 0
 IsAt (stops.Overrun shard place) stood = place ≡ stood
 IsAt _ stood = Unit {0}
 
--- a closed shard is stopped by that, a paused one by that, and one that is active by neither
+-- A closed shard is stopped by `Closed`, a paused one by `Paused`, and an active one by neither.
 abbrev pub IsStoppedIn : Activity → HubFault → Type 0
 IsStoppedIn Closed f = f ≡ stops.Closed
 IsStoppedIn Paused f = f ≡ stops.Paused
 IsStoppedIn Active f = (f ≡ stops.Closed → ⊥) × (f ≡ stops.Paused → ⊥)
 
--- an active shard that is paused
+-- The activity after a pause: an active shard is paused.
 abbrev pub paused : Activity → Activity
 paused Active = Paused
 paused Paused = Paused
 paused Closed = Closed
 
--- a paused shard that is resumed
+-- The activity after a resume: a paused shard is active.
 abbrev pub resumed : Activity → Activity
 resumed Active = Active
 resumed Paused = Active

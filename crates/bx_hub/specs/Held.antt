@@ -1,4 +1,4 @@
--- What lies under a shard's lock.
+-- What a shard's lock guards.
 use Rattle.std.specs.Prelude.{ℕ, ◌≡◌, ◌≤◌, ◌++◌, ◌∷◌, List, [], length, Option, Some, None, option_map, Result, Ok, Err}
 use mathlib.Core.List.{IsPrefix}
 use Rattle.bx_advice.specs.declared.config.Config.{Config}
@@ -13,35 +13,35 @@ use Rattle.bx_hub.specs.declared.desk.Desk.{Desk}
 use Rattle.bx_window.specs.declared.law.LogStep.{LogStep}
 use Rattle.bx_window.specs.Steps.{list_of}
 
--- the log that the reader has seen, the longest note that was brought, which answers were taken, and the shard
+-- The log that the reader has seen, the longest note, the places of taken answers, and the shard.
 pub record Held : Type 0 where
   pub seen : List LogStep
   pub told : List LogStep
   pub taken : List ℕ
   pub state : State
 
--- The reader has learnt the note, the shard is no further than it, and holds what the definition's shard of its index holds after so many entries of the
--- list that the reader has seen.
+-- The reader has seen the whole note, and the shard is not past the note's end. The shard's state
+-- is what the definition gives at its place in the list that the reader has seen.
 pub record Stands (setup : Setup) (h : Held) : Type 0 where
   pub learnt : IsPrefix h.told h.seen
   pub within : h.state.place ≤ length (list_of h.told)
   pub holds : Refines setup (list_of h.seen) h.taken h.state.index h.state.place h.state
 
--- what lies under a shard's lock, with the shard's state
+-- What a shard's lock guards, read from its desk.
 abbrev pub held_of : {J P : Type 0} {g : Naming.Ghosts J} {h : Placing.Ghosts P} → Desk J P g h → Held
 held_of {J} {P} {g} {h} d = record { seen = d.reader; told = d.note; taken = d.taken; state = state h.place_of d.shard }
 
--- the places of the answers that were taken, once this was said of the ticket of this place
+-- The places of taken answers, with `place` if this poll took one.
 abbrev pub taken_by : {E : Type 0} → Result (Option Answer) E → ℕ → List ℕ → List ℕ
 taken_by (Ok (Some a)) place taken = taken ++ place ∷ []
 taken_by (Ok None) place taken = taken
 taken_by (Err e) place taken = taken
 
--- what one thread gives over the list of a log to the message at a place
+-- The answer of one thread to the message at `place` in a log's list.
 abbrev pub answer_over : Config → List LogStep → ℕ → Option Answer
 answer_over config log place = option_map given_of (answer config (list_of log) place)
 
--- the shard that the ticket names was at the end of this front, under its lock, and had filed no answer under the ticket
+-- Under its lock, the ticket's shard was at the end of `front` and had no answer for the ticket.
 pub record IsLevelWithout (setup : Setup) (ticket : Ticket) (front : List LogStep) : Type 0 where
   pub held : Held
   pub stands : Stands setup held

@@ -1,9 +1,9 @@
--- What stopped each shard that stays behind, and how many those are.
+-- How many shards lag, by what stopped them.
 use Rattle.std.specs.Prelude.{List, [], ◌∷◌, Option, Some, None}
 use Rattle.bx_hub.specs.Faults.{one_more}
 use Rattle.bx_hub.specs.declared.fault.{HubFault.HubFault, Lagging.Lagging}
 
--- how many shards stay behind, by what stopped each of them, if it was stopped
+-- The counts, from the fault of each shard, if it was stopped.
 abbrev pub lagging_of : List (Option HubFault) → Lagging
 lagging_of [] = record { memory = 0; overrun = 0; paused = 0; closed = 0; misplaced = 0 }
 lagging_of (None ∷ stays) = lagging_of stays

@@ -1,16 +1,16 @@
--- How a record goes on with what is listed.
+-- How a record continues and ends.
 use Rattle.std.specs.Prelude.{ℕ, ◌≡◌, List, ◌++◌}
 use Rattle.bx_window.specs.declared.law.LogStep.{LogStep}
 use Rattle.bx_window.specs.declared.law.Naming as Naming
 use Rattle.bx_hub.specs.declared.{admission.RecordEnd.RecordEnd, recording.Recording.Recording}
 
 module _ {J : Type 0} {g : Naming.Ghosts J} where
-  -- the record goes on with this text
+  -- The record continues with `text`, after what waits to be written.
   pub record GoesOn (old : Recording J g) (text : List ℕ) (new : Recording J g) : Type 0 where
     pub from : new.from ≡ old.from
     pub waiting : new.waiting ≡ old.waiting ++ text
 
-  -- what is left of a record that ends: all that waited, up to this front
+  -- A record that ends keeps what waits to be written, up to `front`.
   pub record EndsBefore (old : Recording J g) (front : List LogStep) (end : RecordEnd J g) : Type 0 where
     pub from : end.recording.from ≡ old.from
     pub waiting : end.recording.waiting ≡ old.waiting

@@ -14,27 +14,27 @@ use Rattle.bx_record.specs.Laws.{CanRecord}
 use Rattle.bx_hub.specs.declared.listable.Listable.{Listable}
 use Rattle.bx_hub.specs.declared.listable.Listable.TheVariants as listable
 
--- what was handed in
+-- The input as it arrived.
 abbrev pub input_in : Listable → Input
 input_in (listable.Request r) = Post r.arrival
 input_in (listable.Tick moment) = Tick moment
 
--- its documents; a tick has none
+-- The documents of a request; a tick has none.
 abbrev pub documents_in : Listable → List (List ℕ)
 documents_in (listable.Request r) = texts_of r.arrival.bodies
 documents_in (listable.Tick moment) = []
 
--- a request, where it has messages
+-- The input, if its request has messages.
 abbrev pub where_any : List Message → Input → List Input
 where_any [] input = []
 where_any (m ∷ ms) input = input ∷ []
 
--- what a record has of it: a request without messages adds nothing to the list, and a record has nothing of it
+-- What is recorded of an input; a request without messages, which adds no entries, is left out.
 abbrev pub inputs_by : Listable → List Input
 inputs_by (listable.Request r) = where_any r.messages.items (Post r.arrival)
 inputs_by (listable.Tick moment) = Tick moment ∷ []
 
--- the same, of what was handed in
+-- What is recorded of a request, by the messages read from it.
 abbrev pub input_by : Result (List Message) BodyError → Input → List Input
 input_by (Ok ms) input = where_any ms input
 input_by (Err fault) input = []
@@ -43,16 +43,16 @@ abbrev pub inputs_from : Input → List Input
 inputs_from (Post a) = input_by (arrival_messages a) (Post a)
 inputs_from (Tick moment) = Tick moment ∷ []
 
--- these inputs are the last ones
+-- `last` is the end of `all`.
 pub record EndsIn (all last : List Input) : Type 0 where
   pub before : List Input
   pub is : all ≡ before ++ last
 
--- the list that inputs make, one behind the other
+-- The list that `inputs` make, in order.
 abbrev pub list_by : List Input → List Listed
 list_by inputs = flat_map (λ input. added_by (read_input input)) inputs
 
--- that a record has an input, or all of these, is a fact
+-- `CanRecord`, for one input or for all, is a proposition.
 can_record-prop : (input : Input) → IsProp (CanRecord input)
 can_record-prop (Post a) = hlevel props
 can_record-prop (Tick moment) = hlevel props

@@ -1,4 +1,4 @@
--- What an operator sees of a hub, by the steps of its list.
+-- The state of a hub, as shown to its operator.
 use Rattle.std.specs.Prelude.{List, length}
 use Rattle.bx_advice.specs.declared.config.Config.{Config}
 use Rattle.bx_entry.specs.Registry.{count_live, registry}
@@ -7,7 +7,7 @@ use Rattle.bx_window.specs.Steps.{firsts_of, list_of}
 use Rattle.bx_window.specs.declared.law.LogStep.{LogStep}
 use Rattle.bx_hub.specs.declared.survey.Survey.{Survey}
 
--- what stands in a list, who is live over it, and what its window has
+-- How many entries, live sessions, sessions ever opened and batches in the window exist.
 abbrev pub survey_of : Config → List LogStep → Survey
 survey_of config steps = record {
   entries = length (list_of steps);

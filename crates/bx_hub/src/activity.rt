@@ -1,12 +1,12 @@
-//! Whether a shard goes on.
+//! Whether a shard applies entries.
 
-/// Whether a shard applies what comes.
+/// Whether a shard applies entries.
 #[derive(Clone, Copy)]
 pub(crate) enum Activity {
-    /// It applies what is brought to it.
+    /// The shard applies entries.
     Active,
-    /// It stands still until it is resumed.
+    /// The shard applies nothing until it is resumed.
     Paused,
-    /// The hub was closed.
+    /// The hub is closed.
     Closed,
 }

@@ -1,4 +1,4 @@
-//! What lies under the admission lock.
+//! The state guarded by the admission lock.
 ghost use Rattle.std.specs.Prelude.{◌≡◌, ◌<◌, ◌≤◌, ◌++◌, ◌⊎◌, drop, length, [], None, Some, true, false, is_some, IfOk, IfErr, IfSome, IfNone, MatchOption, OnOk, OnErr};
 ghost use Rattle.std.specs.Option.{ForSome};
 ghost use Rattle.std.specs.List.{All};
@@ -30,27 +30,27 @@ use bx_window::{Bundle, Front, LogWriter, Naming, PublishFault};
 use std::alloc::{AllocError, Global};
 use std::sync::Wait;
 
-/// The log of publishes and trims has fewer steps than this.
+/// The maximum number of steps (publishes and trims) in the window's log.
 const MOST_STEPS: u64 = 1 << 62;
 
-/// What is left of a record that goes no further, and why it does not.
+/// The rest of a record that has ended, and why it ended.
 #[derive(Drop)]
 struct RecordEnd<J: Naming> {
     recording: Recording<J>,
-    // Up to which it goes.
+    // Where the record ends.
     front: Front<J>,
     fault: RecordFault,
     ghost whole: { (recording.inputs ≡ inputs_of front) × (list_by recording.inputs ≡ list_of front) },
 }
 
-/// Who is live, beside the writer of the list, and the record of what is listed, where one is kept.
+/// The registry of sessions, the writer of the list and, if one is kept, the record.
 #[derive(Drop)]
 pub(crate) struct Admission<J: Naming, R: Wait + Drop> {
     registry: Registry,
     closed: bool,
     writer: LogWriter<J, R>,
     recording: Option<Recording<J>>,
-    // Until it is taken out.
+    // Kept until it is taken.
     record_end: Option<RecordEnd<J>>,
     ghost config: { registry.config ≡ J.config },
     ghost counted: { registry.shards ≡ J.config.shards },
@@ -62,7 +62,7 @@ pub(crate) struct Admission<J: Naming, R: Wait + Drop> {
 impl<J: Naming, R: Wait + Drop> Admission<J, R> {
     ghost use Rattle.bx_hub.specs.Recordings.{EndsBefore, GoesOn};
 
-    /// An empty list.
+    /// Creates an open admission with an empty list.
     pub(crate) fn new(
         alloc: Global,
         config: Config,
@@ -81,8 +81,15 @@ impl<J: Naming, R: Wait + Drop> Admission<J, R> {
         })
     }
 
-    /// Takes the messages of a request, or a tick, into the list, which uses it up: what is left of it is given to be
-    /// let go of. Where it is refused, it comes back. A request without messages adds nothing.
+    /// Appends a request or a tick to the list and to the record.
+    ///
+    /// Returns what is left of `wanted`, to be dropped after admission is unlocked. A request
+    /// without messages appends nothing.
+    ///
+    /// # Errors
+    ///
+    /// `wanted`, with `Closed`, `Refused` (its moment, or the length of the list or its log) or
+    /// `Behind` (the window is full), tested in this order; or with `Memory`. Nothing is appended.
     pub(crate) fn admit<P: Placing>(
         &mut self,
         alloc: Global,
@@ -125,7 +132,7 @@ impl<J: Naming, R: Wait + Drop> Admission<J, R> {
         }
     }
 
-    // What was just listed comes behind what was recorded, or the record goes no further than to the front before it.
+    // Adds what was just listed to the record. If that fails, the record ends at `before`.
     fn record(
         &mut self,
         alloc: Global,
@@ -158,8 +165,11 @@ impl<J: Naming, R: Wait + Drop> Admission<J, R> {
         }
     }
 
-    /// Begins to record what is listed from now on, and gives the front of what was listed before: nothing. Where
-    /// something was, that comes, and nothing is changed.
+    /// Starts to record what is appended to the list, which must be empty.
+    ///
+    /// # Errors
+    ///
+    /// The front of the list, if it is not empty; nothing has changed.
     pub(crate) fn start_record(&mut self, alloc: Global) -> Result<RecordFront<J>, Front<J>>
         ensures same { (self.new.registry ≡ self.old.registry) × (self.new.writer ≡ self.old.writer) × (self.new.closed ≡ self.old.closed) }
         ensures started { IfOk result (λ it. (it.front ≡ []) × (self.old.writer ≡ [])
@@ -176,7 +186,7 @@ impl<J: Naming, R: Wait + Drop> Admission<J, R> {
         Ok(start)
     }
 
-    /// Records nothing any more, and lets go of what waits.
+    /// Stops recording, and drops what waits to be written.
     pub(crate) fn stop_record(&mut self)
         ensures same { (self.new.registry ≡ self.old.registry) × (self.new.writer ≡ self.old.writer) × (self.new.closed ≡ self.old.closed) }
         ensures none { (self.new.recording ≡ None) × (self.new.record_end ≡ None) }
@@ -185,7 +195,7 @@ impl<J: Naming, R: Wait + Drop> Admission<J, R> {
         self.record_end = None;
     }
 
-    /// How many bytes of the record wait.
+    /// Returns how many bytes of an active record wait to be written, or 0 without one.
     pub(crate) fn record_waiting(&self) -> usize
         ensures { MatchOption self.now.recording (result ≡ 0) (λ r. result ≡ length r.waiting) }
     {
@@ -195,8 +205,10 @@ impl<J: Naming, R: Wait + Drop> Admission<J, R> {
         }
     }
 
-    /// Takes out what waits of the record, and leaves an empty buffer in its place. Where the record goes no further,
-    /// what is left of it comes once, with the fault. None where nothing is recorded.
+    /// Takes what waits to be written, and leaves the empty buffer `empty` in its place.
+    ///
+    /// If a fault ended the record, returns its rest once, with the fault. Returns `None` if
+    /// nothing is recorded.
     pub(crate) fn take_record(
         &mut self,
         empty: Vec<u8>,
@@ -226,7 +238,7 @@ impl<J: Naming, R: Wait + Drop> Admission<J, R> {
         })
     }
 
-    // Takes it into the list. No messages add nothing.
+    // Appends `wanted` to the list. Without messages, appends nothing.
     #[tactic(auto, using(crate::proofs::Posts::whole_planned))]
     fn list<P: Placing>(
         &mut self,
@@ -265,7 +277,7 @@ impl<J: Naming, R: Wait + Drop> Admission<J, R> {
         self.publish(alloc, pass, plan, inputs_by(wanted))
     }
 
-    // What it comes to behind the list.
+    // Plans the entries and slots of `wanted` at the end of the list.
     #[tactic(auto, using(crate::proofs::Posts::planning))]
     fn plan<P: Placing>(
         &mut self,
@@ -294,7 +306,7 @@ impl<J: Naming, R: Wait + Drop> Admission<J, R> {
         }
     }
 
-    // Shows readers what was planned at this very admission.
+    // Publishes and commits a plan that was made under the same lock.
     fn publish(
         &mut self,
         alloc: Global,
@@ -346,8 +358,13 @@ impl<J: Naming, R: Wait + Drop> Admission<J, R> {
         }
     }
 
-    /// Drops the batches that lie wholly below the least place where the shards stand, and tells a shard that stands
-    /// there. Nothing is dropped where the log has no room for a step more.
+    /// Drops the batches that all shards have applied, and returns a shard at the lowest position.
+    ///
+    /// Drops nothing if the log has no room for another step.
+    ///
+    /// # Errors
+    ///
+    /// `AllocError` if an earlier change still cannot be shown to readers; nothing has changed.
     #[tactic(auto, using(crate::proofs::Places::untrimmable))]
     pub(crate) fn trim(&mut self, least: Least<J>) -> Result<Stood<J>, AllocError>
         requires all { length least.stood ≡ J.config.shards }
@@ -371,7 +388,9 @@ impl<J: Naming, R: Wait + Drop> Admission<J, R> {
         }
     }
 
-    /// How the list and the registry stand. The pass has then seen the whole list.
+    /// Returns the state of the list and the sessions.
+    ///
+    /// `pass` has then seen the whole list.
     pub(crate) fn survey(&mut self, pass: &mut Front<J>) -> Survey
         ensures same { (self.new.registry ≡ self.old.registry) × (self.new.writer ≡ self.old.writer) × (self.new.closed ≡ self.old.closed) × (self.new.recording ≡ self.old.recording) × (self.new.record_end ≡ self.old.record_end) }
         ensures seen { IsPrefix pass.old pass.new }
@@ -387,14 +406,14 @@ impl<J: Naming, R: Wait + Drop> Admission<J, R> {
         }
     }
 
-    /// Whether it takes no more entries.
+    /// Returns `true` if admission is closed.
     pub(crate) fn is_closed(&self) -> bool
         ensures { result ≡ self.now.closed }
     {
         self.closed
     }
 
-    /// No more entries. No shard was shut with that yet.
+    /// Closes admission, and returns evidence of that, with no shard closed yet.
     pub(crate) fn close(&mut self) -> AllChanged<J>
         ensures closed { self.new.closed ≡ true }
         ensures none { (result.change.value ≡ changes.Shut) × (result.done ≡ []) }

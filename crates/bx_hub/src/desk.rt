@@ -1,4 +1,4 @@
-//! What lies under a shard's lock.
+//! A shard's state, guarded by its lock.
 ghost use Rattle.std.specs.Prelude.{◌≡◌, ◌+◌, ◌<◌, ◌≤◌, ◌⊎◌, ◌++◌, ◌∷◌, [], length, take, nat_eq, ℕ, if◌then◌else◌, is_some, true, Ok, Some, None, OnOk, IfOk, IfErr, IfSome, IfNone};
 ghost use Rattle.std.specs.Arc.{arc_value};
 ghost use mathlib.Core.List.{IsPrefix};
@@ -36,13 +36,16 @@ use std::alloc::Global;
 use std::snapshot::Snapshot;
 use std::sync::Arc;
 
-/// A shard, with its reader of the window and the longest note that was brought to it. It holds what the definition's
-/// shard of its index holds after so many entries of the list that the reader has seen.
+/// A shard with its reader of the window and the longest note that it has learned.
+///
+/// The shard never advances past the end of that note. Its state is what the model gives for the
+/// entries that it has applied.
 #[derive(Drop)]
 pub(crate) struct Desk<J: Naming, P: Placing> {
     shard: Shard<P>,
     reader: LogReader<J>,
     note: Front<J>,
+    // Ghost: the places of the answers that were taken or swept.
     taken: History<u64>,
     activity: Activity,
     ghost learnt: { take (length note) reader ≡ note },
@@ -60,7 +63,7 @@ impl<J: Naming, P: Placing> Desk<J, P> {
     ghost use Rattle.bx_hub.specs.Waking.{put_of};
     ghost use Rattle.bx_shard.specs.Refining.{swept_places};
 
-    /// The shard of this index, which has applied nothing.
+    /// Creates shard `index`, which has applied no entries.
     pub(crate) fn new(
         alloc: Global,
         index: usize,
@@ -83,7 +86,7 @@ impl<J: Naming, P: Placing> Desk<J, P> {
         }
     }
 
-    /// How many entries were applied.
+    /// Returns how many entries the shard has applied.
     pub(crate) fn place(&self) -> u64
         ensures place { result ≡ self.now.shard.place }
         ensures stands { Stands (setup_of J.config J.placing) (held_of self.now) }
@@ -91,7 +94,7 @@ impl<J: Naming, P: Placing> Desk<J, P> {
         self.shard.place()
     }
 
-    /// All that the reader has seen, which the longest note begins.
+    /// Returns what the reader has seen, of which the longest note is a prefix.
     pub(crate) fn front(&self) -> Front<J>
         ensures all { result ≡ self.now.reader }
         ensures longer { IsPrefix self.now.note result }
@@ -99,16 +102,14 @@ impl<J: Naming, P: Placing> Desk<J, P> {
         self.reader.note()
     }
 
-    /// Which shard it is.
+    /// Returns the shard's index.
     pub(crate) fn index(&self) -> usize
         ensures { result ≡ self.now.shard.index }
     {
         self.shard.index()
     }
 
-    // Brings the shard up to the longest note, this one included; its gate is passed before and after. A shard that is
-    // closed or paused learns the note alone. The wakers beside connects that are answered are put into the list, and
-    // no others.
+    // Advances the shard as `bring_to` does, and returns the fault that stopped it, if any.
     fn bring<G: Gate>(
         &mut self,
         alloc: Global,
@@ -140,9 +141,10 @@ impl<J: Naming, P: Placing> Desk<J, P> {
         }
     }
 
-    /// Brings the shard up to the longest note, this one included, and says how it then stands to this one, and which
-    /// wakers it put into the list: those beside the connects that are answered. The gate of the shard is passed before
-    /// and after. A shard that is closed or paused learns the note alone.
+    /// Learns `note`, and advances the shard to the end of the longest note.
+    ///
+    /// Passes the shard's gate before and after. A closed or paused shard only learns the note.
+    /// Adds the wakers of answered connects to `wakers`.
     #[tactic(auto, using(crate::proofs::Lists::list_length))]
     pub(crate) fn bring_to<G: Gate>(
         &mut self,
@@ -168,9 +170,15 @@ impl<J: Naming, P: Placing> Desk<J, P> {
         Brought::of(self, note, stays, woken)
     }
 
-    /// Brings the shard up to the longest note, as `bring_to` does, and says where it then stands, and which wakers it
-    /// put into the list. It is refused where the shard is overrun, there; the pass then has seen all that the shard's
-    /// reader has.
+    /// Advances the shard as [`bring_to`](Self::bring_to) does, and returns its position.
+    ///
+    /// Also returns which wakers it added to `wakers`. Only an overrun is an error. After any other
+    /// fault, the shard stays at the position that is returned.
+    ///
+    /// # Errors
+    ///
+    /// `Overrun`, with the position, if the window no longer has the shard's next entry. `pass` has
+    /// then seen all that the reader has.
     pub(crate) fn stand<G: Gate>(
         &mut self,
         alloc: Global,
@@ -202,7 +210,7 @@ impl<J: Naming, P: Placing> Desk<J, P> {
         }
     }
 
-    // Learns a note.
+    // Learns `note`, and keeps the longer note.
     fn learn(&mut self, note: &Front<J>)
         ensures old { IsPrefix self.old.note self.new.note }
         ensures told { IsPrefix note.now self.new.note }
@@ -230,7 +238,7 @@ impl<J: Naming, P: Placing> Desk<J, P> {
         Ok(())
     }
 
-    // The batch that has the next entry.
+    // Returns the batch that has the next entry.
     fn next_batch(&mut self) -> Result<Arc<Batch, Global>, HubFault>
         requires { self.old.shard.place < length (list_of self.old.note) }
         ensures same { (self.new.note ≡ self.old.note) × (self.new.shard ≡ self.old.shard) × (self.new.taken ≡ self.old.taken) × (self.new.activity ≡ self.old.activity) }
@@ -250,7 +258,7 @@ impl<J: Naming, P: Placing> Desk<J, P> {
         }
     }
 
-    // Applies the entries of a batch from the next one on, as far as the end.
+    // Applies the rest of `batch`, up to place `end`.
     fn apply_batch(
         &mut self,
         alloc: Global,
@@ -278,7 +286,7 @@ impl<J: Naming, P: Placing> Desk<J, P> {
         Ok(())
     }
 
-    // Applies the next entry.
+    // Applies the next entry, which is at `place`.
     fn step(
         &mut self,
         alloc: Global,
@@ -296,7 +304,7 @@ impl<J: Naming, P: Placing> Desk<J, P> {
         ensures stopped { IfErr result (λ f. f ≡ faults.Memory) }
         ensures kept { (self.new.shard.index ≡ self.old.shard.index) × (self.new.taken ≡ self.old.taken) × (self.new.activity ≡ self.old.activity) }
     {
-        // Read for the prover: the contract of `len` bounds the length of the list, and so the next place.
+        // Prover: the contract of `len` bounds the list's length, and so the next place.
         let _end = self.note.len();
         match self.shard.apply(alloc, entry_of(batch, place), wakers) {
             Ok(()) => Ok(()),
@@ -304,8 +312,7 @@ impl<J: Naming, P: Placing> Desk<J, P> {
         }
     }
 
-    // The answer that is filed under a ticket, which is taken with that: it is given once. It is what the list of the
-    // longest note that was brought gives.
+    // Takes the answer filed under `ticket`, if any.
     fn take(&mut self, ticket: Ticket) -> Option<Answer>
         ensures answer { IfSome result (λ a. answer_over J.config self.old.note ticket.place ≡ Some a) }
         ensures filed { result ≡ (if nat_eq ticket.shard self.old.shard.index then filed_answer (connect_in (state P.place_of self.old.shard) ticket.place) else None) }
@@ -324,9 +331,16 @@ impl<J: Naming, P: Placing> Desk<J, P> {
         }
     }
 
-    /// Gives the answer that is filed under a ticket; else brings the shard up to the longest note, the pass's
-    /// included, and looks again. The pass then has seen no less than that note. Says which wakers it put into the
-    /// list: those beside the connects that are answered.
+    /// Takes the answer filed under `ticket`, if any.
+    ///
+    /// If there is none, advances the shard to the end of the longest note, including `pass`, and
+    /// looks again. `pass` has then seen at least that note. Also returns which wakers it added to
+    /// `wakers`.
+    ///
+    /// # Errors
+    ///
+    /// If no answer is filed: `Closed`, `Paused`, `Overrun` or `Memory`, whichever stopped the
+    /// shard.
     #[tactic(auto, using(crate::proofs::Held::over_longer))]
     pub(crate) fn poll<G: Gate>(
         &mut self,
@@ -368,7 +382,10 @@ impl<J: Naming, P: Placing> Desk<J, P> {
         }
     }
 
-    /// Leaves a waker beside a held connect of its own, as the shard does, and says what the shard said.
+    /// Registers `waker` with a held connect of this shard.
+    ///
+    /// Returns the shard's result and evidence of it. A waker that is replaced or not stored comes
+    /// back in the result.
     #[tactic(auto, using(crate::proofs::Watches::holds_after, crate::proofs::Watches::back_of))]
     pub(crate) fn watch(&mut self, ticket: Ticket, waker: Waker) -> (Watch, Watching<J>)
         requires own { ticket.shard ≡ self.old.shard.index }
@@ -386,7 +403,7 @@ impl<J: Naming, P: Placing> Desk<J, P> {
         (said, watching)
     }
 
-    // Leaves a waker beside a held connect of its own, as the shard does.
+    // Registers `waker` with a held connect of this shard.
     fn leave(&mut self, ticket: Ticket, waker: Waker) -> Watch
         requires own { ticket.shard ≡ self.old.shard.index }
         ensures watch { result ≡ watched self.old.shard.is_shut waker
@@ -398,7 +415,7 @@ impl<J: Naming, P: Placing> Desk<J, P> {
         self.shard.watch(ticket, waker)
     }
 
-    /// Does this to the shard, and says so.
+    /// Applies `change` to the shard, and returns evidence of that.
     #[tactic(auto, using(crate::proofs::Changes::unswept_twice, crate::proofs::Changes::paused_stands, crate::proofs::Changes::resumed_goes))]
     pub(crate) fn change(&mut self, change: Change) -> Changed<J>
         ensures shard { result.shard.value ≡ self.old.shard.index }
@@ -425,7 +442,8 @@ impl<J: Naming, P: Placing> Desk<J, P> {
         Changed::of(self, change, dropped)
     }
 
-    // Drops the answers that were filed by entries below this place and that nobody took, and says how many they were.
+    // Drops the answers that were filed by entries before place `before` and never taken. Returns
+    // how many.
     fn sweep(&mut self, before: u64) -> usize
         ensures swept { Swept before (state P.place_of self.old.shard) (state P.place_of self.new.shard) }
         ensures count { result ≡ count_filed_below before self.old.shard.sessions.connects }
@@ -437,7 +455,7 @@ impl<J: Naming, P: Placing> Desk<J, P> {
         self.shard.sweep(before)
     }
 
-    /// How the shard stands.
+    /// Returns the state of the shard.
     pub(crate) fn survey(&self) -> ShardSurvey
         ensures place { result.place ≡ self.now.shard.place }
         ensures held { result.held ≡ length (keys_of self.now.shard.sessions.connects.held) }
@@ -451,7 +469,7 @@ impl<J: Naming, P: Placing> Desk<J, P> {
         }
     }
 
-    // The shard goes no further until it is resumed.
+    // Pauses the shard, if it is active.
     fn pause(&mut self)
         ensures same { (self.new.shard ≡ self.old.shard) × (self.new.note ≡ self.old.note) × (self.new.reader ≡ self.old.reader) × (self.new.taken ≡ self.old.taken) }
         ensures paused { self.new.activity ≡ paused self.old.activity }
@@ -461,7 +479,7 @@ impl<J: Naming, P: Placing> Desk<J, P> {
         }
     }
 
-    // The shard may be brought up again, which the next call does that asks for it; a closed one stays closed.
+    // Resumes the shard, if it is paused. The next call that advances shards advances it.
     fn resume(&mut self)
         ensures same { (self.new.shard ≡ self.old.shard) × (self.new.note ≡ self.old.note) × (self.new.reader ≡ self.old.reader) × (self.new.taken ≡ self.old.taken) }
         ensures resumed { self.new.activity ≡ resumed self.old.activity }
@@ -471,7 +489,8 @@ impl<J: Naming, P: Placing> Desk<J, P> {
         }
     }
 
-    // The shard goes no further and stores no waker from here on. What is filed can still be taken.
+    // Closes the shard: it applies nothing and stores no wakers from now on. Wakes the tasks of
+    // held connects. Filed answers can still be taken.
     fn close(&mut self)
         ensures shut { WasShut (state P.place_of self.old.shard) (state P.place_of self.new.shard) }
         ensures closed { self.new.activity ≡ Closed }
@@ -482,7 +501,7 @@ impl<J: Naming, P: Placing> Desk<J, P> {
     }
 }
 
-// The places of the connects whose answers a sweep drops.
+// Ghost: the places of the messages whose answers a sweep drops.
 struct SweptPlaces;
 
 impl<'a, P: Placing> Lists<(u64, &'a Shard<P>), u64> for SweptPlaces {

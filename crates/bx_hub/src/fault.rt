@@ -1,4 +1,4 @@
-//! What posts and ticks are answered, and why the hub refuses.
+//! Results of posts and ticks, and the faults of the hub.
 ghost use Rattle.std.specs.Prelude.{◌≡◌, ◌+◌, ◌<◌, ◌^◌};
 ghost use Rattle.bx_hub.specs.declared.fault.PostFault.TheVariants as faults;
 ghost use Rattle.bx_hub.specs.Faults.{count_of, of_admission, one_more};
@@ -9,43 +9,43 @@ use bx_message::Sequence;
 use bx_window::Naming;
 use std::alloc::AllocError;
 
-/// Where the messages of a request stand, and how they are answered.
+/// The result of a post: the places of its messages, and how each is answered.
 #[derive(Drop)]
 pub struct PostReceipt<J: Naming> {
-    /// The place of the first message; of a request without messages the length of the list.
+    /// The place of the first message, or the list's length if there are no messages.
     pub first: u64,
-    /// For each message in order its reply, or the ticket of a connect or a rider.
+    /// For each message in order, its reply or the ticket of a connect or a rider.
     pub slots: Sequence<Slot>,
-    /// What came of bringing the shards up to it: how many have not applied the whole request.
+    /// How many shards have not applied the whole request, and why.
     pub brought: AllBrought<J>,
 }
 
-/// Where a tick stands.
+/// The result of a tick.
 #[derive(Drop)]
 pub struct TickReceipt<J: Naming> {
     /// The place of the tick.
     pub place: u64,
-    /// What came of bringing the shards up to it: how many have not applied the tick.
+    /// How many shards have not applied the tick, and why.
     pub brought: AllBrought<J>,
 }
 
-/// How many shards stayed behind, by what stopped them.
+/// Number of shards that lag, by what stopped them.
 #[derive(Clone, Copy, Debug, PartialEq, Eq)]
 pub struct Lagging {
-    /// Memory was refused.
+    /// Memory ran out.
     pub memory: usize,
-    /// The window begins past the place where the shard stands.
+    /// The window begins after the shard's position.
     pub overrun: usize,
     /// The shard is paused.
     pub paused: usize,
-    /// The hub was closed.
+    /// The hub is closed.
     pub closed: usize,
-    /// Another shard stood under the lock of this one.
+    /// The shard's lock guards another shard.
     pub misplaced: usize,
 }
 
 impl Lagging {
-    /// No shard stayed behind.
+    /// Creates counts of zero.
     pub fn none() -> Lagging
         ensures { result ≡ record { memory = 0; overrun = 0; paused = 0; closed = 0; misplaced = 0 } }
     {
@@ -58,7 +58,7 @@ impl Lagging {
         }
     }
 
-    /// One shard more, which was stopped by this fault.
+    /// Counts one more shard, which `fault` stopped.
     pub(crate) fn with(self, fault: HubFault) -> Lagging
         requires { count_of self + 1 < 2 ^ 64 }
         ensures which { result ≡ one_more fault self }
@@ -89,36 +89,40 @@ impl Lagging {
     }
 }
 
-/// Why a post or a tick is refused.
+/// The reason why a post or a tick is refused.
 #[derive(Clone, Copy, Debug, PartialEq, Eq)]
 pub enum PostFault {
-    /// It is refused by the rules; `Ended` also where the log of publishes and trims has no room for one more.
+    /// A rule refuses the post or tick.
+    ///
+    /// `Ended` also means that the window's log has no room for another step.
     Refused(Refusal),
-    /// The hub was closed.
+    /// The hub is closed.
     Closed,
-    /// The window is full, since some shard stands below its second batch. Its oldest batch begins at `first`.
+    /// The window is full: some shard has not applied the oldest batch, which begins at `first`.
     Behind { first: u64 },
-    /// The window is full, and begins past the place where this shard stands.
+    /// The window is full, and begins after `place`, the position of `shard`.
     Overrun { shard: usize, place: u64 },
-    /// The window is full, and under the lock of this shard stood another one, as with `HubFault`.
+    /// The window is full, and the lock of `shard` guards `found`, as in [`HubFault::Misplaced`].
     Misplaced { shard: usize, found: usize },
-    /// Memory was refused.
+    /// Memory ran out.
     Memory,
 }
 
-/// Why there is no telling whether an answer is filed.
+/// The reason why a shard did not advance, or why a poll found no answer.
 #[derive(Clone, Copy, Debug, PartialEq, Eq)]
 pub enum HubFault {
-    /// The hub was closed, and the answer was not filed before.
+    /// The hub is closed.
     Closed,
-    /// The shard is paused, and the answer was not filed before.
+    /// The shard is paused.
     Paused,
-    /// The window begins past the place where this shard stands.
+    /// The window begins after `place`, the position of `shard`.
     Overrun { shard: usize, place: u64 },
-    /// Memory was refused.
+    /// Memory ran out.
     Memory,
-    /// Under the lock of the shard that was asked for stood this other one. The hub puts each under the lock of its own
-    /// index, which no clause can say across a lock.
+    /// The shard's lock guards shard `found`.
+    ///
+    /// This does not happen, since each shard stays under the lock of its index, but no contract
+    /// can state it.
     Misplaced { found: usize },
 }
 

@@ -1,4 +1,4 @@
-//! The calls of the hub: which locks each takes, and in which order.
+//! The hub, a server for many threads: its calls, and the locks that they take.
 ghost use Rattle.std.specs.Prelude.{◌≡◌, ◌≢◌, ◌⊎◌, ◌≤◌, ◌<◌, ◌++◌, [], length, Ok, None, Some, IsErr, OnOk, IfOk, IfErr, IfSome, IfNone, is_some, nat_lt};
 ghost use Rattle.std.specs.Arc.{arc_value};
 ghost use mathlib.Core.List.{IsPrefix};
@@ -28,18 +28,21 @@ use std::alloc::{AllocError, Global};
 use std::snapshot::Snapshot;
 use std::sync::{Arc, Mutex, MutexGuard, Wait};
 
-// A post that reaches another multiple of so many places lets the window go of what all shards have passed, so that its
-// memory is used again while it is in a processor's cache. (This server's choice.)
+// Posts trim the window at each multiple of this place, so that its memory is reused while it is in
+// a processor's cache. Policy of this server.
 const TRIM_EVERY: u64 = 64;
 
-/// What a caller has seen of the list of a hub: it grows with the caller's calls, and by what others tell.
+/// The part of a hub's list that a caller has seen.
+///
+/// It only grows, by the caller's calls and by what others share.
 pub type Pass<J> = Front<J>;
 
-/// The server for any number of threads. Requests and ticks go into one list under one lock; each shard applies the
-/// list under a lock of its own, at its own pace.
+/// The server for any number of threads.
 ///
-/// Contracts follow a caller by its pass: what it has seen of the list only grows, and what it is given is what one
-/// thread gives over that.
+/// Requests and ticks are appended to one list, under the admission lock. Each shard applies the
+/// list under its own lock, at its own pace.
+///
+/// A caller gets what a single thread would give it for the entries that its [`Pass`] has seen.
 #[derive(Drop)]
 pub struct Hub<J: Naming, P: Placing, G: Gate + Drop, R: Wait + Drop> {
     placing: Arc<P, Global>,
@@ -66,7 +69,11 @@ impl<J: Naming, P: Placing, G: Gate + Drop, R: Wait + Drop> Hub<J, P, G, R> {
     ghost use Rattle.bx_hub.specs.Watches.{IsBack, IsToldOf};
     ghost use Rattle.bx_hub.specs.declared.desk.evidence.Change.TheVariants as changes;
 
-    /// A hub over an empty list, for the configuration's number of shards. An error means that memory was refused.
+    /// Creates a hub with an empty list and `config.shards` shards.
+    ///
+    /// # Errors
+    ///
+    /// `AllocError` if memory runs out.
     pub fn new(
         alloc: Global,
         rt: R,
@@ -104,19 +111,35 @@ impl<J: Naming, P: Placing, G: Gate + Drop, R: Wait + Drop> Hub<J, P, G, R> {
         })
     }
 
-    /// A pass that has seen nothing.
+    /// Returns a pass that has seen no entries.
     pub fn pass(&self) -> Pass<J>
         ensures { result ≡ [] }
     {
         self.start.again()
     }
 
-    /// Takes the messages of a request into the list, and brings each shard up. It is refused, in this order, where its
-    /// documents cannot be read as messages, its door does not let these in, the hub was closed, its moment is above
-    /// the greatest that is taken, the list would become too long, or the window is full. A request without messages
-    /// adds nothing. To list a request uses it up; one that is refused comes back. Who waits for a connect that it
-    /// answers is woken under no shard's lock; where the window is full, under admission's. Every so many places the
-    /// window then lets go of what all shards have passed.
+    /// Appends a request to the list and advances every shard.
+    ///
+    /// Consumes `arrival` on success and returns it on error. A request without messages appends
+    /// nothing. Trims the window at each multiple of `TRIM_EVERY`.
+    ///
+    /// # Errors
+    ///
+    /// The first of these that applies; nothing is appended:
+    ///
+    /// - `Refused(Body(_))`: the documents are not messages, or the read-only listener forbids
+    ///   them.
+    /// - `Closed`: [`close`](Self::close) was called.
+    /// - `Refused(BadMoment)`, `Refused(Ended)`: the moment is too large, or the list too long.
+    /// - `Overrun`, `Misplaced`, `Behind`: the window is full, and advancing the shards made no
+    ///   room.
+    /// - `Memory`: memory ran out, at any step.
+    ///
+    /// # Blocking
+    ///
+    /// Locks admission, then each shard in turn. Tasks are woken after their shard is unlocked, or
+    /// before if memory runs out. If the window is full, all of this also happens while admission
+    /// is locked. Trimming takes all locks again.
     pub fn post<W: Wait>(
         &self,
         rt: &W,
@@ -157,8 +180,17 @@ impl<J: Naming, P: Placing, G: Gate + Drop, R: Wait + Drop> Hub<J, P, G, R> {
         })
     }
 
-    /// Takes a tick of the clock into the list; its moment is in milliseconds. It brings each shard up, and is refused
-    /// as a request with one message is. The window then lets go of what all shards have passed.
+    /// Appends a tick, advances every shard and trims the window.
+    ///
+    /// `moment`: milliseconds since the server started.
+    ///
+    /// # Errors
+    ///
+    /// As [`post`](Self::post), except `Body`; nothing is appended.
+    ///
+    /// # Blocking
+    ///
+    /// As [`post`](Self::post).
     pub fn tick<W: Wait>(
         &self,
         rt: &W,
@@ -186,8 +218,8 @@ impl<J: Naming, P: Placing, G: Gate + Drop, R: Wait + Drop> Hub<J, P, G, R> {
         })
     }
 
-    // Takes it into the list; where the window is full, once more with the room that the shards leave. Where it is
-    // refused, it comes back; else what is left of it comes, and is let go of once admission is unlocked.
+    // Appends `wanted`, making room first if the window is full. Returns it on error, and otherwise
+    // what is left of it, to be dropped after admission is unlocked.
     fn admit<W: Wait>(
         &self,
         rt: &W,
@@ -220,8 +252,7 @@ impl<J: Naming, P: Placing, G: Gate + Drop, R: Wait + Drop> Hub<J, P, G, R> {
         }
     }
 
-    // Lets the full window go of what all shards have passed, once they were brought up, and tells one that stands at
-    // the least place.
+    // Advances every shard, trims the full window, and returns a shard at the lowest position.
     fn make_room<W: Wait>(
         &self,
         rt: &W,
@@ -241,7 +272,7 @@ impl<J: Naming, P: Placing, G: Gate + Drop, R: Wait + Drop> Hub<J, P, G, R> {
         }
     }
 
-    // Lets the window go of what all shards have passed. Where there is no memory for that, a later call does it.
+    // Trims the entries that all shards have applied. If memory runs out, a later call does it.
     fn let_go<W: Wait>(&self, rt: &W) {
         let mut least = Least::new();
         for index in 0..self.desks.len() {
@@ -255,8 +286,8 @@ impl<J: Naming, P: Placing, G: Gate + Drop, R: Wait + Drop> Hub<J, P, G, R> {
         let _ = self.admission.lock(rt).trim(least);
     }
 
-    // Brings each shard up to the end of what was seen, and tells the least place where one stands. Who waited for what
-    // a shard answers is woken once its lock is let go.
+    // Advances every shard to the end of `pass` and returns the lowest position. Wakes tasks as in
+    // `post`.
     fn bring_least<W: Wait>(
         &self,
         rt: &W,
@@ -276,8 +307,8 @@ impl<J: Naming, P: Placing, G: Gate + Drop, R: Wait + Drop> Hub<J, P, G, R> {
         Ok(least)
     }
 
-    // Brings a shard up to the end of what was seen, and tells where it stands. The wakers of those who waited for what
-    // it answers are put into the list, which whoever made it drops once the shard's lock is let go.
+    // Advances a shard to the end of `pass` and returns its position. Adds the wakers of answered
+    // connects to `wakers`. Dropping that list, once the shard is unlocked, wakes their tasks.
     fn stand_one<W: Wait>(
         &self,
         rt: &W,
@@ -310,7 +341,7 @@ impl<J: Naming, P: Placing, G: Gate + Drop, R: Wait + Drop> Hub<J, P, G, R> {
         }
     }
 
-    // Brings each shard up to the note, from one on and in a circle, and says what came of it.
+    // Advances every shard to the end of `note`, and reports how many lag and why.
     #[tactic(auto, using(crate::proofs::Walks::all_walked))]
     fn bring_all<W: Wait>(&self, rt: &W, alloc: Global, note: &Front<J>) -> AllBrought<J>
         ensures { IsOfAll J.config.shards note.now result }
@@ -325,8 +356,7 @@ impl<J: Naming, P: Placing, G: Gate + Drop, R: Wait + Drop> Hub<J, P, G, R> {
         round
     }
 
-    // Brings a shard up to the note. The wakers of those who waited for what it answers are put into the list, which
-    // whoever made it drops once the shard's lock is let go.
+    // Advances a shard to the end of `note`. Adds wakers as `stand_one` does.
     fn bring_one<W: Wait>(
         &self,
         rt: &W,
@@ -345,7 +375,9 @@ impl<J: Naming, P: Placing, G: Gate + Drop, R: Wait + Drop> Hub<J, P, G, R> {
         }
     }
 
-    // The desk of a shard, under its lock, or another one that stands there.
+    // Locks a shard. Returns `Err` if the lock guards another one.
+    //
+    // Prover: no contract can state which shard a lock guards, so every call checks.
     fn desk<W: Wait>(
         &self,
         rt: &W,
@@ -363,10 +395,25 @@ impl<J: Naming, P: Placing, G: Gate + Drop, R: Wait + Drop> Hub<J, P, G, R> {
         }
     }
 
-    /// The answer to a connect or a rider, where its shard has filed one, or files one while it is brought up to what
-    /// the pass has seen. A ticket that names no shard has none. A filed answer is given even where the hub was closed.
-    /// Else it is refused where the shard is closed, paused or overrun, or memory is refused; and where another shard
-    /// stands under its lock.
+    /// Takes the answer to a connect or a rider, if it is filed.
+    ///
+    /// If it is not, advances the ticket's shard to the end of `pass` and looks again. Returns
+    /// `None` if there is still no answer, or if `ticket` names no shard. A filed answer can be
+    /// taken even after [`close`](Self::close).
+    ///
+    /// # Errors
+    ///
+    /// `Misplaced` if the shard's lock guards another shard. Otherwise, if no answer is filed:
+    ///
+    /// - `Closed`, `Paused`: the hub is closed, or the shard paused.
+    /// - `Overrun`: the window no longer has the shard's next entry.
+    /// - `Memory`: memory ran out.
+    ///
+    /// On error no answer is taken.
+    ///
+    /// # Blocking
+    ///
+    /// Locks the ticket's shard. Tasks are woken as in [`post`](Self::post).
     pub fn poll_answer<W: Wait>(
         &self,
         rt: &W,
@@ -388,8 +435,7 @@ impl<J: Naming, P: Placing, G: Gate + Drop, R: Wait + Drop> Hub<J, P, G, R> {
         answer
     }
 
-    // The answer, from a shard that is there, as `poll_answer` gives it. The wakers of those who waited for what the
-    // shard answers are put into the list, which whoever made it drops once the shard's lock is let go.
+    // Polls a shard that exists, as `poll_answer` does. Adds wakers as `stand_one` does.
     fn poll_one<W: Wait>(
         &self,
         rt: &W,
@@ -415,10 +461,16 @@ impl<J: Naming, P: Placing, G: Gate + Drop, R: Wait + Drop> Hub<J, P, G, R> {
         }
     }
 
-    /// Leaves a waker beside a held connect, and gives the older one there back. Once the connect is answered, the
-    /// waker is woken by the call that brought the shard up, after that has let go of the shard's lock. The waker comes
-    /// back where an answer is filed, where the hub was closed, and where the ticket is of no held connect of its
-    /// shard. A ticket that names no shard is unknown, and no shard says so.
+    /// Registers `waker` with a held connect, and returns the waker that it replaces.
+    ///
+    /// Returns `waker` itself if an answer is filed (`Ready`), no connect is held under `ticket`
+    /// (`Unknown`), or the hub is closed (`Shut`). The second value proves the shard's result, and
+    /// is `None` if `ticket` names no shard.
+    ///
+    /// # Blocking
+    ///
+    /// Locks the ticket's shard. The call that answers the connect wakes `waker`, as in
+    /// [`post`](Self::post). [`close`](Self::close) wakes it while the shard is locked.
     pub fn watch<W: Wait>(
         &self,
         rt: &W,
@@ -446,7 +498,13 @@ impl<J: Naming, P: Placing, G: Gate + Drop, R: Wait + Drop> Hub<J, P, G, R> {
         }
     }
 
-    /// How the list and who is live stand. The pass has then seen the whole list.
+    /// Returns the state of the list and the sessions.
+    ///
+    /// `pass` has then seen the whole list.
+    ///
+    /// # Blocking
+    ///
+    /// Locks admission.
     pub fn survey<W: Wait>(&self, rt: &W, pass: &mut Pass<J>) -> Survey
         ensures seen { IsPrefix pass.old pass.new }
         ensures counted { result ≡ survey_of J.config pass.new }
@@ -454,7 +512,11 @@ impl<J: Naming, P: Placing, G: Gate + Drop, R: Wait + Drop> Hub<J, P, G, R> {
         self.admission.lock(rt).survey(pass)
     }
 
-    /// How a shard stands; none where no shard has this index.
+    /// Returns the state of a shard, or `None` if it does not exist.
+    ///
+    /// # Blocking
+    ///
+    /// Locks the shard.
     pub fn survey_shard<W: Wait>(&self, rt: &W, shard: usize) -> Option<ShardSurvey>
         ensures { is_some result ≡ nat_lt shard J.config.shards }
     {
@@ -462,8 +524,15 @@ impl<J: Naming, P: Placing, G: Gate + Drop, R: Wait + Drop> Hub<J, P, G, R> {
         Some(desk.lock(rt).survey())
     }
 
-    /// Begins to record what is listed, and gives the front of what was listed before: nothing. Where something was,
-    /// that comes, and then nothing changes.
+    /// Starts to record what is appended to the list, which must be empty.
+    ///
+    /// # Errors
+    ///
+    /// The front of the list, if it is not empty; nothing has changed.
+    ///
+    /// # Blocking
+    ///
+    /// Locks admission.
     pub fn start_record<W: Wait>(&self, rt: &W, alloc: Global) -> Result<RecordFront<J>, Front<J>>
         ensures started { IfOk result (λ it. it.front ≡ []) }
         ensures refused { IfErr result (λ front. 0 < length front) }
@@ -471,13 +540,27 @@ impl<J: Naming, P: Placing, G: Gate + Drop, R: Wait + Drop> Hub<J, P, G, R> {
         self.admission.lock(rt).start_record(alloc)
     }
 
-    /// How many bytes of the record wait.
+    /// Returns how many bytes wait to be written to the record, or 0 once it has ended.
+    ///
+    /// # Blocking
+    ///
+    /// Locks admission.
     pub fn record_waiting<W: Wait>(&self, rt: &W) -> usize {
         self.admission.lock(rt).record_waiting()
     }
 
-    /// Takes out what waits of the record, for whoever writes it, and leaves an empty buffer in its place. What is left
-    /// of a record that goes no further comes once, with the fault. Else nothing is recorded, as admission then says.
+    /// Takes what waits to be written to the record, and leaves the empty buffer `empty` in its
+    /// place.
+    ///
+    /// If a fault ended the record, returns its rest once, with the fault.
+    ///
+    /// # Errors
+    ///
+    /// `Unrecorded` if nothing is recorded; nothing has changed.
+    ///
+    /// # Blocking
+    ///
+    /// Locks admission.
     pub fn take_record<W: Wait>(
         &self,
         rt: &W,
@@ -492,14 +575,22 @@ impl<J: Naming, P: Placing, G: Gate + Drop, R: Wait + Drop> Hub<J, P, G, R> {
         }
     }
 
-    /// Records nothing any more, and lets go of what waits. Admission then says so.
+    /// Stops recording, drops what waits to be written, and returns evidence of that.
+    ///
+    /// # Blocking
+    ///
+    /// Locks admission.
     pub fn stop_record<W: Wait>(&self, rt: &W) -> Unrecorded<J> {
         let mut admission = self.admission.lock(rt);
         admission.stop_record();
         Unrecorded::of(&*admission)
     }
 
-    /// Drops the answers that were filed by entries below this place and that nobody took, in every shard.
+    /// Drops the answers that were filed by entries before place `before` and never taken.
+    ///
+    /// # Blocking
+    ///
+    /// Locks each shard in turn.
     pub fn sweep<W: Wait>(&self, rt: &W, before: u64) -> AllChanged<J>
         ensures { AreAllChanged J.config.shards (changes.Sweep before) result }
     {
@@ -508,8 +599,13 @@ impl<J: Naming, P: Placing, G: Gate + Drop, R: Wait + Drop> Hub<J, P, G, R> {
         all
     }
 
-    /// Lets a shard stand still: it applies nothing more until it is resumed, and its place keeps the batches from
-    /// there on in the window. None where no shard has this index, and then nothing changes.
+    /// Pauses a shard until [`resume`](Self::resume), or returns `None` if it does not exist.
+    ///
+    /// The window keeps the entries that the shard has yet to apply.
+    ///
+    /// # Blocking
+    ///
+    /// Locks the shard.
     pub fn pause<W: Wait>(&self, rt: &W, shard: usize) -> Option<Changed<J>>
         ensures some { is_some result ≡ nat_lt shard J.config.shards }
         ensures changed { IfSome result (IsChanged shard changes.Pause) }
@@ -520,8 +616,13 @@ impl<J: Naming, P: Placing, G: Gate + Drop, R: Wait + Drop> Hub<J, P, G, R> {
         Some(self.change(rt, shard, Change::Pause))
     }
 
-    /// Lets a shard go on, which it does with the next post, tick or question for an answer. None where no shard has
-    /// this index, and then nothing changes.
+    /// Resumes a shard, or returns `None` if it does not exist.
+    ///
+    /// The next post, tick or poll for an answer advances it.
+    ///
+    /// # Blocking
+    ///
+    /// Locks the shard.
     pub fn resume<W: Wait>(&self, rt: &W, shard: usize) -> Option<Changed<J>>
         ensures some { is_some result ≡ nat_lt shard J.config.shards }
         ensures changed { IfSome result (IsChanged shard changes.Resume) }
@@ -532,7 +633,14 @@ impl<J: Naming, P: Placing, G: Gate + Drop, R: Wait + Drop> Hub<J, P, G, R> {
         Some(self.change(rt, shard, Change::Resume))
     }
 
-    /// No more entries, and no shard goes further; held connects are woken. What is filed can still be taken.
+    /// Closes the hub: no entry is appended or applied any more.
+    ///
+    /// Filed answers can still be taken.
+    ///
+    /// # Blocking
+    ///
+    /// Locks admission, then each shard in turn. Tasks with a held connect are woken while its
+    /// shard is locked.
     pub fn close<W: Wait>(&self, rt: &W) -> AllChanged<J>
         ensures { AreAllChanged J.config.shards changes.Shut result }
     {
@@ -541,7 +649,7 @@ impl<J: Naming, P: Placing, G: Gate + Drop, R: Wait + Drop> Hub<J, P, G, R> {
         all
     }
 
-    // Does this to each shard, one after another.
+    // Applies `change` to each shard in turn.
     fn change_all<W: Wait>(&self, rt: &W, change: Change, all: &mut AllChanged<J>)
         requires none { all.old.done ≡ [] }
         requires change { all.old.change.value ≡ change }
@@ -552,7 +660,7 @@ impl<J: Naming, P: Placing, G: Gate + Drop, R: Wait + Drop> Hub<J, P, G, R> {
         }
     }
 
-    // Does this to the shard of this index.
+    // Applies `change` to a shard.
     fn change<W: Wait>(&self, rt: &W, index: usize, change: Change) -> Changed<J>
         requires { index < length self.now.desks.items }
         ensures { IsChanged index change result }

@@ -1,5 +1,6 @@
-//! The hub: any number of threads post, tick and ask for answers. One lock lies round the registry and the writer of the
-//! window, and one round each shard.
+//! The hub: a server for many threads, which post, tick and poll for answers.
+//!
+//! One lock guards the registry, the window's writer and the record. Each shard has its own lock.
 #![tactic(auto)]
 
 mod activity;

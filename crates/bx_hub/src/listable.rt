@@ -1,18 +1,22 @@
-//! What can be listed.
+//! Requests and ticks that can be listed.
 ghost use Rattle.std.specs.Prelude.{◌≡◌, ◌∷◌, [], MatchBool};
 
 use crate::reading::Reading;
 use bx_entry::Arrival;
 
-/// A request whose documents were read, or a tick. To list it uses it up, so whoever still has it has not listed it.
+/// A request whose documents were read, or a tick.
+///
+/// Appending it to the list consumes it, so it is listed at most once.
 #[derive(Drop)]
 pub(crate) enum Listable {
     Request(Reading),
-    /// At this moment, in milliseconds.
+    /// The tick's moment, in milliseconds since the server started.
     Tick(u64),
 }
 
-/// What was listed. Nothing can be listed of it again: it is there to be let go of without a lock.
+/// What is left of a listed request or tick, to be dropped without a lock.
+///
+/// It cannot be listed again.
 #[derive(Drop)]
 pub(crate) struct Spent {
     listed: Listable,
@@ -22,7 +26,7 @@ impl Listable {
     ghost use Rattle.bx_hub.specs.Listables.{arrival_of};
     ghost use Rattle.bx_hub.specs.Records.{input_in, inputs_by};
 
-    /// Whether it adds something to the list, as all but a request without messages does.
+    /// Returns `true` unless it is a request without messages, which adds nothing to the list.
     pub(crate) fn adds(&self) -> bool
         ensures { MatchBool result (inputs_by self.now ≡ input_in self.now ∷ []) (inputs_by self.now ≡ []) }
     {
@@ -32,14 +36,14 @@ impl Listable {
         }
     }
 
-    /// It was listed.
+    /// Converts it after it was listed.
     pub(crate) fn into_spent(self) -> Spent
         ensures { result.listed ≡ self }
     {
         Spent { listed: self }
     }
 
-    /// The request as it came in; a tick has none.
+    /// Returns the request, or `None` for a tick.
     pub(crate) fn into_arrival(self) -> Option<Arrival>
         ensures { result ≡ arrival_of self }
     {

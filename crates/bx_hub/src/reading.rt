@@ -1,4 +1,4 @@
-//! A request whose documents were read.
+//! A request whose documents have been read.
 ghost use Rattle.std.specs.Prelude.{◌≡◌, List, Ok, IfOk, IfErr};
 ghost use Rattle.bx_entry.specs.Requests.{arrival_messages};
 
@@ -10,8 +10,9 @@ use bx_window::Naming;
 use std::alloc::Global;
 pub use unlisted::Unlisted;
 
-/// A request with the messages that were read of its documents, and let in. To list them uses it up, so whoever still
-/// has it has not listed them.
+/// A request with its messages, which its listener allows.
+///
+/// Appending it to the list consumes it, so it is listed at most once.
 #[derive(Drop)]
 pub(crate) struct Reading {
     arrival: Arrival,
@@ -26,8 +27,12 @@ impl Reading {
     ghost use Rattle.bx_hub.specs.Posts.{IsRefused};
     ghost use Rattle.bx_window.specs.declared.law.LogStep.{LogStep};
 
-    /// Reads the documents of a request. It is refused where they cannot be read as messages, or its door does not let
-    /// these in, and for want of memory.
+    /// Reads the messages of `arrival`.
+    ///
+    /// # Errors
+    ///
+    /// `arrival`, with the reason: its documents are not messages, its listener forbids them, or
+    /// memory ran out.
     pub(crate) fn of<J: Naming>(
         alloc: Global,
         arrival: Arrival,
@@ -42,21 +47,21 @@ impl Reading {
         }
     }
 
-    /// The request as it came in.
+    /// Returns the request.
     pub(crate) fn arrival(&self) -> &Arrival
         ensures { result.now ≡ self.now.arrival }
     {
         &self.arrival
     }
 
-    /// Its messages, in order.
+    /// Returns the messages, in order.
     pub(crate) fn messages(&self) -> &[Message]
         ensures { result.now ≡ self.now.messages.items }
     {
         self.messages.as_slice()
     }
 
-    /// The same, given on.
+    /// Converts it back to the request.
     pub(crate) fn into_arrival(self) -> Arrival
         ensures { result ≡ self.arrival }
     {

@@ -1,4 +1,4 @@
-//! The record of what is listed, while it waits to be written.
+//! The record of what is listed, until it is written.
 ghost use Rattle.std.specs.Prelude.{◌≡◌, ◌≢◌, ◌+◌, ◌<◌, ◌++◌, ◌∷◌, [], None, false, length, OnErr, OnOk, IfErr, IfOk};
 ghost use Rattle.std.specs.List.{AllByRecursion};
 ghost use Rattle.bx_hub.specs.Records.{documents_in, input_in, inputs_by, list_by, record_props};
@@ -19,8 +19,9 @@ use std::marker::PhantomData;
 use std::mem;
 use std::sync::Wait;
 
-/// How far a record goes: a front of the hub's log, whose requests and ticks make just its list, and each of which a
-/// line says.
+/// A front of the hub's list, up to which a record goes.
+///
+/// Its requests and ticks result in exactly its list, and each of them can be recorded.
 #[derive(Drop)]
 pub struct RecordFront<J: Naming> {
     front: Front<J>,
@@ -29,7 +30,7 @@ pub struct RecordFront<J: Naming> {
 }
 
 impl<J: Naming> RecordFront<J> {
-    // Up to this front.
+    // Creates a `RecordFront` at `front`.
     fn of(front: Front<J>) -> RecordFront<J>
         requires listed { list_by (inputs_of front) ≡ list_of front }
         requires recordable { AllByRecursion CanRecord (inputs_of front) }
@@ -38,14 +39,14 @@ impl<J: Naming> RecordFront<J> {
         RecordFront { front }
     }
 
-    /// The place where its list ends.
+    /// Returns the length of its list.
     pub fn place(&self) -> u64
         ensures { result ≡ length (list_of self.now.front) }
     {
         self.front.len()
     }
 
-    /// Nothing was listed.
+    /// Creates the start of a record, before the first entry.
     pub(crate) fn first(front: Front<J>) -> RecordFront<J>
         requires { front ≡ [] }
         ensures { result.front ≡ front }
@@ -74,15 +75,14 @@ impl<J: Naming> Extent for RecordFront<J> {
     }
 }
 
-/// Nothing is recorded, and nothing of a record is left: none of these is made but by a look at admission under its
-/// lock.
+/// Evidence, created while admission is locked, that nothing of a record is kept.
 #[derive(Drop)]
 pub struct Unrecorded<J: Naming> {
     of: PhantomData<J>,
 }
 
 impl<J: Naming> Unrecorded<J> {
-    /// This admission records nothing.
+    /// Creates the evidence from `admission`, which records nothing.
     pub(crate) fn of<R: Wait + Drop>(admission: &Admission<J, R>) -> Unrecorded<J>
         requires recording { admission.now.recording ≡ None }
         requires end { admission.now.record_end ≡ None }
@@ -92,11 +92,13 @@ impl<J: Naming> Unrecorded<J> {
     }
 }
 
-/// What was listed since the record began, for contracts alone, and the lines of the record that wait to be written.
-/// Those up to the front where the last ones were taken out, and they behind them, are the text of all of it.
+/// A record: the lines that wait to be written.
+///
+/// They follow the text of the record up to `from`, where lines were last taken.
 #[derive(Drop)]
 pub(crate) struct Recording<J: Naming> {
     from: RecordFront<J>,
+    // Ghost: what was listed since the record began.
     inputs: History<Input>,
     waiting: Waiting,
     ghost whole: { record_of (inputs_of from.front) ++ waiting ≡ record_of inputs },
@@ -104,7 +106,7 @@ pub(crate) struct Recording<J: Naming> {
 }
 
 impl<J: Naming> Recording<J> {
-    /// Nothing was listed.
+    /// Creates a record of an empty list.
     pub(crate) fn new(alloc: Global, from: RecordFront<J>) -> Recording<J>
         requires { from.front ≡ [] }
         ensures { (result.from ≡ from) × (result.inputs ≡ []) × (result.waiting ≡ []) }
@@ -116,15 +118,19 @@ impl<J: Naming> Recording<J> {
         }
     }
 
-    /// How many bytes wait.
+    /// Returns how many bytes wait to be written.
     pub(crate) fn waiting(&self) -> usize
         ensures { result ≡ length self.now.waiting }
     {
         self.waiting.len()
     }
 
-    /// The lines of what was listed, and added something to the list, come behind the others. An error says why they do
-    /// not, and then nothing has changed.
+    /// Appends the lines of `listed`, which must have added entries to the list.
+    ///
+    /// # Errors
+    ///
+    /// `Unsayable` if no line can hold the request, `Full` if more than 64 MiB would wait, or
+    /// `Memory`. Nothing has changed.
     #[tactic(auto, using(crate::proofs::Records::all_recordable))]
     pub(crate) fn add(&mut self, alloc: Global, listed: &Listable) -> Result<(), RecordFault>
         requires { inputs_by listed.now ≡ input_in listed.now ∷ [] }
@@ -139,8 +145,9 @@ impl<J: Naming> Recording<J> {
         Ok(())
     }
 
-    /// Takes out all that waits, which is the record's text up to this front, and leaves an empty buffer in its place.
-    /// It takes no memory, and copies nothing.
+    /// Takes all bytes that wait, and leaves the empty buffer `empty` in their place.
+    ///
+    /// They are the record's text from the last call up to `upto`. Does not allocate or copy.
     pub(crate) fn take(&mut self, upto: Front<J>, empty: Vec<u8>) -> Chunk<RecordFront<J>>
         requires inputs { self.old.inputs ≡ inputs_of upto }
         requires listed { list_by self.old.inputs ≡ list_of upto }
@@ -155,14 +162,14 @@ impl<J: Naming> Recording<J> {
     }
 }
 
-/// What a record has of it, for contracts alone: itself, but where it adds nothing to the list.
+/// Returns the ghost list of what a record has of `wanted`: nothing for a request without messages.
 pub(crate) fn inputs_by(wanted: &Listable) -> History<Input>
     ensures { result ≡ inputs_by wanted.now }
 {
     History::of::<&Listable, Recorded>(&wanted)
 }
 
-// The lines of what was listed.
+// Returns the record's lines for `listed`.
 fn text_of(alloc: Global, listed: &Listable) -> Result<Vec<u8>, RecordFault>
     ensures text { IfOk result (λ text. text.items ≡ input_text (input_in listed.now)) }
     ensures recordable { OnOk result (CanRecord (input_in listed.now)) }
@@ -179,7 +186,7 @@ fn text_of(alloc: Global, listed: &Listable) -> Result<Vec<u8>, RecordFault>
     }
 }
 
-// What is recorded of what was listed.
+// Ghost: what a record has of a request or tick.
 struct Recorded;
 
 impl<'a> Lists<&'a Listable, Input> for Recorded {

@@ -1,25 +1,25 @@
 //! What an operator sees of a hub.
 
-/// The list and who is live, as they were at one moment.
+/// The state of the list and the sessions at one time.
 #[derive(Clone, Copy, Debug, PartialEq, Eq)]
 pub struct Survey {
-    /// How many entries the list has.
+    /// Number of entries in the list.
     pub entries: u64,
-    /// How many sessions are live.
+    /// Number of live sessions.
     pub live: usize,
-    /// How many sessions were opened.
+    /// Number of sessions that were ever opened.
     pub opened: u64,
-    /// How many batches the window has.
+    /// Number of batches in the window.
     pub batches: usize,
 }
 
-/// A shard, as it was at one moment.
+/// The state of a shard at one time.
 #[derive(Clone, Copy, Debug, PartialEq, Eq)]
 pub struct ShardSurvey {
-    /// How many entries of the list it has applied.
+    /// Number of entries that the shard has applied.
     pub place: u64,
-    /// How many connects it holds.
+    /// Number of held connects.
     pub held: usize,
-    /// How many answers are filed that nobody has taken.
+    /// Number of filed answers that were not taken.
     pub filed: usize,
 }

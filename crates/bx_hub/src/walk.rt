@@ -1,4 +1,4 @@
-//! What came of a call that goes to all shards, one after another.
+//! Results of calls that go to all shards in turn.
 ghost use Rattle.std.specs.Prelude.{◌≡◌, ◌≤◌, ◌<◌, ◌++◌, ◌∷◌, [], length, is_some, true, None, IfSome, option_map, unwrap_or};
 ghost use Rattle.std.specs.List.{All};
 ghost use Rattle.std.proofs.Props.{props};
@@ -15,17 +15,18 @@ use std::marker::PhantomData;
 use std::snapshot::Snapshot;
 use std::sync::Wait;
 
-/// Of the shards at which it has looked, one that stands at the least place; and where all stood, for contracts alone.
+/// A shard at the lowest position among those added so far.
 #[derive(Drop)]
 pub(crate) struct Least<J: Naming> {
     lowest: Option<Stood<J>>,
+    // Ghost: all positions, by the shard's index.
     stood: History<u64>,
     ghost least: { All (λ p. unwrap_or (option_map (λ s. s.place) lowest) 0 ≤ p) stood } by { Prim.hlevel props },
     ghost none: { lowest ≡ None → stood ≡ [] },
 }
 
 impl<J: Naming> Least<J> {
-    /// It has looked at no shard.
+    /// Creates a `Least` with no shards.
     pub(crate) fn new() -> Least<J>
         ensures { (result.lowest ≡ None) × (result.stood ≡ []) }
     {
@@ -35,7 +36,7 @@ impl<J: Naming> Least<J> {
         }
     }
 
-    /// The next shard stands here.
+    /// Adds the position of the next shard.
     pub(crate) fn add(&mut self, stood: Stood<J>)
         requires next { stood.index.value ≡ length self.old.stood }
         ensures added { self.new.stood ≡ self.old.stood ++ stood.place ∷ [] }
@@ -50,7 +51,7 @@ impl<J: Naming> Least<J> {
         }
     }
 
-    /// The shard that stands at the least place; none where it has looked at no shard.
+    /// Returns a shard at the lowest position, or `None` if no shard was added.
     pub(crate) fn into_lowest(self) -> Option<Stood<J>>
         ensures lowest { result ≡ self.lowest }
         ensures least { IfSome result (λ s. All (λ p. s.place ≤ p) self.stood) }
@@ -60,13 +61,13 @@ impl<J: Naming> Least<J> {
     }
 }
 
-/// What came of bringing the shards up to a note, from one on and in a circle: what stopped each that stays below it,
-/// in the order in which they were brought, for contracts alone, and how many those are.
+/// The result of advancing all shards to a note, in a circle that starts at `first`.
 #[derive(Drop)]
 pub struct AllBrought<J: Naming> {
     note: Snapshot<Front<J>>,
     first: usize,
     shards: usize,
+    // Ghost: what stopped each shard, in the order of advancing.
     stays: History<Option<HubFault>>,
     behind: Lagging,
     ghost within: { first ≤ shards },
@@ -74,8 +75,10 @@ pub struct AllBrought<J: Naming> {
 }
 
 impl<J: Naming> AllBrought<J> {
-    /// None of so many shards was brought up to the note. The first that is to be is the one at the length of the list
-    /// modulo their number, so that threads that bring them up at once mostly begin at different ones.
+    /// Creates the result before any of `shards` shards has advanced to `note`.
+    ///
+    /// The first shard to advance is at the list's length modulo `shards`, so that threads that
+    /// advance them at the same time mostly start at different ones.
     pub(crate) fn new(note: &Front<J>, shards: usize) -> AllBrought<J>
         ensures { (result.note.value ≡ note.now) × (result.shards ≡ shards) × (result.stays ≡ []) }
     {
@@ -88,7 +91,7 @@ impl<J: Naming> AllBrought<J> {
         }
     }
 
-    /// The index of the shard that comes at this step.
+    /// Returns the index of the shard to advance at `step`.
     pub(crate) fn index_at(&self, step: usize) -> usize
         requires { step < self.now.shards }
         ensures { (result ≡ walked_at self.now.first self.now.shards step) × (result < self.now.shards) }
@@ -101,7 +104,7 @@ impl<J: Naming> AllBrought<J> {
         }
     }
 
-    /// The next shard was brought up to it.
+    /// Adds the result of the next shard.
     pub(crate) fn add(&mut self, brought: Brought<J>)
         requires next { brought.index.value ≡ walked_at self.old.first self.old.shards (length self.old.stays) }
         requires note { brought.note.value ≡ self.old.note.value }
@@ -118,7 +121,7 @@ impl<J: Naming> AllBrought<J> {
         }
     }
 
-    /// How many shards stay behind, by what stopped them.
+    /// Returns how many shards lag, by what stopped them.
     pub fn behind(&self) -> Lagging
         ensures { result ≡ lagging_of self.now.stays }
     {
@@ -126,18 +129,20 @@ impl<J: Naming> AllBrought<J> {
     }
 }
 
-/// That this was done to the shards, one after another, and how many answers they dropped with that; for contracts
-/// alone how many each did. None are shut but where admission is closed.
+/// Evidence that a change was applied to all shards in turn, as [`Changed`] is for one.
+///
+/// Admission is closed before any shard is.
 #[derive(Drop)]
 pub struct AllChanged<J: Naming> {
     change: Snapshot<Change>,
+    // Ghost: how many answers each shard dropped.
     done: History<usize>,
     dropped: usize,
     of: PhantomData<J>,
 }
 
 impl<J: Naming> AllChanged<J> {
-    /// No shard was swept up to this place yet.
+    /// Creates evidence of a sweep before place `before`, with no shard swept yet.
     pub(crate) fn sweeping(before: u64) -> AllChanged<J>
         ensures { (result.change.value ≡ changes.Sweep before) × (result.done ≡ []) × (result.dropped ≡ 0) }
     {
@@ -149,7 +154,7 @@ impl<J: Naming> AllChanged<J> {
         }
     }
 
-    /// This admission is closed, and no shard was shut yet.
+    /// Creates evidence that `admission` is closed, with no shard closed yet.
     pub(crate) fn shutting<R: Wait + Drop>(admission: &Admission<J, R>) -> AllChanged<J>
         requires { admission.now.closed ≡ true }
         ensures { (result.change.value ≡ changes.Shut) × (result.done ≡ []) × (result.dropped ≡ 0) }
@@ -163,7 +168,7 @@ impl<J: Naming> AllChanged<J> {
         }
     }
 
-    /// It was done to the next shard.
+    /// Adds evidence of the change to the next shard.
     pub(crate) fn add(&mut self, changed: Changed<J>)
         requires next { changed.shard.value ≡ length self.old.done }
         requires change { changed.change.value ≡ self.old.change.value }
@@ -174,7 +179,7 @@ impl<J: Naming> AllChanged<J> {
         self.dropped = self.dropped.saturating_add(changed.dropped());
     }
 
-    /// How many answers were dropped with it.
+    /// Returns how many answers were dropped in all.
     pub fn dropped(&self) -> usize
         ensures { result ≡ self.now.dropped }
     {

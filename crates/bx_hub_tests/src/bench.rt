@@ -1,4 +1,4 @@
-//! A hub, what its caller has seen, and two tasks that wait, at the first of which the hub's gate looks.
+//! A hub under test, its caller's pass, and two waiting tasks that its gate inspects.
 use crate::same::same;
 use bx_calls::{
     CONNECT, CONNECT_THIRD, HANDSHAKE, PING, Refused, SUBSCRIBE, SUBSCRIBE_THIRD, is_of, long_ping,
@@ -24,24 +24,27 @@ pub enum Task {
     Second,
 }
 
-/// The shard of the first session, the tasks, whether the first was seen woken while that shard's lock was held by
-/// whoever brought it up, and how often the gate was passed before shards were brought up and behind that.
+/// The two tasks, and what the hub's gate has seen.
 #[derive(Drop)]
 pub struct Waiting {
+    /// Shard of the first session.
     pub home: usize,
     pub first: MockTask,
     pub second: MockTask,
+    /// Whether the first task was woken while a call held the lock of shard `home`.
     pub woken_under_lock: AtomicBool,
+    /// Calls of the gate before an advance.
     pub before: AtomicU64,
+    /// Calls of the gate after an advance.
     pub after: AtomicU64,
 }
 
 impl Waiting {
-    /// Two tasks that were not woken, and a gate that nobody passed.
+    /// Creates two tasks that are not woken, and counters at 0.
     pub fn new<R: Wait + AllocGlobal + RandomSource>(rt: &R, home: usize) -> Result<Waiting, Fail> {
         let first = MockTask::new(rt)?;
         let second = MockTask::new(rt)?;
-        // A task is woken from the first on, until it is polled.
+        // A new task counts as woken until it is polled.
         first.enter(|_cx| ());
         second.enter(|_cx| ());
         Ok(Waiting {
@@ -54,7 +57,7 @@ impl Waiting {
         })
     }
 
-    /// One of its tasks.
+    /// Returns one of the tasks.
     pub fn task(&self, task: Task) -> &MockTask {
         match task {
             Task::First => &self.first,
@@ -63,7 +66,7 @@ impl Waiting {
     }
 }
 
-/// Looks at the first task while the shard's lock is held, after all entries were applied, and counts.
+/// A gate that counts its calls, and checks the first task while the shard is still locked.
 #[derive(Drop)]
 pub struct Looking {
     pub waiting: Arc<Waiting, Global>,
@@ -82,7 +85,7 @@ impl Gate for Looking {
     }
 }
 
-// A waker of this task.
+// Creates a waker of `task`.
 fn waker(task: &MockTask) -> Result<Waker, Fail> {
     let mut slot = None;
     let source = Source::new();
@@ -92,17 +95,17 @@ fn waker(task: &MockTask) -> Result<Waker, Fail> {
     Ok(slot.ok_or("no waker")?)
 }
 
-/// What became of a waker.
+/// What the hub did with a waker.
 #[derive(Clone, Copy, Debug, PartialEq, Eq)]
 pub enum Watched {
     Unknown,
-    /// Whether an older one was given back for it.
+    /// Whether an older waker was returned.
     Stored(bool),
     Ready,
     Shut,
 }
 
-/// So many shards that are paused stay behind.
+/// Returns a count of `paused` paused shards that lag, and no others.
 pub fn behind(paused: usize) -> Lagging {
     Lagging {
         paused,
@@ -110,21 +113,21 @@ pub fn behind(paused: usize) -> Lagging {
     }
 }
 
-/// A hub, what its caller has seen, and who waits.
+/// A hub, its caller's pass, and the waiting tasks.
 #[derive(Drop)]
 pub struct Bench<J: Naming, H: Wait + Drop> {
     pub alloc: Global,
     pub hub: Hub<J, ByTable, Looking, H>,
     pub pass: Pass<J>,
     pub waiting: Arc<Waiting, Global>,
-    /// The request that was refused last.
+    /// The last request that was refused.
     pub back: Option<Arrival>,
-    /// The waker that was given back last for a newer one.
+    /// The older waker that the hub returned last.
     pub older: Option<Waker>,
 }
 
 impl<J: Naming, H: Wait + Drop> Bench<J, H> {
-    /// The ticket of a connect or a rider at this place, in the first session's shard.
+    /// Creates the ticket of a connect or rider at `place` in the first session's shard.
     pub fn ticket(&self, place: u64) -> Ticket {
         Ticket {
             place,
@@ -132,14 +135,14 @@ impl<J: Naming, H: Wait + Drop> Bench<J, H> {
         }
     }
 
-    /// Posts a body whose answer waits at this place.
+    /// Posts `body`, and checks that it gets `place` and that its answer is pending.
     pub fn wait<R: Wait + Abort>(&mut self, rt: &R, body: &str, place: u64) -> Result<(), Refused> {
         let posted = post(rt, self.alloc, &self.hub, &mut self.pass, body)?;
         same(rt, posted, (place, Some(self.ticket(place))), body);
         Ok(())
     }
 
-    /// Opens three sessions, and subscribes the first and the third. Their connects are held at places 5 and 6.
+    /// Opens three sessions, and subscribes and connects the first and third, at places 5 and 6.
     pub fn hold_two<R: Wait + Abort>(&mut self, rt: &R) -> Result<(), Refused> {
         for body in [HANDSHAKE, HANDSHAKE, HANDSHAKE, SUBSCRIBE, SUBSCRIBE_THIRD] {
             post(rt, self.alloc, &self.hub, &mut self.pass, body)?;
@@ -148,7 +151,7 @@ impl<J: Naming, H: Wait + Drop> Bench<J, H> {
         self.wait(rt, CONNECT_THIRD, 6)
     }
 
-    /// Lets another caller publish, and tell what was seen then.
+    /// Opens the second session and publishes with another pass, then extends `self.pass` to it.
     pub fn publish_apart<R: Wait>(&mut self, rt: &R) -> Result<(), Refused> {
         let mut other = self.hub.pass();
         publish(rt, self.alloc, &self.hub, &mut other)?;
@@ -156,8 +159,9 @@ impl<J: Naming, H: Wait + Drop> Bench<J, H> {
         Ok(())
     }
 
-    /// Where a request of this body stands that is taken, and which shards stay behind it; or why it is refused. Then
-    /// it comes back as it was, and is kept.
+    /// Posts `arrival`, and returns its first place and how many shards lag.
+    ///
+    /// A refused request must come back with `body`, and is stored in `back`.
     pub fn post<R: Wait + Abort>(
         &mut self,
         rt: &R,
@@ -174,7 +178,7 @@ impl<J: Naming, H: Wait + Drop> Bench<J, H> {
         }
     }
 
-    /// Posts pings, as `Step::Pings` says.
+    /// Posts pings and checks each, as described at `Step::Pings`.
     pub fn pings<R: Wait + Abort>(
         &mut self,
         rt: &R,
@@ -191,7 +195,7 @@ impl<J: Naming, H: Wait + Drop> Bench<J, H> {
         Ok(())
     }
 
-    /// Where a tick stands, or why it is refused.
+    /// Appends a tick, and returns its place.
     pub fn tick<R: Wait>(&mut self, rt: &R, moment: u64) -> Result<u64, PostFault> {
         match self.hub.tick(rt, self.alloc, &mut self.pass, moment) {
             Ok(ticked) => Ok(ticked.place),
@@ -199,7 +203,7 @@ impl<J: Naming, H: Wait + Drop> Bench<J, H> {
         }
     }
 
-    /// Hands the hub a waker of the task. An older one that is given back is kept.
+    /// Registers a waker of `task`, and stores an older one that the hub returns.
     pub fn watch<R: Wait>(&mut self, rt: &R, ticket: Ticket, task: Task) -> Result<Watched, Fail> {
         let waker = waker(self.waiting.task(task))?;
         let (said, _watching) = self.hub.watch(rt, ticket, waker);
@@ -214,7 +218,9 @@ impl<J: Naming, H: Wait + Drop> Bench<J, H> {
         }
     }
 
-    /// So many bytes are taken out of the record, with this fault where it ended; only else they wait before.
+    /// Takes `length` bytes out of the record, and checks them and `fault`.
+    ///
+    /// As many bytes must be pending before, or none if the record has a fault.
     pub fn take_record<R: Wait + Abort>(
         &self,
         rt: &R,
@@ -233,7 +239,7 @@ impl<J: Naming, H: Wait + Drop> Bench<J, H> {
         }
     }
 
-    /// These lines are taken out of the record.
+    /// Takes the record's pending bytes, and checks that they are `lines`.
     pub fn take_lines<R: Wait + Abort>(
         &self,
         rt: &R,

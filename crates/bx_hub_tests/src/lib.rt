@@ -1,5 +1,6 @@
-//! Tests of the crates `bx_window` and `bx_hub`, in a crate of their own: the gate proves a crate once more where it
-//! has tests. What readers of a window find, and calls of one thread.
+//! Tests of `bx_window` and `bx_hub` from one thread.
+//!
+//! A separate crate, because `.ci/run` proves a crate with tests twice.
 #![tactic(auto)]
 
 #[cfg(test)]

@@ -1,4 +1,4 @@
-//! A shard that stands still.
+//! Tests of paused shards.
 use crate::steps::{Step, check_runs};
 use bx_calls::{ANSWER, Found, HANDSHAKE, PING, PUBLISH_OWN, RIDDEN, SUBSCRIBE};
 use bx_hub::{HubFault, PostFault, Survey};
@@ -6,7 +6,7 @@ use std::test::*;
 
 const IS_PAUSED: Step = Step::Finds(2, ANSWER, Found::Stopped(HubFault::Paused));
 
-// How the list stands then.
+// The list after the publish.
 const PUBLISHED: Survey = Survey {
     entries: 5,
     live: 2,
@@ -14,10 +14,10 @@ const PUBLISHED: Survey = Survey {
     batches: 5,
 };
 
-// Each over a hub of its own.
+// Each run has its own hub.
 const RUNS: [&[Step]; 2] = [
-    // A paused shard that has all of the list is not behind. While it is paused the window fills up, and from then on
-    // each post is refused, until the shard goes on. Then it can be made again. There is no shard past the last one.
+    // A paused shard that has the whole list does not lag. Later the window fills up, and posts are
+    // refused until the shard resumes. An index past the last shard is unknown.
     &[
         Step::NoShard(2),
         Step::Pause,
@@ -29,7 +29,7 @@ const RUNS: [&[Step]; 2] = [
         Step::Resume,
         Step::Again(PING, Ok(4_096)),
     ],
-    // Of two shards that are paused one goes on, and the other one stays behind. One that goes on may be resumed again.
+    // Of two paused shards one resumes, and the other still lags. Resuming twice does no harm.
     &[
         Step::PauseShard(0),
         Step::PauseShard(1),
@@ -43,8 +43,8 @@ const RUNS: [&[Step]; 2] = [
 ];
 
 const RUNS_ANYWHERE: [&[Step]; 3] = [
-    // A connect that is held by a paused shard is not answered by what another caller publishes, until the shard goes
-    // on: that it may go on files nothing yet, the next call does.
+    // A connect held in a paused shard gets another caller's event only after the shard resumes.
+    // Resuming itself files no answer. The next call does.
     &[
         Step::Hold,
         Step::Pause,
@@ -56,7 +56,8 @@ const RUNS_ANYWHERE: [&[Step]; 3] = [
         Step::Sweep(5, 0),
         Step::Finds(2, ANSWER, Found::Wanted),
     ],
-    // What is filed is given by a paused shard too. Of a hub that was closed this is told, and not that it is paused.
+    // A paused shard still returns a filed answer. After the hub is closed, polls report that
+    // instead of the pause.
     &[
         Step::Hold,
         Step::Publish,
@@ -68,7 +69,7 @@ const RUNS_ANYWHERE: [&[Step]; 3] = [
         Step::Close,
         Step::Finds(2, ANSWER, Found::Stopped(HubFault::Closed)),
     ],
-    // What is filed in a paused shard can be swept, and is not found then.
+    // An answer filed in a paused shard can be swept, and is then gone.
     &[
         Step::Hold,
         Step::Publish,
@@ -80,8 +81,8 @@ const RUNS_ANYWHERE: [&[Step]; 3] = [
 ];
 
 const RUNS_RIDING: [&[Step]; 1] = [
-    // A rider in a paused shard is not answered until the shard goes on. Then it is given what another session had
-    // published before it, and its own event, once.
+    // A rider in a paused shard is answered after the shard resumes. It gets another session's
+    // earlier event and its own, once.
     &[
         Step::Post(HANDSHAKE, 0, 0),
         Step::Post(SUBSCRIBE, 1, 0),
@@ -95,6 +96,7 @@ const RUNS_RIDING: [&[Step]; 1] = [
     ],
 ];
 
+// Shows that a paused shard applies nothing, and continues when resumed.
 #[test]
 fn a_shard_stands_still(rt: HostRuntime) -> Result<(), Fail> {
     check_runs(&rt, &[0, 1], false, &RUNS)?;

@@ -1,4 +1,4 @@
-//! What waits of a record.
+//! Tests of the hub's record.
 use crate::steps::{LATE, Step, check_runs};
 use bx_advice::BODY_LIMIT;
 use bx_calls::{HANDSHAKE, PING};
@@ -7,7 +7,7 @@ use bx_hub::PostFault;
 use bx_record::RecordFault;
 use std::test::*;
 
-// The lines of a handshake, of a ping, and of a tick.
+// The recorded lines of a handshake, a ping and a tick.
 const HANDSHAKE_LINES: &str =
     "0 N 00000000000000000000000000000000\n0 P [{\"channel\":\"/meta/handshake\",\"version\":\"1.0\",\"supportedConnectionTypes\":[\"long-polling\"]}]\n";
 
@@ -15,15 +15,16 @@ const PING_LINE: &str = "0 P [{\"channel\":\"/meta/ping\"}]\n";
 
 const TICK_LINE: &str = "5 T\n";
 
-// So many bytes wait of 63 lines of the longest ping that a line can say.
+// Length of 63 lines, each with the longest ping that a line can hold.
 const WAITING: usize = 63 * (BODY_LIMIT + 5);
 
-// How long a ping is whose line is one byte too long to wait behind them.
+// Length of a ping whose line would then exceed the limit of 64 MiB by one byte.
 const TOO_LONG: usize = 67_108_864 - WAITING - 4;
 
-// Each over a hub of its own.
+// Each run has its own hub.
 const RUNS: [&[Step]; 4] = [
-    // What was listed is there once, in order, but for a request without messages, and what is refused.
+    // The record has what was appended, once and in order, without refused or empty requests. It
+    // cannot start again.
     &[
         Step::Starts(true),
         Step::Lines(&[], None),
@@ -37,7 +38,8 @@ const RUNS: [&[Step]; 4] = [
         Step::Starts(false),
         Step::Lines(&[TICK_LINE], None),
     ],
-    // A request that no line can say ends the record; what waited before is still there, once, and the server goes on.
+    // A request that no line can hold ends the record. Earlier lines can still be taken, once, and
+    // the hub continues.
     &[
         Step::Starts(true),
         Step::Post(PING, 0, 0),
@@ -47,7 +49,7 @@ const RUNS: [&[Step]; 4] = [
         Step::NoRecord,
         Step::Post(PING, 3, 0),
     ],
-    // Where more than 64 MiB would wait, by one byte, the record ends.
+    // The record ends when more than 64 MiB would be pending, here by one byte.
     &[
         Step::Starts(true),
         Step::Pings(0, 63, BODY_LIMIT, 0),
@@ -56,7 +58,7 @@ const RUNS: [&[Step]; 4] = [
         Step::Takes(WAITING, Some(RecordFault::Full)),
         Step::NoRecord,
     ],
-    // A record that is stopped is gone, and one that begins late is none.
+    // A stopped record is gone. A record cannot start after the first entry.
     &[
         Step::Starts(true),
         Step::Post(PING, 0, 0),
@@ -69,6 +71,7 @@ const RUNS: [&[Step]; 4] = [
     ],
 ];
 
+// Shows that the record has what was appended to the list, and when it ends.
 #[test]
 fn a_record_has_what_is_listed(rt: HostRuntime) -> Result<(), Fail> {
     check_runs(&rt, &[1], false, &RUNS)

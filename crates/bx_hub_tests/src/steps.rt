@@ -1,4 +1,4 @@
-//! Runs over a hub by tables of steps: what is asked of it, and what must come of that.
+//! Runs over a hub as tables of steps: calls and their expected results.
 ghost use Rattle.std.specs.Prelude.{◌≡◌};
 ghost use Rattle.std.specs.Arc.{arc_value};
 ghost use Rattle.bx_entry.specs.Placings.{by_table};
@@ -19,72 +19,72 @@ use std::sync::atomic::Ordering;
 use std::sync::{Arc, Wait};
 use std::test::*;
 
-/// A moment above the greatest that is taken.
+/// A moment above the greatest that a tick may have.
 pub const LATE: u64 = (1 << 62) + 1;
 
-/// A step of a run. What is found or watched under a place is in the first session's shard.
+/// A step of a run. `Finds`, `Wait` and `Watch` name places in the first session's shard.
 #[derive(Clone, Copy, Debug)]
 pub enum Step {
-    /// The first session is opened and subscribed, and its connect is held at place 2.
+    /// Opens and subscribes the first session. Its connect is held at place 2.
     Hold,
-    /// Three sessions are opened. The connects of the first and the third, in one shard, are held at places 5 and 6.
+    /// Opens three sessions. The first and third, in one shard, hold connects at places 5 and 6.
     HoldTwo,
-    /// The second session is opened, and publishes an event that the first one gets.
+    /// Opens the second session and publishes an event that the first one gets.
     Publish,
-    /// Another caller does this, and tells what was seen then.
+    /// Publishes likewise with another pass, then extends the caller's pass to it.
     PublishApart,
-    /// This request is taken at this place, or would have it, and so many paused shards stay behind it.
+    /// Posts a request, which gets this place, or would with messages. This many paused shards lag.
     Post(&'static str, u64, usize),
-    /// This connect or rider is taken at this place, and its answer waits.
+    /// Posts a connect or rider, which gets this place. Its answer is pending.
     Wait(&'static str, u64),
-    /// A ping is taken at each place from the first on up to the second, in a body of at least so many bytes. So many
-    /// paused shards stay behind each.
+    /// Posts pings from the first place to before the second, in bodies of at least this length.
+    /// This many paused shards lag.
     Pings(u64, u64, usize, usize),
-    /// This request is refused and comes back.
+    /// Posts a request that is refused and comes back.
     Refused(&'static str, PostFault),
-    /// What came back, which is this request, is taken at this place, and no shard stays behind; or is refused again.
+    /// Posts the request that came back. It gets this place, and no shard lags, or is refused.
     Again(&'static str, Result<u64, PostFault>),
-    /// The tick of this moment stands at this place, or is refused.
+    /// Appends a tick of this moment at this place, or is refused.
     Tick(u64, Result<u64, PostFault>),
-    /// The window began at this place as the caller looked last, who has seen so many entries.
+    /// Checks the window's beginning and the list's length, as the caller's pass has them.
     Seen(u64, u64),
-    /// The list stands so.
+    /// Checks the survey of the list.
     List(Survey),
-    /// This is found under this place by a question for this answer.
+    /// Polls for this answer at this place, and checks what is found.
     Finds(u64, &'static str, Found),
-    /// Nothing is known of place 2 in shard 2, which a hub of two shards has not, and where no session stands.
+    /// Polls and watches in vain at shard 2, which does not exist or has no session.
     Elsewhere,
-    /// The first session's shard is paused, or goes on.
+    /// Pauses or resumes the first session's shard.
     Pause,
     Resume,
-    /// The shard of this index is paused, or goes on.
+    /// Pauses or resumes the shard with this index.
     PauseShard(usize),
     ResumeShard(usize),
-    /// No shard has this index.
+    /// Checks that no shard has this index.
     NoShard(usize),
-    /// The first session's shard stands at this place, holds so many connects, and has so many answers nobody took.
+    /// Checks the first session's shard: its place, its held connects and its filed answers.
     Stands(u64, usize, usize),
-    /// So many answers that nobody took are swept, which were filed by entries below this place.
+    /// Sweeps the answers filed by entries below this place, and checks their number.
     Sweep(u64, usize),
     Close,
-    /// This becomes of a waker of this task that is left under this place.
+    /// Registers a waker of this task at this place, and checks the result.
     Watch(u64, Task, Watched),
-    /// Whether the task was woken.
+    /// Checks whether the task was woken, and that the first was not under its shard's lock.
     Woken(Task, bool),
-    /// Whether a record starts.
+    /// Starts a record, and checks whether it started.
     Starts(bool),
     Stops,
-    /// So many bytes wait to be written to the record.
+    /// Checks how many bytes of the record are pending.
     Waits(usize),
-    /// So many bytes of the record are taken out, with the fault where it ended.
+    /// Takes this many bytes of the record, with its fault if it ended.
     Takes(usize, Option<RecordFault>),
-    /// These lines of the record are taken out, with the fault where it ended.
+    /// Takes these lines of the record, with its fault if it ended.
     Lines(&'static [&'static str], Option<RecordFault>),
-    /// Nothing is recorded.
+    /// Checks that there is no record.
     NoRecord,
 }
 
-// A step that lists, or is refused; the others are taken by `ask` and `look`.
+// Does a step that appends to the list or is refused, and passes others to `ask`.
 fn take<J: Naming, H: Wait + Drop, R: Wait + Abort>(
     rt: &R,
     bench: &mut Bench<J, H>,
@@ -120,7 +120,7 @@ fn take<J: Naming, H: Wait + Drop, R: Wait + Abort>(
     Ok(())
 }
 
-// A step that asks for an answer, leaves a waker, or changes how shards stand.
+// Does a step that polls, watches, sweeps, closes or pauses, and passes others to `look`.
 fn ask<J: Naming, H: Wait + Drop, R: Wait + Abort>(
     rt: &R,
     bench: &mut Bench<J, H>,
@@ -155,7 +155,7 @@ fn ask<J: Naming, H: Wait + Drop, R: Wait + Abort>(
     Ok(())
 }
 
-// A step that looks how something stands.
+// Does a step that inspects the hub or uses its record.
 fn look<J: Naming, H: Wait + Drop, R: Wait + Abort>(
     rt: &R,
     bench: &mut Bench<J, H>,
@@ -196,7 +196,7 @@ fn look<J: Naming, H: Wait + Drop, R: Wait + Abort>(
     Ok(())
 }
 
-// Nothing is seen at first. At last the gate was passed, and behind the entries as often as before them.
+// Does all steps. The gate must be called, and as often after advances as before them.
 fn take_all<J: Naming, H: Wait + Drop, R: Wait + Abort>(
     rt: &R,
     bench: &mut Bench<J, H>,
@@ -240,7 +240,7 @@ fn run_in_hub<J: Naming, R: Wait + Abort>(
     take_all(rt, &mut bench, steps)
 }
 
-// A run over a hub in which the first session's shard is this one, and events ride or not.
+// Does a run over a new hub. `home`: the first session's shard; `ride`: whether events ride.
 fn check_run<R: Wait + Abort + AllocGlobal + RandomSource>(
     rt: &R,
     home: usize,
@@ -263,7 +263,7 @@ fn check_run<R: Wait + Abort + AllocGlobal + RandomSource>(
     run_in_hub::<Brand, _>(rt, alloc, Opened::new(), config, placing, gates, steps)
 }
 
-/// Takes each run over a hub of its own for each of these shards, in which the first session then stands.
+/// Does each run once for each of `homes`, the first session's shard, with a new hub.
 pub fn check_runs<R: Wait + Abort + AllocGlobal + RandomSource>(
     rt: &R,
     homes: &[usize],

@@ -1,4 +1,4 @@
-//! Calls of one thread.
+//! Tests of a hub's calls from one thread.
 use crate::steps::{LATE, Step, check_runs};
 use bx_calls::{ANSWER, CONNECT_OTHER, Found, HANDSHAKE, PING, PUBLISH};
 use bx_entry::{BodyError, Refusal};
@@ -7,9 +7,9 @@ use std::test::*;
 
 const TWO_PINGS: &str = r#"[{"channel":"/meta/ping"},{"channel":"/meta/ping"}]"#;
 
-// Each over a hub of its own.
+// Each run has its own hub.
 const RUNS: [&[Step]; 8] = [
-    // A body that is cut off and a late tick are refused, and one without messages adds nothing.
+    // Refuses a truncated body and a late tick. A request without messages adds nothing.
     &[
         Step::Refused("[", PostFault::Refused(Refusal::Body(BodyError::NotJson))),
         Step::Seen(0, 0),
@@ -19,7 +19,7 @@ const RUNS: [&[Step]; 8] = [
         Step::Seen(0, 1),
         Step::Tick(LATE, Err(PostFault::Refused(Refusal::BadMoment))),
     ],
-    // A held connect, its answer, and the answer after it was taken.
+    // A held connect has no answer until a publish. The answer can be taken once.
     &[
         Step::Hold,
         Step::Finds(2, ANSWER, Found::Nothing),
@@ -29,7 +29,7 @@ const RUNS: [&[Step]; 8] = [
         Step::Sweep(5, 0),
         Step::Elsewhere,
     ],
-    // An answer that nobody took is swept once, by the place of the entry that gave it.
+    // An answer that nobody took is swept once, by the place of the entry that filed it.
     &[
         Step::Hold,
         Step::Publish,
@@ -38,7 +38,7 @@ const RUNS: [&[Step]; 8] = [
         Step::Sweep(5, 0),
         Step::Finds(2, ANSWER, Found::Nothing),
     ],
-    // The connects of two sessions, each in a shard of its own, are answered by one tick, and both answers are swept.
+    // One tick answers the connects of two sessions in two shards. Both answers are swept.
     &[
         Step::Hold,
         Step::Post(HANDSHAKE, 3, 0),
@@ -48,7 +48,7 @@ const RUNS: [&[Step]; 8] = [
         Step::Sweep(6, 2),
         Step::Sweep(6, 0),
     ],
-    // Until a tick the window keeps what all shards have passed, and longer what a paused shard lacks.
+    // A tick trims the window to what some shard lacks. The caller sees that with its next call.
     &[
         Step::Post(HANDSHAKE, 0, 0),
         Step::Post(HANDSHAKE, 1, 0),
@@ -68,7 +68,7 @@ const RUNS: [&[Step]; 8] = [
         Step::Tick(0, Ok(8)),
         Step::Seen(8, 9),
     ],
-    // So it does until a post reaches another multiple of 64 places, with whichever of its messages.
+    // A post trims the window if any of its messages reaches a multiple of 64 places.
     &[
         Step::Pings(0, 63, 0, 0),
         Step::Post("[]", 63, 0),
@@ -87,14 +87,14 @@ const RUNS: [&[Step]; 8] = [
         Step::Post("[]", 193, 0),
         Step::Seen(193, 193),
     ],
-    // An answer that is filed stays there then.
+    // A filed answer outlives a trim.
     &[
         Step::Hold,
         Step::Publish,
         Step::Pings(5, 64, 0, 0),
         Step::Finds(2, ANSWER, Found::Wanted),
     ],
-    // What a closed hub refuses, and what it still gives: the answer that was filed, once.
+    // A closed hub refuses requests and ticks, and still returns a filed answer, once.
     &[
         Step::Hold,
         Step::Publish,
@@ -110,6 +110,7 @@ const RUNS: [&[Step]; 8] = [
     ],
 ];
 
+// Shows the results of posts, ticks, polls and sweeps, and when the window is trimmed.
 #[test]
 fn one_thread(rt: HostRuntime) -> Result<(), Fail> {
     check_runs(&rt, &[1], false, &RUNS)

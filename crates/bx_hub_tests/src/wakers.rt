@@ -1,13 +1,13 @@
-//! Who waits for a connect is woken, once the lock of its shard is let go.
+//! Tests of held connects' wakers.
 use crate::bench::{Task, Watched};
 use crate::steps::{Step, check_runs};
 use bx_calls::{ANSWER, ANSWER_THIRD, Found, PING, PUBLISH, TICKED};
 use bx_hub::PostFault;
 use std::test::*;
 
-// Each over a hub of its own.
+// Each run has its own hub.
 const RUNS: [&[Step]; 4] = [
-    // A tick at the connect's deadline wakes the task; the connect is answered without events.
+    // A tick at the connect's deadline wakes the task and answers the connect without events.
     &[
         Step::Hold,
         Step::Watch(2, Task::First, Watched::Stored(false)),
@@ -17,7 +17,7 @@ const RUNS: [&[Step]; 4] = [
         Step::Woken(Task::First, true),
         Step::Finds(2, TICKED, Found::Wanted),
     ],
-    // One publish wakes both tasks. Each connect has its answer, which the question for the other one does not take.
+    // One publish wakes both tasks. Taking one answer leaves the other.
     &[
         Step::HoldTwo,
         Step::Watch(5, Task::First, Watched::Stored(false)),
@@ -29,7 +29,7 @@ const RUNS: [&[Step]; 4] = [
         Step::Finds(5, ANSWER, Found::Wanted),
         Step::Finds(6, ANSWER_THIRD, Found::Wanted),
     ],
-    // A question for one answer brings a shard up that was paused, and so wakes the task that waits for the other one.
+    // A poll advances a shard that was paused, and so wakes the task of another connect in it.
     &[
         Step::HoldTwo,
         Step::Watch(5, Task::First, Watched::Stored(false)),
@@ -42,8 +42,8 @@ const RUNS: [&[Step]; 4] = [
         Step::Woken(Task::Second, true),
         Step::Finds(6, ANSWER_THIRD, Found::Wanted),
     ],
-    // A post for which the window is full brings a shard up that was paused, and so wakes the task, though it is
-    // refused: the other shard stays behind.
+    // A post to a full window advances a shard that was paused, and so wakes the task. The post is
+    // still refused, because the other shard lags.
     &[
         Step::Hold,
         Step::Watch(2, Task::First, Watched::Stored(false)),
@@ -61,8 +61,8 @@ const RUNS: [&[Step]; 4] = [
 ];
 
 const RUNS_ANYWHERE: [&[Step]; 2] = [
-    // A waker is stored beside a held connect, and a newer one gives it back; the publish that answers the connect
-    // wakes the task. Then the answer is there until it is taken. A ticket of no shard, or of another one, is unknown.
+    // A newer waker returns the older one. The publish that answers the connect wakes the task, and
+    // the answer is there until it is taken. A ticket of no shard or of another one is unknown.
     &[
         Step::Hold,
         Step::Elsewhere,
@@ -75,7 +75,7 @@ const RUNS_ANYWHERE: [&[Step]; 2] = [
         Step::Finds(2, ANSWER, Found::Wanted),
         Step::Watch(2, Task::First, Watched::Unknown),
     ],
-    // The end of the hub wakes the task, and from then on no waker is stored.
+    // Closing the hub wakes the task. No waker is stored afterwards.
     &[
         Step::Hold,
         Step::Watch(2, Task::First, Watched::Stored(false)),
@@ -86,6 +86,7 @@ const RUNS_ANYWHERE: [&[Step]; 2] = [
     ],
 ];
 
+// Shows which calls wake a task, and that the shard's lock is free then.
 #[test]
 fn a_task_is_woken(rt: HostRuntime) -> Result<(), Fail> {
     check_runs(&rt, &[0, 1], false, &RUNS)?;

@@ -1,4 +1,4 @@
-//! What readers find of batches of ticks, by tables of steps.
+//! Tests of what readers of a window find, as tables of steps.
 ghost use Rattle.std.specs.Prelude.{◌≡◌, [], IfOk};
 
 use crate::same::same;
@@ -13,50 +13,51 @@ use std::test::*;
 /// What a reader found at a place.
 #[derive(Clone, Copy, Debug, PartialEq, Eq)]
 enum Found {
-    /// The first place of the batch, the number of its entries, and the place of the entry that stands there.
+    /// First place and number of entries of the batch, and the place of the entry found.
     Batch(u64, usize, u64),
     Level,
     Overrun,
     Memory,
 }
 
-// A step of a run by one writer, and what it must show. The first reader looks, unless the other one is named.
+// A step of a run by one writer, with its expected result. The first of two readers looks,
+// unless the step names the other.
 #[derive(Clone, Copy, Debug)]
 enum Step {
-    // This becomes of a batch of so many ticks.
+    // Publishes a batch of this many ticks.
     Publish(u64, Taken),
-    // So many batches of one tick are published.
+    // Publishes this many batches of one tick each.
     Fill(usize),
-    // The batches that lie wholly below this place are dropped.
+    // Drops the batches that are wholly below this place.
     Trim(u64),
-    // This is found at this place.
+    // The first reader looks at this place.
     Finds(u64, Found),
-    // At each place from the first on up to the second a batch of its own is found.
+    // Each place from the first to before the second has a batch of its own.
     FindsEach(u64, u64),
-    // The other reader finds this.
+    // The other reader looks at this place.
     OtherFinds(u64, Found),
-    // Where the window begins for the reader.
+    // The first place of the window for the first reader.
     Begin(u64),
-    // Where it begins for the writer.
+    // The first place of the window for the writer.
     WriterBegin(u64),
-    // The other reader has seen nothing, and is told of so many entries, which the first one saw.
+    // The other reader, which has seen nothing, learns the first one's note of this many entries.
     Told(u64),
-    // The other reader is told by the writer of so many steps.
+    // The other reader learns the writer's front of this many steps.
     ToldByWriter(u64),
-    // What the writer tells, of so many entries by so many steps, covers what the reader saw, who saw nothing.
+    // The writer's front of this many entries and steps covers the first reader's shorter one.
     Covers(u64, u64),
 }
 
-// A batch of two ticks comes back from a full window, as it was.
+// A batch of two ticks that a full window returns.
 const FULL: Taken = Taken::Refused {
     why: PublishFault::Full,
     first: 4_096,
     entries: 2,
 };
 
-// Each over a window of its own.
+// Each run has its own window.
 const RUNS: [&[Step]; 6] = [
-    // A batch of three ticks stands at its three places, and at no other.
+    // A batch of three ticks is found at its three places, and at no other.
     &[
         Step::Finds(0, Found::Level),
         Step::Publish(3, Taken::Published),
@@ -65,7 +66,7 @@ const RUNS: [&[Step]; 6] = [
         Step::Finds(2, Found::Batch(0, 3, 2)),
         Step::Finds(3, Found::Level),
     ],
-    // A trim drops the batches that lie wholly below its place.
+    // A trim drops the batches that are wholly below its place.
     &[
         Step::Publish(3, Taken::Published),
         Step::Publish(2, Taken::Published),
@@ -78,7 +79,7 @@ const RUNS: [&[Step]; 6] = [
         Step::Finds(3, Found::Batch(3, 2, 3)),
         Step::Begin(3),
     ],
-    // A trim past the end leaves a window without batches, which begins at the end.
+    // A trim past the end leaves no batches. The window then begins at the end.
     &[
         Step::Publish(3, Taken::Published),
         Step::Publish(2, Taken::Published),
@@ -89,7 +90,7 @@ const RUNS: [&[Step]; 6] = [
         Step::Publish(1, Taken::Published),
         Step::Finds(5, Found::Batch(5, 1, 5)),
     ],
-    // With 4,096 batches the next one comes back, until one is dropped. The window then has places 1 to 4,097.
+    // A window of 4,096 batches is full until one is dropped. It then has places 1 to 4,097.
     &[
         Step::Fill(4_096),
         Step::Publish(2, FULL),
@@ -101,7 +102,7 @@ const RUNS: [&[Step]; 6] = [
         Step::FindsEach(1, 4_096),
         Step::Finds(4_098, Found::Level),
     ],
-    // A reader that is told has seen as much, without looking; an older note changes nothing.
+    // A reader that learns a note has seen as much, without looking. An older note has no effect.
     &[
         Step::Publish(3, Taken::Published),
         Step::Finds(3, Found::Level),
@@ -109,7 +110,7 @@ const RUNS: [&[Step]; 6] = [
         Step::ToldByWriter(1),
         Step::OtherFinds(2, Found::Batch(0, 3, 2)),
     ],
-    // Of two fronts the longer covers the other.
+    // The longer of two fronts covers the other.
     &[
         Step::Publish(3, Taken::Published),
         Step::Publish(2, Taken::Published),
@@ -117,7 +118,7 @@ const RUNS: [&[Step]; 6] = [
     ],
 ];
 
-// A writer of ticks with two readers.
+// Creates a writer of ticks with two readers.
 fn pair<J: Naming, R: Wait + Drop>(
     alloc: Global,
     rt: R,
@@ -143,7 +144,7 @@ fn find<J: Naming>(reader: &mut LogReader<J>, place: u64) -> Found {
     }
 }
 
-// A reader that has seen nothing is told, and then told what is old.
+// Checks that a reader that has seen nothing learns `note`, and ignores an older one.
 fn check_told<J: Naming, R: Abort>(
     rt: &R,
     reader: &mut LogReader<J>,
@@ -158,7 +159,7 @@ fn check_told<J: Naming, R: Abort>(
     same(rt, reader.note().len(), length, "told what is old");
 }
 
-// Of two notes the longer covers the other.
+// Checks that `long` covers `short` and itself, and that `short` does not cover `long`.
 fn check_covers<J: Naming, R: Abort>(rt: &R, long: &Front<J>, short: &Front<J>) {
     same(rt, long.covers(short), true, "the shorter");
     same(rt, long.covers(&long.again()), true, "itself");
@@ -232,6 +233,7 @@ fn ask<J: Naming, R: Wait + Abort>(
     take_all(rt, alloc, &mut writer, &mut reader, &mut other, steps)
 }
 
+// Shows what readers find while one writer publishes and trims.
 #[test]
 fn one_writer(rt: HostRuntime) -> Result<(), Fail> {
     for steps in RUNS {

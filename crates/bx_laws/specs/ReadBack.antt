@@ -1,4 +1,4 @@
--- What the texts of replies, events and responses read as, by the grammar that `serde_json` reads.
+-- What the texts of replies, events and responses read as, by the grammar of `serde_json`.
 use Rattle.std.specs.Prelude.{◌≡◌, ℕ, suc, ◌^◌, ◌<◌, ◌≤◌, List, [], ◌∷◌, ◌++◌, map, codes, Bool, true, false, Option, Some, None, option_map, option_and_then, IfSome, ⊤}
 use Rattle.std.specs.{List.list_all, Ordering.nat_cmp, Ordering.match_ordering, Cmp.Lexicographic.slice_cmp}
 use Rattle.json.specs.Json as json
@@ -13,106 +13,107 @@ use Rattle.bx_message.specs.declared.{message_kind.MessageKind.MessageKind, even
 use Rattle.bx_message.specs.declared.reply.AckReply.TheVariants.{NoAck, AckTrue, AckNumber}
 use Rattle.bx_message.specs.Texts.{reconnect_text, reply_text, event_text, item_text, body_text}
 
--- ---- reading
+-- ---- Reading
 
--- the value that a text is, where it nests at most so many arrays and objects; `read` of `serde_json` is this with its greatest number
+-- The value of a text with at most `levels` nested arrays and objects. `read` of `serde_json` is
+-- this with its own limit.
 abbrev pub read_within : ℕ → List ℕ → Option Data
 read_within levels text = option_and_then of_json (option_and_then (λ p. json.if_last p.0 p.1) (json.value levels (tokens text)))
 
--- the text of a member that may be absent reads as the value
+-- An optional text reads as an optional value: both are present, or neither is.
 abbrev pub ReadsAs : ℕ → Option (List ℕ) → Option Data → Type 0
 ReadsAs levels None None = ⊤
 ReadsAs levels None (Some d) = ⊥
 ReadsAs levels (Some text) None = ⊥
 ReadsAs levels (Some text) (Some d) = read_within levels text ≡ Some d
 
--- each text reads as its element
+-- The texts read as the items, one by one.
 abbrev pub AllReadAs : ℕ → List (List ℕ) → Items → Type 0
 AllReadAs levels [] no_items = ⊤
 AllReadAs levels [] (item d ds) = ⊥
 AllReadAs levels (text ∷ texts) no_items = ⊥
 AllReadAs levels (text ∷ texts) (item d ds) = (read_within levels text ≡ Some d) × AllReadAs levels texts ds
 
--- ---- objects
+-- ---- Objects
 
--- a member's name, and its value where the member is there
+-- A member's name, and its value if the member is present.
 abbrev pub Row : Type 0
 Row = List ℕ × Option Data
 
--- the members that are there, in this order
+-- The members that are present, in order.
 abbrev pub members_in : List Row → Members
 members_in [] = no_members
 members_in ((name, None) ∷ rows) = members_in rows
 members_in ((name, Some d) ∷ rows) = member name d (members_in rows)
 
--- their names
+-- The names of the members that are present.
 abbrev pub names_in : List Row → List (List ℕ)
 names_in [] = []
 names_in ((name, None) ∷ rows) = names_in rows
 names_in ((name, Some d) ∷ rows) = name ∷ names_in rows
 
--- the names of an object's members, as its text has them
+-- The names of an object's members, as in its text.
 abbrev pub keys : json.Members → List (List ℕ)
 keys json.no_members = []
 keys (json.member k j ms) = k ∷ keys ms
 
--- whether a name stands behind another in the order of their bytes
+-- Whether name `n` comes after `m` in byte order.
 abbrev pub stands_behind : List ℕ → List ℕ → Bool
 stands_behind n m = match_ordering (slice_cmp nat_cmp n m) false false true
 
--- each name stands behind all before it
+-- Each name comes after all names before it.
 abbrev pub Ascend : List (List ℕ) → List (List ℕ) → Type 0
 Ascend before [] = ⊤
 Ascend before (n ∷ ns) = (list_all (stands_behind n) before ≡ true) × Ascend (before ++ n ∷ []) ns
 
--- The text is a JSON object whose members are those of the rows that are there; they stand in it in this order, which is the ascending order of
--- their names.
+-- A text is a JSON object of the members that are present, in the order of `rows`, which ascend by
+-- name.
 pub record IsObjectOf (levels : ℕ) (text : List ℕ) (rows : List Row) : Type 0 where
   pub reads : read_within levels text ≡ Some (object (members_in rows))
   pub order : (ms : json.Members) × (tokens text ≡ json_tokens (json.object ms)) × (keys ms ≡ names_in rows)
   pub ascend : Ascend [] (map (λ (row : Row). row.0) rows)
 
--- ---- replies
+-- ---- Replies
 
--- a count
+-- The value of a count.
 abbrev pub count : ℕ → Data
 count n = number (unsigned n)
 
--- the members of an advice
+-- The members of `advice`.
 abbrev pub advice_rows : Advice → List Row
 advice_rows a = (codes "interval", Some (count a.interval)) ∷ (codes "reconnect", Some (string (reconnect_text a.reconnect))) ∷ (codes "timeout", option_map count a.timeout) ∷ []
 
--- an object with only this member
+-- An object whose only member is `ack`.
 abbrev pub ack_object : Data → Data
 ack_object d = object (members_in ((codes "ack", Some d) ∷ []))
 
--- the extension's member
+-- The value of `ext`, if any.
 abbrev pub ext_data : AckReply → Option Data
 ext_data NoAck = None
 ext_data AckTrue = Some (ack_object (boolean true))
 ext_data (AckNumber n) = Some (ack_object (count n))
 
--- the error, where there is one
+-- The value of `error`, if any.
 abbrev pub error_data : Outcome → Option Data
 error_data (Failed error) = Some (string (error_text error))
 error_data _ = None
 
--- whether there is none
+-- Whether there is no error.
 abbrev pub succeeds : Outcome → Bool
 succeeds (Failed error) = false
 succeeds _ = true
 
--- only replies to handshakes carry the types and the version
+-- Only a reply to a handshake has the connection types and the version.
 abbrev pub for_handshake : MessageKind → Data → Option Data
 for_handshake MessageKind.Handshake d = Some d
 for_handshake _ d = None
 
--- the two connection types
+-- The two connection types.
 abbrev pub connection_types : Data
 connection_types = array (item (string (codes "long-polling")) (item (string (codes "callback-polling")) no_items))
 
--- The members of a reply, where `id` and `subscription` read as these values. (Bayeux 1.0, the responses of the meta messages and of publish; the
--- acknowledgement extension of CometD.)
+-- The members of a reply whose `id` and `subscription` read as these values. Bayeux 1.0, the
+-- responses of the meta messages and of publish; CometD's acknowledgement extension.
 abbrev pub reply_rows : Reply → Option Data → Option Data → List Row
 reply_rows r id subscription =
     (codes "advice", option_map (λ a. object (members_in (advice_rows a))) r.advice)
@@ -127,37 +128,37 @@ reply_rows r id subscription =
     ∷ (codes "version", for_handshake r.message_kind (string (codes "1.0")))
     ∷ []
 
--- the numbers of an advice fit 64 bits
+-- The numbers in `advice` fit in 64 bits.
 abbrev pub AdviceFits : Advice → Type 0
 AdviceFits a = (a.interval < 2 ^ 64) × IfSome a.timeout (λ t. t < 2 ^ 64)
 
--- so does that of a batch
+-- The batch number, if any, fits in 64 bits.
 abbrev pub AckFits : AckReply → Type 0
 AckFits NoAck = ⊤
 AckFits AckTrue = ⊤
 AckFits (AckNumber n) = n < 2 ^ 64
 
--- what the sender wrote reads as these values, and the numbers fit their types
+-- What the sender wrote reads as these values, and the numbers fit their types.
 pub record ReplyParts (levels : ℕ) (r : Reply) (id subscription : Option Data) : Type 0 where
   pub id_reads : ReadsAs levels r.id id
   pub subscription_reads : ReadsAs levels r.subscription subscription
   pub advice_fits : IfSome r.advice AdviceFits
   pub ack_fits : AckFits r.ack
 
--- the text of a reply is an object with just the members of a reply
+-- A reply's text is an object with exactly the members of a reply.
 abbrev pub RepliesReadBack : Type 0
 RepliesReadBack = (levels : ℕ) (r : Reply) (id subscription : Option Data) → 1 ≤ levels → ReplyParts levels r id subscription → IsObjectOf (suc levels) (reply_text r) (reply_rows r id subscription)
 
--- ---- events and responses
+-- ---- Events and responses
 
--- the members of an event, where `data` and `id` read as these values (Bayeux 1.0, event messages)
+-- The members of an event whose `data` and `id` read as these values. Bayeux 1.0, event messages.
 abbrev pub event_rows : Event → Data → Option Data → List Row
 event_rows e payload id = (codes "channel", Some (string e.channel)) ∷ (codes "data", Some payload) ∷ (codes "id", id) ∷ []
 
--- the text of an event is an object with just these members
+-- An event's text is an object with exactly these members.
 abbrev pub EventsReadBack : Type 0
 EventsReadBack = (levels : ℕ) (e : Event) (payload : Data) (id : Option Data) → read_within levels e.payload ≡ Some payload → ReadsAs levels e.id id → IsObjectOf (suc levels) (event_text e) (event_rows e payload id)
 
--- the text of a response is the array of what its items read as
+-- A response's text is the array of what its items read as.
 abbrev pub BodiesReadBack : Type 0
 BodiesReadBack = (levels : ℕ) (items : List Item) (ds : Items) → AllReadAs levels (map item_text items) ds → read_within (suc levels) (body_text items) ≡ Some (array ds)

@@ -1,4 +1,4 @@
--- What comes by the readers' door.
+-- Requests by the read-only listener publish nothing.
 use Rattle.std.specs.Prelude.{ℕ, ◌≡◌, false, List, [], map, ⊤}
 use Rattle.std.specs.List.{AllByRecursion}
 use Rattle.bx_names.specs.Words.{is_broadcast}
@@ -10,21 +10,21 @@ use Rattle.bx_entry.specs.Listing as lists
 use Rattle.bx_entry.specs.Sessions.{session}
 use Rattle.bx_entry.specs.Words.{Listed, entries, read_input, taken_in}
 
--- a request that came by the readers' door, or a tick
+-- A request by the read-only listener, or a tick.
 abbrev pub IsOfReaders : Input → Type 0
 IsOfReaders (Post a) = a.door ≡ Readers
 IsOfReaders (Tick moment) = ⊤
 
--- an element of the list is no message to a broadcast channel
+-- An element that is no message to a broadcast channel.
 abbrev pub IsQuiet : Listed → Type 0
 IsQuiet (lists.Post posted) = is_broadcast posted.message.channel ≡ false
 IsQuiet (lists.Tick moment) = ⊤
 
--- a list without such messages, of which no session has an event
+-- A list without such messages, in which no session has an event.
 pub record IsSilent (config : Config) (list : List Listed) : Type 0 where
   pub quiet : AllByRecursion IsQuiet list
   pub eventless : (number : ℕ) → (session config number (entries config list)).events ≡ []
 
--- so is the list of what came by the readers' door alone
+-- If all requests come by the read-only listener, no session has an event.
 abbrev pub ReadersPublishNothing : Type 0
 ReadersPublishNothing = (config : Config) (inputs : List Input) → AllByRecursion IsOfReaders inputs → IsSilent config (taken_in (map read_input inputs)).list

@@ -1,4 +1,4 @@
--- Messages and replies that the worked runs are made of.
+-- Messages and replies for the worked runs.
 use Rattle.std.specs.Prelude.{ℕ, replicate, Bool, true, false, List, [], ◌∷◌, ◌++◌, map, codes, Option, Some, None, Ok, Err}
 use Rattle.std.proofs.Common.{lit≤}
 use Rattle.bx_names.specs.Words.{matches, glob_of, segments}
@@ -17,18 +17,21 @@ use Rattle.bx_message.specs.Texts.{body_text}
 use Rattle.std.specs.Prelude.{Result}
 use Rattle.std.specs.List.{join_with_byte}
 
--- ---- messages
+-- ---- Messages
 
+-- A message with nothing but a channel.
 abbrev pub blank : List ℕ → Message
 blank channel = record { channel = channel; id = None; client = Absent; version = Absent; supported = []; connection = Absent; subscription = None; texts = []; listed = false; payload = None; ack = NoAck; timeout = None }
 
--- the id of session k, where nonces are 0
+-- The client id of session `k`, if its nonce is 0.
 abbrev pub id_of : ℕ → List ℕ
 id_of k = client_id 0 k
 
+-- A message by session `k`.
 abbrev pub of_session : List ℕ → ℕ → Message
 of_session channel k = record (blank channel) { client = Text (id_of k) }
 
+-- A handshake with this version.
 abbrev pub versioned : List ℕ → Message
 versioned version = record (blank (codes "/meta/handshake")) { version = Text version; supported = codes "long-polling" ∷ [] }
 
@@ -41,7 +44,7 @@ ack_handshake = record handshake { ack = AckTrue }
 abbrev pub connect : ℕ → Message
 connect k = record (of_session (codes "/meta/connect") k) { connection = Text (codes "long-polling") }
 
--- a connect that isn't held
+-- A connect that is not held.
 abbrev pub connect_now : ℕ → Message
 connect_now k = record (connect k) { timeout = Some 0 }
 
@@ -51,10 +54,11 @@ ack_connect k n = record (connect k) { ack = AckNumber n }
 abbrev pub ack_connect_now : ℕ → ℕ → Message
 ack_connect_now k n = record (ack_connect k n) { timeout = Some 0 }
 
--- a text as JSON, where it needs no escape
+-- A text as a JSON string, if it needs no escape.
 abbrev pub in_quotes : List ℕ → List ℕ
 in_quotes text = 34 ∷ (text ++ 34 ∷ [])
 
+-- A message with one pattern.
 abbrev pub on_pattern : List ℕ → ℕ → List ℕ → Message
 on_pattern channel k pattern = record (of_session channel k) { subscription = Some (in_quotes pattern); texts = pattern ∷ []; listed = true }
 
@@ -70,12 +74,13 @@ disconnect = of_session (codes "/meta/disconnect")
 abbrev pub publish : ℕ → List ℕ → List ℕ → Message
 publish k channel payload = record (of_session channel k) { payload = Some payload }
 
--- a request, with nonce 0
+-- A request with nonce 0.
 abbrev pub post : ℕ → List Message → ReadInput
 post moment ms = Request moment 0 ms
 
--- ---- replies
+-- ---- Replies
 
+-- The configuration of most runs.
 abbrev pub standard : Config
 standard = record { shards = 2; timeout = 30000; interval = 0; max_interval = 10000; limits = standard_limits; ride = false; anonymous = false; some_shard = lit≤ tt; shards_in_range = lit≤ tt }
 
@@ -118,7 +123,7 @@ event channel payload = EventItem (record { channel = channel; payload = payload
 abbrev pub out : ℕ → List Item → Out
 out input items = record { input = input; result = Ok items }
 
--- a subscription with these patterns
+-- A JSON array of patterns.
 abbrev pub listing : List (List ℕ) → List ℕ
 listing patterns = 91 ∷ (join_with_byte 44 (map in_quotes patterns) ++ 93 ∷ [])
 
@@ -128,78 +133,83 @@ subscribe_all k patterns = record (of_session (codes "/meta/subscribe") k) { sub
 abbrev pub subscribed_all : ℕ → List (List ℕ) → Outcome → Item
 subscribed_all k patterns outcome = ReplyItem (record (reply MessageKind.Subscribe (codes "/meta/subscribe") (Some (id_of k)) outcome AckReply.NoAck) { subscription = Some (listing patterns) })
 
--- whether the pattern matches each of the names
+-- Whether `pattern` matches each name.
 abbrev pub match_all : List ℕ → List (List ℕ) → List Bool
 match_all pattern names = map (λ name. matches (glob_of (segments pattern)) (segments name)) names
 
+-- A newer connect while one is held.
 abbrev pub two_connects : List ReadInput
 two_connects = post 0 (handshake ∷ []) ∷ post 1 (connect 1 ∷ []) ∷ post 2 (connect 1 ∷ []) ∷ []
 
+-- An event for an acknowledging session's held connect, and later connects.
 abbrev pub held_with_ack : List ReadInput
 held_with_ack =
     post 0 (ack_handshake ∷ []) ∷ post 0 (handshake ∷ []) ∷ post 0 (subscribe 1 (codes "/a/**") ∷ []) ∷ post 1 (ack_connect 1 0 ∷ [])
     ∷ post 2 (publish 2 (codes "/a/b/c") (codes "[1, 2]") ∷ []) ∷ post 3 (ack_connect 1 0 ∷ []) ∷ post 4 (ack_connect 1 1 ∷ []) ∷ []
 
--- a configuration with room for so many events and patterns
+-- A configuration with these limits for a session's events and patterns.
 abbrev pub small : ℕ → ℕ → Config
 small events patterns = record standard { limits = record standard_limits { events = events; patterns = patterns } }
 
 abbrev pub failed : MessageKind → List ℕ → Option (List ℕ) → Error → Item
 failed message_kind channel client error = ReplyItem (reply message_kind channel client (Failed error) AckReply.NoAck)
 
--- 256 publishes in a request
+-- A request with 256 publishes.
 abbrev pub many : ReadInput
 many = post 0 (replicate 256 (publish 1 (codes "/a/b") (codes "1")))
 
+-- A session with 1,024 waiting events.
 abbrev pub four_batches : List ReadInput
 four_batches = post 0 (handshake ∷ []) ∷ post 0 (subscribe 1 (codes "/a/b") ∷ []) ∷ many ∷ many ∷ many ∷ many ∷ []
 
+-- The answer to a connect with 256 events.
 abbrev pub full_batch : List Item
 full_batch = replicate 256 (event (codes "/a/b") (codes "1")) ++ connected 1 ∷ []
 
--- ---- texts
+-- ---- Texts
 
--- the body of a response, or the empty text of a refusal
+-- A response's body, or the empty text for a refusal.
 abbrev pub text_by : Result (List Item) Refusal → List ℕ
 text_by (Ok items) = body_text items
 text_by (Err refusal) = []
 
+-- The texts of a run's responses.
 abbrev pub texts : Config → List ReadInput → List (List ℕ)
 texts config inputs = map (λ (o : Out). text_by o.result) (outs config inputs)
 
--- ---- more messages
+-- ---- More messages
 
--- one message for each of several refusals
+-- Messages with one fault each, and one without a fault.
 abbrev pub refused_messages : List ReadInput
 refused_messages = post 0 (handshake ∷ []) ∷ post 0 (
     blank (codes "/meta/ping") ∷ blank (codes "/meta/connect") ∷ record (blank (codes "/meta/disconnect")) { client = Text (codes "nobody") }
     ∷ subscribe 1 (codes "/meta/*") ∷ subscribe 1 (codes "/service/x") ∷ of_session (codes "/meta/subscribe") 1
     ∷ publish 1 (codes "/a/*") (codes "1") ∷ of_session (codes "/a") 1 ∷ []) ∷ []
 
--- a subscription of this text and something else beside it
+-- A subscription to `text` and something that is not a string.
 abbrev pub mixed : List ℕ → Message
 mixed text = record (subscribe 1 text) { listed = false }
 
 abbrev pub mixed_failed : List ℕ → Error → Item
 mixed_failed text error = ReplyItem (record (reply MessageKind.Subscribe (codes "/meta/subscribe") (Some (id_of 1)) (Failed error) AckReply.NoAck) { subscription = Some (in_quotes text) })
 
--- a configuration that takes publishes of no session
+-- A configuration that accepts sessionless publishes.
 abbrev pub open_to_all : Config
 open_to_all = record standard { anonymous = true }
 
--- a publish without a client id
+-- A publish without a client id.
 abbrev pub anonymous : List ℕ → List ℕ → Message
 anonymous channel payload = record (blank channel) { payload = Some payload }
 
--- a configuration in which events ride with the replies of any message, and that takes publishes of no session
+-- A configuration that has riders and accepts sessionless publishes.
 abbrev pub riding : Config
 riding = record standard { ride = true; anonymous = true }
 
--- a configuration with room for so many sessions
+-- A configuration with room for `room` sessions.
 abbrev pub crowded : ℕ → Config
 crowded room = record standard { limits = record standard_limits { sessions = room } }
 
--- publishes of two sessions and of none, where the first session subscribes
+-- Publishes by a subscriber, by another session and by none.
 abbrev pub ridden_publishes : List ReadInput
 ridden_publishes =
     post 0 (handshake ∷ []) ∷ post 0 (handshake ∷ []) ∷ post 0 (subscribe 1 (codes "/a/*") ∷ []) ∷ post 0 (publish 2 (codes "/a/x") (codes "1") ∷ [])
@@ -207,19 +217,19 @@ ridden_publishes =
     ∷ post 0 (publish 1 (codes "/a/z") (codes "5") ∷ publish 2 (codes "/b") (codes "6") ∷ []) ∷ post 0 (anonymous (codes "/a/w") (codes "8") ∷ [])
     ∷ post 0 (connect_now 1 ∷ []) ∷ post 0 (disconnect 1 ∷ []) ∷ []
 
--- two publishes of a session whose connect is held
+-- Two publishes in one request by a session with a held connect.
 abbrev pub ridden_hold : List ReadInput
 ridden_hold =
     post 0 (handshake ∷ []) ∷ post 0 (subscribe 1 (codes "/a/*") ∷ []) ∷ post 0 (connect 1 ∷ [])
     ∷ post 0 (publish 1 (codes "/a/x") (codes "1") ∷ publish 1 (codes "/a/y") (codes "2") ∷ []) ∷ []
 
--- these messages and then a publish of the first session, which subscribes, in one request; then its connect
+-- `ms` and then a publish by session 1, a subscriber, in one request; then its connect.
 abbrev pub ridden_behind : List Message → List ReadInput
 ridden_behind ms =
     post 0 (handshake ∷ []) ∷ post 0 (handshake ∷ []) ∷ post 0 (subscribe 1 (codes "/a/*") ∷ [])
     ∷ post 0 (ms ++ publish 1 (codes "/a/x") (codes "1") ∷ []) ∷ post 0 (connect_now 1 ∷ []) ∷ []
 
--- the event of that publish waits for the connect
+-- The outs if the event of that publish waits for the connect.
 abbrev pub waits_behind : List Item → List Out
 waits_behind items =
     out 0 (handshaken 1 ∷ []) ∷ out 1 (handshaken 2 ∷ []) ∷ out 2 (subscribed 1 (codes "/a/*") ∷ [])

@@ -20,75 +20,82 @@ use Rattle.bx_advice.specs.declared.error.Error.TheVariants.{TooManySessions}
 use Rattle.std.specs.Prelude.{◌++◌, map}
 use Rattle.bx_script.specs.Replay.{lines_of, line_of, Bad, Recorded, Rejected, Accepted, Resharded, Announced, Noted, Script, inputs_from, printed, with_nonces}
 
--- ---- which texts read as names and patterns, and what patterns match
+-- ---- Names and patterns
 
+-- Texts that are names, and the faults of others.
 abbrev pub NamesRead : Type 0
 NamesRead =
     name_fault (codes "/a/b") ∷ name_fault (codes "/meta") ∷ name_fault [] ∷ name_fault (codes "a") ∷ name_fault (codes "/") ∷ name_fault (codes "/a//b") ∷ name_fault (codes "/a/") ∷ name_fault (codes "/a b") ∷ name_fault (codes "/a/*") ∷ []
     ≡ None ∷ None ∷ Some NoSlash ∷ Some NoSlash ∷ Some EmptySegment ∷ Some EmptySegment ∷ Some EmptySegment ∷ Some BadByte ∷ Some Wild ∷ []
 
+-- A name has at most 256 bytes and 32 segments.
 abbrev pub LengthsRead : Type 0
 LengthsRead =
     name_fault (47 ∷ replicate 255 97) ∷ name_fault (47 ∷ replicate 256 97) ∷ name_fault (flat_map (λ x. x ∷ 97 ∷ []) (replicate 32 47)) ∷ name_fault (flat_map (λ x. x ∷ 97 ∷ []) (replicate 33 47)) ∷ []
     ≡ None ∷ Some TooLong ∷ None ∷ Some TooDeep ∷ []
 
+-- Only a pattern's last segment may be a wildcard, `*` or `**`.
 abbrev pub PatternsRead : Type 0
 PatternsRead =
     pattern_fault (codes "/a/b") ∷ pattern_fault (codes "/a/*") ∷ pattern_fault (codes "/a/**") ∷ pattern_fault (codes "/*") ∷ pattern_fault (codes "/**") ∷ pattern_fault (codes "/*/b") ∷ pattern_fault (codes "/a*") ∷ pattern_fault (codes "/***") ∷ []
     ≡ None ∷ None ∷ None ∷ None ∷ None ∷ Some Wild ∷ Some Wild ∷ Some Wild ∷ []
 
+-- `*` matches one segment.
 abbrev pub StarsMatch : Type 0
 StarsMatch =
     match_all (codes "/foo/*") (codes "/foo/bar" ∷ codes "/foo" ∷ codes "/foobar" ∷ codes "/foo/bar/boo" ∷ []) ≡ true ∷ false ∷ false ∷ false ∷ []
 
+-- `**` matches one or more segments.
 abbrev pub DoubleStarsMatch : Type 0
 DoubleStarsMatch =
     match_all (codes "/foo/**") (codes "/foo/bar" ∷ codes "/foo/bar/boo" ∷ codes "/foo" ∷ codes "/foobar/x" ∷ []) ≡ true ∷ true ∷ false ∷ false ∷ []
 
+-- `/**` matches every name.
 abbrev pub AllMatch : Type 0
 AllMatch =
     match_all (codes "/**") (codes "/a" ∷ codes "/a/b" ∷ []) ≡ true ∷ true ∷ []
 
+-- A pattern without a wildcard matches only itself.
 abbrev pub PlainMatch : Type 0
 PlainMatch =
     match_all (codes "/a") (codes "/a" ∷ codes "/a/b" ∷ []) ≡ true ∷ false ∷ []
 
--- ---- handshakes, accepted and refused
+-- ---- Handshakes
 
--- a first handshake, with an id that is repeated
+-- A handshake's reply repeats its id.
 abbrev pub HandshakeWithId : Type 0
 HandshakeWithId =
     outs standard (post 0 (record handshake { id = Some (codes "\"1\"") } ∷ []) ∷ [])
     ≡ out 0 (ReplyItem (record (reply MessageKind.Handshake (codes "/meta/handshake") (Some (id_of 1)) Opened AckReply.NoAck) { id = Some (codes "\"1\"") }) ∷ []) ∷ []
 
--- a version that isn't accepted takes no number
+-- A handshake that is refused for its version takes no session number.
 abbrev pub RefusedHandshake : Type 0
 RefusedHandshake =
     outs standard (post 0 (versioned (codes "2.0") ∷ []) ∷ post 0 (handshake ∷ []) ∷ [])
     ≡ out 0 (ReplyItem (reply MessageKind.Handshake (codes "/meta/handshake") None (Failed UnsupportedVersion) AckReply.NoAck) ∷ [])
     ∷ out 1 (handshaken 1 ∷ []) ∷ []
 
--- the second handshake of a request takes no number
+-- A request's second handshake is refused and takes no session number.
 abbrev pub TwoHandshakes : Type 0
 TwoHandshakes =
     outs standard (post 0 (handshake ∷ handshake ∷ []) ∷ post 0 (handshake ∷ []) ∷ [])
     ≡ out 0 (handshaken 1 ∷ ReplyItem (reply MessageKind.Handshake (codes "/meta/handshake") None (Failed SecondHandshake) AckReply.NoAck) ∷ [])
     ∷ out 1 (handshaken 2 ∷ []) ∷ []
 
--- an empty array is answered by an empty array
+-- An empty array is answered with an empty array.
 abbrev pub NothingPosted : Type 0
 NothingPosted =
     outs standard (post 0 [] ∷ []) ≡ out 0 [] ∷ []
 
--- a body that can't be read changes nothing: the next handshake has the first number
+-- An unreadable body changes nothing: the next handshake opens session 1.
 abbrev pub Unreadable : Type 0
 Unreadable =
     outs standard (Unread NotJson ∷ post 0 (handshake ∷ []) ∷ [])
     ≡ record { input = 0; result = Err (Body NotJson) } ∷ out 1 (handshaken 1 ∷ []) ∷ []
 
--- ---- events and the connects that get them
+-- ---- Events
 
--- an event ends a hold
+-- An event answers a held connect.
 abbrev pub HeldThenGiven : Type 0
 HeldThenGiven =
     outs standard (
@@ -97,18 +104,18 @@ HeldThenGiven =
     ≡ out 0 (handshaken 1 ∷ []) ∷ out 1 (handshaken 2 ∷ []) ∷ out 2 (subscribed 1 (codes "/a/*") ∷ [])
     ∷ out 3 (event (codes "/a/b") (codes "7") ∷ connected 1 ∷ []) ∷ out 4 (published (codes "/a/b") ∷ []) ∷ []
 
--- a publish of no session ends a hold, where the configuration takes such publishes
+-- Under `--anonymous`, a sessionless publish answers a held connect.
 abbrev pub SessionlessPublish : Type 0
 SessionlessPublish =
     outs open_to_all (post 0 (handshake ∷ []) ∷ post 0 (subscribe 1 (codes "/a/*") ∷ []) ∷ post 10 (connect 1 ∷ []) ∷ post 20 (anonymous (codes "/a/b") (codes "7") ∷ []) ∷ [])
     ≡ out 0 (handshaken 1 ∷ []) ∷ out 1 (subscribed 1 (codes "/a/*") ∷ []) ∷ out 2 (event (codes "/a/b") (codes "7") ∷ connected 1 ∷ []) ∷ out 3 (published (codes "/a/b") ∷ []) ∷ []
 
--- and is refused where it takes none
+-- Without `--anonymous`, a sessionless publish is refused.
 abbrev pub SessionlessRefused : Type 0
 SessionlessRefused =
     outs standard (post 0 (anonymous (codes "/a/b") (codes "7") ∷ []) ∷ []) ≡ out 0 (failed MessageKind.Publish (codes "/a/b") None NoClientId ∷ []) ∷ []
 
--- two patterns that match one name give the event once; `/a/**` doesn't match `/a`
+-- An event that two patterns match is sent once. `/a/**` does not match `/a`.
 abbrev pub MatchedTwice : Type 0
 MatchedTwice =
     outs standard (
@@ -119,13 +126,13 @@ MatchedTwice =
     ∷ out 1 (subscribed 1 (codes "/a/*") ∷ subscribed 1 (codes "/a/**") ∷ published (codes "/a/b") ∷ published (codes "/a") ∷ [])
     ∷ out 2 (event (codes "/a/b") (codes "1") ∷ connected 1 ∷ []) ∷ []
 
--- a publish to a service channel succeeds and goes to no one, though a pattern matches
+-- A publish to a service channel succeeds but reaches nobody, even if a pattern matches.
 abbrev pub ServicePublish : Type 0
 ServicePublish =
     outs standard (post 0 (handshake ∷ []) ∷ post 0 (subscribe 1 (codes "/**") ∷ publish 1 (codes "/service/x") (codes "1") ∷ []) ∷ post 0 (connect_now 1 ∷ []) ∷ [])
     ≡ out 0 (handshaken 1 ∷ []) ∷ out 1 (subscribed 1 (codes "/**") ∷ published (codes "/service/x") ∷ []) ∷ out 2 (connected 1 ∷ []) ∷ []
 
--- data and id are repeated as the sender wrote them
+-- Data and id are repeated byte for byte.
 abbrev pub SenderBytes : Type 0
 SenderBytes =
     outs standard (post 0 (handshake ∷ []) ∷ post 0 (subscribe 1 (codes "/a/b") ∷ []) ∷ post 0 (record (publish 1 (codes "/a/b") (codes "{\"a\" : 1.50}")) { id = Some (codes "\"q\"") } ∷ []) ∷ post 0 (connect_now 1 ∷ []) ∷ [])
@@ -133,9 +140,10 @@ SenderBytes =
     ∷ out 2 (ReplyItem (record (reply MessageKind.Publish (codes "/a/b") None Done AckReply.NoAck) { id = Some (codes "\"q\"") }) ∷ [])
     ∷ out 3 (EventItem (record { channel = codes "/a/b"; payload = codes "{\"a\" : 1.50}"; id = Some (codes "\"q\"") }) ∷ connected 1 ∷ []) ∷ []
 
--- ---- riders
+-- ---- Riders
 
--- waiting events go out before the reply of a request's last message where all of its messages are of their session; else they wait on
+-- Waiting events are sent before a request's last reply if all its messages are from their session.
+-- Otherwise they wait on.
 abbrev pub EventsRide : Type 0
 EventsRide =
     outs riding ridden_publishes
@@ -147,7 +155,7 @@ EventsRide =
     ∷ out 8 (event (codes "/a/z") (codes "5") ∷ event (codes "/a/w") (codes "8") ∷ connected 1 ∷ [])
     ∷ out 9 (disconnected 1 ∷ []) ∷ []
 
--- an event that ends a hold goes out with it, and the next one with the rider
+-- The first event answers the held connect. The next one is sent with the rider's reply.
 abbrev pub RideBehindHold : Type 0
 RideBehindHold =
     outs riding ridden_hold
@@ -155,7 +163,7 @@ RideBehindHold =
     ∷ out 2 (event (codes "/a/x") (codes "1") ∷ connected 1 ∷ [])
     ∷ out 3 (published (codes "/a/x") ∷ event (codes "/a/y") (codes "2") ∷ published (codes "/a/y") ∷ []) ∷ []
 
--- where the configuration has no riders, events wait for a connect
+-- Without `--ride`, events wait for a connect.
 abbrev pub NothingRides : Type 0
 NothingRides =
     outs open_to_all ridden_publishes
@@ -167,35 +175,35 @@ NothingRides =
     ∷ out 8 (event (codes "/a/x") (codes "1") ∷ event (codes "/a/y") (codes "3") ∷ event (codes "/a/z") (codes "5") ∷ event (codes "/a/w") (codes "8") ∷ connected 1 ∷ [])
     ∷ out 9 (disconnected 1 ∷ []) ∷ []
 
--- nothing rides in a request with a refused message,
+-- A request with a refused message has no rider.
 abbrev pub NothingRidesBehindRefused : Type 0
 NothingRidesBehindRefused =
     outs riding (ridden_behind (publish 1 (codes "/a/*") (codes "0") ∷ [])) ≡ waits_behind (failed MessageKind.Publish (codes "/a/*") None InvalidChannel ∷ [])
 
--- nor with a publish of no session,
+-- A request with a sessionless publish has no rider.
 abbrev pub NothingRidesBehindSessionless : Type 0
 NothingRidesBehindSessionless =
     outs riding (ridden_behind (anonymous (codes "/b") (codes "0") ∷ [])) ≡ waits_behind (published (codes "/b") ∷ [])
 
--- nor with a handshake,
+-- A request with a handshake has no rider.
 abbrev pub NothingRidesBehindHandshake : Type 0
 NothingRidesBehindHandshake =
     outs riding (ridden_behind (handshake ∷ [])) ≡ waits_behind (handshaken 3 ∷ [])
 
--- nor where the session's messages stand round another one's
+-- A request has no rider if another session's message is between two of one session.
 abbrev pub NothingRidesBehindTwo : Type 0
 NothingRidesBehindTwo =
     outs riding (ridden_behind (publish 1 (codes "/b") (codes "0") ∷ publish 2 (codes "/b") (codes "0") ∷ [])) ≡ waits_behind (published (codes "/b") ∷ published (codes "/b") ∷ [])
 
--- ---- batches, until they are acknowledged
+-- ---- Batches
 
--- an acknowledgement that is no number acknowledges nothing
+-- A connect without a batch number acknowledges nothing.
 abbrev pub NoNumber : Type 0
 NoNumber =
     outs standard (post 0 (ack_handshake ∷ []) ∷ post 0 (record (connect_now 1) { ack = NoAck } ∷ []) ∷ [])
     ≡ out 0 (ack_handshaken 1 ∷ []) ∷ out 1 (ack_connected 1 0 ∷ []) ∷ []
 
--- an outstanding batch is given again, with no later event in it, until its number is acknowledged
+-- A batch is sent again, without later events, until it is acknowledged.
 abbrev pub BatchesRepeat : Type 0
 BatchesRepeat =
     outs standard (
@@ -218,7 +226,7 @@ BatchesRepeat =
     ∷ out 7 (event (codes "/a/y") (codes "2") ∷ event (codes "/a/z") (codes "3") ∷ ack_connected 1 2 ∷ [])
     ∷ out 8 (ack_connected 1 2 ∷ []) ∷ []
 
--- a number above the last acknowledges all that was given, however often it is sent
+-- A number above the last batch's acknowledges all that was sent, however often it comes.
 abbrev pub GreatNumber : Type 0
 GreatNumber =
     outs standard (
@@ -235,7 +243,8 @@ GreatNumber =
     ∷ out 4 (event (codes "/a/y") (codes "2") ∷ ack_connected 1 2 ∷ [])
     ∷ out 5 (ack_connected 1 2 ∷ []) ∷ []
 
--- the event that ends an acknowledging session's hold is a batch, which is given again until it is acknowledged
+-- The event that answers an acknowledging session's held connect is a batch, which is sent again
+-- until it is acknowledged.
 abbrev pub EventIsBatch : Type 0
 EventIsBatch =
     outs standard held_with_ack
@@ -243,41 +252,43 @@ EventIsBatch =
     ∷ out 3 (event (codes "/a/b/c") (codes "[1, 2]") ∷ ack_connected 1 1 ∷ []) ∷ out 4 (published (codes "/a/b/c") ∷ [])
     ∷ out 5 (event (codes "/a/b/c") (codes "[1, 2]") ∷ ack_connected 1 1 ∷ []) ∷ []
 
+-- The connect that acknowledges it is held.
 abbrev pub EventIsBatchHeld : Type 0
 EventIsBatchHeld =
     held standard held_with_ack ≡ 6 ∷ []
 
--- ---- held connects, and what ends them
+-- ---- Held connects
 
--- a tick at its deadline ends a hold, one before it doesn't
+-- A tick at the deadline answers a held connect. An earlier tick does not.
 abbrev pub HoldRunsOut : Type 0
 HoldRunsOut =
     outs standard (post 0 (handshake ∷ []) ∷ post 0 (connect 1 ∷ []) ∷ Tick 29999 ∷ Tick 30000 ∷ [])
     ≡ out 0 (handshaken 1 ∷ []) ∷ out 2 [] ∷ out 1 (connected 1 ∷ []) ∷ out 3 [] ∷ []
 
--- a connect beside another message isn't held
+-- A connect is not held if its request has another message.
 abbrev pub NotSole : Type 0
 NotSole =
     outs standard (post 0 (handshake ∷ []) ∷ post 1 (connect 1 ∷ connect 1 ∷ []) ∷ [])
     ≡ out 0 (handshaken 1 ∷ []) ∷ out 1 (connected 1 ∷ connected 1 ∷ []) ∷ []
 
--- a newer connect ends the one before it, and is held itself
+-- A newer connect ends the held one as superseded.
 abbrev pub Superseded : Type 0
 Superseded =
     outs standard two_connects
     ≡ out 0 (handshaken 1 ∷ []) ∷ out 1 (connected_as 1 (Failed SupersededConnect) AckReply.NoAck ∷ []) ∷ []
 
+-- The newer connect is held.
 abbrev pub SupersededHeld : Type 0
 SupersededHeld =
     held standard two_connects ≡ 2 ∷ []
 
--- a disconnect ends a hold with success and the advice not to come again
+-- A disconnect answers a held connect with success and the advice not to reconnect.
 abbrev pub HoldEndsWithSession : Type 0
 HoldEndsWithSession =
     outs standard (post 0 (handshake ∷ []) ∷ post 1 (connect 1 ∷ []) ∷ post 2 (disconnect 1 ∷ []) ∷ [])
     ≡ out 0 (handshaken 1 ∷ []) ∷ out 1 (connected_as 1 Disconnected AckReply.NoAck ∷ []) ∷ out 2 (disconnected 1 ∷ []) ∷ []
 
--- a hold extends the due moment, whether or not it was used to its end
+-- A hold puts off the due moment by its full length, even if it ends early.
 abbrev pub HoldExtends : Type 0
 HoldExtends =
     outs standard (
@@ -286,16 +297,16 @@ HoldExtends =
     ≡ out 0 (handshaken 1 ∷ []) ∷ out 1 (subscribed 1 (codes "/a/b") ∷ []) ∷ out 2 (event (codes "/a/b") (codes "1") ∷ connected 1 ∷ []) ∷ out 3 (published (codes "/a/b") ∷ []) ∷ out 4 []
     ∷ out 5 (published (codes "/a/b") ∷ []) ∷ out 6 [] ∷ out 7 [] ∷ out 8 (unknown_client MessageKind.Connect (codes "/meta/connect") ∷ []) ∷ []
 
--- moments count as the greatest so far: a deadline, and the end of moments
+-- A moment below an earlier one counts as that one. A moment above the limit is refused.
 abbrev pub MomentsRise : Type 0
 MomentsRise =
     outs standard (
     post 9 (handshake ∷ []) ∷ post 5 (connect 1 ∷ []) ∷ Tick 30005 ∷ Tick 30009 ∷ Tick 4611686018427387905 ∷ post 30009 (disconnect 1 ∷ []) ∷ [])
     ≡ out 0 (handshaken 1 ∷ []) ∷ out 2 [] ∷ out 1 (connected 1 ∷ []) ∷ out 3 [] ∷ record { input = 4; result = Err BadMoment } ∷ out 5 (disconnected 1 ∷ []) ∷ []
 
--- ---- sessions that end
+-- ---- Sessions that end
 
--- a tick past its due moment closes a session, one at it doesn't
+-- A tick after a session's due moment closes it. A tick at that moment does not.
 abbrev pub SessionExpires : Type 0
 SessionExpires =
     outs standard (
@@ -304,14 +315,15 @@ SessionExpires =
     ≡ out 0 (handshaken 1 ∷ []) ∷ out 1 (handshaken 2 ∷ []) ∷ out 2 (subscribed 2 (codes "/a/*") ∷ []) ∷ out 3 [] ∷ out 4 []
     ∷ out 5 (unknown_client MessageKind.Publish (codes "/a/b") ∷ []) ∷ out 6 (connected 2 ∷ []) ∷ []
 
--- a message behind its session's disconnect comes too late
+-- A message after its session's disconnect is refused.
 abbrev pub GoneWithinARequest : Type 0
 GoneWithinARequest =
     outs standard (post 0 (handshake ∷ []) ∷ post 1 (disconnect 1 ∷ publish 1 (codes "/a/b") (codes "1") ∷ []) ∷ [])
     ≡ out 0 (handshaken 1 ∷ []) ∷ out 1 (disconnected 1 ∷ unknown_client MessageKind.Publish (codes "/a/b") ∷ []) ∷ []
 
--- ---- refused messages
+-- ---- Refused messages
 
+-- Each fault has its own error.
 abbrev pub EachRefusal : Type 0
 EachRefusal =
     outs standard refused_messages
@@ -325,13 +337,13 @@ EachRefusal =
     ∷ failed MessageKind.Publish (codes "/a/*") None InvalidChannel
     ∷ failed MessageKind.Publish (codes "/a") None MissingData ∷ []) ∷ []
 
--- a connection type that isn't served is refused
+-- A connect with an unsupported connection type is refused.
 abbrev pub UnknownType : Type 0
 UnknownType =
     drop 1 (outs standard (post 0 (handshake ∷ []) ∷ post 1 (record (connect 1) { connection = Text (codes "websocket") } ∷ []) ∷ []))
     ≡ out 1 (failed MessageKind.Connect (codes "/meta/connect") (Some (id_of 1)) UnknownConnectionType ∷ []) ∷ []
 
--- 64 patterns are accepted, 65 are not; one that reads as no pattern is told first, one of a meta channel later
+-- 64 patterns are accepted, 65 are not. An invalid pattern is reported first, a meta channel last.
 abbrev pub ManyPatterns : Type 0
 ManyPatterns =
     drop 1 (outs standard (post 0 (handshake ∷ []) ∷ post 0 (
@@ -339,9 +351,9 @@ ManyPatterns =
     ≡ out 1 (subscribed_all 1 (replicate 64 (codes "/a/b")) Done ∷ subscribed_all 1 (codes "/meta/*" ∷ replicate 64 (codes "/a/b")) (Failed TooManyPatterns)
     ∷ subscribed_all 1 (replicate 64 (codes "/a/b") ++ codes "a" ∷ []) (Failed InvalidPattern) ∷ []) ∷ []
 
--- ---- queues and patterns at their limits
+-- ---- Limits of queues and patterns
 
--- a third event overflows a queue of two: the events are dropped, connects are refused, publishes are served
+-- A third event overflows a queue for two: events are dropped, connects fail, publishes succeed.
 abbrev pub FullQueue : Type 0
 FullQueue =
     outs (small 2 8) (
@@ -350,7 +362,7 @@ FullQueue =
     ≡ out 0 (handshaken 1 ∷ []) ∷ out 1 (subscribed 1 (codes "/a/b") ∷ published (codes "/a/b") ∷ published (codes "/a/b") ∷ []) ∷ out 2 (published (codes "/a/b") ∷ [])
     ∷ out 3 (connected_as 1 (Failed QueueOverflow) AckReply.NoAck ∷ []) ∷ out 4 (published (codes "/a/b") ∷ []) ∷ []
 
--- two events fit
+-- A queue for two events takes two.
 abbrev pub QueueWithRoom : Type 0
 QueueWithRoom =
     outs (small 2 8) (
@@ -359,7 +371,8 @@ QueueWithRoom =
     ≡ out 0 (handshaken 1 ∷ []) ∷ out 1 (subscribed 1 (codes "/a/b") ∷ published (codes "/a/b") ∷ published (codes "/a/b") ∷ [])
     ∷ out 2 (event (codes "/a/b") (codes "1") ∷ event (codes "/a/b") (codes "2") ∷ connected 1 ∷ []) ∷ []
 
--- the outstanding batch counts towards the limit, so a connect that would acknowledge it comes too late
+-- The outstanding batch counts toward the limit. After the overflow, a connect that would
+-- acknowledge it fails.
 abbrev pub FullWithBatch : Type 0
 FullWithBatch =
     outs (small 2 8) (
@@ -369,7 +382,8 @@ FullWithBatch =
     ∷ out 2 (event (codes "/a/b") (codes "1") ∷ ack_connected 1 1 ∷ []) ∷ out 3 (published (codes "/a/b") ∷ published (codes "/a/b") ∷ [])
     ∷ out 4 (connected_as 1 (Failed QueueOverflow) AckReply.NoAck ∷ []) ∷ []
 
--- a held connect outlives an overflow by patterns: a tick at its deadline answers it, and the next connect is refused
+-- A held connect stays held if too many patterns overflow its session. A tick at its deadline
+-- answers it, and the next connect fails.
 abbrev pub HeldThroughOverflow : Type 0
 HeldThroughOverflow =
     outs (small 8 1) (
@@ -378,30 +392,33 @@ HeldThroughOverflow =
     ≡ out 0 (handshaken 1 ∷ []) ∷ out 1 (subscribed 1 (codes "/a/b") ∷ []) ∷ out 3 (subscribed 1 (codes "/a/c") ∷ []) ∷ out 4 (published (codes "/a/b") ∷ [])
     ∷ out 2 (connected 1 ∷ []) ∷ out 5 [] ∷ out 6 (connected_as 1 (Failed QueueOverflow) AckReply.NoAck ∷ []) ∷ []
 
--- one event more than 1,024 overflows the session
+-- The 1,025th event overflows a session.
 abbrev pub OverflowAt1025 : Type 0
 OverflowAt1025 =
     drop 6 (outs standard (four_batches ++ post 0 (publish 1 (codes "/a/b") (codes "1") ∷ []) ∷ post 0 (connect_now 1 ∷ []) ∷ post 0 (publish 1 (codes "/a/b") (codes "1") ∷ []) ∷ []))
     ≡ out 6 (published (codes "/a/b") ∷ []) ∷ out 7 (connected_as 1 (Failed QueueOverflow) AckReply.NoAck ∷ []) ∷ out 8 (published (codes "/a/b") ∷ []) ∷ []
 
--- 1,024 events are given by four connects
+-- Four connects get 1,024 events.
 abbrev pub FourFullBatches : Type 0
 FourFullBatches =
     drop 6 (outs standard (four_batches ++ post 0 (connect_now 1 ∷ []) ∷ post 0 (connect_now 1 ∷ []) ∷ post 0 (connect_now 1 ∷ []) ∷ post 0 (connect_now 1 ∷ []) ∷ post 0 (connect_now 1 ∷ []) ∷ []))
     ≡ out 6 full_batch ∷ out 7 full_batch ∷ out 8 full_batch ∷ out 9 full_batch ∷ out 10 (connected 1 ∷ []) ∷ []
 
--- ---- responses down to their bytes
+-- ---- Texts of responses
 
+-- A handshake's reply.
 abbrev pub HandshakeText : Type 0
 HandshakeText =
     texts standard (post 0 (record handshake { id = Some (codes "\"1\"") } ∷ []) ∷ [])
     ≡ codes "[{\"advice\":{\"interval\":0,\"reconnect\":\"retry\",\"timeout\":30000},\"channel\":\"/meta/handshake\",\"clientId\":\"000000000000000000000000000000000000000000000001\",\"id\":\"1\",\"successful\":true,\"supportedConnectionTypes\":[\"long-polling\",\"callback-polling\"],\"version\":\"1.0\"}]" ∷ []
 
+-- A refused handshake's reply.
 abbrev pub RefusedText : Type 0
 RefusedText =
     texts standard (post 0 (versioned (codes "2.0") ∷ []) ∷ [])
     ≡ codes "[{\"advice\":{\"interval\":0,\"reconnect\":\"none\"},\"channel\":\"/meta/handshake\",\"error\":\"400::Unsupported version\",\"successful\":false,\"supportedConnectionTypes\":[\"long-polling\",\"callback-polling\"],\"version\":\"1.0\"}]" ∷ []
 
+-- The responses up to a session's first batch.
 abbrev pub BatchText : Type 0
 BatchText =
     texts standard (
@@ -411,7 +428,7 @@ BatchText =
     ∷ codes "[{\"channel\":\"/a/x\",\"data\":[1, 2]},{\"advice\":{\"interval\":0,\"reconnect\":\"retry\",\"timeout\":30000},\"channel\":\"/meta/connect\",\"clientId\":\"000000000000000000000000000000000000000000000001\",\"ext\":{\"ack\":1},\"successful\":true}]"
     ∷ []
 
--- an event before the reply of the held connect that it ends, and the publish's reply behind
+-- An event comes before the reply to the held connect that it ends. The publish's reply is next.
 abbrev pub DeliveryText : Type 0
 DeliveryText =
     drop 3 (texts standard (
@@ -419,161 +436,163 @@ DeliveryText =
     ≡ codes "[{\"channel\":\"/a/b\",\"data\":7},{\"advice\":{\"interval\":0,\"reconnect\":\"retry\",\"timeout\":30000},\"channel\":\"/meta/connect\",\"clientId\":\"000000000000000000000000000000000000000000000001\",\"successful\":true}]"
     ∷ codes "[{\"channel\":\"/a/b\",\"successful\":true}]" ∷ []
 
--- a line separator in an event's data is written as an escape in a callback's body
+-- A callback's body escapes a line separator in an event's data.
 abbrev pub CallbackExample : Type 0
 CallbackExample =
     callback_text (codes "cb.x") (EventItem (record { channel = codes "/a/b"; payload = codes "\"x" ++ (226 ∷ 128 ∷ 168 ∷ codes "y\""); id = Some (codes "7") }) ∷ [])
     ≡ codes "cb.x([{\"channel\":\"/a/b\",\"data\":\"x\\u2028y\",\"id\":7}])"
 
+-- A callback without items gets an empty array.
 abbrev pub EmptyCallback : Type 0
 EmptyCallback =
     callback_text (codes "jsonpcallback") [] ≡ codes "jsonpcallback([])"
 
--- ---- what is easily mistaken
+-- ---- What is easily mistaken
 
--- a message behind its session's disconnect, in bytes
+-- A message after its session's disconnect, in bytes.
 abbrev pub GoneText : Type 0
 GoneText =
     drop 1 (texts standard (post 0 (handshake ∷ []) ∷ post 1 (disconnect 1 ∷ publish 1 (codes "/a/b") (codes "1") ∷ []) ∷ []))
     ≡ codes "[{\"channel\":\"/meta/disconnect\",\"clientId\":\"000000000000000000000000000000000000000000000001\",\"successful\":true},{\"advice\":{\"interval\":0,\"reconnect\":\"handshake\"},\"channel\":\"/a/b\",\"error\":\"402::Unknown client\",\"successful\":false}]" ∷ []
 
--- a newer connect ends the one before it, in bytes
+-- A superseded connect, in bytes.
 abbrev pub SupersededText : Type 0
 SupersededText =
     drop 1 (texts standard two_connects)
     ≡ codes "[{\"channel\":\"/meta/connect\",\"clientId\":\"000000000000000000000000000000000000000000000001\",\"error\":\"408::Superseded connect\",\"successful\":false}]" ∷ []
 
--- a connect after an overflow, in bytes
+-- A connect after an overflow, in bytes.
 abbrev pub OverflowText : Type 0
 OverflowText =
     drop 3 (texts (small 2 8) (post 0 (handshake ∷ []) ∷ post 0 (subscribe 1 (codes "/a/b") ∷ []) ∷ post 0 (replicate 3 (publish 1 (codes "/a/b") (codes "1"))) ∷ post 0 (connect_now 1 ∷ []) ∷ []))
     ≡ codes "[{\"advice\":{\"interval\":0,\"reconnect\":\"handshake\"},\"channel\":\"/meta/connect\",\"clientId\":\"000000000000000000000000000000000000000000000001\",\"error\":\"413::Queue overflow\",\"successful\":false}]" ∷ []
 
--- a second handshake, in bytes
+-- A second handshake, in bytes.
 abbrev pub SecondText : Type 0
 SecondText =
     texts standard (post 0 (handshake ∷ handshake ∷ []) ∷ [])
     ≡ codes "[{\"advice\":{\"interval\":0,\"reconnect\":\"retry\",\"timeout\":30000},\"channel\":\"/meta/handshake\",\"clientId\":\"000000000000000000000000000000000000000000000001\",\"successful\":true,\"supportedConnectionTypes\":[\"long-polling\",\"callback-polling\"],\"version\":\"1.0\"},{\"channel\":\"/meta/handshake\",\"error\":\"400::Second handshake\",\"successful\":false,\"supportedConnectionTypes\":[\"long-polling\",\"callback-polling\"],\"version\":\"1.0\"}]" ∷ []
 
--- a disconnect ends a hold, in bytes
+-- A held connect that a disconnect ends, in bytes.
 abbrev pub EndedText : Type 0
 EndedText =
     drop 1 (texts standard (post 0 (handshake ∷ []) ∷ post 1 (connect 1 ∷ []) ∷ post 2 (disconnect 1 ∷ []) ∷ []))
     ≡ codes "[{\"advice\":{\"interval\":0,\"reconnect\":\"none\"},\"channel\":\"/meta/connect\",\"clientId\":\"000000000000000000000000000000000000000000000001\",\"successful\":true}]" ∷ codes "[{\"channel\":\"/meta/disconnect\",\"clientId\":\"000000000000000000000000000000000000000000000001\",\"successful\":true}]" ∷ []
 
--- one message for each of several refusals, in bytes
+-- Messages with one fault each, in bytes.
 abbrev pub RefusalsText : Type 0
 RefusalsText =
     drop 1 (texts standard refused_messages)
     ≡ codes "[{\"channel\":\"/meta/ping\",\"error\":\"404::Unknown meta channel\",\"successful\":false},{\"advice\":{\"interval\":0,\"reconnect\":\"handshake\"},\"channel\":\"/meta/connect\",\"error\":\"401::No client id\",\"successful\":false},{\"advice\":{\"interval\":0,\"reconnect\":\"handshake\"},\"channel\":\"/meta/disconnect\",\"error\":\"402::Unknown client\",\"successful\":false},{\"channel\":\"/meta/subscribe\",\"clientId\":\"000000000000000000000000000000000000000000000001\",\"error\":\"403::Subscription denied\",\"subscription\":\"/meta/*\",\"successful\":false},{\"channel\":\"/meta/subscribe\",\"clientId\":\"000000000000000000000000000000000000000000000001\",\"subscription\":\"/service/x\",\"successful\":true},{\"channel\":\"/meta/subscribe\",\"clientId\":\"000000000000000000000000000000000000000000000001\",\"error\":\"400::Missing subscription\",\"successful\":false},{\"channel\":\"/a/*\",\"error\":\"400::Invalid channel\",\"successful\":false},{\"channel\":\"/a\",\"error\":\"400::Missing data\",\"successful\":false}]" ∷ []
 
--- a refused message moves the clock
+-- A refused message advances the clock.
 abbrev pub RefusedMovesClock : Type 0
 RefusedMovesClock =
     drop 2 (outs standard (post 0 (handshake ∷ []) ∷ post 20000 (blank (codes "/meta/ping") ∷ []) ∷ Tick 5 ∷ post 5 (connect_now 1 ∷ []) ∷ []))
     ≡ out 2 [] ∷ out 3 (unknown_client MessageKind.Connect (codes "/meta/connect") ∷ []) ∷ []
 
--- an empty request doesn't, nor one that can't be read
+-- An empty or unreadable request does not advance the clock.
 abbrev pub EmptyKeepsClock : Type 0
 EmptyKeepsClock =
     drop 1 (outs standard (post 0 (handshake ∷ []) ∷ post 20000 [] ∷ Unread NotJson ∷ Tick 5 ∷ post 5 (connect_now 1 ∷ []) ∷ []))
     ≡ out 1 [] ∷ record { input = 2; result = Err (Body NotJson) } ∷ out 3 [] ∷ out 4 (connected 1 ∷ []) ∷ []
 
--- a refused message doesn't put off the end of its session
+-- A refused message does not extend its session.
 abbrev pub RefusedKeepsDue : Type 0
 RefusedKeepsDue =
     drop 2 (outs standard (post 0 (handshake ∷ []) ∷ post 9000 (record (connect 1) { connection = Text (codes "websocket") } ∷ []) ∷ Tick 10001 ∷ post 10001 (connect_now 1 ∷ []) ∷ []))
     ≡ out 2 [] ∷ out 3 (unknown_client MessageKind.Connect (codes "/meta/connect") ∷ []) ∷ []
 
--- a tick past both the deadline and the due moment answers the hold, and then closes
+-- A tick after both the deadline and the due moment answers the held connect, then closes the
+-- session.
 abbrev pub HoldBeforeEnd : Type 0
 HoldBeforeEnd =
     drop 1 (outs standard (post 0 (handshake ∷ []) ∷ post 1 (connect 1 ∷ []) ∷ Tick 50000 ∷ post 50000 (connect_now 1 ∷ []) ∷ []))
     ≡ out 1 (connected 1 ∷ []) ∷ out 2 [] ∷ out 3 (unknown_client MessageKind.Connect (codes "/meta/connect") ∷ []) ∷ []
 
--- a hold of an acknowledging session that a disconnect ends has the number
+-- With acknowledgement, the reply to a held connect that a disconnect ends has the batch number.
 abbrev pub EndedWithNumber : Type 0
 EndedWithNumber =
     drop 1 (outs standard (post 0 (ack_handshake ∷ []) ∷ post 1 (ack_connect 1 0 ∷ []) ∷ post 2 (disconnect 1 ∷ []) ∷ []))
     ≡ out 1 (connected_as 1 Disconnected (AckReply.AckNumber 0) ∷ []) ∷ out 2 (disconnected 1 ∷ []) ∷ []
 
--- one that a newer connect ends hasn't
+-- The reply to a superseded connect has no batch number.
 abbrev pub SupersededWithoutNumber : Type 0
 SupersededWithoutNumber =
     drop 1 (outs standard (post 0 (ack_handshake ∷ []) ∷ post 1 (ack_connect 1 0 ∷ []) ∷ post 2 (ack_connect_now 1 0 ∷ []) ∷ []))
     ≡ out 1 (connected_as 1 (Failed SupersededConnect) AckReply.NoAck ∷ []) ∷ out 2 (ack_connected 1 0 ∷ []) ∷ []
 
--- texts beside something else are judged first
+-- If `subscription` is not all strings, errors in the strings are reported first.
 abbrev pub MixedArrays : Type 0
 MixedArrays =
     drop 1 (outs standard (post 0 (handshake ∷ []) ∷ post 0 (mixed (codes "a") ∷ mixed (codes "/meta/x") ∷ mixed (codes "/x") ∷ []) ∷ []))
     ≡ out 1 (mixed_failed (codes "a") InvalidPattern ∷ mixed_failed (codes "/meta/x") SubscriptionDenied ∷ mixed_failed (codes "/x") MissingSubscription ∷ []) ∷ []
 
--- a disconnect before it makes room for a handshake
+-- A full server refuses a handshake, unless a disconnect before it makes room.
 abbrev pub FullServer : Type 0
 FullServer =
     outs (crowded 1) (post 0 (handshake ∷ []) ∷ post 0 (handshake ∷ []) ∷ post 0 (disconnect 1 ∷ handshake ∷ []) ∷ [])
     ≡ out 0 (handshaken 1 ∷ []) ∷ out 1 (failed MessageKind.Handshake (codes "/meta/handshake") None TooManySessions ∷ []) ∷ out 2 (disconnected 1 ∷ handshaken 2 ∷ []) ∷ []
 
--- unsubscribing doesn't end an overflow
+-- Unsubscribing does not end an overflow.
 abbrev pub OverflowOutlivesPatterns : Type 0
 OverflowOutlivesPatterns =
     drop 3 (outs (small 8 1) (post 0 (handshake ∷ []) ∷ post 0 (subscribe 1 (codes "/a/b") ∷ subscribe 1 (codes "/c") ∷ []) ∷ post 0 (unsubscribe 1 (codes "/a/b") ∷ unsubscribe 1 (codes "/c") ∷ []) ∷ post 0 (connect_now 1 ∷ []) ∷ []))
     ≡ out 3 (connected_as 1 (Failed QueueOverflow) AckReply.NoAck ∷ []) ∷ []
 
--- patterns of service channels don't count
+-- Patterns of service channels do not count toward the limit.
 abbrev pub ServicePatternsAside : Type 0
 ServicePatternsAside =
     drop 2 (outs (small 8 1) (post 0 (handshake ∷ []) ∷ post 0 (subscribe 1 (codes "/a/b") ∷ subscribe 1 (codes "/service/x") ∷ []) ∷ post 0 (connect_now 1 ∷ []) ∷ []))
     ≡ out 2 (connected 1 ∷ []) ∷ []
 
--- ---- scripts
+-- ---- Scripts
 
--- lines end at line feeds, and a last one without one counts
+-- Lines end at line feeds. The last line may have none.
 abbrev pub ScriptLines : Type 0
 ScriptLines =
     lines_of (codes "a" ++ 10 ∷ 10 ∷ codes "b") ∷ lines_of (codes "a" ++ 10 ∷ []) ∷ lines_of [] ∷ []
     ≡ (codes "a" ∷ [] ∷ codes "b" ∷ []) ∷ (codes "a" ∷ []) ∷ [] ∷ []
 
--- a tick, and lines of no known form, which those of a record alone are in a script
+-- A tick, a change of the number of shards, and bad lines, such as those that only records have.
 abbrev pub LineForms : Type 0
 LineForms =
     map (line_of Script) (codes "7 F message=%5B%5D" ∷ codes "7 N 000000000000000000000000000000ff" ∷ codes "A 7 4f53cda18c2baa0c0354bb5f9a3ecbe5ed12ab4d8e11ba873c2f11161202b945" ∷ codes "007 T" ∷ codes "7 T " ∷ codes "x" ∷ codes "0 P" ∷ codes "18446744073709551616 T" ∷ codes "0 S 64" ∷ codes "0 S 65" ∷ [] ∷ [])
     ≡ Bad ∷ Bad ∷ Bad ∷ Accepted None (Tick 7) ∷ Bad ∷ Bad ∷ Bad ∷ Bad ∷ Resharded 64 ∷ Bad ∷ Bad ∷ []
 
--- nonces, and lines that are not quite nonces
+-- A nonce, and lines that are almost one.
 abbrev pub NonceForms : Type 0
 NonceForms =
     map (line_of Recorded) (codes "7 N 000000000000000000000000000000fF" ∷ codes "7 N 00000000000000000000000000000ff" ∷ codes "7 N 0000000000000000000000000000000ff" ∷ codes "7 N +00000000000000000000000000000ff" ∷ codes "7 N 000000000000000000000000000000fg" ∷ codes "7 N" ∷ codes "N 000000000000000000000000000000ff" ∷ [])
     ≡ Announced 255 ∷ Bad ∷ Bad ∷ Bad ∷ Bad ∷ Bad ∷ Bad ∷ []
 
--- notes of answers, and lines that are not quite notes
+-- Notes of answers, and lines that are almost notes.
 abbrev pub NoteForms : Type 0
 NoteForms =
     map (line_of Recorded) (codes "A 7 4f53cda18c2baa0c0354bb5f9a3ecbe5ed12ab4d8e11ba873c2f11161202b945" ∷ codes "A 18446744073709551615 4F53CDA18C2BAA0C0354BB5F9A3ECBE5ED12AB4D8E11BA873C2F11161202B945" ∷ codes "A 007 4f53cda18c2baa0c0354bb5f9a3ecbe5ed12ab4d8e11ba873c2f11161202b945" ∷ codes "A 18446744073709551616 4f53cda18c2baa0c0354bb5f9a3ecbe5ed12ab4d8e11ba873c2f11161202b945" ∷ codes "A 7 4f53cda18c2baa0c0354bb5f9a3ecbe5ed12ab4d8e11ba873c2f11161202b94" ∷ codes "A 7 4f53cda18c2baa0c0354bb5f9a3ecbe5ed12ab4d8e11ba873c2f11161202b9450" ∷ codes "A 7 4f53cda18c2baa0c0354bb5f9a3ecbe5ed12ab4d8e11ba873c2f11161202b94g" ∷ codes "A 7" ∷ codes "A  4f53cda18c2baa0c0354bb5f9a3ecbe5ed12ab4d8e11ba873c2f11161202b945" ∷ codes "A 4f53cda18c2baa0c0354bb5f9a3ecbe5ed12ab4d8e11ba873c2f11161202b945" ∷ codes "A 7  4f53cda18c2baa0c0354bb5f9a3ecbe5ed12ab4d8e11ba873c2f11161202b945" ∷ codes "A -7 4f53cda18c2baa0c0354bb5f9a3ecbe5ed12ab4d8e11ba873c2f11161202b945" ∷ codes "7 A 7 4f53cda18c2baa0c0354bb5f9a3ecbe5ed12ab4d8e11ba873c2f11161202b945" ∷ codes "a 7 4f53cda18c2baa0c0354bb5f9a3ecbe5ed12ab4d8e11ba873c2f11161202b945" ∷ [])
     ≡ Noted ∷ Noted ∷ Noted ∷ Bad ∷ Bad ∷ Bad ∷ Bad ∷ Bad ∷ Bad ∷ Bad ∷ Bad ∷ Bad ∷ Bad ∷ Bad ∷ []
 
--- a nonce waits for the next request, which takes it
+-- A nonce waits for the next request, which takes it, unless a later nonce replaces it.
 abbrev pub NoncesWait : Type 0
 NoncesWait =
     with_nonces 0 (Accepted None (post 0 []) ∷ Announced 5 ∷ Announced 6 ∷ Accepted None (Tick 0) ∷ Bad ∷ Rejected 400 ∷ Resharded 2 ∷ Accepted None (post 7 []) ∷ Accepted None (post 8 []) ∷ Announced 9 ∷ Accepted None (Unread NotJson) ∷ Accepted None (post 10 []) ∷ [])
     ≡ Accepted None (post 0 []) ∷ Announced 5 ∷ Announced 6 ∷ Accepted None (Tick 0) ∷ Bad ∷ Rejected 400 ∷ Resharded 2 ∷ Accepted None (Request 7 6 []) ∷ Accepted None (post 8 []) ∷ Announced 9 ∷ Accepted None (Unread NotJson) ∷ Accepted None (post 10 []) ∷ []
 
--- what lines print: an answer comes with the line that gives it, and the lines that are held come last
+-- An answer is printed at the line that gives it. Held lines come last.
 abbrev pub ScriptPrinted : Type 0
 ScriptPrinted =
     (let ls = Accepted None (post 0 (handshake ∷ [])) ∷ Bad ∷ Accepted None (post 0 (connect 1 ∷ [])) ∷ Rejected 413 ∷ Accepted None (Tick 30000) ∷ Accepted None (post 30000 (connect 1 ∷ [])) ∷ [] in
     printed standard (inputs_from 1 ls) ls)
     ≡ (codes "1 200 [{\"advice\":{\"interval\":0,\"reconnect\":\"retry\",\"timeout\":30000},\"channel\":\"/meta/handshake\",\"clientId\":\"000000000000000000000000000000000000000000000001\",\"successful\":true,\"supportedConnectionTypes\":[\"long-polling\",\"callback-polling\"],\"version\":\"1.0\"}]" ++ 10 ∷ []) ++ (codes "2 bad" ++ 10 ∷ []) ++ (codes "4 413" ++ 10 ∷ []) ++ (codes "3 200 [{\"advice\":{\"interval\":0,\"reconnect\":\"retry\",\"timeout\":30000},\"channel\":\"/meta/connect\",\"clientId\":\"000000000000000000000000000000000000000000000001\",\"successful\":true}]" ++ 10 ∷ []) ++ (codes "6 held" ++ 10 ∷ [])
 
--- a session's client id begins with the nonce of its handshake
+-- A client id begins with the nonce of its handshake.
 abbrev pub NoncePrinted : Type 0
 NoncePrinted =
     (let ls = with_nonces 0 (Announced 255 ∷ Accepted None (post 0 (handshake ∷ [])) ∷ []) in
     printed standard (inputs_from 1 ls) ls)
     ≡ codes "2 200 [{\"advice\":{\"interval\":0,\"reconnect\":\"retry\",\"timeout\":30000},\"channel\":\"/meta/handshake\",\"clientId\":\"000000000000000000000000000000ff0000000000000001\",\"successful\":true,\"supportedConnectionTypes\":[\"long-polling\",\"callback-polling\"],\"version\":\"1.0\"}]" ++ 10 ∷ []
 
--- a note between a nonce and its request prints nothing, and leaves the nonce waiting
+-- A note between a nonce and its request prints nothing and leaves the nonce waiting.
 abbrev pub NotePrinted : Type 0
 NotePrinted =
     (let ls = with_nonces 0 (Announced 255 ∷ Noted ∷ Accepted None (post 0 (handshake ∷ [])) ∷ Noted ∷ Bad ∷ []) in

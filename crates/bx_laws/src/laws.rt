@@ -11,248 +11,261 @@ ghost use Rattle.bx_entry.specs.Keeping.{KeptSteps, KeptRuns, KeptInBounds};
 ghost use Rattle.bx_laws.specs.Readers.{ReadersPublishNothing};
 ghost use Rattle.bx_laws.specs.ReadBack.{RepliesReadBack, EventsReadBack, BodiesReadBack};
 
-/// What was given for good stays given for good.
+/// Proves that a session's count of done events never falls.
+///
+/// Done: acknowledged, or sent by a plain session.
 pub fn done_never_falls()
     ensures { DoneNeverFalls }
 {}
 
-/// The counts of a session never pass each other.
+/// Proves that a session's queue, batch and counts always agree.
 pub fn counts_agree()
     ensures { CountsAgree }
 {}
 
-/// The entries of a list stand at consecutive places.
+/// Proves that the entries of a list are at consecutive places.
 pub fn entries_in_order()
     ensures { EntriesInOrder }
 {}
 
-/// An answer is the same over every list that begins with the elements up to its place.
+/// Proves that an answer depends only on the elements up to the place where it is given.
 pub fn answers_stay()
     ensures { AnswersStay }
 {}
 
-/// A connect that acknowledges nothing new gets the outstanding batch again, with its number.
+/// Proves that a connect that acknowledges nothing new gets the outstanding batch again.
 pub fn batch_repeats()
     ensures { BatchRepeats }
 {}
 
-/// What was acknowledged, or given by a plain session, is never given again.
+/// Proves that an event is never sent again once acknowledged, or sent by a plain session.
 pub fn never_given_again()
     ensures { NeverGivenAgain }
 {}
 
-/// The same by the places of the events.
+/// Proves that an answer's events have greater places than those that are never sent again.
 pub fn no_event_twice()
     ensures { NoEventTwice }
 {}
 
-/// A plain session gives its events in order, each once, with its connects and its riders.
+/// Proves that a plain session sends its events in order, each once, to connects and riders.
 pub fn given_once()
     ensures { GivenOnce }
 {}
 
-/// Where the configuration has no riders, no entry has one.
+/// Proves that without `--ride` no entry has a rider.
 pub fn no_riders_unasked()
     ensures { NoRidersUnasked }
 {}
 
-/// A rider is of a session that does not acknowledge.
+/// Proves that a rider's session does not acknowledge.
 pub fn riders_are_plain()
     ensures { RidersArePlain }
 {}
 
-/// A message is a rider of a session exactly where the configuration says so, the session does not acknowledge, the
-/// message is the last of its request, all of the request are accepted ones of that session and no handshake, and it
-/// is a subscription, an unsubscription or a publish.
+/// Proves when a message is a rider of a session.
+///
+/// It is one exactly if `--ride` is set, the session does not acknowledge, and the message ends a
+/// request of accepted messages of that session, with no handshake. It must also be a subscription,
+/// an unsubscription or a publish.
 pub fn rider_reading()
     ensures { RiderReading }
 {}
 
-/// So nothing rides in a request with a message that is refused or of no session.
+/// Proves that a request with a refused or sessionless message has no rider.
 pub fn nothing_rides_beside()
     ensures { NothingRidesBeside }
 {}
 
-/// Nothing else rides: no tick, no refused message, and no handshake, connect or disconnect.
+/// Proves that ticks, refused messages, handshakes, connects and disconnects are no riders.
 pub fn others_never_ride()
     ensures { OthersNeverRide }
 {}
 
-/// A rider's one answer has the first of the events that wait behind what its entry does by itself, as many as a batch may
-/// have, and the others wait on.
+/// Proves that a rider gets the first waiting events in one answer, up to one batch.
+///
+/// These wait after the entry's own effect. The others wait on.
 pub fn rider_given()
     ensures { RiderGiven }
 {}
 
-/// A session is live from its opening to the first entry that closes it.
+/// Proves that a session is live from its opening to the first entry that closes it.
 pub fn live_reading()
     ensures { LiveReading }
 {}
 
-/// A pattern is in force where its last mention is in a subscribe.
+/// Proves that a pattern is active if a subscription named it last, without an overflow.
 pub fn in_force_reading()
     ensures { InForceReading }
 {}
 
-/// A held connect stays held as long as no entry ends it.
+/// Proves that a held connect stays held until an entry ends the hold.
 pub fn held_reading()
     ensures { HeldReading }
 {}
 
-/// A held connect is answered at the first entry that ends it: by an event with that event, by a newer connect with an error, by a
-/// disconnect or a tick with success and no event.
+/// Proves that a held connect is answered at the first entry that ends it.
+///
+/// A publish gives its event, a newer connect an error, a disconnect or a tick success without
+/// events.
 pub fn ending_reading()
     ensures { EndingReading }
 {}
 
-/// A session has overflowed where some earlier entry found no room.
+/// Proves that a session has overflowed if some earlier entry found no room.
 pub fn overflow_reading()
     ensures { OverflowReading }
 {}
 
-/// A queue is never longer than its limit.
+/// Proves that a queue never exceeds its limits.
 pub fn queue_bounded()
     ensures { QueueBounded }
 {}
 
-/// A session's due moment is the greatest that one of its accepted messages gave.
+/// Proves that a session's due moment is the greatest that its accepted messages set.
 pub fn due_reading()
     ensures { DueReading }
 {}
 
-/// The clock is the greatest moment that was handed in.
+/// Proves that the clock is the greatest moment in the list.
 pub fn clock_reading()
     ensures { ClockReading }
 {}
 
-/// Who is live by the registry is live by the entries.
+/// Proves that the registry and the entries agree on who is live.
 pub fn same_live()
     ensures { SameLive }
 {}
 
-/// Each event of a session is an accepted publish that the session gets: live, within its limits, with a pattern in force that matches.
+/// Proves that each event of a session is an accepted publish that reached it.
+///
+/// The session was live and not overflowed, with room and an active pattern that matched.
 pub fn events_were_published()
     ensures { EventsWerePublished }
 {}
 
-/// Each such publish is an event of the session, behind those of the publishes before it.
+/// Proves that each publish that reaches a session is its event, after the earlier ones.
 pub fn publishes_are_events()
     ensures { PublishesAreEvents }
 {}
 
-/// A session's events stand at strictly rising places, so each publish is one event at most.
+/// Proves that a session's events are at rising places, so a publish is at most one of them.
 pub fn events_rise()
     ensures { EventsRise }
 {}
 
-/// Each event in an answer is that of an accepted publish of the list, byte for byte, which the session got at its place.
+/// Proves that each event in an answer is byte for byte that of an accepted publish.
+///
+/// The session received it at the publish's place.
 pub fn given_was_published()
     ensures { GivenWasPublished }
 {}
 
-/// The list of what came by the readers' door alone has no message to a broadcast channel, so no session has an event.
+/// Proves that no session has events if all requests come by the read-only listener.
+///
+/// The list then has no message to a broadcast channel.
 pub fn readers_publish_nothing()
     ensures { ReadersPublishNothing }
 {}
 
-/// What is given after more inputs begins with what was given after fewer.
+/// Proves that the outs of more inputs begin with the outs of fewer.
 pub fn outs_grow()
     ensures { OutsGrow }
 {}
 
-/// What is kept of a session settles what is kept after each entry, and the answers that the entry gives.
+/// Proves that what is kept of a session suffices to apply an entry and give its answers.
 pub fn kept_steps()
     ensures { KeptSteps }
 {}
 
-/// So what is kept of a session comes of entry after entry, of which never more is kept.
+/// Proves that applying entries to what is kept gives what is kept after them.
 pub fn kept_runs()
     ensures { KeptRuns }
 {}
 
-/// An accepted message, but for a handshake, stands where its session is live.
+/// Proves that the session of an accepted message, except a handshake, is live at its place.
 pub fn accepted_while_live()
     ensures { AcceptedWhileLive }
 {}
 
-/// A publish without a client id is of no session and no rider: it moves no due moment, and is accepted where the configuration says
-/// so, its channel is a name and it has data.
+/// Proves that a publish without a client id has no session, extends none and is no rider.
+///
+/// It is accepted if `--anonymous` is set, its channel is a name and it has data.
 pub fn publishes_of_none()
     ensures { PublishesOfNone }
 {}
 
-/// What is kept stays within its limits, and a held connect's queue is empty.
+/// Proves that what is kept is within its limits, and the queue is empty during a hold.
 pub fn kept_in_bounds()
     ensures { KeptInBounds }
 {}
 
-/// Nothing more comes of a closed session: it holds no connect, and its events and answers stay as they are.
+/// Proves that a closed session holds no connect, and that its events and answers stay.
 pub fn closed_is_over()
     ensures { ClosedIsOver }
 {}
 
-/// The text of a reply reads as an object with just the members of a reply, in ascending order of their
-/// names.
+/// Proves that a reply's text is an object with the members of a reply, sorted by name.
 pub fn replies_read_back()
     ensures { RepliesReadBack }
 {}
 
-/// The text of an event reads as an object with its channel, its data and its id.
+/// Proves that an event's text is an object with its channel, data and id.
 pub fn events_read_back()
     ensures { EventsReadBack }
 {}
 
-/// The text of a response reads as the array of what its items read as.
+/// Proves that a response's text is the array of its items.
 pub fn bodies_read_back()
     ensures { BodiesReadBack }
 {}
 
-/// One more input gives the outs of those inputs that it makes whole, in the order of their numbers, itself among them.
+/// Proves that an input adds the outs of all inputs that it makes whole, in order.
 pub fn outs_add()
     ensures { OutsAdd }
 {}
 
-/// The others stay open.
+/// Proves that an input stays open until some input makes it whole.
 pub fn opens_go_on()
     ensures { OpensGoOn }
 {}
 
-/// What is open is what is held.
+/// Proves that the open inputs are the held ones.
 pub fn open_is_held()
     ensures { OpenIsHeld }
 {}
 
-/// An input that is not whole is a held connect, its request's only message, and no rider.
+/// Proves that an open input is a held connect, its request's only message and no rider.
 pub fn open_are_sole()
     ensures { OpenAreSole }
 {}
 
-/// The numbers of these inputs ascend, and so do the places of their connects.
+/// Proves that open inputs have rising numbers, and their connects rising places.
 pub fn opens_ascend()
     ensures { OpensAscend }
 {}
 
-/// One more line of a script puts its input, if it is one, behind those before it.
+/// Proves that a script's next line adds its input, if any, after all earlier inputs.
 pub fn inputs_go_on()
     ensures { InputsGoOn }
 {}
 
-/// What one more line of a script prints stands behind what the lines before it print.
+/// Proves that a script's next line prints after all earlier lines.
 pub fn lines_go_on()
     ensures { LinesGoOn }
 {}
 
-/// The lines that are held stand behind all that a script's lines print.
+/// Proves that a script's held lines are printed last.
 pub fn held_come_last()
     ensures { HeldComeLast }
 {}
 
-/// The request of one more line of a script has the nonce that waits behind the lines before it, which keep theirs.
+/// Proves that a script's next line gets the waiting nonce and changes no earlier line's.
 pub fn nonces_go_on()
     ensures { NoncesGoOn }
 {}
 
-/// Where no line says a nonce, lines are as they are read; and no line of a script says one.
+/// Proves that without nonces lines stay as they are read, and that a script's lines have none.
 pub fn nonces_stay()
     ensures lines { NoncesStay }
     ensures scripts { ScriptsSayNone }

@@ -1,5 +1,6 @@
-//! What the definitions of the server say: laws in the subject's own words, and worked runs. Each is the
-//! contract of a function with an empty body, so that the gate checks it.
+//! Laws of the server's definitions, in the subject's own words, and worked runs.
+//!
+//! Each is the contract of a function with an empty body, so that the gate checks it.
 #![tactic(auto)]
 
 mod laws;

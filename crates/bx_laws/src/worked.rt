@@ -1,7 +1,7 @@
 //! Worked runs of the definitions, each computed by the prover.
 ghost use Rattle.bx_laws.specs.Worked.{EventsRide, RideBehindHold, NothingRides, NothingRidesBehindRefused, NothingRidesBehindSessionless, NothingRidesBehindHandshake, NothingRidesBehindTwo, SessionlessPublish, SessionlessRefused, NamesRead, LengthsRead, PatternsRead, StarsMatch, DoubleStarsMatch, AllMatch, PlainMatch, HandshakeWithId, RefusedHandshake, TwoHandshakes, NothingPosted, Unreadable, HeldThenGiven, MatchedTwice, ServicePublish, SenderBytes, NoNumber, BatchesRepeat, GreatNumber, EventIsBatch, EventIsBatchHeld, HoldRunsOut, NotSole, Superseded, SupersededHeld, HoldEndsWithSession, HoldExtends, MomentsRise, SessionExpires, GoneWithinARequest, EachRefusal, UnknownType, ManyPatterns, FullQueue, QueueWithRoom, FullWithBatch, HeldThroughOverflow, OverflowAt1025, FourFullBatches, HandshakeText, RefusedText, BatchText, DeliveryText, CallbackExample, EmptyCallback, GoneText, SupersededText, OverflowText, SecondText, EndedText, RefusalsText, RefusedMovesClock, EmptyKeepsClock, RefusedKeepsDue, HoldBeforeEnd, EndedWithNumber, SupersededWithoutNumber, MixedArrays, FullServer, OverflowOutlivesPatterns, ServicePatternsAside, ScriptLines, LineForms, NonceForms, NoteForms, NoncesWait, ScriptPrinted, NoncePrinted, NotePrinted};
 
-/// Which texts read as names and patterns, and what patterns match.
+/// Shows which texts are names and patterns, and what patterns match.
 pub fn channels()
     ensures names_read { NamesRead }
     ensures lengths_read { LengthsRead }
@@ -12,7 +12,7 @@ pub fn channels()
     ensures plain_match { PlainMatch }
 {}
 
-/// Handshakes, accepted and refused.
+/// Shows handshakes, accepted and refused.
 pub fn handshakes()
     ensures handshake_with_id { HandshakeWithId }
     ensures refused_handshake { RefusedHandshake }
@@ -21,7 +21,7 @@ pub fn handshakes()
     ensures unreadable { Unreadable }
 {}
 
-/// Events and the connects that get them.
+/// Shows events and the connects that get them.
 pub fn deliveries()
     ensures held_then_given { HeldThenGiven }
     ensures sessionless_publish { SessionlessPublish }
@@ -31,7 +31,7 @@ pub fn deliveries()
     ensures sender_bytes { SenderBytes }
 {}
 
-/// Riders: messages with whose replies waiting events go out.
+/// Shows riders, messages whose replies carry waiting events.
 pub fn riders()
     ensures events_ride { EventsRide }
     ensures ride_behind_hold { RideBehindHold }
@@ -42,7 +42,7 @@ pub fn riders()
     ensures nothing_rides_behind_two { NothingRidesBehindTwo }
 {}
 
-/// Batches, until they are acknowledged.
+/// Shows batches and acknowledgements.
 pub fn acknowledgements()
     ensures no_number { NoNumber }
     ensures batches_repeat { BatchesRepeat }
@@ -51,7 +51,7 @@ pub fn acknowledgements()
     ensures event_is_batch_held { EventIsBatchHeld }
 {}
 
-/// Held connects, and what ends them.
+/// Shows held connects, and what ends them.
 pub fn held_connects()
     ensures hold_runs_out { HoldRunsOut }
     ensures not_sole { NotSole }
@@ -64,7 +64,7 @@ pub fn held_connects()
     ensures superseded_without_number { SupersededWithoutNumber }
 {}
 
-/// Sessions that end.
+/// Shows how sessions end.
 pub fn endings()
     ensures session_expires { SessionExpires }
     ensures gone_within_a_request { GoneWithinARequest }
@@ -74,7 +74,7 @@ pub fn endings()
     ensures hold_before_end { HoldBeforeEnd }
 {}
 
-/// Refused messages.
+/// Shows refused messages.
 pub fn refusals()
     ensures each_refusal { EachRefusal }
     ensures unknown_type { UnknownType }
@@ -83,7 +83,7 @@ pub fn refusals()
     ensures full_server { FullServer }
 {}
 
-/// Queues and patterns at their limits.
+/// Shows queues and patterns at their limits.
 pub fn overflows()
     ensures full_queue { FullQueue }
     ensures queue_with_room { QueueWithRoom }
@@ -95,7 +95,7 @@ pub fn overflows()
     ensures service_patterns_aside { ServicePatternsAside }
 {}
 
-/// Responses down to their bytes.
+/// Shows responses, byte for byte.
 pub fn response_texts()
     ensures handshake_text { HandshakeText }
     ensures refused_text { RefusedText }
@@ -111,7 +111,7 @@ pub fn response_texts()
     ensures refusals_text { RefusalsText }
 {}
 
-/// Scripts: their lines, what a line says, and what lines print.
+/// Shows scripts, their lines and what these print.
 pub fn scripts()
     ensures script_lines { ScriptLines }
     ensures line_forms { LineForms }

@@ -1,32 +1,36 @@
-//! Which events of one publisher came to one session.
+//! Which events of one publisher a session received.
 ghost use Rattle.std.specs.Prelude.{◌≡◌, ◌≢◌, ◌+◌, ◌<◌, ◌≤◌, ◌↔◌, length, slice_index_or, slice_set, count_by, not, true, false, vec_len, IfOk, replicate};
 
 use std::alloc::{AllocError, Global};
 
-/// How an event came.
+/// How an event arrived.
 #[derive(Clone, Copy)]
 pub enum Reception {
-    /// For the first time, and no later one came before it.
+    /// For the first time, and not after a later one.
     InOrder,
-    /// For the first time, behind a later one.
+    /// For the first time, but after a later one.
     OutOfOrder,
-    /// It had come before.
+    /// Once more.
     Doubled,
-    /// The publisher has no event of that number.
+    /// The publisher has no event of this number.
     Unknown,
 }
 
-/// The events of one publisher, which are numbered from 0 on, as they came to one session.
+/// The events of one publisher, numbered from 0, that one session received.
 #[derive(Drop)]
 pub struct Arrivals {
-    /// Whether the event of each number came.
+    /// Whether each event arrived, by its number.
     pub seen: Vec<bool>,
-    /// The number behind the greatest that came; 0 where none did.
+    /// One more than the greatest number that arrived, or 0.
     pub next: usize,
 }
 
 impl Arrivals {
-    /// None of so many events came yet. An error means that memory was refused.
+    /// Creates a record of `count` events, none of which arrived.
+    ///
+    /// # Errors
+    ///
+    /// `AllocError` if memory runs out.
     pub fn new(alloc: Global, count: usize) -> Result<Arrivals, AllocError>
         ensures none { IfOk result (λ a. a.seen.items ≡ replicate count false) }
         ensures next { IfOk result (λ a. a.next ≡ 0) }
@@ -37,7 +41,7 @@ impl Arrivals {
         })
     }
 
-    /// The event of this number comes.
+    /// Records the arrival of event `number`, and returns how it arrived.
     pub fn take(&mut self, number: usize) -> Reception
         ensures unknown { (result ≡ Reception.Unknown) ↔ (vec_len self.old.seen ≤ number) }
         ensures doubled { (result ≡ Reception.Doubled) ↔ (slice_index_or self.old.seen.items number false ≡ true) }
@@ -60,7 +64,7 @@ impl Arrivals {
         Reception::InOrder
     }
 
-    /// How many of the events did not come.
+    /// Returns how many events did not arrive.
     pub fn lost(&self) -> usize
         ensures { result ≡ count_by not self.now.seen.items }
     {

@@ -1,31 +1,31 @@
-//! What the items of a response say.
+//! The items of a response.
 use serde_json::Value;
 
-/// What an event of a load says.
+/// The data of an event of the load.
 #[derive(Clone, Copy)]
 pub struct Stamp {
     /// The number of its publisher.
     pub publisher: u64,
-    /// How many events of that publisher were before it.
+    /// The number of earlier events of that publisher.
     pub number: u64,
     /// When it was sent, in nanoseconds since the load began.
     pub moment: u64,
 }
 
-/// What an item of a response is.
+/// What an item of a response means.
 #[derive(Clone, Copy)]
 pub enum Received {
-    /// An event of a load.
+    /// An event of the load.
     Event(Stamp),
-    /// The message succeeded; the number of a batch to be acknowledged.
+    /// The message succeeded. Holds the batch to acknowledge, if any.
     Success(Option<u64>),
-    /// The message did not succeed.
+    /// The message failed.
     Refusal,
     /// Something else.
     Unknown,
 }
 
-/// What this item is.
+/// Returns what `item` means.
 pub fn item_of(item: &Value) -> Received {
     if let Some(data) = item.get("data") {
         return match stamp_of(data) {
@@ -43,7 +43,7 @@ pub fn item_of(item: &Value) -> Received {
     }
 }
 
-// What the data of an event say.
+// Parses the data of an event.
 fn stamp_of(data: &Value) -> Option<Stamp> {
     Some(Stamp {
         publisher: data.get("publisher")?.as_u64()?,
@@ -52,18 +52,18 @@ fn stamp_of(data: &Value) -> Option<Stamp> {
     })
 }
 
-// The number of a batch that a reply carries.
+// Returns a reply's batch number, if any.
 fn acknowledgement_of(reply: &Value) -> Option<u64> {
     reply.get("ext")?.get("ack")?.as_u64()
 }
 
-/// The client id that the reply to a handshake gives; none where it has none of letters and digits alone.
+/// Returns the client id in a handshake's reply, if it has only ASCII letters and digits.
 pub fn client_of(reply: &Value) -> Option<&str> {
     let client = reply.get("clientId")?.as_str()?;
     if is_plain(client) { Some(client) } else { None }
 }
 
-// Whether a text stands in JSON as it is.
+// Returns `true` if `text` has only ASCII letters and digits, which JSON does not escape.
 fn is_plain(text: &str) -> bool {
     for byte in text.bytes() {
         if !byte.is_ascii_alphanumeric() {

@@ -1,32 +1,37 @@
-//! How long events took, kept as counts.
+//! Latencies of events, kept as counts.
 ghost use Rattle.std.specs.Prelude.{◌≡◌, ◌+◌, ◌*◌, ◌^◌, ◌<◌, ◌≤◌, ◌↔◌, sum_by, slice_index, slice_set, vec_len, IfOk, IfSome, IsNone};
 ghost use Rattle.bx_load.specs.Places.{greatest_of, IsReachedAt};
 
 use std::alloc::{AllocError, Global};
 
-// Below so many microseconds each has a count of its own.
+// Below this, each microsecond has its own count.
 const EXACT: u64 = 65_536;
 
-// From there on so many microseconds have one count together.
+// Microseconds per count from there on.
 const WIDTH: u64 = 1024;
 
-// How many counts there are: up to 67 seconds. What took longer has the last one.
+// Number of counts, up to 67 seconds. The last also has all longer latencies.
 const COUNTS: usize = 131_072;
 
-/// How often each latency came. Latencies are told apart by one microsecond below 65 milliseconds, and by one part in 64
-/// above.
+/// How often each latency occurred.
+///
+/// Exact to the microsecond below 65 ms, and to one part in 64 up to 67 seconds.
 #[derive(Drop)]
 pub struct Latencies {
-    /// How often each came, by its place.
+    /// The counts.
     pub counts: Vec<u64>,
-    /// How many came.
+    /// Their sum.
     pub total: u64,
     ghost places: { vec_len counts ≡ 131072 },
     ghost counted: { sum_by (λ n. n) counts.items ≡ total },
 }
 
 impl Latencies {
-    /// None came. An error means that memory was refused.
+    /// Creates counts of 0.
+    ///
+    /// # Errors
+    ///
+    /// `AllocError` if memory runs out.
     pub fn new(alloc: Global) -> Result<Latencies, AllocError>
         ensures { IfOk result (λ l. l.total ≡ 0) }
     {
@@ -36,7 +41,9 @@ impl Latencies {
         })
     }
 
-    /// So many of this latency come. Where all would be 2^64, none is counted.
+    /// Counts a latency `times` times.
+    ///
+    /// Does nothing if the total would reach 2^64.
     pub fn record(&mut self, microseconds: u64, times: u64)
         ensures { self.old.total + times < 2 ^ 64 → self.new.total ≡ self.old.total + times }
     {
@@ -48,7 +55,7 @@ impl Latencies {
         self.total = total;
     }
 
-    /// Adds all that came to another.
+    /// Adds the counts of `other`.
     pub fn add(&mut self, other: &Latencies)
         ensures { self.old.total + other.now.total < 2 ^ 64 → self.new.total ≡ self.old.total + other.now.total }
     {
@@ -57,7 +64,9 @@ impl Latencies {
         }
     }
 
-    /// The latency in microseconds that so many hundredths did not pass; none where none came.
+    /// Returns the latency, in microseconds, that `percent` percent of all do not exceed.
+    ///
+    /// `percent`: 1 to 100. As exact as the counts. Returns `None` if there are no latencies.
     pub fn at(&self, percent: u64) -> Option<u64>
         requires some { 0 < percent }
         requires within { percent ≤ 100 }
@@ -79,8 +88,7 @@ impl Latencies {
     }
 }
 
-// The place of a latency. Below 67 seconds the latency that its count stands for is not below it, and at most a part in 64
-// above it.
+// Returns the place of a latency. Below 67 seconds, this rounds it up by at most one part in 64.
 fn place_of(microseconds: u64) -> usize
     ensures room { result < COUNTS }
     ensures near { microseconds < 67107840 → (microseconds ≤ greatest_of result) × (64 * greatest_of result ≤ 65 * microseconds) }
@@ -93,7 +101,7 @@ fn place_of(microseconds: u64) -> usize
     place as usize
 }
 
-// The latency that the count at a place stands for.
+// Returns the greatest latency at `place`.
 fn greatest_of(place: usize) -> u64
     requires { place < 131072 }
     ensures { result ≡ greatest_of place }

@@ -1,4 +1,4 @@
-//! What a load of a server comes to: which events came and how late they were; and what a client writes and reads for it.
+//! Load tests of a server: settings, requests, responses, and which events came and how late.
 #![tactic(auto)]
 
 mod arrivals;

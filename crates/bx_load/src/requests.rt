@@ -1,9 +1,13 @@
-//! The requests of a client, as the bytes that it writes.
+//! The requests of a client, as it writes them.
 use crate::items::Stamp;
 use crate::settings::Target;
 use std::alloc::{AllocError, Global};
 
-/// A handshake, which asks for acknowledgement or does not. An error means that memory was refused.
+/// Formats a handshake, with `ext.ack` if the session acknowledges.
+///
+/// # Errors
+///
+/// `AllocError` if memory runs out.
 pub fn handshake(alloc: Global, target: &Target, acknowledges: bool) -> Result<String, AllocError> {
     let ext = if acknowledges {
         r#","ext":{"ack":true}"#
@@ -16,8 +20,11 @@ pub fn handshake(alloc: Global, target: &Target, acknowledges: bool) -> Result<S
     post(alloc, target, body.as_str())
 }
 
-/// A subscription of a client to the channel of this number. An error means that memory was
-/// refused.
+/// Formats a subscription to channel number `channel`.
+///
+/// # Errors
+///
+/// `AllocError` if memory runs out.
 pub fn subscribe(
     alloc: Global,
     target: &Target,
@@ -30,8 +37,11 @@ pub fn subscribe(
     post(alloc, target, body.as_str())
 }
 
-/// A connect of a client, which acknowledges the batch of this number where there is one. An error
-/// means that memory was refused.
+/// Formats a connect that acknowledges batch `acknowledged`, if any.
+///
+/// # Errors
+///
+/// `AllocError` if memory runs out.
 pub fn connect(
     alloc: Global,
     target: &Target,
@@ -48,7 +58,11 @@ pub fn connect(
     post(alloc, target, body.as_str())
 }
 
-/// A connect of a client that is answered at once. An error means that memory was refused.
+/// Formats a connect that the server answers at once.
+///
+/// # Errors
+///
+/// `AllocError` if memory runs out.
 pub fn touch(alloc: Global, target: &Target, client: &str) -> Result<String, AllocError> {
     let body = format!(in alloc;
         r#"[{{"channel":"/meta/connect","clientId":"{client}","connectionType":"long-polling","advice":{{"timeout":0}}}}]"#
@@ -56,8 +70,11 @@ pub fn touch(alloc: Global, target: &Target, client: &str) -> Result<String, All
     post(alloc, target, body.as_str())
 }
 
-/// A publish of a client to the channel of this number, whose event says what the stamp does. An
-/// error means that memory was refused.
+/// Formats a publish of `stamp` to channel number `channel`.
+///
+/// # Errors
+///
+/// `AllocError` if memory runs out.
 pub fn publish(
     alloc: Global,
     target: &Target,
@@ -76,7 +93,7 @@ pub fn publish(
     post(alloc, target, body.as_str())
 }
 
-// A POST of this body.
+// Formats a POST with `body`.
 fn post(alloc: Global, target: &Target, body: &str) -> Result<String, AllocError> {
     let (host, path) = (target.host.as_str(), target.path.as_str());
     let length = body.len();

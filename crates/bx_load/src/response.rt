@@ -1,26 +1,29 @@
-//! A response as a client reads it.
+//! Responses as a client reads them.
 ghost use Rattle.std.specs.Prelude.{◌+◌, ◌≤◌, length, IfOk, IfSome};
 
-// A head that is longer is none.
+// The most bytes read without finding the end of a head.
 const MAX_HEAD: usize = 16_384;
 
-/// A response that came whole, and where its body is in the bytes.
+/// A complete response, and where its body is in the bytes read.
 #[derive(Clone, Copy)]
 pub struct Response {
-    /// The status of HTTP.
+    /// The HTTP status.
     pub status: u16,
-    /// Where its body begins in the bytes.
+    /// Where the body begins.
     pub start: usize,
-    /// Where it ends.
+    /// Where the body ends.
     pub end: usize,
 }
 
-/// The bytes begin with no response of HTTP/1.1 that says how long its body is.
+/// Bytes that do not begin with an HTTP/1.1 response that has a `content-length`.
 #[derive(Clone, Copy)]
 pub struct Malformed;
 
-/// The response that the bytes begin with; none where more of it has to come. `Malformed` where the
-/// bytes begin with none.
+/// Parses the response at the start of `input`, or returns `None` if it is not complete.
+///
+/// # Errors
+///
+/// `Malformed` if `input` does not begin with one, or over 16 KiB contain no end of a head.
 pub fn read_response(input: &[u8]) -> Result<Option<Response>, Malformed>
     ensures start { IfOk result (λ found. IfSome found (λ r. r.start ≤ r.end)) }
     ensures end { IfOk result (λ found. IfSome found (λ r. r.end ≤ length input.now)) }
@@ -49,7 +52,7 @@ pub fn read_response(input: &[u8]) -> Result<Option<Response>, Malformed>
     }))
 }
 
-// Where the empty line begins, with the end of the line before it.
+// Returns where the line end before the empty line begins.
 fn end_of_head(input: &[u8]) -> Option<usize>
     ensures { IfSome result (λ at. at + 4 ≤ length input.now) }
 {
@@ -61,13 +64,13 @@ fn end_of_head(input: &[u8]) -> Option<usize>
     None
 }
 
-// The status that the first line of a head says.
+// Parses the status in the first line of a head.
 fn status_of(head: &str) -> Option<u16> {
     let (status, _) = head.strip_prefix("HTTP/1.1 ")?.split_once(' ')?;
     status.parse().ok()
 }
 
-// What the field `content-length` of a head says.
+// Parses the first `content-length` field of a head.
 fn size_of_body(head: &str) -> Option<usize> {
     for line in head.lines() {
         if let Some((name, value)) = line.split_once(':')

@@ -1,15 +1,15 @@
-//! How a server is loaded.
+//! Command-line arguments of `bayeux_load`.
 ghost use Rattle.std.specs.Prelude.{◌<◌, IfOk, IfSome};
 
 use std::alloc::{AllocError, Global};
 use std::fmt::{self, Display, Formatter, Write};
 
-/// Where the server is.
+/// The URL of the server.
 #[derive(Drop)]
 pub struct Target {
-    /// Its name or address, and its port.
+    /// The host name or address, and the port.
     pub host: String,
-    /// The path that it serves.
+    /// The path, with its leading `/`.
     pub path: String,
 }
 
@@ -22,20 +22,20 @@ impl Target {
     }
 }
 
-/// How a server is loaded.
+/// How to load a server.
 #[derive(Drop)]
 pub struct LoadSettings {
-    /// Where the server is.
+    /// The URL of the server.
     pub target: Target,
-    /// How many sessions receive.
+    /// Number of sessions that receive events.
     pub sessions: u32,
-    /// Among how many channels sessions and publishers are shared, 1 or more.
+    /// Number of channels that sessions and publishers share, at least 1.
     pub channels: u32,
-    /// How many clients publish, 1 or more.
+    /// Number of clients that publish, at least 1.
     pub publishers: u32,
-    /// How many events are published in all.
+    /// Number of events to publish in all.
     pub events: u32,
-    /// How many of them a second; 0: each as soon as the one before is answered.
+    /// Events per second. If 0, each publisher sends an event once the previous one is answered.
     pub rate: u32,
     /// Whether the sessions acknowledge.
     pub is_acknowledging: bool,
@@ -43,26 +43,26 @@ pub struct LoadSettings {
     ghost some_publisher: { 0 < publishers },
 }
 
-/// Why words are no settings: memory was refused, how many there are, or the first that does not say what it has to.
+/// Why arguments are rejected.
 #[derive(Clone, Copy, Debug, PartialEq, Eq)]
 pub enum SettingsFault {
-    /// Memory was refused.
+    /// Memory ran out.
     Memory,
-    /// There are fewer than five words, or more than seven.
+    /// There are fewer than five arguments, or more than seven.
     Count,
-    /// Where the server is.
+    /// The URL.
     Url,
-    /// How many sessions receive.
+    /// The number of sessions.
     Sessions,
-    /// How many channels there are.
+    /// The number of channels.
     Channels,
-    /// How many clients publish.
+    /// The number of publishers.
     Publishers,
-    /// How many events are published.
+    /// The number of events.
     Events,
-    /// How many of them a second.
+    /// The rate.
     Rate,
-    /// The last of seven words, which says that sessions acknowledge.
+    /// The last of seven arguments, which must be `ack`.
     Ack,
 }
 
@@ -73,7 +73,7 @@ impl From<AllocError> for SettingsFault {
 }
 
 impl Display for SettingsFault {
-    /// Writes what the word is called, and what it has to be.
+    /// Writes the name of the argument and what it must be.
     fn fmt<W: Write>(&self, f: &mut Formatter<W>) -> fmt::Result {
         f.write_str(match self {
             SettingsFault::Memory => "out of memory",
@@ -90,8 +90,12 @@ impl Display for SettingsFault {
 }
 
 impl LoadSettings {
-    /// What these words say: a URL, a number of sessions and three numbers above 0, and then a further one, `ack` or both.
-    /// An error names the first word that is not so.
+    /// Parses a URL, a number of sessions, three positive numbers, and optionally a rate and `ack`.
+    ///
+    /// # Errors
+    ///
+    /// The fault of the first wrong argument; `Ack` before `Rate`. `Count` comes first if there are
+    /// too few arguments, and last if there are too many. `Memory` if memory runs out.
     pub fn read(alloc: Global, words: &[String]) -> Result<LoadSettings, SettingsFault> {
         let [url, sessions, channels, publishers, events, options @ ..] = words else {
             return Err(SettingsFault::Count);
@@ -118,7 +122,7 @@ impl LoadSettings {
     }
 }
 
-// The words that may be left out: the rate, which is 0 without one, and whether the sessions acknowledge.
+// Parses the optional arguments: the rate, or 0 without one, and whether the sessions acknowledge.
 fn options_of(words: &[String]) -> Result<(u32, bool), SettingsFault> {
     match words {
         [] => Ok((0, false)),
@@ -134,7 +138,7 @@ fn rate_of(word: &String) -> Result<u32, SettingsFault> {
     count_of(word.as_str()).ok_or(SettingsFault::Rate)
 }
 
-// A number above 0.
+// Parses a positive number.
 fn count_of(digits: &str) -> Option<u32>
     ensures { IfSome result (λ count. 0 < count) }
 {
@@ -144,7 +148,7 @@ fn count_of(digits: &str) -> Option<u32>
     }
 }
 
-// The host and the path of a URL such as http://127.0.0.1:8087/cometd, the path without its first character.
+// Splits a URL such as http://127.0.0.1:8087/cometd into its host and its path without the `/`.
 fn place_of(url: &str) -> Option<(&str, &str)> {
     if is_plain(url) {
         url.strip_prefix("http://")?.split_once('/')
@@ -153,7 +157,7 @@ fn place_of(url: &str) -> Option<(&str, &str)> {
     }
 }
 
-// Whether a text has no blanks and no controls, so that it may stand in a head.
+// Returns `true` if `text` has only visible ASCII characters, so that it may be in a head.
 fn is_plain(text: &str) -> bool {
     for byte in text.bytes() {
         if !byte.is_ascii_graphic() {

@@ -1,8 +1,9 @@
-//! How the events are shared among the publishers, and when each is due.
+//! Which events a publisher sends, and when each is due.
 ghost use Rattle.std.specs.Prelude.{◌≡◌, ℕ, ◌+◌, ◌*◌, ◌/◌, ◌^◌, ◌<◌, ◌≤◌, ◌↔◌};
 
-/// How many of so many events a publisher has. That of its own number `own` is the event `own * publishers + publisher` of
-/// all.
+/// Returns how many of all `events` a publisher sends.
+///
+/// Its event number `own` is number `own * publishers + publisher` of all.
 pub fn events_of(publisher: u32, publishers: u32, events: u32) -> u32
     requires { publisher < publishers }
     ensures { (own : ℕ) → (own * publishers + publisher < events) ↔ (own < result) }
@@ -14,7 +15,9 @@ pub fn events_of(publisher: u32, publishers: u32, events: u32) -> u32
     }
 }
 
-/// How many nanoseconds after the first an event is due, at so many events a second.
+/// Returns when an event is due, in nanoseconds after the first.
+///
+/// `rate`: events per second.
 pub fn due(event: u64, rate: u32) -> u64
     requires some { 0 < rate }
     requires few { event < 2 ^ 32 }

@@ -1,3 +1,4 @@
+//! Tests of settings, responses and items.
 use crate::{LoadSettings, Received, SettingsFault, Stamp, item_of, publish, read_response};
 use serde_json::Value;
 use std::alloc::Global;

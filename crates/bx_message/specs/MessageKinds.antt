@@ -5,7 +5,7 @@ use Rattle.bx_names.specs.Kinds.{is_meta}
 use Rattle.bx_message.specs.declared.{message.Message.Message, message_kind.MessageKind.MessageKind}
 use Rattle.bx_message.specs.declared.message_kind.MessageKind.TheVariants.{Handshake, Connect, Subscribe, Unsubscribe, Disconnect, Publish, UnknownMeta}
 
--- by the channel: one of the five meta messages, another message to a meta channel, or a publish
+-- The kind of a message: one of five meta messages, one to another meta channel, or a publish.
 abbrev pub message_kind_of : List ℕ → MessageKind
 message_kind_of channel =
     if bytes_eq channel (codes "/meta/handshake") then Handshake
@@ -15,10 +15,10 @@ message_kind_of channel =
     else (if bytes_eq channel (codes "/meta/disconnect") then Disconnect
     else (if is_meta channel then UnknownMeta else Publish)))))
 
--- whether a message asks for a new session
+-- Whether a message is a handshake.
 abbrev pub is_handshake : Message → Bool
 is_handshake m = bytes_eq m.channel (codes "/meta/handshake")
 
--- whether a message is a connect
+-- Whether a message is a connect.
 abbrev pub is_connect : Message → Bool
 is_connect m = bytes_eq m.channel (codes "/meta/connect")

@@ -5,46 +5,46 @@ use Rattle.json.specs.Print.{quoted}
 use Rattle.bx_message.specs.declared.object.Name.{Name}
 use Rattle.bx_message.specs.declared.object.Name.TheVariants.{Ack, Advice, Channel, ClientId, Data, Error, Ext, Id, Interval, Reconnect, Subscription, Successful, SupportedConnectionTypes, Timeout, Version}
 
--- the bytes so far, and whether no member stands in the object
+-- The bytes so far, and whether the object has no member yet.
 pub record OpenObject : Type 0 where
   pub text : List ℕ
   pub is_empty : Bool
 
--- it is stored as the pair of its fields
+-- An open object is encoded as the pair of its fields.
 abbrev pub open_object_code : Coded OpenObject
 open_object_code =
     code_by (List ℕ × Bool) (coded× (coded_list coded_ℕ) coded_bool) (λ o. (o.text, o.is_empty)) (λ p. record { text = p.0; is_empty = p.1 }) (λ _. refl)
 
--- an object begins behind these bytes
+-- A new object after the bytes `before`.
 abbrev pub opened : List ℕ → OpenObject
 opened before = record { text = before ++ 123 ∷ []; is_empty = true }
 
--- what stands between the bytes so far and the next member
+-- The comma before the next member, unless it is the first.
 abbrev pub separator : OpenObject → List ℕ
 separator o = if o.is_empty then [] else 44 ∷ []
 
--- with the name of one more member, whose value is to follow
+-- The bytes with another member's name and colon, before its value.
 abbrev pub with_name : OpenObject → List ℕ → List ℕ
 with_name o name = o.text ++ (separator o ++ (quoted name ++ 58 ∷ []))
 
--- behind the value of a member
+-- The object after a member's value.
 abbrev pub resumed : List ℕ → OpenObject
 resumed text = record { text = text; is_empty = false }
 
--- with one more member
+-- The object with another member.
 abbrev pub with_member : OpenObject → List ℕ → OpenObject
 with_member o member = resumed (o.text ++ (separator o ++ member))
 
--- with more members, in this order
+-- The object with more members, in order.
 abbrev pub with_members : OpenObject → List (List ℕ) → OpenObject
 with_members o [] = o
 with_members o (m ∷ ms) = with_members (with_member o m) ms
 
--- the bytes with the object's end
+-- The bytes with the object's closing brace.
 abbrev pub closed : OpenObject → List ℕ
 closed o = o.text ++ 125 ∷ []
 
--- the text of a name
+-- The text of a name.
 abbrev pub name_text : Name → List ℕ
 name_text Ack = codes "ack"
 name_text Advice = codes "advice"

@@ -1,23 +1,23 @@
--- What a reply repeats of its message, and what it tells the client.
+-- What a reply repeats from its message, and what it reports to the client.
 use Rattle.std.specs.Prelude.{ℕ, List, codes, Option, Some, None}
 use Rattle.bx_advice.specs.declared.{config.Config.Config, advice.Outcome.Outcome}
 use Rattle.bx_advice.specs.Advice.{advice_of}
 use Rattle.bx_message.specs.declared.{message.Message.Message, message_kind.MessageKind.MessageKind, reply.AckReply.AckReply, reply.Reply.Reply}
 use Rattle.bx_message.specs.declared.message_kind.MessageKind.TheVariants.{Connect, Subscribe, Unsubscribe, Publish, UnknownMeta}
 
--- the reply to a message of this kind carries the client id, where its session is known
+-- The client ID in a reply; a publish and an unknown meta channel get none.
 abbrev pub client_for : MessageKind → Option (List ℕ) → Option (List ℕ)
 client_for Publish client = None
 client_for UnknownMeta client = None
 client_for _ client = client
 
--- subscriptions and unsubscriptions repeat the member, in a refusal too
+-- The subscription in a reply to a subscribe or unsubscribe, even if refused.
 abbrev pub subscription_for : MessageKind → Option (List ℕ) → Option (List ℕ)
 subscription_for Subscribe subscription = subscription
 subscription_for Unsubscribe subscription = subscription
 subscription_for _ subscription = None
 
--- the reply to a message that is answered at its own place; the client id is that of its session, or none
+-- The reply to a message at its own place; `client` is its session's client ID, if any.
 abbrev pub reply_to : Config → MessageKind → Message → Option (List ℕ) → Outcome → AckReply → Reply
 reply_to config message_kind m client outcome ack = record {
   message_kind = message_kind;
@@ -30,7 +30,7 @@ reply_to config message_kind m client outcome ack = record {
   ack = ack;
 }
 
--- the reply to a connect, whenever it is answered
+-- The reply to a connect, at once or after it was held.
 abbrev pub connect_reply : Config → List ℕ → Option (List ℕ) → Outcome → AckReply → Reply
 connect_reply config client id outcome ack = record {
   message_kind = Connect;

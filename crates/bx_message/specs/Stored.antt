@@ -1,4 +1,4 @@
--- What a text is, wherever it stands.
+-- The bytes of a stored text.
 use Rattle.std.specs.Prelude.{ℕ, List, codes}
 use Rattle.std.specs.Arc.{arc_str_bytes}
 use Rattle.bx_message.specs.declared.text.Stored.{Stored}

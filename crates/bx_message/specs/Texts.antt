@@ -1,4 +1,4 @@
--- The text of a reply, of an event, of a response's array and of a callback's body: compact JSON, members in ascending byte order of their names.
+-- Compact JSON of replies, responses and callbacks, with members in byte order of their names.
 use Rattle.std.specs.Prelude.{ℕ, List, [], ◌∷◌, ◌++◌, map, drop, nat_eq, codes, decimal, if◌then◌else◌, Option, Some, None}
 use Rattle.std.specs.List.{starts_with}
 use Rattle.json.specs.Print.{quoted}
@@ -11,64 +11,64 @@ use Rattle.bx_message.specs.declared.{message_kind.MessageKind.MessageKind, repl
 use Rattle.bx_message.specs.declared.reply.Item.TheVariants.{EventItem, ReplyItem}
 use Rattle.bx_message.specs.declared.reply.AckReply.TheVariants.{NoAck, AckTrue, AckNumber}
 
--- a member whose value is a number, where there is one
+-- A member with a number as its value, if any.
 abbrev pub number_member : List ℕ → Option ℕ → List (List ℕ)
 number_member name None = []
 number_member name (Some n) = member name (decimal n) ∷ []
 
--- the word for what a client is to do
+-- The value of `reconnect`.
 abbrev pub reconnect_text : Reconnect → List ℕ
 reconnect_text Retry = codes "retry"
 reconnect_text Handshake = codes "handshake"
 reconnect_text Never = codes "none"
 
--- the members of an advice, in order
+-- The members of an advice, in order.
 abbrev pub advice_members : Advice → List (List ℕ)
 advice_members a =
     member (codes "interval") (decimal a.interval)
     ∷ member (codes "reconnect") (quoted (reconnect_text a.reconnect))
     ∷ number_member (codes "timeout") a.timeout
 
--- an advice
+-- The text of an advice.
 abbrev pub advice_text : Advice → List ℕ
 advice_text a = object (advice_members a)
 
--- the advice, where there is one
+-- The member `advice`, if any.
 abbrev pub advice_member : Option Advice → List (List ℕ)
 advice_member None = []
 advice_member (Some a) = member (codes "advice") (advice_text a) ∷ []
 
--- the extension's member, where it is carried
+-- The member `ext` of CometD's acknowledgement extension, if any.
 abbrev pub ack_member : AckReply → List (List ℕ)
 ack_member NoAck = []
 ack_member AckTrue = member (codes "ext") (object (member (codes "ack") (codes "true") ∷ [])) ∷ []
 ack_member (AckNumber n) = member (codes "ext") (object (member (codes "ack") (decimal n) ∷ [])) ∷ []
 
--- the error, where there is one
+-- The member `error`, if any.
 abbrev pub error_member : Outcome → List (List ℕ)
 error_member (Failed error) = member (codes "error") (quoted (error_text error)) ∷ []
 error_member _ = []
 
--- `true` unless there is an error
+-- `false` if there is an error, otherwise `true`.
 abbrev pub success_text : Outcome → List ℕ
 success_text (Failed error) = codes "false"
 success_text _ = codes "true"
 
--- only replies to handshakes carry the types and the version, and they carry them always
+-- The supported connection types, in every reply to a handshake.
 abbrev pub types_member : MessageKind → List (List ℕ)
 types_member MessageKind.Handshake = member (codes "supportedConnectionTypes") (array (quoted (codes "long-polling") ∷ quoted (codes "callback-polling") ∷ [])) ∷ []
 types_member _ = []
 
--- the protocol's version
+-- The protocol's version, in every reply to a handshake.
 abbrev pub version_member : MessageKind → List (List ℕ)
 version_member MessageKind.Handshake = member (codes "version") (quoted (codes "1.0")) ∷ []
 version_member _ = []
 
--- what only replies to handshakes carry
+-- The members that only replies to handshakes have.
 abbrev pub handshake_members : MessageKind → List (List ℕ)
 handshake_members message_kind = types_member message_kind ++ version_member message_kind
 
--- the members of a reply, in order
+-- The members of a reply, in order.
 abbrev pub reply_members : Reply → List (List ℕ)
 reply_members r =
     advice_member r.advice
@@ -81,38 +81,38 @@ reply_members r =
     ++ raw_member (codes "successful") (Some (success_text r.outcome))
     ++ handshake_members r.message_kind
 
--- a reply
+-- The text of a reply.
 abbrev pub reply_text : Reply → List ℕ
 reply_text r = object (reply_members r)
 
--- an event or a reply
+-- The text of an event or a reply.
 abbrev pub item_text : Item → List ℕ
 item_text (EventItem e) = event_text e
 item_text (ReplyItem r) = reply_text r
 
--- a response: one array
+-- The text of a response: one array.
 abbrev pub body_text : List Item → List ℕ
 body_text items = array (map item_text items)
 
--- U+2028, in UTF-8
+-- U+2028 in UTF-8.
 abbrev pub line_separator : List ℕ
 line_separator = 226 ∷ 128 ∷ 168 ∷ []
 
--- U+2029, in UTF-8
+-- U+2029 in UTF-8.
 abbrev pub paragraph_separator : List ℕ
 paragraph_separator = 226 ∷ 128 ∷ 169 ∷ []
 
--- a text in which only its beginning can still hold one of the two: there it is written as an escape
+-- The text with a line or paragraph separator at its start, if any, escaped.
 abbrev pub guarded : List ℕ → List ℕ
 guarded xs =
     if starts_with nat_eq xs line_separator then codes "\\u2028" ++ drop 3 xs
     else (if starts_with nat_eq xs paragraph_separator then codes "\\u2029" ++ drop 3 xs else xs)
 
--- the text as a script may hold it
+-- The text with all line and paragraph separators escaped, so that a script may contain it.
 abbrev pub script_safe : List ℕ → List ℕ
 script_safe [] = []
 script_safe (x ∷ xs) = guarded (x ∷ script_safe xs)
 
--- a callback's body: the name, and the array in parentheses
+-- The body of a callback: `name`, and the array in parentheses.
 abbrev pub callback_text : List ℕ → List Item → List ℕ
 callback_text name items = name ++ (40 ∷ (script_safe (body_text items) ++ 41 ∷ []))

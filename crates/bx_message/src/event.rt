@@ -1,3 +1,4 @@
+//! Events, and the handles that their receivers share.
 ghost use Rattle.std.specs.Prelude.{◌≡◌, IfOk, IfSome};
 ghost use Rattle.bx_names.specs.Segments.{segments};
 ghost use Rattle.bx_message.specs.Events.{event_size};
@@ -9,18 +10,20 @@ use std::alloc::{AllocError, Global};
 use std::marker::Model;
 use std::sync::Arc;
 
-/// A publish as it is delivered. (Bayeux 1.0, delivery of events, without the publisher's client id.)
+/// A publish as subscribers get it, without the publisher's client id.
+///
+/// Bayeux 1.0, delivery of events.
 #[derive(Drop)]
 pub struct Event {
-    /// The channel of the publish, which reads as a channel name.
+    /// The channel, a valid channel name.
     pub channel: Text,
-    /// The member `data`, as the sender wrote it.
+    /// The publish's `data`, as the sender wrote it.
     pub payload: RawJson,
-    /// The publish's `id`, as the sender wrote it, where it is a JSON text or number.
+    /// The publish's `id`, as the sender wrote it, if it is a JSON string or number.
     pub id: Option<RawJson>,
 }
 
-/// An event beside the name of its channel, as it was read, and how many bytes its text has.
+/// An event, its parsed channel name and the size of its JSON text in bytes.
 #[derive(Drop)]
 struct NamedEvent {
     event: Event,
@@ -28,13 +31,16 @@ struct NamedEvent {
     size: usize,
 }
 
-// How many bytes the text of an event has besides the texts that it repeats, and how many more with an id.
+// Size in bytes of an event's JSON text without its values; an `id` adds `ID_BYTES`.
 const EVENT_BYTES: usize = 22;
 
 const ID_BYTES: usize = 6;
 
-/// An event that all its receivers share, with the name of its channel, which is read once, and the size of its text.
-/// Contracts see it as the event itself.
+/// A handle to an event that all its receivers share.
+///
+/// The channel name is parsed once, and the size is computed once.
+///
+/// Model: the event.
 #[derive(Drop)]
 pub struct SharedEvent {
     named: Arc<NamedEvent>,
@@ -56,7 +62,13 @@ impl Model for SharedEvent {
 }
 
 impl SharedEvent {
-    /// The first handle of an event, with the name of its channel. An error means that memory was refused.
+    /// Creates the first handle to `event`.
+    ///
+    /// `name`: the parsed name of its channel.
+    ///
+    /// # Errors
+    ///
+    /// `AllocError` if memory runs out.
     pub fn new(alloc: Global, event: Event, name: ChannelName) -> Result<SharedEvent, AllocError>
         requires named { name ≡ segments event.channel }
         ensures { IfOk result (λ s. s ≡ event) }
@@ -66,21 +78,21 @@ impl SharedEvent {
         Ok(SharedEvent { named })
     }
 
-    /// The event.
+    /// Returns the event.
     pub fn event(&self) -> &Event
         ensures { result.now ≡ self.now }
     {
         &self.named.event
     }
 
-    /// The name of its channel.
+    /// Returns the event's channel name.
     pub fn name(&self) -> &ChannelName
         ensures { result.now ≡ segments self.now.channel }
     {
         &self.named.name
     }
 
-    /// How many bytes its text has, as it is given.
+    /// Returns the size of the event's JSON text, in bytes.
     pub fn size(&self) -> usize
         ensures { result ≡ event_size self.now }
     {
@@ -88,7 +100,7 @@ impl SharedEvent {
     }
 }
 
-// How many bytes the text of an event has. Where its channel wants escapes the text is written for that.
+// Returns the size of an event's JSON text. Formats it only if the channel needs escapes.
 #[tactic(auto, unfolding(crate::specs::Events::event_size))]
 fn size_of(alloc: Global, event: &Event) -> Result<usize, AllocError>
     ensures { IfOk result (λ size. size ≡ event_size event.now) }
@@ -99,7 +111,7 @@ fn size_of(alloc: Global, event: &Event) -> Result<usize, AllocError>
     }
 }
 
-// The same where the channel is written as it is.
+// Computes the size without formatting; `None` if the channel needs escapes or on overflow.
 #[tactic(auto, using(crate::proofs::Sizes::size_without_id, crate::proofs::Sizes::size_with_id))]
 fn plain_size(event: &Event) -> Option<usize>
     ensures { IfSome result (λ size. size ≡ event_size event.now) }

@@ -1,4 +1,4 @@
-//! Messages as they are read, replies and events as they are written.
+//! Messages as clients send them, and the JSON text of replies and events.
 #![tactic(auto)]
 
 mod event;

@@ -1,55 +1,60 @@
+//! A message after parsing.
 use crate::sequence::Sequence;
 use crate::text::{RawJson, Text};
 
-/// A member that is to be a JSON text.
+/// A member that should be a JSON string.
 #[derive(Drop)]
 pub enum TextMember {
     /// The message has no such member.
     Absent,
-    /// The member is something else.
+    /// The member is not a string.
     NotText,
-    /// The text, its escapes read.
+    /// The string, with escapes decoded.
     Text(Text),
 }
 
-/// The member `ack` of a message's `ext`. (The acknowledgement extension of CometD.)
+/// The member `ack` of a message's `ext`.
+///
+/// CometD's acknowledgement extension.
 #[derive(Clone, Copy, Debug, PartialEq, Eq)]
 pub enum AckMember {
-    /// Absent, or anything else.
+    /// Absent, or any other value.
     NoAck,
     /// The literal `true`.
     AckTrue,
-    /// Digits alone, at most 2^64-1.
+    /// A number written in digits only, at most 2^64-1.
     AckNumber(u64),
 }
 
-/// A message's fields after reading. Of several members of one name the last counts, and members
-/// that are not named here are ignored. (Bayeux 1.0, message fields, and the acknowledgement extension of
-/// CometD.)
+/// The fields of a message.
+///
+/// If a name occurs more than once, the last member counts. Other members are ignored.
+///
+/// Bayeux 1.0, message fields, and CometD's acknowledgement extension.
 #[derive(Drop)]
 pub struct Message {
-    /// The member `channel`, its escapes read; it need not read as a channel name.
+    /// `channel`, with escapes decoded, possibly an invalid channel name.
     pub channel: Text,
-    /// `id` as the sender wrote it, where it is a JSON text or number.
+    /// `id` as the sender wrote it, if it is a JSON string or number.
     pub id: Option<RawJson>,
     /// `clientId`.
     pub client: TextMember,
     /// `version`.
     pub version: TextMember,
-    /// The texts among the elements of `supportedConnectionTypes`, where it is an array.
+    /// The strings in `supportedConnectionTypes`, if it is an array.
     pub supported: Sequence<Text>,
     /// `connectionType`.
     pub connection: TextMember,
     /// `subscription` as the sender wrote it.
     pub subscription: Option<RawJson>,
-    /// `subscription`, where it is a text, or the texts among its elements, where it is an array.
+    /// `subscription` if it is a string, or the strings in it if it is an array.
     pub texts: Sequence<Text>,
-    /// Whether `subscription` is a text or an array of nothing but texts.
+    /// Whether `subscription` is a string or an array of strings only.
     pub listed: bool,
     /// `data` as the sender wrote it.
     pub payload: Option<RawJson>,
     /// `ack` of `ext`.
     pub ack: AckMember,
-    /// `timeout` of `advice`, in milliseconds, where it is digits alone, at most 2^64-1.
+    /// `timeout` of `advice`, in milliseconds, if written in digits only and at most 2^64-1.
     pub timeout: Option<u64>,
 }

@@ -1,11 +1,13 @@
+//! Kinds of messages.
 ghost use Rattle.std.specs.Prelude.{◌≡◌};
 ghost use Rattle.bx_message.specs.MessageKinds.{message_kind_of};
 
 use bx_names::{ChannelKind, kind_of};
 
-/// What a message is for, by its channel: one of the five meta messages of Bayeux 1.0, a publish, or
-/// a message to a meta channel that is not known. A reply carries the members that its kind has
-/// (`docs/MODEL.md`). The first five are named as their channels are: `/meta/handshake` and so on.
+/// The purpose of a message, by its channel.
+///
+/// The first five are the meta messages of Bayeux 1.0, named after their channels:
+/// `/meta/handshake` and so on. `docs/MODEL.md` lists the members of the reply to each kind.
 #[derive(Clone, Copy, Debug, PartialEq, Eq)]
 pub enum MessageKind {
     Handshake,
@@ -15,12 +17,12 @@ pub enum MessageKind {
     Disconnect,
     /// A message to a channel outside `/meta/`.
     Publish,
-    /// A message to another channel that begins with `/meta/`.
+    /// A message to any other channel that begins with `/meta/`.
     UnknownMeta,
 }
 
 impl MessageKind {
-    /// The kind of a message to this channel, which need not read as a channel name.
+    /// Returns the kind of a message to `channel`, which may be an invalid channel name.
     pub fn of(channel: &str) -> MessageKind
         ensures { result ≡ message_kind_of channel.now }
     {

@@ -1,11 +1,15 @@
-//! Numbers in digits.
+//! Numbers in decimal digits.
 ghost use Rattle.std.specs.Prelude.{◌≡◌};
 ghost use Rattle.std.specs.Char.{is_ascii_digit};
 ghost use Rattle.std.specs.List.{list_all};
 ghost use Rattle.bx_message.specs.Fields.{number_of};
 
-/// The number that digits alone say, at most 2^64-1, with any zeros before it; none where there is no digit, or where a
-/// sign, a point, an exponent or anything else stands there. (This server's choice.)
+/// Parses a number of at most 2^64-1, written in digits only.
+///
+/// Leading zeros are allowed. Returns `None` if `digits` is empty, the number is larger, or another
+/// character occurs, such as a sign, a point or an exponent.
+///
+/// Policy of this server.
 pub fn number_of(digits: &[u8]) -> Option<u64>
     ensures { result ≡ number_of digits.now }
 {

@@ -1,4 +1,4 @@
-//! A JSON object that is written member by member.
+//! A writer of JSON objects.
 ghost use Rattle.std.specs.Prelude.{◌≡◌, [], ◌∷◌, ◌++◌, IfOk, OnOk, decimal, true};
 ghost use Rattle.std.specs.List.{list_all};
 ghost use Rattle.json.specs.Run.{is_plain};
@@ -12,7 +12,7 @@ use json::Writer;
 use std::alloc::AllocError;
 use std::marker::Model;
 
-/// The name of a member that this server writes: in JSON it begins with a small letter.
+/// The name of a member that this server writes, in JSON with a lower-case first letter.
 #[derive(Clone, Copy, Debug)]
 pub enum Name {
     Ack,
@@ -33,7 +33,7 @@ pub enum Name {
 }
 
 impl Name {
-    // A comma, the name in quotation marks, and a colon.
+    // Returns a comma, the quoted name and a colon.
     #[tactic(auto, unfolding(json::specs::Print::escape_byte))]
     fn lead(self) -> &'static str
         ensures { result.now ≡ 44 ∷ (quoted (name_text self) ++ 58 ∷ []) }
@@ -58,7 +58,9 @@ impl Name {
     }
 }
 
-/// Writes the members of an object, with no white space, behind the text that a buffer holds.
+/// Appends the members of an object to a buffer, without white space.
+///
+/// A method fails only if memory runs out; the buffer may then be incomplete.
 #[derive(Drop)]
 pub struct ObjectWriter {
     out: Vec<u8>,
@@ -76,7 +78,7 @@ impl Model for ObjectWriter {
 }
 
 impl ObjectWriter {
-    /// Begins an object. An error means that memory was refused.
+    /// Begins an object at the end of `out`.
     pub fn begin(mut out: Vec<u8>) -> Result<ObjectWriter, AllocError>
         ensures { IfOk result (λ w. w ≡ opened out.items) }
     {
@@ -87,7 +89,7 @@ impl ObjectWriter {
         })
     }
 
-    /// Ends the object. An error means that memory was refused.
+    /// Ends the object and returns the buffer.
     pub fn end(self) -> Result<Vec<u8>, AllocError>
         ensures { IfOk result (λ out. out.items ≡ closed self) }
     {
@@ -96,8 +98,7 @@ impl ObjectWriter {
         Ok(out)
     }
 
-    /// Begins an object that is the value of the next member. An error means that memory was
-    /// refused.
+    /// Begins a nested object, the value of the next member `name`.
     pub fn open(&mut self, name: Name) -> Result<(), AllocError>
         ensures { OnOk result (self.new ≡ opened (with_name self.old (name_text name))) }
     {
@@ -107,8 +108,7 @@ impl ObjectWriter {
         Ok(())
     }
 
-    /// Ends an object that `open` began, and goes on behind it. An error means that memory was
-    /// refused.
+    /// Ends the object that [`open`](Self::open) began, and returns to the outer one.
     pub fn close(&mut self) -> Result<(), AllocError>
         ensures { OnOk result (self.new ≡ resumed (closed self.old)) }
     {
@@ -117,8 +117,7 @@ impl ObjectWriter {
         Ok(())
     }
 
-    /// Adds a member whose value is the text of a JSON value. An error means that memory was
-    /// refused.
+    /// Appends a member whose value is `json`, the text of a JSON value.
     pub fn raw(&mut self, name: Name, json: &str) -> Result<(), AllocError>
         ensures { OnOk result (self.new ≡ with_member self.old (member (name_text name) json.now)) }
     {
@@ -126,7 +125,7 @@ impl ObjectWriter {
         self.out.extend_from_slice(json.as_bytes())
     }
 
-    /// Adds a member whose value is a text. An error means that memory was refused.
+    /// Appends a member whose value is a string.
     pub fn text(&mut self, name: Name, text: &Text) -> Result<(), AllocError>
         ensures { OnOk result (self.new
             ≡ with_member self.old (member (name_text name) (quoted text.now))) }
@@ -139,8 +138,7 @@ impl ObjectWriter {
         }
     }
 
-    /// Adds a member whose value is a text that needs no escape. An error means that memory was
-    /// refused.
+    /// Appends a member whose value is `word`, a string that needs no escapes.
     pub fn word(&mut self, name: Name, word: &str) -> Result<(), AllocError>
         requires { list_all is_plain word.now ≡ true }
         ensures { OnOk result (self.new
@@ -150,7 +148,7 @@ impl ObjectWriter {
         push_plain(&mut self.out, word)
     }
 
-    /// Adds a member whose value is a number. An error means that memory was refused.
+    /// Appends a member whose value is a number.
     pub fn number(&mut self, name: Name, n: u64) -> Result<(), AllocError>
         ensures { OnOk result (self.new ≡ with_member self.old (member (name_text name) (decimal n))) }
     {
@@ -158,7 +156,7 @@ impl ObjectWriter {
         push_number(&mut self.out, n)
     }
 
-    // The name of the next member, whose value is to follow.
+    // Appends the name of the next member, and a comma before it unless it is the first.
     fn name(&mut self, name: Name) -> Result<(), AllocError>
         ensures { OnOk result (self.new ≡ resumed (with_name self.old (name_text name))) }
     {
@@ -184,7 +182,7 @@ fn push_plain(out: &mut Vec<u8>, text: &str) -> Result<(), AllocError>
     Ok(())
 }
 
-// The kit's writer fills the spare room of its buffer, so it gets a buffer of its own.
+// Appends a string with escapes. `Writer` fills its buffer's spare room, so it gets its own buffer.
 fn push_escaped(out: &mut Vec<u8>, text: &str) -> Result<(), AllocError>
     ensures { OnOk result (out.new.items ≡ out.old.items ++ quoted text.now) }
 {

@@ -1,4 +1,4 @@
-//! Reading a message from a document's piece.
+//! Parses a message from an object of a document.
 ghost use Rattle.std.specs.Prelude.{◌≡◌, IfOk, IfErr, Some, None, codes, option_map, option_and_then};
 ghost use Rattle.std.specs.List.{list_all};
 ghost use Rattle.bx_cut.specs.Pieces.{last_member, elements};
@@ -12,18 +12,22 @@ use crate::text::{RawJson, Text};
 use bx_cut::{Piece, elements_of, member_of, plain_text_of, text_of};
 use std::alloc::{AllocError, AllocFailed, Global};
 
-/// Why a piece is no message.
+/// Why a message cannot be parsed.
 #[derive(Clone, Copy, Debug, PartialEq, Eq)]
 pub enum MessageError {
-    /// It has no `channel` that is a text.
+    /// It has no `channel`, or one that is not a string.
     NoChannel,
-    /// Memory was refused.
+    /// Memory ran out.
     Memory,
 }
 
 impl Message {
-    /// The message that a piece is. It owns copies of its texts. `NoChannel` where it has no
-    /// `channel` that is a text; `Memory` where memory was refused.
+    /// Parses a message from an object, and copies its texts.
+    ///
+    /// # Errors
+    ///
+    /// - `NoChannel`: there is no `channel`, or it is not a string.
+    /// - `Memory`: memory ran out.
     pub fn read(alloc: Global, piece: &Piece<'_>) -> Result<Message, MessageError>
         ensures fields { IfOk result (λ m. message_in piece.now.1 ≡ Some m) }
         ensures no_channel { IfErr result
@@ -81,7 +85,7 @@ fn text_member(alloc: Global, piece: &Piece<'_>, name: &str) -> Result<TextMembe
     }
 }
 
-// An `id` is repeated where it is a JSON text or number.
+// Copies an `id` that is a JSON string or number.
 fn id_member(alloc: Global, piece: &Piece<'_>) -> Result<Option<RawJson>, AllocError>
     ensures { IfOk result (λ id. id ≡ id_field (last_member (codes "id") piece.now.1)) }
 {
@@ -91,7 +95,7 @@ fn id_member(alloc: Global, piece: &Piece<'_>) -> Result<Option<RawJson>, AllocE
     }
 }
 
-// Told by the first byte: a quotation mark, a sign or a digit.
+// Returns `true` if the value begins as a string or number: with a quote, a minus or a digit.
 fn is_text_or_number(json: &str) -> bool
     ensures { result ≡ begins begins_text_or_number json.now }
 {
@@ -110,7 +114,7 @@ fn is_array(json: &str) -> bool
     }
 }
 
-// The texts among the elements of an array; none where the value is no array.
+// Parses the strings among the elements of an array. For any other value, the result is empty.
 fn listed_texts(alloc: Global, array: Option<&str>) -> Result<Sequence<Text>, AllocError>
     ensures { IfOk result (λ texts. texts ≡ listed_texts (option_map (λ t. t.now) array.entry)) }
 {
@@ -120,7 +124,7 @@ fn listed_texts(alloc: Global, array: Option<&str>) -> Result<Sequence<Text>, Al
     }
 }
 
-// The texts among the elements of an array, and whether all elements are texts.
+// Parses the strings among the elements, and returns whether all elements are strings.
 fn texts_among(alloc: Global, array: &str) -> Result<(Sequence<Text>, bool), AllocError>
     ensures texts { IfOk result (λ r. r.0 ≡ texts_among (elements array.now)) }
     ensures all { IfOk result (λ r. r.1 ≡ list_all is_text (elements array.now)) }
@@ -136,7 +140,7 @@ fn texts_among(alloc: Global, array: &str) -> Result<(Sequence<Text>, bool), All
     Ok((texts, all_texts))
 }
 
-// The texts of a subscription, and whether it is a text or an array of nothing but texts.
+// Parses a subscription's strings, and returns whether it is a string or an array of strings only.
 fn subscription_texts(
     alloc: Global,
     subscription: Option<&str>,
@@ -158,14 +162,16 @@ fn subscription_texts(
     Ok((texts, is_array(json) && all_texts))
 }
 
-// A member of a member that is an object.
+// Returns a member of a member that is an object.
 fn nested_member<'a>(piece: &Piece<'a>, outer: &str, inner: &str) -> Option<&'a str>
     ensures { option_map (λ t. t.now) result ≡ nested_in outer.now inner.now piece.now.1 }
 {
     member_of(piece.member(outer)?, inner)
 }
 
-// (The acknowledgement extension of CometD.)
+// Parses `ext.ack`.
+//
+// CometD's acknowledgement extension.
 fn ack_member(piece: &Piece<'_>) -> AckMember
     ensures { result ≡ ack_field (nested_in (codes "ext") (codes "ack") piece.now.1) }
 {
@@ -179,7 +185,9 @@ fn ack_member(piece: &Piece<'_>) -> AckMember
     }
 }
 
-// (Bayeux 1.0, the field `advice`.)
+// Parses `advice.timeout`.
+//
+// Bayeux 1.0, the field `advice`.
 fn timeout_member(piece: &Piece<'_>) -> Option<u64>
     ensures { result ≡ option_and_then number_of
         (nested_in (codes "advice") (codes "timeout") piece.now.1) }

@@ -1,3 +1,4 @@
+//! Replies and answers to messages.
 ghost use Rattle.std.specs.Prelude.{◌≡◌, IfOk};
 ghost use Rattle.std.specs.Option.{option_copied};
 ghost use Rattle.bx_message.specs.Replies.{reply_to, connect_reply, client_for, subscription_for};
@@ -10,44 +11,52 @@ use crate::text::{RawJson, Text};
 use bx_advice::{Advice, Config, Outcome, advice_for};
 use std::alloc::AllocError;
 
-/// What `ack` of a reply's `ext` carries. (The acknowledgement extension of CometD.)
+/// The member `ack` of a reply's `ext`.
+///
+/// CometD's acknowledgement extension.
 #[derive(Clone, Copy, Debug, PartialEq, Eq)]
 pub enum AckReply {
     /// The reply has no `ext`.
     NoAck,
     /// `true`, in the reply to a handshake that turned acknowledgement on.
     AckTrue,
-    /// The number of a batch, in the reply to a connect.
+    /// A batch number, in the reply to a connect.
     AckNumber(u64),
 }
 
-/// The answer to one message: what it is for, what it repeats of the message, how that went, and what
-/// it tells the client.
+/// The reply to one message.
 #[derive(Clone, Drop)]
 pub struct Reply {
-    /// What the message was for; it decides which members the reply carries.
+    /// The kind of the message, which decides the reply's members.
     pub message_kind: MessageKind,
-    /// The channel of the message.
+    /// The message's channel.
     pub channel: Text,
-    /// The client id of the message's session, where the reply carries one.
+    /// The client id of the message's session, if the reply carries it.
     pub client: Option<Text>,
     /// The message's `id`, as the sender wrote it.
     pub id: Option<RawJson>,
-    /// The message's `subscription`, as the sender wrote it, where the reply repeats it.
+    /// The message's `subscription`, as the sender wrote it, if the reply repeats it.
     pub subscription: Option<RawJson>,
-    /// How it went: a success of some kind, or an error.
+    /// Success of some kind, or an error.
     pub outcome: Outcome,
-    /// What the client is to do next, where the reply says so.
+    /// The advice for the client, if the reply has one.
     pub advice: Option<Advice>,
-    /// What `ext` says of acknowledgement.
+    /// The acknowledgement in `ext`.
     pub ack: AckReply,
 }
 
 impl Reply {
-    /// The reply to a message of this kind that is answered at its own place. `client` is the id of
-    /// its session, where that is known: replies to the five meta messages carry it, and no others.
-    /// Replies to subscriptions and unsubscriptions repeat `subscription`, refusals too. An error
-    /// means that memory was refused. (Bayeux 1.0, the responses of meta messages and of publish.)
+    /// Creates the reply to `message`.
+    ///
+    /// `client`: the client id of the message's session, if known. Only replies to the five meta
+    /// messages carry it. Replies to subscriptions and unsubscriptions repeat `subscription`, even
+    /// on failure.
+    ///
+    /// Bayeux 1.0, the responses of meta messages and of publish.
+    ///
+    /// # Errors
+    ///
+    /// `AllocError` if memory runs out.
     pub fn to_message(
         config: &Config,
         message_kind: MessageKind,
@@ -71,8 +80,11 @@ impl Reply {
         })
     }
 
-    /// The reply to a connect, whenever it is answered: `client` is its session's id, and `id` the
-    /// connect's. It takes no memory. (Bayeux 1.0, connect response.)
+    /// Creates the reply to a connect that is answered at once or later.
+    ///
+    /// `client`: the session's client id. `id`: the connect's. Does not allocate.
+    ///
+    /// Bayeux 1.0, connect response.
     pub fn to_connect(
         config: &Config,
         client: Text,
@@ -95,7 +107,7 @@ impl Reply {
     }
 }
 
-// The client id that a reply to a message of this kind carries.
+// Returns the client id for the reply to a message of this kind.
 fn client_of(message_kind: MessageKind, client: Option<&Text>) -> Result<Option<Text>, AllocError>
     ensures { IfOk result (λ c. c ≡ client_for message_kind (option_copied client.entry)) }
 {
@@ -105,7 +117,7 @@ fn client_of(message_kind: MessageKind, client: Option<&Text>) -> Result<Option<
     }
 }
 
-// The subscription that a reply to a message of this kind repeats.
+// Returns the subscription for the reply to a message of this kind.
 fn subscription_of(
     message_kind: MessageKind,
     subscription: Option<&RawJson>,
@@ -127,7 +139,11 @@ fn share_text(text: Option<&Text>) -> Result<Option<Text>, AllocError>
     }
 }
 
-/// Another handle to a slice, where there is one. An error means that memory was refused.
+/// Clones the handle `json`, if there is one.
+///
+/// # Errors
+///
+/// `AllocError` if memory runs out.
 pub fn share_json(json: Option<&RawJson>) -> Result<Option<RawJson>, AllocError>
     ensures { IfOk result (λ shared. shared ≡ option_copied json.entry) }
 {
@@ -137,10 +153,10 @@ pub fn share_json(json: Option<&RawJson>) -> Result<Option<RawJson>, AllocError>
     }
 }
 
-/// What a connect or a rider is answered with: the events that it is given, and its reply.
+/// The answer to a connect or a rider.
 #[derive(Drop)]
 pub struct Answer {
-    /// The events, oldest first; in the response they stand before the reply.
+    /// The events, oldest first, which precede the reply in the response.
     pub events: Sequence<SharedEvent>,
     /// The reply to the connect or the rider.
     pub reply: Reply,

@@ -1,11 +1,12 @@
-//! A list inside a value that contracts compare.
+//! A list that contracts compare by its elements.
 ghost use Rattle.std.specs.Prelude.{◌≡◌, [], ◌∷◌, ◌++◌, length, OnOk, OnErr};
 
 use std::alloc::{AllocError, Global};
 use std::marker::Model;
 
-/// A list that grows at its end. Contracts see it as the list of its elements, so that two of them are
-/// equal where their elements are, whatever room they keep.
+/// A list that grows at its end.
+///
+/// Model: the elements, regardless of the capacity.
 #[derive(Drop)]
 pub struct Sequence<T> {
     items: Vec<T>,
@@ -20,7 +21,7 @@ impl<T> Model for Sequence<T> {
 }
 
 impl<T> Sequence<T> {
-    /// No element.
+    /// Creates an empty list.
     pub fn new(alloc: Global) -> Sequence<T>
         ensures { result ≡ [] }
     {
@@ -29,14 +30,14 @@ impl<T> Sequence<T> {
         }
     }
 
-    /// The elements of `items`, without a copy.
+    /// Converts a vector to a list without copying.
     pub fn from_vec(items: Vec<T>) -> Sequence<T>
         ensures { result ≡ items.items }
     {
         Sequence { items }
     }
 
-    /// The elements, without a copy.
+    /// Converts the list to a vector without copying.
     pub fn into_vec(self) -> Vec<T>
         ensures { result.items ≡ self }
     {
@@ -44,21 +45,25 @@ impl<T> Sequence<T> {
         items
     }
 
-    /// The elements in order.
+    /// Returns the elements in order.
     pub fn as_slice(&self) -> &[T]
         ensures { result.now ≡ self.now }
     {
         self.items.as_slice()
     }
 
-    /// How many elements there are.
+    /// Returns the number of elements.
     pub fn len(&self) -> usize
         ensures { result ≡ length self.now }
     {
         self.items.len()
     }
 
-    /// Adds an element behind the others; the list is as before where memory is refused.
+    /// Appends an element.
+    ///
+    /// # Errors
+    ///
+    /// `AllocError` if memory runs out; the list is unchanged.
     pub fn push(&mut self, item: T) -> Result<(), AllocError>
     where
         T: Drop,

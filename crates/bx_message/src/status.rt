@@ -1,9 +1,12 @@
-//! The statuses of responses.
+//! HTTP statuses of responses.
 ghost use Rattle.std.specs.Prelude.{◌≡◌};
 ghost use Rattle.bx_message.specs.Statuses.{code_of};
 
-/// A status of HTTP that this server answers with. Which fault comes to which is said where the fault is.
-/// (HTTP's words; which of them are used is this server's choice.)
+/// An HTTP status that this server responds with.
+///
+/// Each error type maps its errors to statuses.
+///
+/// HTTP; the choice of statuses is a policy of this server.
 #[derive(Clone, Copy, Debug, PartialEq, Eq)]
 pub enum Status {
     /// 200
@@ -25,7 +28,7 @@ pub enum Status {
 }
 
 impl Status {
-    /// Its number.
+    /// Returns the status code.
     pub fn code(self) -> u16
         ensures { result ≡ code_of self }
     {

@@ -7,7 +7,7 @@ use std::alloc::{AllocError, Global};
 use std::marker::Model;
 use std::sync::ArcStr;
 
-// Where a text stands.
+// Where a text is stored.
 #[derive(Drop)]
 enum Stored {
     // In memory that its clones share.
@@ -16,12 +16,14 @@ enum Stored {
     Connect,
 }
 
-/// A text. Contracts see it as its bytes, which are UTF-8. A clone shares them.
+/// An immutable text that shares its bytes with its clones.
+///
+/// Model: its bytes, in UTF-8.
 #[derive(Drop)]
 pub struct Text {
     stored: Stored,
-    // Whether JSON writes the text as it is, between quotation marks: an event's channel is written once
-    // for each session that gets it.
+    // Whether JSON needs no escapes for it. Stored, because an event's channel is written once for
+    // each session that gets it.
     plain: bool,
 }
 
@@ -39,7 +41,11 @@ impl Model for Text {
 }
 
 impl Text {
-    /// A copy of `text`. An error means that memory was refused.
+    /// Creates a copy of `text`.
+    ///
+    /// # Errors
+    ///
+    /// `AllocError` if memory runs out.
     pub fn new(alloc: Global, text: &str) -> Result<Text, AllocError>
         ensures { IfOk result (λ t. t ≡ text.now) }
     {
@@ -49,7 +55,7 @@ impl Text {
         Ok(Text { stored, plain })
     }
 
-    // A copy of `text`, which JSON writes as it is.
+    // Creates a copy of `text`, which needs no escapes in JSON.
     pub(crate) fn plain(alloc: Global, text: &str) -> Result<Text, AllocError>
         requires { list_all is_plain text.now ≡ true }
         ensures { IfOk result (λ t. t ≡ text.now) }
@@ -62,7 +68,9 @@ impl Text {
         })
     }
 
-    /// The channel of connects, which takes no memory. (Bayeux 1.0, the channel of connects.)
+    /// Returns the channel of connects, `/meta/connect`, without allocating.
+    ///
+    /// Bayeux 1.0, the channel of connects.
     pub fn connect_channel() -> Text
         ensures { result ≡ codes "/meta/connect" }
     {
@@ -72,7 +80,11 @@ impl Text {
         }
     }
 
-    /// The text that `text` has, without a copy. An error means that memory was refused.
+    /// Converts a string without copying its bytes.
+    ///
+    /// # Errors
+    ///
+    /// `AllocError` if memory runs out.
     pub fn from_string(text: String) -> Result<Text, AllocError>
         ensures { IfOk result (λ t. t ≡ string_bytes text) }
     {
@@ -82,7 +94,7 @@ impl Text {
         Ok(Text { stored, plain })
     }
 
-    /// The text itself.
+    /// Returns the text as a string slice.
     pub fn as_str(&self) -> &str
         ensures { result.now ≡ self.now }
     {
@@ -92,7 +104,7 @@ impl Text {
         }
     }
 
-    // Whether JSON writes the text as it is.
+    // Returns `true` if the text needs no escapes in JSON.
     pub(crate) fn is_plain(&self) -> bool
         ensures { result ≡ list_all is_plain self.now }
     {
@@ -100,7 +112,7 @@ impl Text {
     }
 }
 
-// Whether a text has no quotation mark, no backslash and no control character.
+// Returns `true` if `text` has no quotation mark, backslash or control character.
 fn needs_no_escape(text: &str) -> bool
     ensures { result ≡ list_all is_plain text.now }
 {
@@ -124,8 +136,11 @@ impl Clone for Text {
     }
 }
 
-/// A text that its maker says is a JSON value, as the sender wrote it, byte for byte. Contracts see it as
-/// its bytes. A clone shares them.
+/// The text of a JSON value, as the sender wrote it, which shares its bytes with its clones.
+///
+/// [`new`](Self::new) does not check that it is JSON.
+///
+/// Model: its bytes.
 #[derive(Drop)]
 pub struct RawJson {
     json: ArcStr,
@@ -141,7 +156,11 @@ impl Model for RawJson {
 }
 
 impl RawJson {
-    /// A copy of `json`, the text of a JSON value. An error means that memory was refused.
+    /// Creates a copy of `json`, the text of a JSON value.
+    ///
+    /// # Errors
+    ///
+    /// `AllocError` if memory runs out.
     pub fn new(alloc: Global, json: &str) -> Result<RawJson, AllocError>
         ensures { IfOk result (λ j. j ≡ json.now) }
     {
@@ -149,7 +168,7 @@ impl RawJson {
         Ok(RawJson { json })
     }
 
-    /// The sender's text.
+    /// Returns the sender's text.
     pub fn as_str(&self) -> &str
         ensures { result.now ≡ self.now }
     {

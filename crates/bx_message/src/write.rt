@@ -1,5 +1,6 @@
-//! The text of a reply, an event and a response: compact JSON, with the members of each object in
-//! ascending byte order of their names.
+//! The JSON text of replies, events and responses.
+//!
+//! It is compact. The members of each object are in ascending byte order of their names.
 ghost use Rattle.std.specs.Prelude.{◌≡◌, ◌++◌, IfOk, OnOk, Some, true};
 ghost use Rattle.std.specs.List.{list_all};
 ghost use Rattle.json.specs.Run.{is_plain};
@@ -14,35 +15,49 @@ use crate::text::{RawJson, Text};
 use bx_advice::{Advice, Outcome, Reconnect};
 use std::alloc::{AllocError, Global};
 
-// Both are this server's, in every reply to a handshake. (Bayeux 1.0, handshake response.)
+// Values of this server, in every reply to a handshake.
+//
+// Bayeux 1.0, handshake response.
 const SUPPORTED_TYPES: &str = "[\"long-polling\",\"callback-polling\"]";
 
 const VERSION: &str = "1.0";
 
-// Room for a reply and for an event without the texts that they repeat: their longest advice, error
-// and numbers, and the names of all members.
+// Room in bytes for a reply and an event without the texts that they repeat: for all member names,
+// and the longest advice, error and numbers.
 const REPLY_ROOM: usize = 384;
 
 const EVENT_ROOM: usize = 64;
 
-/// A reply as a JSON object: the members `advice`, `channel`, `clientId`, `error`, `ext`, `id`,
-/// `subscription`, `successful`, `supportedConnectionTypes` and `version`, of those that it carries.
-/// An error means that memory was refused.
+/// Formats a reply as a JSON object.
+///
+/// Its members are, if present: `advice`, `channel`, `clientId`, `error`, `ext`, `id`,
+/// `subscription`, `successful`, `supportedConnectionTypes` and `version`.
+///
+/// # Errors
+///
+/// `AllocError` if memory runs out.
 pub fn reply_text(alloc: Global, reply: &Reply) -> Result<Vec<u8>, AllocError>
     ensures { IfOk result (λ out. out.items ≡ reply_text reply.now) }
 {
     write_reply(Vec::with_capacity(alloc, reply_room(reply))?, reply)
 }
 
-/// An event as a JSON object: the members `channel`, `data` and, where it has one, `id`. An error
-/// means that memory was refused.
+/// Formats an event as a JSON object with `channel`, `data` and, if present, `id`.
+///
+/// # Errors
+///
+/// `AllocError` if memory runs out.
 pub fn event_text(alloc: Global, event: &Event) -> Result<Vec<u8>, AllocError>
     ensures { IfOk result (λ out. out.items ≡ event_text event.now) }
 {
     write_event(Vec::with_capacity(alloc, event_room(event))?, event)
 }
 
-/// A response: the array of these items in order. An error means that memory was refused.
+/// Formats a response: the JSON array of `items` in order.
+///
+/// # Errors
+///
+/// `AllocError` if memory runs out.
 pub fn body_text(alloc: Global, items: &[Item]) -> Result<Vec<u8>, AllocError>
     ensures { IfOk result (λ out. out.items ≡ body_text items.now) }
 {
@@ -58,7 +73,7 @@ pub fn body_text(alloc: Global, items: &[Item]) -> Result<Vec<u8>, AllocError>
     Ok(out)
 }
 
-// Enough room for the text of most values is asked for at once; escapes can want more.
+// Returns the room to allocate for a response, in bytes. Escapes may need more.
 fn body_room(items: &[Item]) -> usize {
     let mut room = 2usize;
     for item in items {
@@ -67,7 +82,9 @@ fn body_room(items: &[Item]) -> usize {
     room
 }
 
-/// Room for the text of an item, in bytes: of an event its very size, of a reply enough unless a text in it wants escapes.
+/// Returns the room to reserve for an item's JSON text, in bytes.
+///
+/// For an event this is the exact size. For a reply it suffices unless a text needs escapes.
 pub fn item_room(item: &Item) -> usize {
     match item {
         Item::EventItem(event) => event.size(),
@@ -101,7 +118,11 @@ fn raw_len(json: &Option<RawJson>) -> usize {
     }
 }
 
-/// Adds an item to a text. An error means that memory was refused.
+/// Appends the JSON text of `item` to `out`.
+///
+/// # Errors
+///
+/// `AllocError` if memory runs out.
 pub fn write_item(out: Vec<u8>, item: &Item) -> Result<Vec<u8>, AllocError>
     ensures { IfOk result (λ text. text.items ≡ out.items ++ item_text item.now) }
 {
@@ -137,7 +158,7 @@ fn write_reply(out: Vec<u8>, reply: &Reply) -> Result<Vec<u8>, AllocError>
     object.end()
 }
 
-// A member that is the sender's bytes, where there are any.
+// Appends a member with the sender's JSON text, if there is one.
 fn write_raw(
     object: &mut ObjectWriter,
     name: Name,
@@ -152,7 +173,7 @@ fn write_raw(
     }
 }
 
-// A member that is a text, where there is one.
+// Appends a member with a string, if there is one.
 fn write_text(object: &mut ObjectWriter, name: Name, text: &Option<Text>) -> Result<(), AllocError>
     ensures { OnOk result (object.new
         ≡ with_members object.old (text_member (name_text name) text.now)) }
@@ -176,7 +197,7 @@ fn write_advice(object: &mut ObjectWriter, advice: Option<Advice>) -> Result<(),
     object.close()
 }
 
-// A member that is a number, where there is one.
+// Appends a member with a number, if there is one.
 fn write_number(
     object: &mut ObjectWriter,
     name: Name,
@@ -191,7 +212,9 @@ fn write_number(
     }
 }
 
-// (Bayeux 1.0, the advice field `reconnect`.)
+// Returns the `reconnect` value of an advice.
+//
+// Bayeux 1.0, the advice field `reconnect`.
 fn reconnect_text(reconnect: Reconnect) -> &'static str
     ensures text { result.now ≡ reconnect_text reconnect }
     ensures plain { list_all is_plain result.now ≡ true }
@@ -222,7 +245,9 @@ fn success_text(outcome: Outcome) -> &'static str
     }
 }
 
-// (The acknowledgement extension of CometD.)
+// Appends `ext` with the acknowledgement.
+//
+// CometD's acknowledgement extension.
 fn write_ack(object: &mut ObjectWriter, ack: AckReply) -> Result<(), AllocError>
     ensures { OnOk result (object.new ≡ with_members object.old (ack_member ack)) }
 {
@@ -237,7 +262,7 @@ fn write_ack(object: &mut ObjectWriter, ack: AckReply) -> Result<(), AllocError>
     }
 }
 
-// What every reply to a handshake carries, a refusal too.
+// Appends the members that every reply to a handshake carries, even on failure.
 fn write_handshake(object: &mut ObjectWriter, message_kind: MessageKind) -> Result<(), AllocError>
     ensures { OnOk result (object.new ≡ with_members object.old (handshake_members message_kind)) }
 {

@@ -1,4 +1,4 @@
--- Which texts read as a channel name or as a pattern, and why the others do not.
+-- Which texts are channel names or patterns, and why others are not.
 use Rattle.std.specs.Prelude.{ℕ, ◌==◌, ◌||◌, not, Bool, List, [], ◌∷◌, length, nat_lt, if◌then◌else◌, Option, Some, None, Result, Ok, Err}
 use Rattle.std.specs.List.{list_any}
 use Rattle.bx_names.specs.Segments.{segments, is_absolute, is_empty}
@@ -7,28 +7,29 @@ use Rattle.bx_names.specs.declared.error.NameError.{NameError}
 use Rattle.bx_names.specs.declared.error.NameError.TheVariants.{NoSlash, EmptySegment, BadByte, Wild, TooLong, TooDeep}
 use Rattle.bx_names.specs.declared.limits.TheConstants.{MAX_NAME_BYTES, MAX_NAME_SEGMENTS}
 
--- the first case of a table whose test holds
+-- The first case of a table whose test holds.
 abbrev pub first_case : {E : Type 0} → List (Bool × E) → Option E
 first_case [] = None
 first_case (c ∷ cs) = if c.0 then Some c.1 else first_case cs
 
--- a control byte, a space or DEL
+-- Whether a byte is a control byte, a space or DEL.
 abbrev pub is_bad_byte : ℕ → Bool
 is_bad_byte byte = nat_lt byte 33 || (byte == 127)
 
--- whether some byte may stand in no name
+-- Whether a text has a byte that no name may have.
 abbrev pub has_bad_byte : List ℕ → Bool
 has_bad_byte = list_any is_bad_byte
 
--- the byte `*`
+-- Whether a byte is `*`.
 abbrev pub is_star : ℕ → Bool
 is_star byte = byte == 42
 
--- whether some byte is a star
+-- Whether a text has a `*`.
 abbrev pub has_star : List ℕ → Bool
 has_star = list_any is_star
 
--- The faults of a path, in this order. No star may stand in its own segments, which in a pattern leave out a wild one.
+-- The first fault of a path, in this order. The segments `own` may not contain `*`; those of a
+-- pattern leave out its wildcard.
 abbrev pub path_fault : List ℕ → List (List ℕ) → Option NameError
 path_fault text own = first_case (
     (not (is_absolute text), NoSlash)
@@ -39,23 +40,23 @@ path_fault text own = first_case (
     ∷ (nat_lt MAX_NAME_SEGMENTS (length (segments text)), TooDeep)
     ∷ [])
 
--- a channel name: an absolute path of segments without stars
+-- The first fault of a channel name, an absolute path without `*`.
 abbrev pub name_fault : List ℕ → Option NameError
 name_fault text = path_fault text (segments text)
 
--- a pattern: the same, but that its last segment may be `*` or `**`
+-- The first fault of a pattern, whose last segment may also be `*` or `**`.
 abbrev pub pattern_fault : List ℕ → Option NameError
 pattern_fault text = path_fault text (glob_of (segments text)).segments
 
--- a value, unless there is a fault
+-- A value, unless there is a fault.
 abbrev pub read_by : {V : Type 0} → Option NameError → V → Result V NameError
 read_by None v = Ok v
 read_by (Some fault) v = Err fault
 
--- the segments of the channel name that a text is
+-- The segments of a channel name, or its fault.
 abbrev pub read_name : List ℕ → Result (List (List ℕ)) NameError
 read_name text = read_by (name_fault text) (segments text)
 
--- the pattern that a text is
+-- The pattern in a text, or its fault.
 abbrev pub read_pattern : List ℕ → Result Glob NameError
 read_pattern text = read_by (pattern_fault text) (glob_of (segments text))

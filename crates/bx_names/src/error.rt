@@ -1,3 +1,4 @@
+//! Errors of channel names and patterns.
 ghost use Rattle.std.specs.Prelude.{◌≡◌};
 ghost use Rattle.bx_names.specs.declared.error.NameError.TheVariants.{Memory};
 
@@ -5,22 +6,26 @@ use std::alloc::AllocError;
 use std::error::Error;
 use std::fmt;
 
-/// Why a text does not read as a channel name or a pattern. Of several faults the first in this order is told.
+/// Why a text is not a channel name or a pattern.
+///
+/// The variants are in the order in which they are tested.
 #[derive(Clone, Copy, Debug, PartialEq, Eq, Hash)]
 pub enum NameError {
     /// The text does not begin with a slash.
     NoSlash,
-    /// A segment has no byte: two slashes stand side by side, or the last byte is one.
+    /// A segment is empty: the text has two slashes in a row, or ends with one.
     EmptySegment,
-    /// A byte is below 0x21, or is 0x7F (this server's choice).
+    /// A byte is a control byte, a space or DEL.
+    ///
+    /// Policy of this server.
     BadByte,
-    /// A star stands in a name, or in a pattern elsewhere than as its last segment `*` or `**`.
+    /// The text has a star, other than `*` or `**` as the last segment of a pattern.
     Wild,
     /// The text has more than `MAX_NAME_BYTES` bytes.
     TooLong,
     /// The text has more than `MAX_NAME_SEGMENTS` segments.
     TooDeep,
-    /// There was no memory for a copy of the text.
+    /// Memory ran out for a copy of the text.
     Memory,
 }
 

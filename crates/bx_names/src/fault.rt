@@ -1,3 +1,4 @@
+//! Validation of channel names and patterns.
 ghost use Rattle.std.specs.Prelude.{◌≡◌, ◌≢◌, ◌++◌, IsTrue, length};
 ghost use Rattle.std.specs.List.{list_any};
 ghost use Rattle.bx_names.specs.Segments.{is_absolute, is_empty, is_path, segments};
@@ -8,8 +9,9 @@ use crate::error::NameError;
 use crate::limits::{MAX_NAME_BYTES, MAX_NAME_SEGMENTS};
 use crate::tail::Tail;
 
-/// Why a text is no channel name: its first fault in the order of `NameError`, or `None` where it is one.
-/// It takes no memory.
+/// Returns why `text` is not a channel name, or `None` if it is one.
+///
+/// The result is the first error in the order of [`NameError`]. Does not allocate.
 pub fn name_fault(text: &str) -> Option<NameError>
     ensures fault { result ≡ name_fault text.now }
     ensures never_memory { result ≢ Some NameError.Memory }
@@ -17,8 +19,9 @@ pub fn name_fault(text: &str) -> Option<NameError>
     path_fault(text, text)
 }
 
-/// Why a text is no pattern: its first fault in the order of `NameError`, or `None` where it is one.
-/// It takes no memory.
+/// Returns why `text` is not a pattern, or `None` if it is one.
+///
+/// The result is the first error in the order of [`NameError`]. Does not allocate.
 pub fn pattern_fault(text: &str) -> Option<NameError>
     ensures fault { result ≡ pattern_fault text.now }
     ensures never_memory { result ≢ Some NameError.Memory }
@@ -27,7 +30,7 @@ pub fn pattern_fault(text: &str) -> Option<NameError>
     path_fault(text, own)
 }
 
-/// The text of a pattern without its wild segment, and what that segment is.
+/// Splits a pattern into the text before its wildcard and the wildcard.
 #[tactic(auto, using(crate::proofs::GlobLemmas::cut))]
 pub(crate) fn split_tail(text: &str) -> (&str, Tail)
     ensures parts { text.now ≡ result.0.now ++ ending_text result.1 }
@@ -44,7 +47,9 @@ pub(crate) fn split_tail(text: &str) -> (&str, Tail)
     (text, Tail::Exact)
 }
 
-/// The first fault of a path whose part `own` may hold no star.
+/// Returns the first error of `path`.
+///
+/// `own`: the part of `path` that must have no stars.
 #[tactic(auto, using(crate::proofs::WalkLemmas::star_segments))]
 fn path_fault(path: &str, own: &str) -> Option<NameError>
     requires { IsTrue (is_absolute path.now) → IsTrue (is_path own.now) }
@@ -70,7 +75,7 @@ fn path_fault(path: &str, own: &str) -> Option<NameError>
     }
 }
 
-/// What one walk over a path's bytes finds.
+/// Results of one pass over a path's bytes.
 #[derive(Drop)]
 struct Findings {
     has_empty_segment: bool,

@@ -1,18 +1,23 @@
+//! Kinds of channels.
 ghost use Rattle.std.specs.Prelude.{◌≡◌};
 ghost use Rattle.bx_names.specs.Kinds.{is_broadcast, is_meta, is_service, kind_of};
 
-/// What a channel is for, which its name's beginning says (Bayeux 1.0, channel names).
+/// The kind of a channel, by the beginning of its name.
+///
+/// Bayeux 1.0, channel names.
 #[derive(Clone, Copy, Debug, PartialEq, Eq, Hash)]
 pub enum ChannelKind {
-    /// `/meta/..`: the protocol's own messages.
+    /// `/meta/..`: messages of the protocol.
     Meta,
-    /// `/service/..`: what is sent there is delivered to no other client.
+    /// `/service/..`: messages that are not delivered to other clients.
     Service,
-    /// All others, `/meta` and `/service` alone among them (this server's choice).
+    /// All others, including `/meta` and `/service` themselves.
+    ///
+    /// Policy of this server.
     Broadcast,
 }
 
-/// The kind of the channel with this name, judged by how the text begins, whether or not the text reads as a name.
+/// Returns the kind of channel `text`, possibly an invalid name.
 pub fn kind_of(text: &str) -> ChannelKind
     ensures { result ≡ kind_of text.now }
 {
@@ -25,21 +30,29 @@ pub fn kind_of(text: &str) -> ChannelKind
     }
 }
 
-/// Whether a text begins as the names of meta channels do (Bayeux 1.0, meta channels).
+/// Returns `true` if `text` begins like the name of a meta channel.
+///
+/// Bayeux 1.0, meta channels.
 pub fn is_meta(text: &str) -> bool
     ensures { result ≡ is_meta text.now }
 {
     text.starts_with("/meta/")
 }
 
-/// Whether a text begins as the names of service channels do (Bayeux 1.0, service channels).
+/// Returns `true` if `text` begins like the name of a service channel.
+///
+/// Bayeux 1.0, service channels.
 pub fn is_service(text: &str) -> bool
     ensures { result ≡ is_service text.now }
 {
     text.starts_with("/service/")
 }
 
-/// Whether a text begins as neither does: what is sent there goes to other clients (Bayeux 1.0, channel names).
+/// Returns `true` if `text` begins neither like a meta nor like a service channel.
+///
+/// Messages to a broadcast channel go to other clients.
+///
+/// Bayeux 1.0, channel names.
 pub fn is_broadcast(text: &str) -> bool
     ensures { result ≡ is_broadcast text.now }
 {

@@ -1,5 +1,4 @@
-//! Channel names and patterns of Bayeux 1.0: what reads as one, what kind a channel is, and which pattern
-//! matches which name.
+//! Channel names and patterns of Bayeux 1.0: validation, kinds of channels and matching.
 #![tactic(auto)]
 
 mod error;

@@ -1,5 +1,11 @@
-/// The most bytes of a channel name or a pattern (this server's choice).
+//! Limits of channel names and patterns.
+
+/// The maximum length of a channel name or a pattern, in bytes.
+///
+/// Policy of this server.
 pub const MAX_NAME_BYTES: usize = 256;
 
-/// The most segments of a channel name or a pattern, a wild one counted (this server's choice).
+/// The maximum number of segments of a channel name or a pattern, including a wildcard.
+///
+/// Policy of this server.
 pub const MAX_NAME_SEGMENTS: usize = 32;

@@ -1,3 +1,4 @@
+//! Matching of channel names with patterns.
 ghost use Rattle.std.specs.Prelude.{◌≡◌, ◌==◌, ◌&&◌, length};
 ghost use Rattle.bx_names.specs.Segments.{is_absolute, segments};
 ghost use Rattle.bx_names.specs.Globs.{matches};
@@ -6,10 +7,12 @@ use crate::name::ChannelName;
 use crate::pattern::Pattern;
 use crate::tail::Tail;
 
-/// Whether the pattern matches the name (Bayeux 1.0, channel globbing).
+/// Returns `true` if `pattern` matches `name`.
 ///
-/// A pattern without a wild segment matches the name that equals it, one that ends in `*` each name with its own segments
-/// and exactly one more, one that ends in `**` each name with its own segments and one more or several.
+/// A pattern without a wildcard matches the equal name. One that ends in `*` matches names with
+/// exactly one segment in its place, and one that ends in `**` those with one or more.
+///
+/// Bayeux 1.0, channel globbing.
 pub fn matches(pattern: &Pattern, name: &ChannelName) -> bool
     ensures { result ≡ matches pattern.now name.now }
 {
@@ -24,7 +27,7 @@ pub fn matches(pattern: &Pattern, name: &ChannelName) -> bool
     }
 }
 
-/// Whether a text is a slash and what has no other slash.
+/// Returns `true` if `text` begins with a slash and has no other.
 fn is_one_segment(text: &str) -> bool
     ensures { result ≡ (is_absolute text.now && (length (segments text.now) == 1)) }
 {

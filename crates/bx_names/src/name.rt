@@ -1,3 +1,4 @@
+//! Channel names.
 ghost use Rattle.std.specs.Prelude.{◌≡◌, ◌<◌, ◌≤◌, ◌↔◌, None, IsTrue, length, slice_get, IfOk, IfSome, OnOk, IsOkUnless};
 ghost use Rattle.bx_names.specs.Segments.{path_of, segments};
 ghost use Rattle.bx_names.specs.Faults.{name_fault, read_name};
@@ -12,9 +13,11 @@ use std::alloc::{AllocError, Global};
 use std::hash::{Hash, Hasher};
 use std::marker::Model;
 
-/// The name of a channel, as `/a/b`: an absolute path of segments (Bayeux 1.0, channel names).
+/// A channel name such as `/a/b`: an absolute path of segments.
 ///
-/// Contracts see the list of its segments, each as its bytes.
+/// Model: the list of its segments, each as bytes.
+///
+/// Bayeux 1.0, channel names.
 #[derive(Debug, Drop)]
 pub struct ChannelName {
     text: String,
@@ -33,10 +36,11 @@ impl Model for ChannelName {
 }
 
 impl ChannelName {
-    /// Reads a text as a channel name and keeps a copy of it.
+    /// Parses a channel name and keeps a copy of `text`.
     ///
-    /// A text with a fault is refused with its first one, in the order of `NameError`. `Memory` comes only at a
-    /// text without a fault.
+    /// # Errors
+    ///
+    /// The first [`NameError`] that applies. `Memory` occurs only if `text` is a channel name.
     pub fn read(alloc: Global, text: &str) -> Result<ChannelName, NameError>
         ensures valid { OnOk result (name_fault text.now ≡ None) }
         ensures segments { IfOk result (λ name. name ≡ segments text.now) }
@@ -50,7 +54,11 @@ impl ChannelName {
         }
     }
 
-    /// The channel name that a text without a fault is, where that was looked at before. It keeps a copy of the text.
+    /// Creates a channel name from a copy of `text`, which must be valid.
+    ///
+    /// # Errors
+    ///
+    /// `AllocError` if memory runs out.
     pub fn of_valid(alloc: Global, text: &str) -> Result<ChannelName, AllocError>
         requires valid { name_fault text.now ≡ None }
         ensures segments { IfOk result (λ name. name ≡ segments text.now) }
@@ -60,7 +68,7 @@ impl ChannelName {
         })
     }
 
-    /// The text of the name.
+    /// Returns the text of the name.
     #[tactic(auto, using(crate::proofs::FaultLemmas::sound))]
     pub fn as_str(&self) -> &str
         ensures text { result.now ≡ path_of self.now }
@@ -69,14 +77,14 @@ impl ChannelName {
         self.text.as_str()
     }
 
-    /// The kind of the channel.
+    /// Returns the kind of the channel.
     pub fn kind(&self) -> ChannelKind
         ensures { result ≡ kind_of (path_of self.now) }
     {
         kind_of(self.as_str())
     }
 
-    /// The segments, from the first on.
+    /// Returns an iterator over the segments.
     pub fn segments(&self) -> Segments<'_>
         ensures segments { result ≡ self.now }
         ensures limit { length self.now ≤ MAX_NAME_SEGMENTS }
@@ -84,14 +92,14 @@ impl ChannelName {
         segments_of(self.text.as_str())
     }
 
-    /// How many segments there are.
+    /// Returns the number of segments.
     pub fn segment_count(&self) -> usize
         ensures { result ≡ length self.now }
     {
         self.segments().count()
     }
 
-    /// The segment at place `k`, counted from 0.
+    /// Returns segment `k`, counted from 0.
     pub fn segment(&self, k: usize) -> &str
         requires { k < length self.now }
         ensures { slice_get self.now k ≡ Some result.now }

@@ -1,3 +1,4 @@
+//! Patterns of channel names.
 ghost use Rattle.std.specs.Prelude.{◌≡◌, ◌<◌, ◌≤◌, ◌↔◌, None, IsTrue, length, slice_get, IfOk, IfSome, OnOk, IsOkUnless};
 ghost use Rattle.bx_names.specs.Segments.{is_path, segments};
 ghost use Rattle.bx_names.specs.Globs.{glob_of, glob_text, same_glob};
@@ -14,9 +15,11 @@ use std::alloc::{AllocError, Global};
 use std::hash::{Hash, Hasher};
 use std::marker::Model;
 
-/// A pattern of channel names: a name, as `/a/b`, or one whose last segment is `*` or `**` (Bayeux 1.0, channel globbing).
+/// A pattern of channel names: a name such as `/a/b`, or one whose last segment is `*` or `**`.
 ///
-/// Contracts see its own segments, without the wild one, and what it has behind them.
+/// Model: its segments without the wildcard, and the wildcard.
+///
+/// Bayeux 1.0, channel globbing.
 #[derive(Debug, Drop)]
 pub struct Pattern {
     text: String,
@@ -36,10 +39,11 @@ impl Model for Pattern {
 }
 
 impl Pattern {
-    /// Reads a text as a pattern and keeps a copy of it.
+    /// Parses a pattern and keeps a copy of `text`.
     ///
-    /// A text with a fault is refused with its first one, in the order of `NameError`. `Memory` comes only at a
-    /// text without a fault.
+    /// # Errors
+    ///
+    /// The first [`NameError`] that applies. `Memory` occurs only if `text` is a pattern.
     pub fn read(alloc: Global, text: &str) -> Result<Pattern, NameError>
         ensures valid { OnOk result (pattern_fault text.now ≡ None) }
         ensures pattern { IfOk result (λ pattern. pattern ≡ glob_of (segments text.now)) }
@@ -55,7 +59,7 @@ impl Pattern {
         }
     }
 
-    /// The text of the pattern.
+    /// Returns the text of the pattern.
     #[tactic(auto, using(crate::proofs::FaultLemmas::sound))]
     pub fn as_str(&self) -> &str
         ensures text { result.now ≡ glob_text self.now }
@@ -64,14 +68,14 @@ impl Pattern {
         self.text.as_str()
     }
 
-    /// The kind of channels that the pattern is about, judged by how its text begins.
+    /// Returns the kind of channel, by the beginning of the pattern.
     pub fn kind(&self) -> ChannelKind
         ensures { result ≡ kind_of (glob_text self.now) }
     {
         kind_of(self.as_str())
     }
 
-    /// The text of the pattern's own segments, which is empty where there are none, and what stands behind them.
+    /// Splits the pattern into the text of its segments, possibly empty, and its wildcard.
     pub(crate) fn split(&self) -> (&str, Tail)
         ensures path { IsTrue (is_path result.0.now) }
         ensures own { segments result.0.now ≡ self.now.segments }
@@ -81,14 +85,14 @@ impl Pattern {
         split_tail(self.text.as_str())
     }
 
-    /// What the pattern has behind its own segments.
+    /// Returns the pattern's wildcard.
     pub fn tail(&self) -> Tail
         ensures { result ≡ self.now.tail }
     {
         self.split().1
     }
 
-    /// The pattern's own segments, without the wild one, from the first on.
+    /// Returns an iterator over the segments, without the wildcard.
     pub fn segments(&self) -> Segments<'_>
         ensures segments { result ≡ self.now.segments }
         ensures limit { length self.now.segments ≤ MAX_NAME_SEGMENTS }
@@ -96,14 +100,14 @@ impl Pattern {
         segments_of(self.split().0)
     }
 
-    /// How many segments of its own the pattern has, the wild one not counted.
+    /// Returns the number of segments, without the wildcard.
     pub fn segment_count(&self) -> usize
         ensures { result ≡ length self.now.segments }
     {
         self.segments().count()
     }
 
-    /// The pattern's own segment at place `k`, counted from 0.
+    /// Returns segment `k`, counted from 0, which must not be the wildcard.
     pub fn segment(&self, k: usize) -> &str
         requires { k < length self.now.segments }
         ensures { slice_get self.now.segments k ≡ Some result.now }

@@ -1,10 +1,13 @@
+//! Segments of channel names and patterns.
 ghost use Rattle.std.specs.Prelude.{◌≡◌, IsTrue};
 ghost use Rattle.std.specs.Iterator.{YieldsFirstRef, item_count};
 ghost use Rattle.bx_names.specs.Segments.{is_path, segments};
 
 use std::marker::Model;
 
-/// The segments of a channel name or of a pattern, from the first on. Contracts see those that are left.
+/// An iterator over the segments of a channel name or a pattern.
+///
+/// Model: the remaining segments.
 #[derive(Debug, Drop)]
 pub struct Segments<'a> {
     rest: Option<&'a str>,
@@ -20,7 +23,7 @@ impl<'a> Model for Segments<'a> {
     ghost view = { λ s. option_map_or (λ rest. parts rest.now) s.rest [] };
 }
 
-/// The segments of a path, or of the empty text, which has none.
+/// Returns an iterator over the segments of a path, empty for the empty text.
 pub(crate) fn segments_of(path: &str) -> Segments<'_>
     requires { IsTrue (is_path path.now) }
     ensures { result ≡ segments path.now }

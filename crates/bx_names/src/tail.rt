@@ -1,10 +1,14 @@
-/// What a pattern has behind its own segments (Bayeux 1.0, channel globbing).
+//! Wildcards of patterns.
+
+/// The wildcard at the end of a pattern, if any.
+///
+/// Bayeux 1.0, channel globbing.
 #[derive(Clone, Copy, Debug, PartialEq, Eq, Hash)]
 pub enum Tail {
-    /// Nothing: the pattern is a name.
+    /// No wildcard: the pattern is a channel name.
     Exact,
-    /// `*`, which stands for exactly one segment.
+    /// `*`, which matches exactly one segment.
     One,
-    /// `**`, which stands for one segment or more.
+    /// `**`, which matches one or more segments.
     Many,
 }

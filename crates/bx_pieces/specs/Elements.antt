@@ -1,10 +1,10 @@
--- What the elements of a response's array say.
+-- The texts of the elements of a response's array.
 use Rattle.std.specs.Prelude.{ℕ, List}
 use Rattle.bx_message.specs.Events.{event_text}
 use Rattle.bx_pieces.specs.declared.element.Element.{Element}
 use Rattle.bx_pieces.specs.declared.element.Element.TheVariants.{Shared, Written}
 
--- the text of an element
+-- The text of an element.
 abbrev pub element_text : Element → List ℕ
 element_text (Shared event) = event_text event
 element_text (Written text) = text.items

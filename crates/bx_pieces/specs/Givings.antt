@@ -1,16 +1,16 @@
--- How a text is given in pieces.
+-- How a text is produced in pieces.
 use Rattle.std.specs.Prelude.{◌≡◌, ◌<◌, ℕ, List, [], ◌∷◌, ◌++◌, length, Some, None, Result, Ok, Err}
 use Rattle.futures.specs.Runs.{Runs}
 use Rattle.http_body.specs.declared.frame.Frame.{Frame}
 use Rattle.http_body.specs.Frame.{data_frame}
 
--- a frame whose data are made from a piece of a text, and then what the rest says
+-- A frame with data made from the text's first piece; `rest` holds for what is left.
 abbrev pub Leads : {D : Type 0} → (List ℕ → D → Type 0) → List ℕ → Frame D → (List ℕ → Type 0) → Type 0
 Leads {D} made text frame rest =
     (piece : List ℕ) × ((left : List ℕ) × ((it : D) × ((frame ≡ data_frame it) × made piece it × (text ≡ piece ++ left) × rest left)))
 
--- The pieces of this text, as data that are made from them, in their order, and then the end, where nothing of it is left. In place of a piece
--- there may be a fault, which takes nothing away.
+-- The frames are the pieces of a text in order, and the end comes when nothing is left. An error in
+-- place of a frame consumes nothing.
 abbrev pub InPieces : {D E : Type 0} → (List ℕ → D → Type 0) → List ℕ → Runs (Result (Frame D) E)
 InPieces made text [] None = text ≡ []
 InPieces made text [] (Some (Ok frame)) = Leads made text frame (λ left. Unit {0})

@@ -1,4 +1,4 @@
--- What of a response's text follows its beginning.
+-- What follows the beginning of a response's text.
 use Rattle.std.specs.Prelude.{ℕ, List, [], ◌∷◌, ◌++◌, Bool, true, false, Option, Some, None, map}
 use Rattle.bx_message.specs.Events.{array}
 use Rattle.bx_message.specs.Texts.{body_text, callback_text, script_safe}
@@ -6,55 +6,55 @@ use Rattle.bx_message.specs.declared.reply.Item.{Item}
 use Rattle.bx_pieces.specs.Elements.{element_text}
 use Rattle.bx_pieces.specs.declared.element.Element.{Element}
 
--- the array of the items, or the call of the callback that gets it
+-- The array of the items, or the call of the callback with it.
 abbrev pub answer_text : Option (List ℕ) → List Item → List ℕ
 answer_text None items = body_text items
 answer_text (Some callback) items = callback_text callback items
 
--- the same of elements
+-- The same for elements.
 abbrev pub whole_text : Option (List ℕ) → List Element → List ℕ
 whole_text None elements = array (map element_text elements)
 whole_text (Some callback) elements = callback ++ (40 ∷ (script_safe (array (map element_text elements)) ++ 41 ∷ []))
 
--- these elements of an array, each behind a comma
+-- The elements of an array, each after a comma.
 abbrev pub led_text : List Element → List ℕ
 led_text [] = []
 led_text (element ∷ elements) = 44 ∷ (element_text element ++ led_text elements)
 
--- what follows some elements of an array: these, and its end
+-- The remaining elements of an array, and its end.
 abbrev pub tail_text : List Element → List ℕ
 tail_text elements = led_text elements ++ 93 ∷ []
 
--- a part of the array as it is sent, in a script or not
+-- A part of the array as it is sent, in a script or not.
 abbrev pub sent_as : Bool → List ℕ → List ℕ
 sent_as false text = text
 sent_as true text = script_safe text
 
--- what follows the array
+-- What follows the array.
 abbrev pub end_text : Bool → List ℕ
 end_text false = []
 end_text true = 41 ∷ []
 
--- what follows some elements of a response
+-- The remaining elements of a response, and its end.
 abbrev pub rest_text : Bool → List Element → List ℕ
 rest_text is_script elements = sent_as is_script (tail_text elements) ++ end_text is_script
 
--- the same, unless all is given
+-- The same, or nothing if all was sent.
 abbrev pub left_text : Bool → Bool → List Element → List ℕ
 left_text true is_script elements = []
 left_text false is_script elements = rest_text is_script elements
 
--- what a response begins with
+-- What a response begins with.
 abbrev pub beginning_text : Option (List ℕ) → Element → List ℕ
 beginning_text None element = 91 ∷ element_text element
 beginning_text (Some callback) element = callback ++ (40 ∷ script_safe (91 ∷ element_text element))
 
--- whether there is a callback
+-- Whether there is a callback.
 abbrev pub is_call : Option (List ℕ) → Bool
 is_call None = false
 is_call (Some callback) = true
 
--- some elements behind others as they are sent, and what follows the last of them
+-- Some more elements as they are sent, with the end of the response if they are the last.
 abbrev pub part_text : Bool → Bool → List Element → List ℕ
 part_text false is_script elements = sent_as is_script (led_text elements)
 part_text true is_script elements = rest_text is_script elements

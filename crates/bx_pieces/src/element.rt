@@ -1,4 +1,4 @@
-//! The elements of a response's array.
+//! Elements of a response's array.
 ghost use Rattle.std.specs.Prelude.{◌≡◌, ◌++◌, length, map, IfOk};
 ghost use Rattle.bx_message.specs.Texts.{item_text};
 ghost use Rattle.bx_pieces.specs.Elements.{element_text};
@@ -6,17 +6,19 @@ ghost use Rattle.bx_pieces.specs.Elements.{element_text};
 use bx_message::{Item, SharedEvent, item_room, write_item};
 use std::alloc::{AllocError, Global};
 
-/// An element of a response's array. It is far smaller than an item, of which a response can have very many.
+/// An element of a response's array.
+///
+/// It is far smaller than an [`Item`], since a response can have very many elements.
 #[derive(Drop)]
 pub(crate) enum Element {
-    /// An event, which others share.
+    /// An event, shared with its other receivers.
     Shared(SharedEvent),
-    /// The text of a reply.
+    /// The JSON text of a reply.
     Written(Vec<u8>),
 }
 
 impl Element {
-    // What says the same as an item.
+    // Converts an item to an element with the same text.
     fn of(alloc: Global, item: &Item) -> Result<Element, AllocError>
         ensures { IfOk result (λ element. element_text element ≡ item_text item.now) }
     {
@@ -29,7 +31,7 @@ impl Element {
         Ok(Element::Written(text))
     }
 
-    /// How many bytes its text has.
+    /// Returns the size of its text, in bytes.
     #[tactic(auto, unfolding(bx_message::specs::Events::event_size))]
     pub(crate) fn size(&self) -> usize
         ensures { result ≡ length (element_text self.now) }
@@ -40,7 +42,7 @@ impl Element {
         }
     }
 
-    /// Adds its text.
+    /// Appends its text to `out`.
     pub(crate) fn write(&self, out: Vec<u8>) -> Result<Vec<u8>, AllocError>
         ensures { IfOk result (λ text. text.items ≡ out.items ++ element_text self.now) }
     {
@@ -55,7 +57,7 @@ impl Element {
     }
 }
 
-/// What says the same as these items.
+/// Converts items to elements with the same texts.
 pub(crate) fn elements_of(alloc: Global, items: &[Item]) -> Result<Vec<Element>, AllocError>
     ensures { IfOk result (λ elements. map element_text elements.items ≡ map item_text items.now) }
 {

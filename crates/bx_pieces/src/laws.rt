@@ -1,7 +1,7 @@
-//! Laws of what is given in pieces.
+//! Laws of bodies that are sent in pieces.
 ghost use Rattle.bx_pieces.specs.Laws.{PiecesJoin};
 
-/// A text that is given to its end is the data of its frames, one behind another.
+/// Proves that the frames of a completely read body, joined, are its text.
 #[tactic(auto, using(crate::proofs::Joined::pieces_join))]
 pub fn pieces_join()
     ensures { PiecesJoin }

@@ -1,4 +1,4 @@
-//! The body of a response, which is written piece by piece.
+//! Response bodies that are written piece by piece.
 #![tactic(auto)]
 
 mod element;

@@ -1,4 +1,4 @@
-//! A body that is written as it is asked for.
+//! A response body that is written on demand.
 ghost use Rattle.std.specs.Prelude.{◌≡◌, ◌<◌, ◌+◌, ◌++◌, [], Some, IfOk, IsTrue, MatchOption, OnErr, drop, length, option_map};
 ghost use Rattle.http_body.specs.SizeHint.{exact};
 ghost use Rattle.bx_pieces.specs.Givings.{InPieces};
@@ -14,19 +14,22 @@ use http_body::{Body, Frame, SizeHint};
 use std::alloc::{AllocError, Global};
 use std::marker::{Model, PhantomData};
 
-/// The body of a response, which shares its events, and writes their text piece by piece as it is asked for. One that fits a piece is written at
-/// once. `D` is what a piece is given as. Contracts see the text that is still to be given.
+/// The body of a response, written piece by piece as frames are requested.
+///
+/// It shares its events. A short body is written at once. `D` is the type of the frames' data.
+///
+/// Model: the text that remains.
 #[derive(Drop)]
 pub struct Pieces<D> {
     alloc: Global,
-    // Written, and not given yet.
+    // The text written but not returned yet.
     made: Option<Bytes>,
-    // What is not written, from a place on, unless all is.
+    // The elements from `next` on and the end are not written yet, unless `is_written`.
     elements: Vec<Element>,
     next: usize,
     is_script: bool,
     is_written: bool,
-    // How many bytes are still to be given.
+    // Size of the remaining text, in bytes.
     left: u64,
     data: PhantomData<D>,
 }
@@ -44,7 +47,7 @@ impl<D> Model for Pieces<D> {
 }
 
 impl<D> Pieces<D> {
-    /// No text.
+    /// Creates an empty body.
     pub fn none(alloc: Global) -> Pieces<D>
         ensures { result ≡ [] }
     {
@@ -60,7 +63,11 @@ impl<D> Pieces<D> {
         }
     }
 
-    /// The text of a response that carries these items; with the name of a callback it is a script. An error means that memory was refused.
+    /// Creates the body of a response with `items`, or a script that passes them to `callback`.
+    ///
+    /// # Errors
+    ///
+    /// `AllocError` if memory runs out.
     pub fn answer(
         alloc: Global,
         callback: Option<&str>,
@@ -74,7 +81,7 @@ impl<D> Pieces<D> {
         Pieces::begun(alloc, callback, items)
     }
 
-    // All of it is written.
+    // Writes the whole body.
     fn at_once(
         alloc: Global,
         callback: Option<&str>,
@@ -102,7 +109,7 @@ impl<D> Pieces<D> {
         })
     }
 
-    // It is written as far as its first element.
+    // Writes the body through its first element.
     fn begun(alloc: Global, callback: Option<&str>, items: &[Item]) -> Result<Pieces<D>, AllocError>
         ensures { IfOk result (λ pieces. pieces ≡ answer_text (option_map (λ name. name.now) callback.entry) items.now) }
     {
@@ -124,7 +131,7 @@ impl<D> Pieces<D> {
         })
     }
 
-    // The next piece. Where memory is refused for it, it is still to be given.
+    // Removes and returns the next piece, if any. On error, `self` is unchanged.
     fn take_piece(&mut self) -> Result<Option<Bytes>, AllocError>
         ensures ok { IfOk result (λ given. MatchOption given ((self.old ≡ []) × (self.new ≡ [])) (λ piece. self.old ≡ piece ++ self.new)) }
         ensures err { OnErr result ((self.new ≡ self.old) × (0 < length self.old)) }
@@ -144,14 +151,14 @@ impl<D> Pieces<D> {
     }
 }
 
-// Whether there is a callback.
+// Returns `true` if there is a callback.
 fn is_call(callback: Option<&str>) -> bool
     ensures { result ≡ is_call (option_map (λ name. name.now) callback.entry) }
 {
     callback.is_some()
 }
 
-// The piece of a response that ends with its first element, and how many bytes the whole has.
+// Writes the first piece, through the first element, and returns it with the whole body's size.
 fn first_piece(
     alloc: Global,
     callback: Option<&str>,
@@ -173,7 +180,8 @@ fn first_piece(
     }
 }
 
-// What a response begins with: the name of the callback and a parenthesis, where it has one, the bracket, and the first element.
+// Writes the callback with a parenthesis, if there is one, the opening bracket and the first
+// element.
 fn beginning(
     alloc: Global,
     callback: Option<&str>,

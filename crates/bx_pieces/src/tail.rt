@@ -1,4 +1,4 @@
-// The text of elements that stand behind others.
+//! The text of a response after its first element.
 ghost use Rattle.std.specs.Prelude.{◌≡◌, ◌<◌, ◌≤◌, ◌+◌, ◌==◌, ◌++◌, ◌∷◌, [], length, drop, IfOk, IfSome};
 ghost use Rattle.bx_pieces.specs.Elements.{element_text};
 ghost use Rattle.bx_pieces.specs.Tails.{end_text, led_text, left_text, part_text, rest_text, sent_as};
@@ -9,10 +9,10 @@ use bx_transport::push_script_safe;
 use bytes::Bytes;
 use std::alloc::{AllocError, Global};
 
-// How many bytes a piece has, unless one element has more.
+// Elements are combined up to this size in bytes, before escapes. A larger one is sent alone.
 const PIECE: usize = 65_536;
 
-// A part of an array as it is sent.
+// Converts a part of the array to its form in the response: with escapes for a script.
 pub(crate) fn sent_as(alloc: Global, is_script: bool, text: Vec<u8>) -> Result<Vec<u8>, AllocError>
     ensures { IfOk result (λ out. out.items ≡ sent_as is_script text.items) }
 {
@@ -24,7 +24,8 @@ pub(crate) fn sent_as(alloc: Global, is_script: bool, text: Vec<u8>) -> Result<V
     Ok(out)
 }
 
-// Whether the text of these items is as well written at once: it fits one piece, or takes no more memory than their elements do.
+// Returns `true` if `items` should be written at once: their text fits one piece, or takes no more
+// memory than their elements.
 pub(crate) fn are_short(items: &[Item]) -> bool {
     let mut room = 0usize;
     for item in items {
@@ -33,7 +34,8 @@ pub(crate) fn are_short(items: &[Item]) -> bool {
     room <= PIECE || room <= items.len().saturating_mul(size_of::<Element>())
 }
 
-// How many of these elements a piece takes: as many as fit, and at least one of those that are there.
+// Returns how many elements the next piece takes: those that fit, and at least one if there are
+// any.
 pub(crate) fn fitting(elements: &[Element]) -> usize
     ensures within { result ≤ length elements.now }
     ensures some { 0 < length elements.now → 0 < result }
@@ -48,7 +50,7 @@ pub(crate) fn fitting(elements: &[Element]) -> usize
     elements.len()
 }
 
-// How many bytes these elements have, each behind a comma.
+// Returns the size of the elements, each with a comma, in bytes.
 fn room_of(elements: &[Element]) -> usize {
     let mut room = 0usize;
     for element in elements {
@@ -57,12 +59,12 @@ fn room_of(elements: &[Element]) -> usize {
     room
 }
 
-// How many bytes an element has behind a comma.
+// Returns the size of an element with a comma, in bytes.
 fn led_room(element: &Element) -> usize {
     element.size().saturating_add(1)
 }
 
-// Adds a comma and this element.
+// Appends a comma and an element.
 fn push_led(out: Vec<u8>, element: &Element) -> Result<Vec<u8>, AllocError>
     ensures { IfOk result (λ text. text.items ≡ out.items ++ (44 ∷ element_text element.now)) }
 {
@@ -71,7 +73,7 @@ fn push_led(out: Vec<u8>, element: &Element) -> Result<Vec<u8>, AllocError>
     element.write(out)
 }
 
-// The text of these elements, each behind a comma, with room for the end.
+// Writes the elements, each after a comma, and leaves room for the end.
 fn led_text(alloc: Global, elements: &[Element]) -> Result<Vec<u8>, AllocError>
     ensures { IfOk result (λ out. out.items ≡ led_text elements.now) }
 {
@@ -82,7 +84,8 @@ fn led_text(alloc: Global, elements: &[Element]) -> Result<Vec<u8>, AllocError>
     Ok(out)
 }
 
-// The next piece of what follows some elements, and how many of these elements it has; with the last of them the end.
+// Writes the next piece, and returns it with the number of its elements. The last piece includes
+// the end.
 pub(crate) fn piece_of(
     alloc: Global,
     elements: &[Element],
@@ -101,7 +104,7 @@ pub(crate) fn piece_of(
     }
 }
 
-// These elements as they are sent; with the last of them the end.
+// Writes the elements as they are sent, followed by the end if they are the last.
 fn part_of(
     alloc: Global,
     elements: &[Element],
@@ -118,7 +121,7 @@ fn part_of(
     }
 }
 
-// The last part of an array as it is sent, with all that follows it.
+// Closes the array, and returns it as it is sent, with the end of the response.
 fn ended(alloc: Global, is_script: bool, array: Vec<u8>) -> Result<Vec<u8>, AllocError>
     ensures { IfOk result (λ out. out.items ≡ sent_as is_script (array.items ++ 93 ∷ []) ++ end_text is_script) }
 {
@@ -131,7 +134,7 @@ fn ended(alloc: Global, is_script: bool, array: Vec<u8>) -> Result<Vec<u8>, Allo
     Ok(text)
 }
 
-// How many bytes all that follows some elements has.
+// Returns the size of the response from these elements to its end, in bytes.
 pub(crate) fn rest_size(
     alloc: Global,
     elements: &[Element],
@@ -146,14 +149,14 @@ pub(crate) fn rest_size(
     }
 }
 
-// How many bytes follow the array.
+// Returns the size of the text after the array, in bytes.
 fn end_size(is_script: bool) -> u64
     ensures { result ≡ length (end_text is_script) }
 {
     if is_script { 1 } else { 0 }
 }
 
-// How many bytes these elements have, each behind a comma.
+// Returns the size of the elements as sent, each with a comma, in bytes.
 fn led_size(alloc: Global, elements: &[Element], is_script: bool) -> Result<u64, AllocError>
     ensures { IfOk result (λ size. size ≡ length (sent_as is_script (led_text elements.now))) }
 {
@@ -168,14 +171,14 @@ fn led_size(alloc: Global, elements: &[Element], is_script: bool) -> Result<u64,
     Ok(total)
 }
 
-// A size, a byte and a size.
+// Returns `first + 1 + second`, or `None` on overflow.
 fn with_byte(first: u64, second: u64) -> Option<u64>
     ensures { IfSome result (λ sum. sum ≡ first + (1 + second)) }
 {
     first.checked_add(1)?.checked_add(second)
 }
 
-// How many bytes an element has as it is sent. For a script it is written for that.
+// Returns the size of an element as sent, in bytes. For a script, writes it to measure it.
 fn sent_size(alloc: Global, element: &Element, is_script: bool) -> Result<u64, AllocError>
     ensures { IfOk result (λ size. size ≡ length (sent_as is_script (element_text element.now))) }
 {

@@ -1,20 +1,20 @@
--- The line that says which answer was given, and records that have such lines between their inputs.
+-- The line that notes an answer, and records with such lines between their inputs.
 use Rattle.std.specs.Prelude.{ℕ, ◌<◌, ◌≡◌, List, [], ◌∷◌, ◌++◌, length, flat_map, codes, decimal}
 use Rattle.std.specs.List.{AllByRecursion}
 use Rattle.hex.specs.Hex.{encode_lower}
 use Rattle.bx_entry.specs.declared.input.Input.{Input}
 use Rattle.bx_record.specs.Record.{input_text}
 
--- the SHA-256 of the items of the answer to the request whose first message stands at this place
+-- The note of the SHA-256 of an answer's items; `place` is that of the request's first message.
 abbrev pub answer_text : ℕ → List ℕ → List ℕ
 answer_text place digest = codes "A " ++ (decimal place ++ 32 ∷ (encode_lower digest ++ 10 ∷ []))
 
--- 32 bytes, as a SHA-256 has
+-- The 32 bytes of a SHA-256.
 pub record IsSha256 (digest : List ℕ) : Type 0 where
   pub count : length digest ≡ 32
   pub bytes : AllByRecursion (λ (byte : ℕ). byte < 256) digest
 
--- what stands in a record: an input, or an answer that was given
+-- A part of a record: an input, or the note of an answer.
 pub data Part : Type 0 where
   Taken : (input : Input) → Part
   Given : (place : ℕ) → (digest : List ℕ) → Part
@@ -23,11 +23,11 @@ abbrev pub part_text : Part → List ℕ
 part_text (Taken input) = input_text input
 part_text (Given place digest) = answer_text place digest
 
--- the text of a record of both
+-- The text of a record with such parts.
 abbrev pub record_with : List Part → List ℕ
 record_with parts = flat_map part_text parts
 
--- the inputs among them
+-- The inputs among the parts.
 abbrev pub taken_inputs : List Part → List Input
 taken_inputs [] = []
 taken_inputs (Taken input ∷ parts) = input ∷ taken_inputs parts

@@ -1,4 +1,4 @@
--- What a record reads as: its first line, and the others.
+-- How a record reads: its first line, and the others.
 use Rattle.std.specs.Prelude.{ℕ, ◌^◌, ◌<◌, ◌==◌, ◌≡◌, Bool, true, false, List, [], ◌∷◌, ◌++◌, map, take, if◌then◌else◌, is_ok, Option, Some, None}
 use Rattle.std.specs.List.{list_all, slice_split, AllByRecursion}
 use Rattle.bx_advice.specs.declared.config.Config.{Config}
@@ -14,136 +14,138 @@ use Rattle.bx_theory.specs.Lines.{inputs_in}
 use Rattle.bx_record.specs.Answers.{Given, IsSha256, Part, Taken, answer_text, record_with, taken_inputs}
 use Rattle.bx_record.specs.Record.{can_say, config_text, config_words, options_word, record_of, said_of}
 
--- ---- inputs
+-- ---- Inputs
 
--- a request whose messages are read and let in, and that a line can say, with numbers that fit their types
+-- A request whose messages are readable and allowed by its listener, that a line can contain, and
+-- whose numbers fit their types.
 pub record IsRecordable (a : Arrival) : Type 0 where
   pub moment : a.moment < 2 ^ 64
   pub nonce : a.nonce < 2 ^ 128
   pub readable : is_ok (arrival_messages a) ≡ true
   pub sayable : can_say (texts_of a.bodies) ≡ true
 
--- an input that a record has
+-- An input that a record can have.
 abbrev pub CanRecord : Input → Type 0
 CanRecord (Post a) = IsRecordable a
 CanRecord (Tick moment) = moment < 2 ^ 64
 
--- whether a line says an input without the name of a callback, or a nonce
+-- Whether a line is an input without a callback, or a nonce.
 abbrev pub is_of_record : Line → Bool
 is_of_record (Accepted None input) = true
 is_of_record (Announced nonce) = true
 is_of_record line = false
 
--- the lines of a text that is read as a record, each request with its nonce
+-- The lines of a text that is read as a record, each request with its nonce.
 abbrev pub record_lines : List ℕ → List Line
 record_lines text = with_nonces 0 (lines_in Recorded text)
 
--- those of a record
+-- The lines of a record.
 abbrev pub recorded_lines : List Input → List Line
 recorded_lines inputs = record_lines (record_of inputs)
 
--- its lines have just these inputs, in order, and say nothing else but nonces
+-- The record's lines have exactly these inputs, in order, and otherwise only nonces.
 pub record ReadsBack (inputs : List Input) : Type 0 where
   pub inputs_are : inputs_in (recorded_lines inputs) ≡ map (λ input. said_of (read_input input)) inputs
   pub nothing_else : list_all is_of_record (recorded_lines inputs) ≡ true
 
--- so every record reads back
+-- Every record reads back.
 abbrev pub RecordsReadBack : Type 0
 RecordsReadBack = (inputs : List Input) → AllByRecursion CanRecord inputs → ReadsBack inputs
 
--- What comes of these inputs, read off the record, is what comes of the inputs themselves: the same outs, one for each input that is whole, and the same
--- inputs are held.
+-- The inputs that are read from the record have the same outs as these, and the same are held.
 pub record AnswersAlike (config : Config) (inputs : List Input) : Type 0 where
   pub outs_are : outs config (inputs_in (recorded_lines inputs)) ≡ outs config (map read_input inputs)
   pub held_are : held config (inputs_in (recorded_lines inputs)) ≡ held config (map read_input inputs)
 
--- so every record is answered as what it records was
+-- Every record is answered like the inputs that it records.
 abbrev pub RecordsAnswerAlike : Type 0
 RecordsAnswerAlike = (config : Config) (inputs : List Input) → AllByRecursion CanRecord inputs → AnswersAlike config inputs
 
--- ---- answers
+-- ---- Answers
 
--- the first line notes an answer, and the rest stands behind it
+-- The first line notes an answer, and `rest` follows it.
 pub record SaysAnswer (text rest : List ℕ) : Type 0 where
   pub noted : line_of Recorded (first_of text) ≡ Noted
   pub left : rest_of text ≡ rest
 
--- so the line of an answer is skipped, whatever stands behind it
+-- The note of an answer is skipped, whatever follows it.
 abbrev pub AnswersAreSkipped : Type 0
 AnswersAreSkipped = (place : ℕ) (digest rest : List ℕ) → place < 2 ^ 64 → IsSha256 digest → SaysAnswer (answer_text place digest ++ rest) rest
 
--- a part that a record has
+-- A part that a record can have.
 abbrev pub CanStand : Part → Type 0
 CanStand (Taken input) = CanRecord input
 CanStand (Given place digest) = (place < 2 ^ 64) × IsSha256 digest
 
--- whether a line is one of a record, or notes an answer
+-- Whether a line is one of a record without answers, or notes an answer.
 abbrev pub is_of_either : Line → Bool
 is_of_either Noted = true
 is_of_either line = is_of_record line
 
--- a record with answers has just the inputs that it has without them, in order, and says nothing else but nonces; so what comes of them is the same
+-- A record with answers has the same inputs as without them, and otherwise only nonces and notes.
+-- The outs are the same, and so are the held inputs.
 pub record ReadsWith (parts : List Part) : Type 0 where
   pub inputs_are : inputs_in (record_lines (record_with parts)) ≡ map (λ input. said_of (read_input input)) (taken_inputs parts)
   pub nothing_else : list_all is_of_either (record_lines (record_with parts)) ≡ true
   pub outs_are : (config : Config) → outs config (inputs_in (record_lines (record_with parts))) ≡ outs config (map read_input (taken_inputs parts))
   pub held_are : (config : Config) → held config (inputs_in (record_lines (record_with parts))) ≡ held config (map read_input (taken_inputs parts))
 
--- so answers change nothing, wherever they stand between whole inputs
+-- Notes of answers between inputs change nothing.
 abbrev pub AnswersChangeNothing : Type 0
 AnswersChangeNothing = (parts : List Part) → AllByRecursion CanStand parts → ReadsWith parts
 
--- ---- a record that breaks off
+-- ---- Truncated records
 
--- a byte in front of lines that have their end, where there are some; else it has to be an end itself
+-- A byte and the complete lines after it; if there are none, only a newline is kept.
 abbrev pub ended_by : ℕ → List ℕ → List ℕ
 ended_by byte [] = if is_newline byte then byte ∷ [] else []
 ended_by byte (x ∷ xs) = byte ∷ x ∷ xs
 
--- the lines of a text that have their end
+-- The complete lines of a text.
 abbrev pub ended_lines : List ℕ → List ℕ
 ended_lines [] = []
 ended_lines (x ∷ xs) = ended_by x (ended_lines xs)
 
--- these lines of a front of a record have so many of its inputs, the first ones, and say nothing else but nonces
+-- The complete lines of a record's beginning have its first `count` inputs, and otherwise only
+-- nonces.
 pub record ReadsUpTo (inputs : List Input) (front : List ℕ) : Type 0 where
   pub count : ℕ
   pub inputs_are : inputs_in (record_lines (ended_lines front)) ≡ map (λ input. said_of (read_input input)) (take count inputs)
   pub nothing_else : list_all is_of_record (record_lines (ended_lines front)) ≡ true
 
--- so a record may break off anywhere
+-- A record may be truncated anywhere.
 abbrev pub RecordsBreakOff : Type 0
 RecordsBreakOff = (inputs : List Input) (front behind : List ℕ) → AllByRecursion CanRecord inputs → front ++ behind ≡ record_of inputs → ReadsUpTo inputs front
 
--- the same of a record with answers: so many of its parts have these inputs
+-- The same for a record with answers: the inputs are those of its first `count` parts.
 pub record ReadsWithUpTo (parts : List Part) (front : List ℕ) : Type 0 where
   pub count : ℕ
   pub inputs_are : inputs_in (record_lines (ended_lines front)) ≡ map (λ input. said_of (read_input input)) (taken_inputs (take count parts))
   pub nothing_else : list_all is_of_either (record_lines (ended_lines front)) ≡ true
 
--- so it may break off anywhere too
+-- A record with answers may be truncated anywhere too.
 abbrev pub AnswersBreakOff : Type 0
 AnswersBreakOff = (parts : List Part) (front behind : List ℕ) → AllByRecursion CanStand parts → front ++ behind ≡ record_with parts → ReadsWithUpTo parts front
 
--- ---- the configuration
+-- ---- The configuration
 
--- the numbers of a configuration fit 64 bits
+-- The times and the recorded limits of a configuration fit 64 bits.
 pub record FitsWords (c : Config) : Type 0 where
   pub times : (c.timeout < 2 ^ 64) × (c.interval < 2 ^ 64) × (c.max_interval < 2 ^ 64)
   pub limits : (c.limits.events < 2 ^ 64) × (c.limits.bytes < 2 ^ 64) × (c.limits.sessions < 2 ^ 64) × (c.limits.patterns < 2 ^ 64)
 
--- the numbers that its words say, where they say one: the names of limits and the options say none, nor does a limit of bytes that is none
+-- The number that each argument gives, if any; names, options and `-` give none.
 abbrev pub config_numbers : Config → List (Option ℕ)
 config_numbers c = None ∷ (if c.limits.bytes == STANDARD_BYTES then None else Some c.limits.bytes) ∷ None ∷ Some c.limits.sessions ∷ None ∷ Some c.limits.patterns
     ∷ Some c.shards ∷ Some 1 ∷ Some c.timeout ∷ Some c.interval ∷ Some c.max_interval ∷ None ∷ Some c.limits.events ∷ []
 
--- the first line of this text has its words, which say its numbers and options, and behind the line stands the rest
+-- The first line has the configuration's arguments, numbers and options, and `rest` follows it.
 pub record SaysConfig (c : Config) (text rest : List ℕ) : Type 0 where
   pub words_are : slice_split is_space (first_of text) ≡ config_words c
   pub numbers_are : map number_of (config_words c) ≡ config_numbers c
   pub options_are : options_in (options_word c.ride c.anonymous) ≡ Some (record { ride = c.ride; anonymous = c.anonymous })
   pub left : rest_of text ≡ rest
 
--- so the line of a configuration says it, whatever stands behind it
+-- The line of a configuration reads back, whatever follows it.
 abbrev pub ConfigsReadBack : Type 0
 ConfigsReadBack = (c : Config) (rest : List ℕ) → FitsWords c → SaysConfig c (config_text c ++ rest) rest

@@ -1,4 +1,4 @@
--- The text of a record: the lines that say what a server took in.
+-- The text of a record: the lines of what a server took in.
 use Rattle.std.specs.Prelude.{ℕ, ◌==◌, Bool, true, false, List, [], ◌∷◌, ◌++◌, length, map, flat_map, nat_le, codes, decimal, if◌then◌else◌, Option, Some, None}
 use Rattle.std.specs.List.{list_any, join_with_byte}
 use Rattle.form_urlencoded.specs.Form.{byte_serialize}
@@ -13,27 +13,27 @@ use Rattle.bx_entry.specs.Words.{ReadInput, Request, read_input}
 use Rattle.bx_entry.specs.Registry.{hex_digits}
 use Rattle.bx_script.specs.Words.{is_newline, line_text, with_nonce}
 
--- ---- documents
+-- ---- Documents
 
--- the document that a line can have as it is: the only one of its request, with no line end in it
+-- A document that a line can contain as it is: the only one of its request, without a newline.
 abbrev pub plain_document : List (List ℕ) → Option (List ℕ)
 plain_document (d ∷ []) = if list_any is_newline d then None else Some d
 plain_document documents = None
 
--- the parameter of a form that carries a document
+-- The form parameter that carries a document.
 abbrev pub parameter_of : List ℕ → List ℕ
 parameter_of document = codes "message=" ++ byte_serialize document
 
--- the form that carries documents in order
+-- The form that carries documents in order.
 unfoldable pub form_of : List (List ℕ) → List ℕ
 form_of documents = join_with_byte 38 (map parameter_of documents)
 
--- the body that carries documents: the plain one itself, and where there is none, a form
+-- The body that carries documents: the plain one itself, or otherwise a form.
 abbrev pub carrier_by : Option (List ℕ) → List (List ℕ) → List ℕ
 carrier_by (Some d) documents = d
 carrier_by None documents = form_of documents
 
--- what stands for them behind the moment of a line
+-- What follows a line's moment for these documents.
 abbrev pub command_by : Option (List ℕ) → List (List ℕ) → List ℕ
 command_by (Some d) documents = codes "P " ++ d
 command_by None documents = codes "F " ++ form_of documents
@@ -41,57 +41,57 @@ command_by None documents = codes "F " ++ form_of documents
 abbrev pub command_of : List (List ℕ) → List ℕ
 command_of documents = command_by (plain_document documents) documents
 
--- whether a line can say them: there are some, and the body that carries them is no longer than a body may be
+-- Whether a line can contain them: there are some, and their body has at most `BODY_LIMIT` bytes.
 abbrev pub can_say : List (List ℕ) → Bool
 can_say [] = false
 can_say documents = nat_le (length (carrier_by (plain_document documents) documents)) BODY_LIMIT
 
--- ---- the configuration
+-- ---- The configuration
 
--- options, as a word says them
+-- The argument for these options.
 abbrev pub options_word : Bool → Bool → List ℕ
 options_word false false = codes "-"
 options_word true false = codes "r"
 options_word false true = codes "a"
 options_word true true = codes "ra"
 
--- a limit of bytes; the standard one is none
+-- The argument for a limit of bytes; `-` is the standard one.
 abbrev pub bytes_word : ℕ → List ℕ
 bytes_word bytes = if bytes == STANDARD_BYTES then codes "-" else decimal bytes
 
--- how the server is run, as the replay is told, with one worker
+-- The replay's arguments for a configuration, with one worker.
 abbrev pub config_words : Config → List (List ℕ)
 config_words c = codes "--bytes" ∷ bytes_word c.limits.bytes ∷ codes "--sessions" ∷ decimal c.limits.sessions ∷ codes "--patterns" ∷ decimal c.limits.patterns
     ∷ decimal c.shards ∷ codes "1" ∷ decimal c.timeout ∷ decimal c.interval ∷ decimal c.max_interval ∷ options_word c.ride c.anonymous ∷ decimal c.limits.events ∷ []
 
--- the line that says it
+-- The line of these arguments.
 abbrev pub config_text : Config → List ℕ
 config_text c = join_with_byte 32 (config_words c) ++ 10 ∷ []
 
--- ---- inputs
+-- ---- Inputs
 
--- whether some message of an input asks for a new session, which has its client id of the nonce
+-- Whether an input has a handshake, which makes a client id of the nonce.
 abbrev pub asks_for_session : ReadInput → Bool
 asks_for_session (Request moment nonce ms) = list_any is_handshake ms
 asks_for_session input = false
 
--- the 32 digits of a nonce
+-- The 32 hexadecimal digits of a nonce.
 unfoldable pub nonce_digits : ℕ → List ℕ
 nonce_digits nonce = hex_digits 32 nonce
 
--- the line that says the nonce of the next request, where that is used
+-- The line of the next request's nonce, if that is used.
 abbrev pub nonce_text : Bool → ℕ → ℕ → List ℕ
 nonce_text used moment nonce = if used then line_text moment (codes "N " ++ nonce_digits nonce) else []
 
--- the lines that say an input
+-- The lines of an input.
 abbrev pub input_text : Input → List ℕ
 input_text (Post a) = nonce_text (asks_for_session (read_input (Post a))) a.moment a.nonce ++ line_text a.moment (command_of (texts_of a.bodies))
 input_text (inputs.Tick moment) = line_text moment (codes "T")
 
--- the text of a record
+-- The text of a record.
 abbrev pub record_of : List Input → List ℕ
 record_of inputs = flat_map input_text inputs
 
--- what a record says of an input: all of it, but for a nonce that is not used, in whose place is 0
+-- An input as a record has it: an unused nonce is 0.
 abbrev pub said_of : ReadInput → ReadInput
 said_of input = if asks_for_session input then input else with_nonce 0 input

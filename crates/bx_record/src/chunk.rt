@@ -1,22 +1,24 @@
-//! What is to be written: the lines of a text that grows.
+//! The parts of a growing text.
 ghost use Rattle.std.specs.Prelude.{◌≡◌, ◌++◌, [], IsTrue};
 
-/// How far a text goes that grows.
+/// A position in a growing text.
 pub trait Extent: Drop {
     ghost use Rattle.std.specs.Prelude.{ℕ, List};
 
-    /// The text up to it.
+    /// Ghost: the text up to it.
     ghost text: { Self → List ℕ };
 
-    /// Holds of an extent and of the same once more.
+    /// Ghost: whether the second extent is a copy of the first.
     ghost is_copy: { Self → Self → Type 0 };
 
-    /// The same once more.
+    /// Returns a copy of `self`.
     fn again(&self) -> Self
         ensures text { text result ≡ text self.now }
         ensures copy { is_copy self.now result };
 
-    /// Whether the text up to the other is just that up to it, as it is where the other is the same once more.
+    /// Returns `true` only if `other` is the end of the same text.
+    ///
+    /// Always returns `true` for a copy.
     fn is_same(&self, other: &Self) -> bool
         ensures text { IsTrue result → text self.now ≡ text other.now }
         ensures copy { is_copy self.now other.now → IsTrue result };
@@ -32,7 +34,7 @@ pub struct Chunk<F: Extent> {
 }
 
 impl<F: Extent> Chunk<F> {
-    /// These bytes, which stand in the text between these extents.
+    /// Creates a chunk from the text between `from` and `to`.
     pub fn new(from: F, to: F, bytes: Vec<u8>) -> Chunk<F>
         requires { F.text to ≡ F.text from ++ bytes.items }
         ensures { (result.from ≡ from) × (result.to ≡ to) × (result.bytes ≡ bytes) }
@@ -40,21 +42,21 @@ impl<F: Extent> Chunk<F> {
         Chunk { from, to, bytes }
     }
 
-    /// The later extent.
+    /// Returns the later extent.
     pub fn upto(&self) -> &F
         ensures { result.now ≡ self.now.to }
     {
         &self.to
     }
 
-    /// Its bytes.
+    /// Returns the bytes.
     pub fn bytes(&self) -> &[u8]
         ensures { result.now ≡ self.now.bytes.items }
     {
         self.bytes.as_slice()
     }
 
-    /// Its buffer, without what it has.
+    /// Returns the emptied buffer.
     pub(crate) fn into_empty(self) -> Vec<u8>
         ensures { result.items ≡ [] }
     {

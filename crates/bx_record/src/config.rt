@@ -1,4 +1,4 @@
-//! The line that says how a server is run.
+//! The first line of a record, which describes how the server runs.
 ghost use Rattle.std.specs.Prelude.{◌≡◌, ◌∷◌, ◌++◌, IfOk, OnOk, decimal};
 ghost use Rattle.bx_record.specs.Record.{bytes_word, config_text, options_word};
 
@@ -6,10 +6,19 @@ use bx_advice::{Config, STANDARD_BYTES};
 use itoa::Buffer;
 use std::alloc::{AllocError, Global};
 
-/// How a server is run, as a line of the words that the replay takes: how many bytes waiting events of a session may have,
-/// how many sessions may be live, and how many patterns of one may be in force, each by its name; how many shards there are,
-/// one worker, the times in milliseconds, the options, and how many events may wait for a session. An error means that
-/// memory was refused.
+/// Formats a configuration as a line of arguments for the replay.
+///
+/// They are, in order:
+///
+/// - `--bytes` (`-` for the standard limit), `--sessions` and `--patterns`, each with its limit;
+/// - the number of shards, and one worker;
+/// - `timeout`, `interval` and `max_interval`, in milliseconds;
+/// - the options;
+/// - the limit of a session's events.
+///
+/// # Errors
+///
+/// `AllocError` if memory runs out.
 pub fn config_text(alloc: Global, config: &Config) -> Result<Vec<u8>, AllocError>
     ensures { IfOk result (λ text. text.items ≡ config_text config.now) }
 {
@@ -31,6 +40,7 @@ pub fn config_text(alloc: Global, config: &Config) -> Result<Vec<u8>, AllocError
     Ok(text)
 }
 
+// Returns the argument for the options.
 fn options_word(ride: bool, anonymous: bool) -> &'static [u8]
     ensures { result.now ≡ options_word ride anonymous }
 {
@@ -42,7 +52,7 @@ fn options_word(ride: bool, anonymous: bool) -> &'static [u8]
     }
 }
 
-// Adds the word for a limit of bytes.
+// Appends the argument for a limit of bytes.
 fn push_bytes(text: &mut Vec<u8>, bytes: usize) -> Result<(), AllocError>
     ensures { OnOk result (text.new.items ≡ text.old.items ++ 32 ∷ bytes_word bytes) }
 {
@@ -53,14 +63,14 @@ fn push_bytes(text: &mut Vec<u8>, bytes: usize) -> Result<(), AllocError>
     }
 }
 
-// Adds a time as a word.
+// Appends a time.
 fn push_time(text: &mut Vec<u8>, time: u32) -> Result<(), AllocError>
     ensures { OnOk result (text.new.items ≡ text.old.items ++ 32 ∷ decimal time) }
 {
     push_number(text, u64::from(time))
 }
 
-// Adds a number as a word.
+// Appends a number.
 fn push_number(text: &mut Vec<u8>, number: u64) -> Result<(), AllocError>
     ensures { OnOk result (text.new.items ≡ text.old.items ++ 32 ∷ decimal number) }
 {
@@ -68,7 +78,7 @@ fn push_number(text: &mut Vec<u8>, number: u64) -> Result<(), AllocError>
     push_word(text, buffer.format(number).as_bytes())
 }
 
-// Adds a word behind others.
+// Appends an argument after a space.
 fn push_word(text: &mut Vec<u8>, word: &[u8]) -> Result<(), AllocError>
     ensures { OnOk result (text.new.items ≡ text.old.items ++ 32 ∷ word.now) }
 {

@@ -1,4 +1,4 @@
-//! A file that counts what it takes.
+//! A file that counts the bytes written to it.
 ghost use Rattle.std.specs.Prelude.{◌≡◌, ◌+◌, ◌-◌, ◌^◌, min, IfOk, OnErr};
 ghost use Rattle.std.specs.Io.{WritesAtMost};
 ghost use Rattle.std.specs.Io.KnownBytes.{WriteAppends};
@@ -6,7 +6,7 @@ ghost use Rattle.std.specs.Io.KnownBytes.{WriteAppends};
 use std::io;
 use std::io::Write;
 
-/// A file, and how many bytes it took, at most `u64::MAX`.
+/// A file and the number of bytes written to it, at most `u64::MAX`.
 #[derive(Drop)]
 pub struct CountedFile<W> {
     file: W,
@@ -14,14 +14,14 @@ pub struct CountedFile<W> {
 }
 
 impl<W> CountedFile<W> {
-    /// A file that took nothing yet.
+    /// Creates a `CountedFile` with a count of 0.
     pub fn new(file: W) -> CountedFile<W>
         ensures { result ≡ record { file = file; count = 0 } }
     {
         CountedFile { file, count: 0 }
     }
 
-    /// How many bytes it took.
+    /// Returns how many bytes were written.
     pub fn count(&self) -> u64
         ensures { result ≡ self.now.count }
     {

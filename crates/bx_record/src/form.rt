@@ -1,4 +1,4 @@
-//! The form that carries documents.
+//! A form that carries a request's documents.
 ghost use Rattle.std.specs.Prelude.{◌≡◌, ◌+◌, ◌<◌, ◌≤◌, ◌++◌, MatchOption, OnOk, length};
 ghost use Rattle.form_urlencoded.specs.Form.{byte_serialize, is_unchanged, serialize_byte};
 ghost use Rattle.bx_advice.specs.declared.config.TheConstants.{BODY_LIMIT};
@@ -10,10 +10,12 @@ use bx_cut::Bodies;
 use form_urlencoded::byte_serialize;
 use std::alloc::AllocError;
 
-// The `&` in front of a parameter, and the name of it.
+// Length of `&message=`.
 const LEAD: usize = 9;
 
-/// How many bytes the form has that carries these documents; none where they are more than a body may have.
+/// Returns the length of the form that carries `bodies`, or `None` if it exceeds `BODY_LIMIT`.
+///
+/// `bodies` must not be empty.
 #[tactic(auto, using(crate::proofs::Forms::all_counted))]
 pub(crate) fn form_len(bodies: &Bodies) -> Option<usize>
     requires { 0 < length (texts_of bodies.now) }
@@ -28,8 +30,8 @@ pub(crate) fn form_len(bodies: &Bodies) -> Option<usize>
     Some(BODY_LIMIT - room)
 }
 
-// What is left of this room behind the parameter that carries a document, and the `&` in front of it; none where they
-// are more.
+// Subtracts from `room` the length of a document's parameter and an `&`. Returns `None` if they do
+// not fit.
 #[tactic(auto, using(crate::proofs::Forms::encoded_none, crate::proofs::Forms::encoded_more, crate::proofs::Forms::no_room))]
 fn room_behind(room: usize, document: &[u8]) -> Option<usize>
     ensures { MatchOption result (room < 1 + length (parameter_of document.now))
@@ -42,7 +44,7 @@ fn room_behind(room: usize, document: &[u8]) -> Option<usize>
     Some(left)
 }
 
-// How many bytes a form has for a byte.
+// Returns the length of `byte` in a form.
 #[tactic(auto, using(crate::proofs::Forms::serialized_len))]
 fn encoded_len(byte: u8) -> usize
     ensures { result ≡ length (serialize_byte byte) }
@@ -54,14 +56,18 @@ fn encoded_len(byte: u8) -> usize
     }
 }
 
-// Whether a form has a byte as it is.
+// Returns `true` if a form has `byte` unchanged.
 fn is_unchanged(byte: u8) -> bool
     ensures { result ≡ is_unchanged byte }
 {
     byte.is_ascii_alphanumeric() || matches!(byte, b'*' | b'-' | b'.' | b'_')
 }
 
-/// Adds the form that carries these documents.
+/// Appends the form that carries `bodies`.
+///
+/// # Errors
+///
+/// `AllocError` if memory runs out.
 pub(crate) fn push_form(text: &mut Vec<u8>, bodies: &Bodies) -> Result<(), AllocError>
     ensures { OnOk result (text.new.items ≡ text.old.items ++ form_of (texts_of bodies.now)) }
 {
@@ -74,7 +80,9 @@ pub(crate) fn push_form(text: &mut Vec<u8>, bodies: &Bodies) -> Result<(), Alloc
     Ok(())
 }
 
-// Adds the parameter that carries a document. (Bayeux 1.0, long-polling.)
+// Appends the parameter that carries a document.
+//
+// Bayeux 1.0, long-polling.
 fn push_parameter(text: &mut Vec<u8>, document: &[u8]) -> Result<(), AllocError>
     ensures { OnOk result (text.new.items ≡ text.old.items ++ parameter_of document.now) }
 {
@@ -82,7 +90,7 @@ fn push_parameter(text: &mut Vec<u8>, document: &[u8]) -> Result<(), AllocError>
     push_encoded(text, document)
 }
 
-// Adds bytes as a form has them.
+// Appends `bytes`, encoded for a form.
 fn push_encoded(text: &mut Vec<u8>, bytes: &[u8]) -> Result<(), AllocError>
     ensures { OnOk result (text.new.items ≡ text.old.items ++ byte_serialize bytes.now) }
 {

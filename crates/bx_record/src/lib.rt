@@ -1,4 +1,4 @@
-//! The text that records what a server took in, in lines that the replay reads, the laws that it reads back, and how it is written out.
+//! Records of a server's inputs: their lines, which the replay reads, and how a file is written.
 #![tactic(auto)]
 
 mod answer;

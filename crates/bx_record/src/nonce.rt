@@ -1,4 +1,4 @@
-//! The digits of a nonce.
+//! The hexadecimal digits of a nonce.
 ghost use Rattle.std.specs.Prelude.{◌≡◌, ◌<◌, ◌++◌, OnOk};
 ghost use Rattle.std.specs.Char.{digit_char};
 ghost use Rattle.bx_entry.specs.Registry.{hex_digits};
@@ -6,10 +6,14 @@ ghost use Rattle.bx_record.specs.Record.{nonce_digits};
 
 use std::alloc::AllocError;
 
-// How many digits a nonce has, which are 128 bits.
+// Digits of a nonce, which has 128 bits.
 const NONCE_DIGITS: usize = 32;
 
-/// Adds the digits of a nonce.
+/// Appends the digits of a nonce.
+///
+/// # Errors
+///
+/// `AllocError` if memory runs out.
 #[tactic(auto, unfolding(crate::specs::Record::nonce_digits))]
 pub(crate) fn push_nonce_digits(text: &mut Vec<u8>, nonce: u128) -> Result<(), AllocError>
     ensures { OnOk result (text.new.items ≡ text.old.items ++ nonce_digits nonce) }
@@ -17,7 +21,7 @@ pub(crate) fn push_nonce_digits(text: &mut Vec<u8>, nonce: u128) -> Result<(), A
     push_hex(text, nonce, NONCE_DIGITS)
 }
 
-// Adds the last `width` hexadecimal digits of a number, lower case.
+// Appends the last `width` hexadecimal digits of `number`, in lower case.
 fn push_hex(text: &mut Vec<u8>, number: u128, width: usize) -> Result<(), AllocError>
     ensures { OnOk result (text.new.items ≡ text.old.items ++ hex_digits width number) }
 {
@@ -29,7 +33,7 @@ fn push_hex(text: &mut Vec<u8>, number: u128, width: usize) -> Result<(), AllocE
     Ok(())
 }
 
-// The digit of a number below 16.
+// Converts a number below 16 to its digit.
 fn hex_digit(number: u8) -> u8
     requires { number < 16 }
     ensures { result ≡ digit_char number }

@@ -1,4 +1,4 @@
-//! The file of a text.
+//! A file with the text written so far.
 ghost use Rattle.std.specs.Prelude.{◌≡◌, ◌++◌, [], IfErr, IfOk};
 ghost use Rattle.std.specs.Io.KnownBytes.{Appends};
 
@@ -8,27 +8,31 @@ use bx_history::History;
 use std::io;
 use std::io::Write;
 
-/// A file that takes no more, and how many bytes it took.
+/// A failed write.
 #[derive(Debug, Drop)]
 pub struct Torn {
-    /// How many bytes it took.
+    /// Number of bytes written to the file.
     pub count: u64,
-    /// Why it takes no more.
+    /// Why it failed.
     pub error: io::Error,
 }
 
-/// A file that has a text, up to an extent, and notes between its lines. With the first write that fails there is no such file any more.
+/// A file with the text up to an extent, and notes between its lines.
+///
+/// The first write that fails consumes it.
 #[derive(Drop)]
 pub struct Out<F: Extent, W> {
     file: CountedFile<W>,
-    // The bytes of the text that were written, for contracts alone.
+    // Ghost: the text written so far.
     written: History<u8>,
     upto: F,
     ghost whole: { written ≡ F.text upto },
 }
 
 impl<F: Extent, W: Write + Drop> Out<F, W> {
-    /// Nothing of the text is written yet, where nothing is in front of `start`.
+    /// Creates an `Out` for a text that begins at `start`.
+    ///
+    /// The text up to `start` must be empty.
     pub fn new(file: CountedFile<W>, start: F) -> Out<F, W>
         requires { F.text start ≡ [] }
         ensures { (result.file ≡ file) × (result.written ≡ []) × (result.upto ≡ start) }
@@ -40,15 +44,19 @@ impl<F: Extent, W: Write + Drop> Out<F, W> {
         }
     }
 
-    /// How many bytes the file took.
+    /// Returns how many bytes were written to the file.
     pub fn count(&self) -> u64
         ensures { result ≡ self.now.file.count }
     {
         self.file.count()
     }
 
-    /// Writes bytes of the text behind what was written of it. `Err` where they do not come next, which nothing does that alone takes them out, or where
-    /// the file takes no more.
+    /// Writes the next part of the text.
+    ///
+    /// # Errors
+    ///
+    /// `InvalidInput` if `chunk` does not come next; otherwise the error of the file, which may
+    /// then have a part of `chunk`.
     pub fn write(self, chunk: &Chunk<F>) -> Result<Out<F, W>, Torn>
         ensures written { IfOk result (λ out. out.written ≡ self.written ++ chunk.now.bytes.items) }
         ensures file { IfOk result (λ out. Appends (W.contents self.file.file) (W.contents out.file.file) chunk.now.bytes.items) }
@@ -79,7 +87,11 @@ impl<F: Extent, W: Write + Drop> Out<F, W> {
         })
     }
 
-    /// Writes lines that are none of the text. `Err` where the file takes no more.
+    /// Writes `lines`, which are not part of the text.
+    ///
+    /// # Errors
+    ///
+    /// The error of the file, which may then have a part of `lines`.
     pub fn note(self, lines: &[u8]) -> Result<Out<F, W>, Torn>
         ensures written { IfOk result (λ out. (out.written ≡ self.written) × (out.upto ≡ self.upto)) }
         ensures file { IfOk result (λ out. Appends (W.contents self.file.file) (W.contents out.file.file) lines.now) }

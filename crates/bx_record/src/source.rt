@@ -1,36 +1,39 @@
-//! What is to be written.
+//! Where the text and the notes to write come from.
 ghost use Rattle.std.specs.Prelude.{◌≡◌, []};
 
 use crate::chunk::{Chunk, Extent};
 
-/// What was taken out to be written.
+/// Text taken from a source.
 #[derive(Drop)]
 pub struct Taken<F: Extent, E> {
-    /// The bytes.
+    /// The text.
     pub chunk: Chunk<F>,
-    /// Why nothing comes behind them, where that is so.
+    /// Why the text ends here, if it does.
     pub fault: Option<E>,
 }
 
-/// Where the bytes of a text wait to be written, while others add to them, and notes that are none of the text.
+/// Text that waits to be written while others add to it, and notes that are not part of it.
 pub trait Source {
     /// How far the text goes.
     type Extent: Extent;
 
-    /// Why nothing more comes.
+    /// Why the text ends.
     type Fault: Drop;
 
-    /// How many bytes of the text wait.
+    /// Returns how many bytes of text wait.
     fn waiting(&self) -> usize;
 
-    /// Takes out all that waits of the text, and leaves an empty buffer in its place. None where nothing more comes.
+    /// Takes all waiting text, or returns `None` after its end. Leaves the buffer `empty`.
     fn take(&mut self, empty: Vec<u8>) -> Option<Taken<Self::Extent, Self::Fault>>
         requires empty { empty.items ≡ [] };
 
-    /// Takes out the notes that wait, and leaves an empty buffer in their place. What each is of stands in what was taken out, or is the next to be, as long as the text goes on.
+    /// Takes all waiting notes, and leaves the buffer `empty`.
+    ///
+    /// What a note refers to was taken before or is in the next [`take`](Self::take), unless the
+    /// text ends.
     fn take_notes(&mut self, empty: Vec<u8>) -> Vec<u8>
         requires empty { empty.items ≡ [] };
 
-    /// Nothing more is taken out: what waits is let go of.
+    /// Ends the text and the notes, and drops what waits.
     fn stop(&mut self);
 }

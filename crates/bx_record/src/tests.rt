@@ -1,2 +1,3 @@
+//! Tests of the texts and of the writer.
 mod texts;
 mod writing;

@@ -1,4 +1,4 @@
-//! The text of what is taken in.
+//! The lines of a record for a request and for a tick.
 ghost use Rattle.std.specs.Prelude.{◌≡◌, ◌≤◌, ◌<◌, ◌∷◌, ◌++◌, [], IfOk, IfSome, MatchOption, OnOk, Ok, codes, decimal, is_some, length, option_map};
 ghost use Rattle.std.specs.List.{list_any};
 ghost use Rattle.bx_advice.specs.declared.config.TheConstants.{BODY_LIMIT};
@@ -20,13 +20,19 @@ use itoa::Buffer;
 use memchr::memchr;
 use std::alloc::{AllocError, Global};
 
-// The lines of a request have at most so many bytes beside its documents: two moments of up to 20 digits, each with a
-// letter, two spaces and a line end, and the 32 digits of a nonce.
+// The most bytes in a request's lines without its documents: for each of two lines a moment of up
+// to 20 digits, a letter, two spaces and a line end; and a nonce of 32 digits.
 const BESIDE: usize = 2 * (20 + 4) + 32;
 
-/// The lines of a request: where some message of it asks for a new session, one that says its nonce, and then one that
-/// says its documents. None where no line can say these: there are none, or the body that would carry them has more than
-/// [`BODY_LIMIT`] bytes. `messages` are those that were read of it. An error means that memory was refused.
+/// Formats a request as lines, or returns `None` if no line can express it.
+///
+/// If a message is a handshake, the first line has the nonce. The last line has the documents. No
+/// line can express a request without documents, or documents that need a body of more than
+/// [`BODY_LIMIT`] bytes. `messages`: those of `arrival`.
+///
+/// # Errors
+///
+/// `AllocError` if memory runs out.
 pub fn request_text(
     alloc: Global,
     arrival: &Arrival,
@@ -62,7 +68,13 @@ fn nonce_of(arrival: &Arrival) -> u128
     arrival.nonce
 }
 
-/// The line of a tick at this moment. An error means that memory was refused.
+/// Formats a tick as a line.
+///
+/// `moment`: milliseconds since the server started.
+///
+/// # Errors
+///
+/// `AllocError` if memory runs out.
 pub fn tick_text(alloc: Global, moment: u64) -> Result<Vec<u8>, AllocError>
     ensures text { IfOk result (λ text. text.items ≡ input_text (inputs.Tick moment)) }
     ensures recordable { OnOk result (CanRecord (inputs.Tick moment)) }
@@ -73,7 +85,7 @@ pub fn tick_text(alloc: Global, moment: u64) -> Result<Vec<u8>, AllocError>
     Ok(text)
 }
 
-// Whether some message asks for a new session.
+// Returns `true` if a message is a handshake.
 fn asks_for_session(messages: &[Message]) -> bool
     ensures { result ≡ list_any is_handshake messages.now }
 {
@@ -82,7 +94,7 @@ fn asks_for_session(messages: &[Message]) -> bool
         .any(|message| message.channel.as_str() == "/meta/handshake")
 }
 
-// The document that a line can have as it is.
+// Returns the document that a line has unchanged: the only one, without a newline.
 fn plain_document(bodies: &Bodies) -> Option<&[u8]>
     ensures { option_map (λ d. d.now) result ≡ plain_document (texts_of bodies.now) }
 {
@@ -104,7 +116,7 @@ fn has_newline(document: &[u8]) -> bool
     memchr(b'\n', document).is_some()
 }
 
-// How many bytes the body has that carries these documents, of which this is the plain one; none where no line can say them.
+// Returns the length of the body that carries `bodies`, or `None` if no line can express them.
 fn carrier_len(plain: Option<&[u8]>, bodies: &Bodies) -> Option<usize>
     requires { option_map (λ d. d.now) plain ≡ plain_document (texts_of bodies.now) }
     ensures sayable { is_some result ≡ can_say (texts_of bodies.now) }
@@ -118,7 +130,7 @@ fn carrier_len(plain: Option<&[u8]>, bodies: &Bodies) -> Option<usize>
     }
 }
 
-// Adds the line that says a nonce.
+// Appends a line with a nonce.
 fn push_nonce(text: &mut Vec<u8>, moment: u64, nonce: u128) -> Result<(), AllocError>
     ensures { OnOk result (text.new.items ≡ text.old.items ++ line_text moment (codes "N " ++ nonce_digits nonce)) }
 {
@@ -128,7 +140,7 @@ fn push_nonce(text: &mut Vec<u8>, moment: u64, nonce: u128) -> Result<(), AllocE
     Ok(())
 }
 
-// Adds the line that says documents, of which this is the plain one.
+// Appends a line with `bodies`, of which `plain` is the plain document, if any.
 fn push_documents(
     text: &mut Vec<u8>,
     moment: u64,
@@ -152,7 +164,7 @@ fn push_documents(
     Ok(())
 }
 
-// Adds a moment, a space and a command.
+// Appends `moment`, a space and `command`.
 fn push_head(text: &mut Vec<u8>, moment: u64, command: &[u8]) -> Result<(), AllocError>
     ensures { OnOk result (text.new.items ≡ text.old.items ++ decimal moment ++ 32 ∷ command.now) }
 {

@@ -1,4 +1,4 @@
-//! Bytes that wait to be written.
+//! A bounded buffer of bytes that wait to be written, and why a record ends.
 ghost use Rattle.std.specs.Prelude.{◌≡◌, ◌≢◌, ◌+◌, ◌<◌, ◌≤◌, ◌++◌, [], length, IfErr, OnErr, OnOk};
 ghost use Rattle.bx_record.specs.declared.waiting.RecordFault.TheVariants.{Full, Memory, Unsayable};
 ghost use Rattle.bx_record.specs.declared.waiting.TheConstants.{MOST_WAITING};
@@ -7,17 +7,19 @@ use std::alloc::{AllocError, Global};
 use std::marker::Model;
 use std::mem;
 
-/// How many bytes may wait. (This server's choice.)
+/// The most bytes that may wait.
+///
+/// Policy of this server.
 pub const MOST_WAITING: usize = 64 << 20;
 
-/// Why a record, or what it says of answers, goes no further.
+/// Why a record, or its lines for answers, ended.
 #[derive(Clone, Copy, Debug, PartialEq, Eq)]
 pub enum RecordFault {
     /// More than 64 MiB would wait to be written.
     Full,
-    /// No line can say a request that was listed: the form that would carry its documents is longer than a body may be.
+    /// No line can express a request: the body for its documents would be too large.
     Unsayable,
-    /// Memory was refused.
+    /// Memory ran out.
     Memory,
 }
 
@@ -29,7 +31,7 @@ impl From<AllocError> for RecordFault {
     }
 }
 
-/// Bytes that wait to be written, up to a bound.
+/// A buffer of at most [`MOST_WAITING`] bytes that wait to be written.
 #[derive(Drop)]
 pub struct Waiting {
     bytes: Vec<u8>,
@@ -47,7 +49,7 @@ impl Model for Waiting {
 }
 
 impl Waiting {
-    /// Nothing waits.
+    /// Creates an empty buffer.
     pub fn new(alloc: Global) -> Waiting
         ensures { result ≡ [] }
     {
@@ -56,7 +58,7 @@ impl Waiting {
         }
     }
 
-    /// How many bytes wait.
+    /// Returns how many bytes wait.
     pub fn len(&self) -> usize
         ensures count { result ≡ length self.now }
         ensures bound { result ≤ MOST_WAITING }
@@ -64,7 +66,12 @@ impl Waiting {
         self.bytes.len()
     }
 
-    /// The bytes come behind what waits. Where more than may would wait, or memory is refused, nothing has changed.
+    /// Appends `bytes`.
+    ///
+    /// # Errors
+    ///
+    /// `Full` if more than [`MOST_WAITING`] bytes would wait; `Memory` if memory runs out. On error
+    /// nothing has changed.
     pub fn push(&mut self, bytes: &[u8]) -> Result<(), RecordFault>
         ensures added { OnOk result (self.new ≡ self.old ++ bytes.now) }
         ensures same { OnErr result (self.new ≡ self.old) }
@@ -78,7 +85,9 @@ impl Waiting {
         Ok(())
     }
 
-    /// Takes out all that waits, and leaves an empty buffer in its place. It takes no memory, and copies nothing.
+    /// Takes all waiting bytes, and leaves the buffer `empty`.
+    ///
+    /// Does not allocate or copy.
     pub fn take(&mut self, empty: Vec<u8>) -> Vec<u8>
         requires { empty.items ≡ [] }
         ensures taken { result.items ≡ self.old }

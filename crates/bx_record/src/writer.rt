@@ -1,4 +1,4 @@
-//! The thread that writes.
+//! The loop that writes a text and its notes to a file.
 ghost use Rattle.std.specs.Prelude.{◌≡◌, [], IfOk};
 
 use crate::out::{Out, Torn};
@@ -10,38 +10,45 @@ use std::sync::atomic::{AtomicBool, Ordering};
 use std::time::{Clock, Duration};
 use std::{io, thread};
 
-// How long it rests between two looks, in milliseconds, and how many looks are a turn, at the end of which all that waits is written. (This server's choice.)
+// Milliseconds between looks at the source, and the number of looks after which all is written.
+// Policy of this server.
 const REST: u64 = 10;
 
 const LOOKS: u32 = 10;
 
-// From how many bytes on what waits is written at once.
+// At this many waiting bytes, they are written at the next look.
 pub(crate) const SOON: usize = 64 << 10;
 
-/// Why nothing more is written.
+/// Why writing ended.
 #[derive(Debug, Drop)]
 pub enum End<E> {
     /// It was told to stop.
     Told,
-    /// Nothing more comes, for this reason.
+    /// The text ended, for this reason.
     Ended(E),
-    /// Nothing more comes.
+    /// The source had ended before.
     Gone,
-    /// The file takes no more.
+    /// Writing to the file failed, or the text taken did not come next.
     Refused(io::Error),
 }
 
 /// What was written.
 #[derive(Debug, Drop)]
 pub struct Written<E> {
-    /// How many bytes the file has.
+    /// Number of bytes written to the file.
     pub count: u64,
-    /// Why there are no more.
+    /// Why writing ended.
     pub end: End<E>,
 }
 
-/// Writes out what waits, ten times a second, and within a hundredth of one where 64 KiB are there, until it is told to stop, nothing more comes, or the file takes no more. What
-/// waits when it is told to stop is written too; else the source is stopped.
+/// Writes what waits in `source` to `out`, until `is_over` is set.
+///
+/// Writes every 100 ms, or within 10 ms if 64 KiB of text wait, and once more after `is_over` is
+/// set. It also ends if the text ends or cannot be written, and then stops the source.
+///
+/// # Blocking
+///
+/// Sleeps between writes.
 pub fn write_out<R, S, W>(
     rt: &R,
     alloc: Global,
@@ -58,7 +65,7 @@ where
     let (mut text, mut notes) = (Vec::new(alloc), Vec::new(alloc));
     let mut looks = 0;
     for _ in rt.forever() {
-        // Asked before the last look, so that nothing is left that was added before the end.
+        // Read first, so that everything added before the end is written.
         let is_last = is_over.load(Ordering::SeqCst);
         if is_last || looks == 0 || source.waiting() >= SOON {
             looks = LOOKS;
@@ -83,8 +90,10 @@ where
     }
 }
 
-// Writes out all that waits, and gives the buffers back. Notes are taken out first and written last, so that each stands behind what it is of. Where nothing
-// comes behind the text, they are left out: they may be of what the text does not have.
+// Writes all that waits, and returns the emptied buffers.
+//
+// Notes are taken first and written last, so that each follows what it refers to. They are dropped
+// if the text ends, since the text may lack that.
 fn write_once<S: Source, W: Write + Drop>(
     source: &mut S,
     out: Out<S::Extent, W>,

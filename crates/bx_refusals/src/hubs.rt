@@ -1,4 +1,4 @@
-//! Hubs of two shards and of one.
+//! The part `hub`: hubs of two shards and of one, with a record.
 ghost use Rattle.std.specs.Prelude.{◌≡◌};
 ghost use Rattle.bx_entry.specs.Placings.{by_remainder};
 
@@ -19,13 +19,16 @@ use std::marker::Brand;
 use std::random::RandomSource;
 use std::sync::{Arc, Wait};
 
-/// A hub as the runs have it.
+/// The hub of these runs.
 pub type Served<J, R> = Hub<J, ByRemainder, OpenGate, R>;
 
-/// Two sessions, of which one subscribes and connects and the other publishes, with a pass each, and then a tick: over two shards,
-/// where the one learns what the other has seen, and over one, where a task waits for the answer. Says where each request and the
-/// tick stand, how each message is answered, and how the connect is. All of it is recorded; memory that is refused to the record
-/// ends that and nothing else.
+/// Runs two sessions and a tick over two shards, and then over one.
+///
+/// One session subscribes and connects; the other publishes. Each has its own pass. Over two shards
+/// the first pass learns what the other has seen; over one shard a task waits for the answer.
+///
+/// Returns each message's place and reply, the tick's place, and the answer to the connect. The hub
+/// keeps a record. If memory runs out for the record, only the record ends.
 pub fn run<R>(rt: &R, alloc: Global) -> Result<String, Unlike>
 where
     R: Wait + RandomSource + AllocGlobal,
@@ -70,7 +73,7 @@ where
     Ok(said.into_text())
 }
 
-// The record goes on, or memory was refused to it.
+// Checks that the record still runs, or that it ended for lack of memory.
 fn check_record<'a, J, R>(rt: &'a R, alloc: Global, hub: &Served<J, &'a R>) -> Result<(), Unlike>
 where
     J: Naming,

@@ -1,6 +1,8 @@
-//! Worked runs in which a call that is refused memory is made once more. Whichever one growth of a run is refused, the run prints
-//! the same, or memory was refused to what prepares its calls, and its status is 1. An argument names the part that runs; without
-//! one all do, in turn.
+//! Runs in which each call that fails for lack of memory is made once more.
+//!
+//! If any one allocation fails, the program prints the same as without the failure, or exits with
+//! status 1 if that allocation only prepared a call. An argument names the part to run. Without
+//! one, all parts run in turn.
 #![tactic(auto)]
 
 mod hubs;
@@ -38,7 +40,7 @@ fn main(rt: HostRuntime) -> Result<()> {
     }
 }
 
-// Prints what a part says.
+// Prints the result of a part.
 fn print(rt: HostRuntime, said: Option<Result<String, Unlike>>) -> Result<()> {
     match said {
         Some(Ok(text)) => rt.println(text.as_str())?,
@@ -49,7 +51,7 @@ fn print(rt: HostRuntime, said: Option<Result<String, Unlike>>) -> Result<()> {
     Ok(())
 }
 
-// What the part of this name says, if there is one.
+// Runs `part` and returns its text, or `None` if there is no such part.
 fn run<R>(rt: R, part: &str) -> Option<Result<String, Unlike>>
 where
     R: Threads + Wait + RandomSource + AllocGlobal + Copy + Drop + Sync,

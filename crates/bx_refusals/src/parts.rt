@@ -1,4 +1,4 @@
-//! Responses that are given in several pieces.
+//! The part `pieces`: responses that are written in several pieces.
 use crate::requests::add_line;
 use crate::unlike::Unlike;
 use bx_message::{Event, Item, RawJson, SharedEvent, Text};
@@ -12,16 +12,19 @@ use http_body_util::BodyExt;
 use std::alloc::{AllocGlobal, Global};
 use std::random::RandomSource;
 
-// How many events a response has, and how many signs the data of each: two of them do not fit 64 KiB.
+// Number of events.
 const EVENTS: usize = 3;
 
+// Characters in each event's data. 64 KiB do not hold two events.
 const SIGNS: usize = 40_000;
 
-// How many frames are asked for at most: those of three pieces, and the end.
+// The most frames to ask for: three pieces and the end.
 const MOST_FRAMES: usize = 4;
 
-/// A response of three pieces is given, as an array and as a script. Says of each frame how many bytes it has and how many are left behind
-/// it, and whether the text is that of the events. A frame to which memory was refused is asked for once more.
+/// Writes a response in three pieces, as an array and as a script.
+///
+/// Returns each frame's size and the number of bytes left after it, and that the frames add up to
+/// the events. A frame that fails for lack of memory is asked for once more.
 pub fn run<R: RandomSource + AllocGlobal>(rt: &R, alloc: Global) -> Result<String, Unlike> {
     let task = MockTask::new(rt).map_err(|_| Unlike::Memory)?;
     let mut text = String::new(alloc);
@@ -32,7 +35,7 @@ pub fn run<R: RandomSource + AllocGlobal>(rt: &R, alloc: Global) -> Result<Strin
     Ok(text)
 }
 
-// What is said of a response.
+// Reads a whole response, checks its text and returns its line.
 fn given(alloc: Global, task: &MockTask, callback: Option<&str>) -> Result<String, Unlike> {
     let wanted = wanted(alloc, callback)?;
     let mut body = answered(alloc, callback)?;
@@ -53,7 +56,7 @@ fn given(alloc: Global, task: &MockTask, callback: Option<&str>) -> Result<Strin
     Ok(line)
 }
 
-// What is said of a frame.
+// Returns the part of the line for one frame of `size` bytes.
 fn said(alloc: Global, size: usize, left: Option<u64>) -> Result<String, Unlike> {
     let Some(left) = left else {
         return Err(Unlike::Wrong("the length is not known"));
@@ -61,7 +64,7 @@ fn said(alloc: Global, size: usize, left: Option<u64>) -> Result<String, Unlike>
     Ok(format!(in alloc; "{size} and {left} left, ")?)
 }
 
-// The data of the next frame, which is asked for once more where memory was refused to it; nothing at the end.
+// Returns the data of the next frame, or `None` at the end. Retries once if memory runs out.
 fn next_data(task: &MockTask, body: &mut Pieces<Bytes>) -> Result<Option<Bytes>, Unlike> {
     match ask_once(task, body) {
         Err(Unlike::Memory) => ask_once(task, body),
@@ -81,7 +84,7 @@ fn ask_once(task: &MockTask, body: &mut Pieces<Bytes>) -> Result<Option<Bytes>, 
     }
 }
 
-// A response with the events, which is asked for once more where memory was refused.
+// Creates a response with the events. Retries once if memory runs out.
 fn answered(alloc: Global, callback: Option<&str>) -> Result<Pieces<Bytes>, Unlike> {
     let items = events(alloc)?;
     match Pieces::answer(alloc, callback, items.as_slice()) {
@@ -90,7 +93,7 @@ fn answered(alloc: Global, callback: Option<&str>) -> Result<Pieces<Bytes>, Unli
     }
 }
 
-// The data of each event, as JSON.
+// Returns the data of each event, as JSON.
 fn data(alloc: Global) -> Result<String, Unlike> {
     let mut text = String::new(alloc);
     text.push_str("\"")?;
@@ -115,7 +118,7 @@ fn events(alloc: Global) -> Result<Vec<Item>, Unlike> {
     Ok(items)
 }
 
-// The text of the response with them.
+// Returns the whole text that the response must have.
 fn wanted(alloc: Global, callback: Option<&str>) -> Result<String, Unlike> {
     let mut text = String::new(alloc);
     if let Some(name) = callback {

@@ -1,4 +1,4 @@
-//! A registry at which requests and ticks are planned.
+//! The part `plans`: a registry that plans requests and ticks.
 ghost use Rattle.std.specs.Prelude.{IfOk};
 ghost use Rattle.bx_registry.specs.Standings.{LeadsTo};
 
@@ -9,22 +9,22 @@ use bx_message::Message;
 use bx_registry::{Plan, Registry};
 use std::alloc::Global;
 
-// The second session subscribes.
+// The second session's subscription.
 const SUBSCRIBE: &str =
     r#"[{"channel":"/meta/subscribe","clientId":"000000000000000000000000000000000000000000000002","subscription":"/a/*"}]"#;
 
-// The first session publishes.
+// The first session's publish.
 const PUBLISH: &str =
     r#"[{"channel":"/a/b","clientId":"000000000000000000000000000000000000000000000001","data":1}]"#;
 
-// What is admitted.
+// A request or a tick, with its moment in milliseconds.
 #[derive(Clone, Copy, Debug)]
 enum Deed {
     Request(u64, &'static str),
     Tick(u64),
 }
 
-// Two sessions are opened, of which the second one is heard of later, so that the second tick closes the first one alone.
+// The second session's last message is later, so the second tick closes only the first session.
 const DEEDS: [Deed; 6] = [
     Deed::Request(0, HANDSHAKE),
     Deed::Request(5, HANDSHAKE),
@@ -34,7 +34,7 @@ const DEEDS: [Deed; 6] = [
     Deed::Request(10_001, PUBLISH),
 ];
 
-// What a registry tells of itself.
+// What a registry shows of its state.
 #[derive(Clone, Copy, Debug, PartialEq, Eq)]
 struct Counts {
     entries: u64,
@@ -52,8 +52,9 @@ fn counts_of(registry: &Registry) -> Counts {
     }
 }
 
-/// Two handshakes, a subscription, a tick that closes nothing, one that closes the first session, and a publish of that one. Says
-/// how each message is answered, and which sessions each tick closes.
+/// Admits requests and ticks, in order.
+///
+/// Returns a line for each: a request's reply, or the sessions that a tick closes.
 pub fn run(alloc: Global) -> Result<String, Unlike> {
     let mut registry = Registry::new(alloc, config(1)?)?;
     let mut text = String::new(alloc);
@@ -67,7 +68,7 @@ pub fn run(alloc: Global) -> Result<String, Unlike> {
     Ok(text)
 }
 
-// Admits a request of one message, and gives the text of its reply.
+// Admits a request of one message, and returns the text of its reply.
 fn request(
     alloc: Global,
     registry: &mut Registry,
@@ -89,7 +90,7 @@ fn request(
     }
 }
 
-// Plans a request, once more where memory was refused: the registry is then as before.
+// Plans a request. Retries once if memory runs out and the registry shows no change.
 fn planned(
     alloc: Global,
     registry: &mut Registry,
@@ -108,7 +109,7 @@ fn planned(
     plan.map_err(|_| Unlike::Wrong("not planned"))
 }
 
-// Admits a tick, and says which sessions it closes.
+// Admits a tick, and returns a line of the sessions that it closes.
 fn tick(alloc: Global, registry: &mut Registry, moment: u64) -> Result<String, Unlike> {
     let Plan {
         batch,
@@ -132,7 +133,7 @@ fn tick(alloc: Global, registry: &mut Registry, moment: u64) -> Result<String, U
     Ok(text)
 }
 
-// Plans a tick, once more where memory was refused: the registry is then as before.
+// Plans a tick. Retries once if memory runs out and the registry shows no change.
 fn planned_tick(alloc: Global, registry: &mut Registry, moment: u64) -> Result<Plan, Unlike>
     ensures { IfOk result (λ plan. LeadsTo registry.new plan.change plan.elements) }
 {

@@ -1,4 +1,4 @@
-//! Requests as JSON, and the texts of what answers them.
+//! JSON requests, and the texts of their answers.
 use crate::unlike::Unlike;
 use bx_advice::Config;
 use bx_cut::Bodies;
@@ -10,11 +10,11 @@ use std::alloc::Global;
 pub const HANDSHAKE: &str =
     r#"[{"channel":"/meta/handshake","version":"1.0","supportedConnectionTypes":["long-polling"]}]"#;
 
-/// A handshake of a session that acknowledges.
+/// The handshake of an acknowledging session.
 pub const ACK_HANDSHAKE: &str =
     r#"[{"channel":"/meta/handshake","version":"1.0","supportedConnectionTypes":["long-polling"],"ext":{"ack":true}}]"#;
 
-/// The first session subscribes to all channels of one segment below `/a`.
+/// The first session's subscription to `/a/*`.
 pub const SUBSCRIBE: &str =
     r#"[{"channel":"/meta/subscribe","clientId":"000000000000000000000000000000000000000000000001","subscription":"/a/*"}]"#;
 
@@ -22,15 +22,15 @@ pub const SUBSCRIBE: &str =
 pub const CONNECT: &str =
     r#"[{"channel":"/meta/connect","clientId":"000000000000000000000000000000000000000000000001","connectionType":"long-polling"}]"#;
 
-/// A connect of the first session that acknowledges no batch, and is held where there is none.
+/// The first session's connect that acknowledges no batch, held if it gets no events.
 pub const HOLD_NONE: &str =
     r#"[{"channel":"/meta/connect","clientId":"000000000000000000000000000000000000000000000001","connectionType":"long-polling","ext":{"ack":0}}]"#;
 
-/// The second session publishes 7.
+/// The second session's publish of 7.
 pub const PUBLISH: &str =
     r#"[{"channel":"/a/b","clientId":"000000000000000000000000000000000000000000000002","data":7}]"#;
 
-/// A server of so many shards, 1 to 64, that takes four sessions.
+/// Creates a configuration with `shards` shards, 1 to 64, and at most four sessions.
 pub fn config(shards: usize) -> Result<Config, Unlike> {
     let mut config = Config::new(shards, 30_000, 0, 10_000).ok_or(Unlike::Wrong(
         "no configuration",
@@ -39,12 +39,12 @@ pub fn config(shards: usize) -> Result<Config, Unlike> {
     Ok(config)
 }
 
-/// A request of this body, at moment 0.
+/// Creates a request with `body`, at moment 0.
 pub fn arrival(alloc: Global, body: &str) -> Result<Arrival, Unlike> {
     arrival_at(alloc, 0, body)
 }
 
-/// A request of this body, at a moment in milliseconds.
+/// Creates a request with `body`, at `moment`, in milliseconds.
 pub fn arrival_at(alloc: Global, moment: u64, body: &str) -> Result<Arrival, Unlike> {
     Ok(Arrival {
         moment,
@@ -54,7 +54,7 @@ pub fn arrival_at(alloc: Global, moment: u64, body: &str) -> Result<Arrival, Unl
     })
 }
 
-/// The text of an answer: its events, and then its reply.
+/// Returns the text of an answer: its events, then its reply.
 pub fn text_of(alloc: Global, answer: Answer) -> Result<String, Unlike> {
     let Answer { events, reply } = answer;
     let mut items = Vec::new(alloc);
@@ -65,22 +65,22 @@ pub fn text_of(alloc: Global, answer: Answer) -> Result<String, Unlike> {
     response(alloc, items.as_slice())
 }
 
-/// The text of a response with these items.
+/// Returns the text of a response with `items`.
 pub fn response(alloc: Global, items: &[Item]) -> Result<String, Unlike> {
     string(body_text(alloc, items)?)
 }
 
-/// The text of a reply.
+/// Returns the text of a reply.
 pub fn reply(alloc: Global, reply: &Reply) -> Result<String, Unlike> {
     string(reply_text(alloc, reply)?)
 }
 
-/// The bytes as a text.
+/// Converts bytes to a string.
 pub fn string(text: Vec<u8>) -> Result<String, Unlike> {
     String::from_utf8(text).map_err(|_| Unlike::Wrong("not a text"))
 }
 
-/// Adds a line to a text.
+/// Appends `line` to `text`, after a newline unless `text` is empty.
 pub fn add_line(text: &mut String, line: &str) -> Result<(), Unlike> {
     if !text.is_empty() {
         text.push_str("\n")?;

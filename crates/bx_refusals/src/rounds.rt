@@ -1,4 +1,4 @@
-//! A round of two shards and one worker.
+//! The part `rounds`: rounds that start with two shards, advanced by one worker.
 
 use crate::requests::{
     ACK_HANDSHAKE, CONNECT, HANDSHAKE, HOLD_NONE, PUBLISH, SUBSCRIBE, add_line, arrival_at, config,
@@ -13,14 +13,14 @@ use std::alloc::Global;
 use std::sync::Arc;
 use std::thread::Threads;
 
-// More inputs than any round has.
+// An upper bound on the inputs of a round.
 const MOST_INPUTS: usize = 1_000;
 
-// Requests, each with its moment.
+// Requests, each with its moment in milliseconds.
 type Requests = &'static [(u64, &'static str)];
 
-// Requests, among how many shards the sessions are redistributed behind them, if they are, and the requests behind that; and whether
-// waiting events ride.
+// A run: the first requests, the new number of shards if sessions are redistributed after them, the
+// last requests, and whether waiting events ride.
 #[derive(Clone, Copy, Debug)]
 struct Worked {
     first: Requests,
@@ -29,18 +29,18 @@ struct Worked {
     ride: bool,
 }
 
-// The first session subscribes, and publishes an event that it gets itself.
+// The first session subscribes, and publishes an event to itself.
 const SUBSCRIBE_AND_PUBLISH: &str =
     r#"[{"channel":"/meta/subscribe","clientId":"000000000000000000000000000000000000000000000001","subscription":"/a/*"},{"channel":"/a/x","clientId":"000000000000000000000000000000000000000000000001","data":1}]"#;
 
-// It publishes two more.
+// The first session publishes two more events.
 const PUBLISH_TWO: &str =
     r#"[{"channel":"/a/y","clientId":"000000000000000000000000000000000000000000000001","data":2},{"channel":"/a/z","clientId":"000000000000000000000000000000000000000000000001","data":3}]"#;
 
 const UNSUBSCRIBE: &str =
     r#"[{"channel":"/meta/unsubscribe","clientId":"000000000000000000000000000000000000000000000001","subscription":"/a/*"}]"#;
 
-// Its connects that are answered at once, by the batch that they acknowledge.
+// Connects of the first session that are never held, named by the batch that they acknowledge.
 
 const ACKNOWLEDGE_NONE: &str =
     r#"[{"channel":"/meta/connect","clientId":"000000000000000000000000000000000000000000000001","connectionType":"long-polling","ext":{"ack":0},"advice":{"timeout":0}}]"#;
@@ -51,18 +51,18 @@ const ACKNOWLEDGE_FIRST: &str =
 const ACKNOWLEDGE_SECOND: &str =
     r#"[{"channel":"/meta/connect","clientId":"000000000000000000000000000000000000000000000001","connectionType":"long-polling","ext":{"ack":2},"advice":{"timeout":0}}]"#;
 
-// A connect that acknowledges the first batch, and is held where there is no other.
+// The first session's connect that acknowledges the first batch, held if it gets no events.
 const HOLD_FIRST: &str =
     r#"[{"channel":"/meta/connect","clientId":"000000000000000000000000000000000000000000000001","connectionType":"long-polling","ext":{"ack":1}}]"#;
 
 const SUBSCRIBE_BELOW: &str =
     r#"[{"channel":"/meta/subscribe","clientId":"000000000000000000000000000000000000000000000001","subscription":"/a/**"}]"#;
 
-// The second session publishes to two segments below.
+// The second session publishes to a channel two segments below `/a`.
 const PUBLISH_BELOW: &str =
     r#"[{"channel":"/a/b/c","clientId":"000000000000000000000000000000000000000000000002","data":[1, 2]}]"#;
 
-// A publish answers a connect that is held.
+// A publish answers a held connect.
 const ANSWERED: Worked = Worked {
     first: &[
         (0, HANDSHAKE),
@@ -76,7 +76,7 @@ const ANSWERED: Worked = Worked {
     ride: false,
 };
 
-// Batches are given again until they are acknowledged.
+// Batches are sent again until they are acknowledged.
 const BATCHES: Worked = Worked {
     first: &[
         (0, ACK_HANDSHAKE),
@@ -94,7 +94,8 @@ const BATCHES: Worked = Worked {
     ride: false,
 };
 
-// The first batch answers a connect that is held, and is given again; what acknowledges it is held.
+// The first batch answers a held connect and is sent again. The connect that acknowledges it is
+// held.
 const HELD_BATCHES: Worked = Worked {
     first: &[
         (0, ACK_HANDSHAKE),
@@ -110,7 +111,7 @@ const HELD_BATCHES: Worked = Worked {
     ride: false,
 };
 
-// While a connect is held the sessions are redistributed.
+// Sessions are redistributed while a connect is held.
 const DEALT_WHILE_HELD: Worked = Worked {
     first: &[
         (0, HANDSHAKE),
@@ -123,7 +124,7 @@ const DEALT_WHILE_HELD: Worked = Worked {
     ride: false,
 };
 
-// While a batch is outstanding they are.
+// Sessions are redistributed while a batch is outstanding.
 const DEALT_WITH_A_BATCH: Worked = Worked {
     first: &[
         (0, ACK_HANDSHAKE),
@@ -135,7 +136,7 @@ const DEALT_WITH_A_BATCH: Worked = Worked {
     ride: false,
 };
 
-// Events ride: behind a subscription and a publish, while a connect is held, and where none waits.
+// Replies carry waiting events, also while a connect is held. The last reply carries none.
 const RIDDEN: Worked = Worked {
     first: &[
         (0, HANDSHAKE),
@@ -159,8 +160,9 @@ const WORKED: [Worked; 6] = [
     RIDDEN,
 ];
 
-/// Worked runs, in two of which the sessions are redistributed, and in one events ride. Says what each round gives, by the numbers of the requests from 1
-/// on, and which connects are held at its end.
+/// Makes all runs, and returns the lines of their responses.
+///
+/// Each line has the number of its request, from 1. The connects held at a run's end follow.
 pub fn run<R: Threads + Sync>(rt: &R, alloc: Global) -> Result<String, Unlike> {
     let mut text = String::new(alloc);
     for worked in WORKED {
@@ -182,7 +184,7 @@ fn worked_text<R: Threads + Sync>(
     ended(rt, alloc, &mut round, worked.then, outs)
 }
 
-// A round that has taken in the first requests, and whose sessions are then redistributed, if they are.
+// Starts a round with the first requests, and redistributes its sessions if the run does so.
 fn first<R: Threads + Sync>(
     rt: &R,
     alloc: Global,
@@ -200,7 +202,7 @@ fn first<R: Threads + Sync>(
     }
 }
 
-// A round of two shards that has taken in the first requests.
+// Starts a round of two shards with the first requests.
 fn begun<R: Threads + Sync>(
     rt: &R,
     alloc: Global,
@@ -220,7 +222,8 @@ fn placing(alloc: Global) -> Result<Arc<ByRemainder>, Unlike> {
     Ok(Arc::new(alloc, ByRemainder)?)
 }
 
-// The round with its sessions among so many shards. Where memory was refused, the sessions of the round that came back are redistributed.
+// Redistributes the sessions among `shards` shards. Retries with the returned round if memory
+// runs out.
 fn redistributed<R: Threads + Sync>(
     rt: &R,
     alloc: Global,
@@ -248,7 +251,7 @@ fn redistributed_again<R: Threads + Sync>(
     }
 }
 
-// Deals with the last requests, and says what the round gave and which connects it holds.
+// Runs the last requests, and returns the lines of all responses and of the held connects.
 fn ended<R: Threads + Sync>(
     rt: &R,
     alloc: Global,
@@ -265,7 +268,7 @@ fn ended<R: Threads + Sync>(
     Ok(text)
 }
 
-// Deals with requests. Where memory was refused, it deals with the rest of them: what was given by then stays.
+// Runs requests. If memory runs out, goes on with those that were not admitted.
 fn deal<R: Threads + Sync>(
     rt: &R,
     alloc: Global,
@@ -289,7 +292,7 @@ fn inputs(alloc: Global, requests: Requests) -> Result<Vec<Input>, Unlike> {
     Ok(inputs)
 }
 
-// Deals with the inputs behind so many of them.
+// Runs the inputs after the first `admitted`, and checks that earlier outputs stay.
 fn go_on<R: Threads + Sync>(
     rt: &R,
     alloc: Global,
@@ -312,7 +315,7 @@ fn go_on<R: Threads + Sync>(
     }
 }
 
-// Runs these inputs. Where memory was refused, it says how many of them were taken in.
+// Runs inputs. If memory runs out, returns how many of them were admitted.
 fn refused_behind<R: Threads + Sync>(
     rt: &R,
     alloc: Global,

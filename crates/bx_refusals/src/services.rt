@@ -1,4 +1,4 @@
-//! A service over a hub of two shards.
+//! The part `service`: a service over a hub of two shards.
 ghost use Rattle.std.specs.Prelude.{◌≡◌};
 ghost use Rattle.bx_entry.specs.Placings.{by_remainder};
 
@@ -24,7 +24,7 @@ use std::marker::Brand;
 use std::random::RandomSource;
 use std::sync::{Arc, Wait};
 
-// A clock that stands still at 0.
+// A clock that always returns 0.
 #[derive(Clone, Copy)]
 struct Still;
 
@@ -34,7 +34,7 @@ impl Clock for Still {
     }
 }
 
-// Draws no other number than 0.
+// A source of nonces that are all 0.
 #[derive(Clone, Copy)]
 struct Zeros;
 
@@ -44,7 +44,7 @@ impl Nonces for Zeros {
     }
 }
 
-/// Makes all exchanges with a service of its own, and says how they are answered.
+/// Makes all exchanges with a new service, and returns their responses.
 pub fn run<R>(rt: R) -> Result<String, Unlike>
 where
     R: Wait + RandomSource + AllocGlobal + Copy + Drop,

@@ -1,4 +1,4 @@
-//! The only shard of a server, to which entries are applied one by one.
+//! The part `shard`: a server's only shard, to which entries are applied one by one.
 use crate::requests::{add_line, config, reply, text_of};
 use crate::unlike::Unlike;
 use bx_entry::{ByRemainder, Entry, EntryKind, Ticket};
@@ -8,31 +8,31 @@ use bx_shard::{Shard, Wakers};
 use std::alloc::Global;
 use std::sync::Arc;
 
-// More entries than any run has.
+// An upper bound on the entries of a run.
 const MOST_ENTRIES: u64 = 10_000;
 
-// How many events may wait for a session.
+// The most events that may wait for a session.
 const MOST_EVENTS: usize = 1_024;
 
-// What an entry of the list says. Sessions are told by their numbers.
+// What an entry does; sessions are given by their numbers.
 #[derive(Clone, Copy, Debug)]
 enum Deed {
     Open(u64),
-    // A session that acknowledges is opened.
+    // Opens an acknowledging session.
     OpenAck(u64),
     Subscribe(u64, &'static str),
     Unsubscribe(u64, &'static str),
-    // A connect that is held.
+    // Posts a connect that may be held.
     Connect(u64),
-    // A connect that is answered at once.
+    // Posts a connect that is never held.
     ConnectAtOnce(u64),
-    // A connect that acknowledges this batch and is answered at once.
+    // Posts a connect that acknowledges this batch and is never held.
     Acknowledge(u64, u64),
-    // A channel and the data.
+    // Publishes data to a channel.
     Publish(&'static str, &'static str),
 }
 
-// A publish answers a connect that is held.
+// A publish answers a held connect.
 const ANSWERED: [Deed; 5] = [
     Deed::Open(1),
     Deed::Open(2),
@@ -41,7 +41,7 @@ const ANSWERED: [Deed; 5] = [
     Deed::Publish("/a/b", "7"),
 ];
 
-// Batches are given again until they are acknowledged, also while events come and once no pattern is in force.
+// Batches are sent again until they are acknowledged, even after new events and an unsubscribe.
 const BATCHES: [Deed; 11] = [
     Deed::OpenAck(1),
     Deed::Subscribe(1, "/a/*"),
@@ -56,18 +56,18 @@ const BATCHES: [Deed; 11] = [
     Deed::Acknowledge(1, 2),
 ];
 
-// A session that hears a channel.
+// Opens a session that subscribes to a channel.
 const HEARS: [Deed; 2] = [Deed::Open(1), Deed::Subscribe(1, "/a/b")];
 
 const EVENT: Deed = Deed::Publish("/a/b", "1");
 
-// One event too many, behind which the session overflows.
+// One event too many: the session overflows.
 const OVERFLOW: [Deed; 3] = [EVENT, Deed::ConnectAtOnce(1), EVENT];
 
-// Where no event is too many, all are given.
+// Without an overflow, four connects get all events.
 const GIVEN: [Deed; 4] = [Deed::ConnectAtOnce(1); 4];
 
-// What is applied to a new shard: entries, as many publishes as events may wait, if they are, and further entries.
+// What a new shard gets: entries, publishes that fill a queue if `is_filled`, and further entries.
 #[derive(Clone, Copy, Debug)]
 struct Worked {
     first: &'static [Deed],
@@ -98,8 +98,10 @@ const WORKED: [Worked; 4] = [
     },
 ];
 
-/// A connect that is held and answered, batches that are acknowledged, and queues that are full, of which one overflows. Says
-/// how each connect is answered.
+/// Applies the entries of each run to a new shard, and returns a line for each answered connect.
+///
+/// The runs: a held connect, batches that are acknowledged, and two full queues, one of which
+/// overflows.
 pub fn run(alloc: Global) -> Result<String, Unlike> {
     let mut text = String::new(alloc);
     for worked in WORKED {
@@ -131,7 +133,7 @@ fn shard(alloc: Global) -> Result<Shard<ByRemainder>, Unlike> {
     Ok(Shard::new(alloc, 0, config(1)?, placing))
 }
 
-// Applies entries that say this, and adds a line for each connect that is answered by then.
+// Applies entries, and adds a line whenever the last connect is answered.
 fn apply_all(
     alloc: Global,
     shard: &mut Shard<ByRemainder>,
@@ -156,7 +158,7 @@ fn apply_all(
     Ok(())
 }
 
-// As many publishes as events may wait. What they say is shared by their entries.
+// Publishes as many events as may wait. All entries share one event.
 fn fill(alloc: Global, shard: &mut Shard<ByRemainder>) -> Result<(), Unlike> {
     let event = event(alloc, "/a/b", "1")?;
     for _ in 0..MOST_EVENTS {
@@ -165,7 +167,7 @@ fn fill(alloc: Global, shard: &mut Shard<ByRemainder>) -> Result<(), Unlike> {
     Ok(())
 }
 
-// Applies an entry of this kind, once more where memory was refused: the shard then stands where it did.
+// Applies an entry. If memory runs out, checks that the shard is at the same place, and retries.
 fn apply(alloc: Global, shard: &mut Shard<ByRemainder>, kind: EntryKind) -> Result<(), Unlike> {
     let place = shard.place();
     if place > MOST_ENTRIES {
@@ -189,7 +191,7 @@ fn apply(alloc: Global, shard: &mut Shard<ByRemainder>, kind: EntryKind) -> Resu
         .map_err(|_| Unlike::Wrong("not applied"))
 }
 
-// The text of an answer; of one with many events how many they are, and the text of its reply.
+// Returns an answer's text, or from four events on their number and the reply's text.
 fn told(alloc: Global, answer: Answer) -> Result<String, Unlike> {
     let count = answer.events.len();
     if count < 4 {
@@ -227,7 +229,7 @@ fn patterns(alloc: Global, text: &str) -> Result<Sequence<Pattern>, Unlike> {
     Ok(patterns)
 }
 
-// The client id is 32 zeros and the session's number in 16 hexadecimal digits.
+// Creates a connect. Its client id is the session's number as 48 hexadecimal digits.
 fn connect(
     alloc: Global,
     session: u64,

@@ -1,12 +1,12 @@
-//! How a run can end otherwise.
+//! Why a run fails.
 use std::alloc::{AllocError, AllocFailed};
 
-/// Why a run does not end as it is to.
+/// Why a run does not end as expected.
 #[derive(Clone, Copy, Debug)]
 pub enum Unlike {
-    /// Memory was refused to what prepares the calls, or once more to a call.
+    /// Memory ran out while a call was prepared, or in its second attempt.
     Memory,
-    /// A call answered something else.
+    /// A call had another result than expected.
     Wrong(&'static str),
 }
 

@@ -1,4 +1,4 @@
-//! A window of ticks.
+//! The part `window`: a window of ticks with two readers.
 ghost use Rattle.std.specs.Prelude.{◌≡◌};
 
 mod shows;
@@ -12,16 +12,16 @@ use std::alloc::Global;
 use std::marker::Brand;
 use std::sync::Wait;
 
-// What is done to a window.
+// A change of the window.
 #[derive(Clone, Copy, Debug)]
 enum Deed {
-    // A batch of so many ticks is published.
+    // Publishes a batch of this number of ticks.
     Publish(u64),
-    // The batches that lie wholly below a place are dropped.
+    // Drops the batches that end at or before this place.
     Trim(u64),
 }
 
-// The first trim drops nothing, the second one a batch of two, and the third one all that are left.
+// The first trim drops nothing, the second the first batch, and the third all that are left.
 const DEEDS: [Deed; 7] = [
     Deed::Publish(3),
     Deed::Publish(2),
@@ -32,8 +32,10 @@ const DEEDS: [Deed; 7] = [
     Deed::Publish(2),
 ];
 
-/// Batches are published and trimmed. Says after each of that what a reader finds at each place, and at last what another one finds
-/// that looks for the first time.
+/// Publishes and trims batches.
+///
+/// Returns what a reader finds at each place after each change, and last what another reader finds
+/// at its first look.
 pub fn run<R: Wait>(rt: &R, alloc: Global) -> Result<String, Unlike> {
     worked::<Brand, R>(rt, alloc, Opened::new())
 }
@@ -62,7 +64,7 @@ fn told<J: Naming, R: Wait + Drop>(
     Ok(text)
 }
 
-// Does all that is done, and adds a line for what is shown then.
+// Makes all changes, and adds a line after each of what the reader finds.
 fn work<J: Naming, R: Wait + Drop>(
     alloc: Global,
     writer: &mut Ticker<J, R>,
@@ -81,8 +83,8 @@ fn work<J: Naming, R: Wait + Drop>(
     Ok(())
 }
 
-// Publishes a batch of so many ticks. Where memory was refused, the batch that came back is published, and until then all is shown
-// as it was.
+// Publishes a batch of `count` ticks. If memory runs out, checks that the reader finds the same as
+// `before`, and publishes the returned batch.
 fn publish<J: Naming, R: Wait + Drop>(
     alloc: Global,
     writer: &mut Ticker<J, R>,
@@ -104,7 +106,8 @@ fn publish<J: Naming, R: Wait + Drop>(
     }
 }
 
-// Trims the window; where memory was refused once more, and until then all is shown as it was.
+// Trims the window. If memory runs out, checks that the reader finds the same as `before`, and
+// trims again.
 fn trim<J: Naming, R: Wait + Drop>(
     alloc: Global,
     writer: &mut Ticker<J, R>,
@@ -122,7 +125,7 @@ fn trim<J: Naming, R: Wait + Drop>(
     Err(Unlike::Wrong("not trimmed"))
 }
 
-// What a reader is shown is what it was shown before, and the writer has no more steps than that.
+// Checks that the reader finds the same as `before`, and has seen all of the writer's steps.
 fn check_same<J: Naming, R: Wait + Drop>(
     alloc: Global,
     writer: &Ticker<J, R>,

@@ -1,4 +1,4 @@
-//! Two shards that one worker brings up.
+//! The part `world`: two shards that one worker advances.
 use crate::requests::{CONNECT, HANDSHAKE, PUBLISH, SUBSCRIBE, arrival, config, text_of};
 use crate::unlike::Unlike;
 use bx_entry::{AdmitFault, Admitted, ByRemainder, Slot, Ticket};
@@ -11,8 +11,9 @@ use std::thread::Threads;
 
 const SHARDS: usize = 2;
 
-/// Two sessions, of which one subscribes and connects and the other publishes: once all is admitted, one worker brings the
-/// shards up. Says how the connect is answered.
+/// Returns the answer to one session's connect after another session has published.
+///
+/// All requests are admitted first. Then one worker advances the shards.
 pub fn run<R: Threads + Sync>(rt: &R, alloc: Global) -> Result<String, Unlike> {
     let placing = Arc::new(alloc, ByRemainder)?;
     let mut world = World::new(alloc, config(SHARDS)?, placing)?;
@@ -44,7 +45,7 @@ fn ticket_of(admitted: Admitted) -> Option<Ticket> {
     None
 }
 
-// Admits a request, once more where memory was refused.
+// Admits a request. Retries once if memory runs out.
 fn admit(alloc: Global, world: &mut World<ByRemainder>, body: &str) -> Result<Admitted, Unlike> {
     let arrival = arrival(alloc, body)?;
     let admitted = match world.admit(alloc, &arrival) {
@@ -54,8 +55,8 @@ fn admit(alloc: Global, world: &mut World<ByRemainder>, body: &str) -> Result<Ad
     admitted.map_err(|_| Unlike::Wrong("not admitted"))
 }
 
-// Brings the shards up, once more where one was refused memory. It says that one is behind then, and none once memory is there, and so it
-// is: the others have come to the end.
+// Advances the shards. If one of them lacks memory, checks that exactly that one is reported as
+// behind, and that a second attempt advances it to the end.
 fn bring_up<R: Threads + Sync>(
     rt: &R,
     alloc: Global,
@@ -75,7 +76,7 @@ fn bring_up<R: Threads + Sync>(
     Err(Unlike::Wrong("shards stay behind"))
 }
 
-// How many shards have come to the end. The others go on by an entry.
+// Counts the shards at the end of the list. Advances each other shard by one entry.
 fn level(alloc: Global, world: &mut World<ByRemainder>) -> usize {
     let mut level = 0usize;
     for shard in 0..SHARDS {

@@ -7,22 +7,22 @@ use Rattle.bx_roster.specs.declared.edit.Edit.{Edit}
 use Rattle.bx_roster.specs.declared.edit.Edit.TheVariants.{Open, Extend, Close}
 use Rattle.bx_registry.specs.declared.draft.Sender.{Sender}
 
--- the sessions that the request finds, and the edits of its messages so far
+-- The sessions before the request, and the edits of its messages so far.
 pub record Drafted : Type 0 where
   pub base : Members
   pub edits : List Edit
 
--- the sessions behind those edits
+-- The sessions after those edits.
 abbrev pub members_of : Drafted → Members
 members_of d = fold edited d.base d.edits
 
--- what is known of the session with a number after one more edit
+-- What is known of session `number` after one more edit.
 abbrev pub known_after : ℕ → Option (List ℕ × Bool) → Edit → Option (List ℕ × Bool)
 known_after number known (Open s) = option_or known (if s.number == number then Some (known_of s) else None)
 known_after number known (Extend n due) = known
 known_after number known (Close n) = if n == number then None else known
 
--- the edits can be made at the base, and the counts are those of the sessions behind them
+-- The edits can be made at `base`, and the counts are those of the sessions after them.
 pub record IsDrafted (base : Members) (edits : List Edit) (count opened : ℕ) : Type 0 where
   pub limit : base.limit < 2 ^ 64
   pub small : opened < 2 ^ 64
@@ -33,11 +33,11 @@ pub record IsDrafted (base : Members) (edits : List Edit) (count opened : ℕ) :
   pub table : IsTable 0 (fold edited base edits).opened (fold edited base edits).live
   pub all : AllLive (fold edited base edits).live
 
--- that a session is the one with this number and this client id, and acknowledges or does not
+-- A session is there, with this number, client id and choice to acknowledge.
 abbrev pub IsSender : Option Registered → ℕ → List ℕ → Bool → Type 0
 IsSender None number client ack = ⊥
 IsSender (Some r) number client ack = (r.number ≡ number) × (r.client ≡ client) × (r.ack ≡ ack)
 
--- a session with this number and this client id, that acknowledges or does not
+-- A live session with the sender's number, client id and choice to acknowledge.
 abbrev pub named : Sender → Registered
 named s = record { number = s.number; client = s.client.now; ack = s.ack; due = 0; live = true }

@@ -1,18 +1,18 @@
--- The number that a client id ends in.
+-- The number at the end of a client id.
 use Rattle.std.specs.Prelude.{ℕ, ◌+◌, ◌-◌, ◌*◌, ◌%◌, ◌^◌, List, drop, fold, nat_lt, if◌then◌else◌}
 
--- what a hexadecimal digit counts, lower case
+-- The value of a lower-case hexadecimal digit.
 abbrev pub digit_value : ℕ → ℕ
 digit_value byte = if nat_lt byte 58 then byte - 48 else byte - 87
 
--- the number so far with one more digit, in 64 bits
+-- The number with one more digit, in 64 bits.
 abbrev pub with_digit : ℕ → ℕ → ℕ
 with_digit number byte = (number * 16 % 2 ^ 64 + digit_value byte) % 2 ^ 64
 
--- the number that these digits are
+-- The number that digits give, in 64 bits.
 abbrev pub hex_value : List ℕ → ℕ
 hex_value digits = fold with_digit 0 digits
 
--- the number behind the nonce
+-- The number after a client id's nonce.
 abbrev pub number_in : List ℕ → ℕ
 number_in client = hex_value (drop 32 client)

@@ -1,4 +1,4 @@
--- What the judging of a message hands on.
+-- What judging a message results in.
 use Rattle.std.specs.Prelude.{ℕ, ◌≡◌, ⊤, Bool, true, false, List, [], ◌∷◌, fold, is_some, option_to_list, Option}
 use Rattle.std.specs.List.{list_any}
 use Rattle.bx_names.specs.Faults.{name_fault, pattern_fault}
@@ -15,17 +15,17 @@ use Rattle.bx_registry.specs.Rolls.{members_after}
 use Rattle.bx_registry.specs.Slots.{given_by}
 use Rattle.bx_registry.specs.declared.judge.Judgement.{Judgement}
 
--- an accepted message of a session moves its due moment on; a disconnect closes the session
+-- An accepted message extends its session's due moment; a disconnect closes the session.
 abbrev pub edit_for : MessageKind → ℕ → ℕ → Edit
 edit_for message_kinds.Disconnect number due = Close number
 edit_for _ number due = Extend number due
 
--- whether a message of this kind, with this client id, has to be of a session, where it is no handshake
+-- Whether a message other than a handshake needs a session.
 abbrev pub is_needed : Config → MessageKind → TextMember → Bool
 is_needed config message_kinds.Publish client = needs_session config client
 is_needed config _ client = true
 
--- the edit, if there is one, the senders, the kind of the entry, its rider and the slot are those of the outcome at this place
+-- The judgement has the edit, senders, entry kind, rider and slot of the verdict at `place`.
 pub record IsVerdict (setup : Setup) (ms : Members) (place : ℕ) (o : Verdict) (j : Judgement) : Type 0 where
   pub members : fold edited ms (option_to_list j.edit) ≡ members_after ms o
   pub can : CanEditEach ms (option_to_list j.edit)
@@ -34,16 +34,16 @@ pub record IsVerdict (setup : Setup) (ms : Members) (place : ℕ) (o : Verdict) 
   pub rider : j.rides ≡ o.rides
   pub answer : given_by setup place o.slot ≡ j.slot ∷ []
 
--- a message that would be answered so is this rider, if it is one, and this is its slot at this place
+-- A message with this answer has this rider, if any, and this slot at `place`.
 pub record IsRidden (setup : Setup) (place : ℕ) (rider : Option Rider) (answer : PlaceSlot) (rides : Option Rider) (slot : Slot) : Type 0 where
   pub same : rides ≡ rider
   pub answered : given_by setup place (slot_with rider answer) ≡ slot ∷ []
 
--- whether some text does not read as a pattern
+-- Whether some text is not a valid pattern.
 abbrev pub has_fault : List (List ℕ) → Bool
 has_fault texts = list_any (λ text. is_some (pattern_fault text)) texts
 
--- where a message of this kind names patterns, each of them reads as one; where it is a publish, its channel reads as a name
+-- The patterns of a subscribe or an unsubscribe, and the channel of a publish, are valid.
 abbrev pub AreReadable : MessageKind → Message → Type 0
 AreReadable message_kinds.Subscribe message = has_fault message.texts ≡ false
 AreReadable message_kinds.Unsubscribe message = has_fault message.texts ≡ false

@@ -1,4 +1,4 @@
--- What a plan says of the messages of a request.
+-- What a plan has for the messages of a request.
 use Rattle.std.specs.Prelude.{List, map, flat_map, Option, Some, None, Result, Ok, Err}
 use Rattle.bx_entry.specs.declared.entry.{Entry.Entry, Slot.Slot}
 use Rattle.bx_entry.specs.Placings.{Setup}
@@ -7,15 +7,15 @@ use Rattle.bx_registry.specs.Slots.{given_by}
 use Rattle.bx_entry.specs.declared.input.{AdmitFault.AdmitFault, Refusal.Refusal}
 use Rattle.bx_entry.specs.declared.input.AdmitFault.TheVariants.{Refused}
 
--- the entries of what is found
+-- The entries of judged messages.
 abbrev pub entries_in : List Judged → List Entry
 entries_in found = map (λ (j : Judged). j.entry) found
 
--- how the messages are answered, in order
+-- The slots of judged messages, in order.
 abbrev pub slots_in : Setup → List Judged → List Slot
 slots_in setup found = flat_map (λ (j : Judged). given_by setup j.entry.place j.slot) found
 
--- whether a refusal is in the way
+-- An error if there is a refusal.
 abbrev pub checked : Option Refusal → Result (Unit {0}) AdmitFault
 checked None = Ok tt
 checked (Some refusal) = Err (Refused refusal)

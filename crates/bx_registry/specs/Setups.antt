@@ -1,8 +1,8 @@
--- What a request is judged under, as the definitions have it.
+-- The setup under which a request is judged, in the definitions' form.
 use Rattle.std.specs.Prelude.{ℕ}
 use Rattle.bx_entry.specs.Placings as placings
 use Rattle.bx_registry.specs.declared.setup.Setup.{Setup}
 
--- the configuration with the placing by which sessions stand in shards
+-- The configuration, the number of shards and the placing.
 abbrev pub setup_of : {P : Type 0} → (P → ℕ → ℕ → ℕ) → Setup P → placings.Setup
 setup_of place_of s = record { config = s.config.now; shards = s.shards; placing = place_of s.placing.now }

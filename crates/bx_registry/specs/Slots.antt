@@ -5,21 +5,21 @@ use Rattle.bx_entry.specs.Placings.{Setup}
 use Rattle.bx_entry.specs.declared.entry.Slot.{Slot}
 use Rattle.bx_entry.specs.declared.entry.Slot.TheVariants as answers
 
--- what a slot gives to its sender, a message's reply or the ticket of a connect or a rider; a tick gives nothing
+-- What a slot gives its sender: a reply, the ticket of a connect or rider, or nothing for a tick.
 abbrev pub given_by : Setup → ℕ → PlaceSlot → List Slot
 given_by setup place (Ready reply) = answers.Ready reply ∷ []
 given_by setup place (Waiting session) = answers.Waiting (record { place = place; shard = setup.placing session setup.shards }) ∷ []
 given_by setup place NoSlot = []
 
--- what the places of the list give to their senders
+-- What the slots from `place` on give their senders.
 abbrev pub given_from : Setup → ℕ → List PlaceSlot → List Slot
 given_from setup place [] = []
 given_from setup place (slot ∷ slots) = given_by setup place slot ++ given_from setup (place + 1) slots
 
--- the slots of all places
+-- The slots of all places.
 abbrev pub slots_of : Registry → List PlaceSlot
 slots_of r = map (λ (j : Judged). j.slot) r.judged
 
--- what those of a request's messages give, when it stands at the end of the list
+-- What the slots of a request's messages give, if it is appended to the list.
 abbrev pub admitted_slots : Setup → List Listed → List Listed → List Slot
 admitted_slots setup list added = given_from setup (length list) (drop (length list) (slots_of (registry setup.config (list ++ added))))

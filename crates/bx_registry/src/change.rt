@@ -1,8 +1,8 @@
-//! What a request or a tick changes.
+//! The planned change to the registry.
 use bx_roster::Edits;
 use std::marker::Model;
 
-/// What a plan changes of the registry that it was planned at.
+/// The change that a plan makes to the registry that planned it.
 #[derive(Drop)]
 pub struct Change {
     pub(crate) edits: Edits,

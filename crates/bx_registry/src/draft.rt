@@ -1,4 +1,4 @@
-//! A request that is being judged, message by message.
+//! The sessions while a request is being judged.
 ghost use Rattle.std.specs.Prelude.{◌≡◌, ◌+◌, ◌<◌, ◌≤◌, ◌++◌, ◌∷◌, [], ℕ, length, option_map, IfOk, OnOk, OnErr, MatchOption};
 ghost use Rattle.bx_entry.specs.Registry.{count_live, live_with_id, named_by};
 ghost use Rattle.bx_roster.specs.Tables.{AllLive, IsTable, known_at};
@@ -11,16 +11,18 @@ use bx_roster::{Edit, Known, Table};
 use std::alloc::{AllocError, AllocFailed, Global};
 use std::marker::Model;
 
-/// The session that a message names.
+/// The live session that a message names.
 #[derive(Drop)]
 pub(crate) struct Sender<'m> {
     pub(crate) number: u64,
     pub(crate) client: &'m Text,
-    /// Whether it acknowledges.
+    /// Whether the session acknowledges.
     pub(crate) ack: bool,
 }
 
-/// The sessions as they are behind the messages that were judged. Nothing is changed yet.
+/// The sessions after the messages judged so far.
+///
+/// The table is unchanged until the edits are committed.
 #[derive(Drop)]
 pub(crate) struct Draft<'a> {
     table: &'a Table,
@@ -40,7 +42,7 @@ impl<'a> Model for Draft<'a> {
 }
 
 impl<'a> Draft<'a> {
-    /// The sessions as they are.
+    /// Creates a draft without edits.
     pub(crate) fn new(alloc: Global, table: &'a Table) -> Draft<'a>
         ensures { result ≡ record { base = table.now.members; edits = [] } }
     {
@@ -53,7 +55,7 @@ impl<'a> Draft<'a> {
         }
     }
 
-    /// How many sessions are live, and how many were opened.
+    /// Returns how many sessions are live, and how many were ever opened.
     #[tactic(auto, using(crate::proofs::Drafting::counting))]
     pub(crate) fn counts(&self) -> (usize, u64)
         ensures live { result.0 ≡ count_live (members_of self.now).live }
@@ -63,7 +65,9 @@ impl<'a> Draft<'a> {
         (self.count, self.opened)
     }
 
-    /// The live session that a message of this kind names. A handshake names none.
+    /// Returns the live session that `message` names, if any.
+    ///
+    /// Handshakes and unknown meta channels name none.
     pub(crate) fn named_by<'m>(
         &self,
         message_kind: MessageKind,
@@ -79,12 +83,12 @@ impl<'a> Draft<'a> {
         }
     }
 
-    // The number at the id's end is that of the only session that can have it.
+    // Finds the live session with this client id. Its last digits name the only candidate.
     fn live_with_id<'m>(&self, client: &'m Text) -> Option<Sender<'m>>
         ensures { MatchOption result (live_with_id (members_of self.now).live client.now ≡ None)
             (λ s. IsSender (live_with_id (members_of self.now).live client.now) s.number s.client.now s.ack) }
     {
-        // Read for the prover: a use of a field tells it what holds of the fields together.
+        // Prover: reading a field makes the struct's invariant available.
         let _ = &self.edits;
         let number = number_in(client.as_str());
         let known = self.known_at(number)?;
@@ -99,7 +103,7 @@ impl<'a> Draft<'a> {
         }
     }
 
-    // What is known of the live session with this number.
+    // Returns what is known of the live session `number`, if any.
     #[tactic(auto, using(crate::proofs::Drafting::knowing))]
     fn known_at(&self, number: u64) -> Option<Known<'_>>
         ensures { option_map (λ k. (k.client.now, k.ack)) result ≡ known_at number (members_of self.now).live }
@@ -111,7 +115,11 @@ impl<'a> Draft<'a> {
         known
     }
 
-    /// Takes one more edit down.
+    /// Adds an edit, which must be possible after the earlier ones.
+    ///
+    /// # Errors
+    ///
+    /// `AllocError` if memory runs out; nothing has changed.
     pub(crate) fn push(&mut self, edit: Edit) -> Result<(), AllocError>
         requires { CanEdit (members_of self.old) edit }
         ensures base { self.new.base ≡ self.old.base }
@@ -128,7 +136,7 @@ impl<'a> Draft<'a> {
         Ok(())
     }
 
-    /// The edits, in order.
+    /// Returns the edits, in order.
     pub(crate) fn into_edits(self) -> Sequence<Edit>
         ensures edits { result ≡ self.entry.edits }
         ensures can { CanEditEach self.entry.base self.entry.edits }

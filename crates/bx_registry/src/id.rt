@@ -1,4 +1,4 @@
-//! Client ids: a nonce and a session's number in hexadecimal digits.
+//! Client ids: a nonce and a session's number, in hexadecimal digits.
 ghost use Rattle.std.specs.Prelude.{◌≡◌, ◌++◌, ◌<◌, ◌-◌, string_bytes, IfOk, OnOk, fold, drop};
 ghost use Rattle.std.specs.Char.{digit_char};
 ghost use Rattle.bx_entry.specs.Registry.{client_id, hex_digits};
@@ -7,12 +7,17 @@ ghost use Rattle.bx_registry.specs.Ids.{digit_value, hex_value, number_in, with_
 use bx_message::Text;
 use std::alloc::{AllocError, Global};
 
-// Digits of the nonce, and of the number.
+// Number of digits of the nonce.
 const NONCE_DIGITS: usize = 32;
 
+// Number of digits of the session's number.
 const NUMBER_DIGITS: usize = 16;
 
-/// 32 digits of the nonce and 16 of the number, lower case.
+/// Creates a client id: 32 lower-case digits of `nonce`, then 16 of `number`.
+///
+/// # Errors
+///
+/// `AllocError` if memory runs out.
 pub(crate) fn client_id(alloc: Global, nonce: u128, number: u64) -> Result<Text, AllocError>
     ensures { IfOk result (λ id. id ≡ client_id nonce number) }
 {
@@ -22,7 +27,7 @@ pub(crate) fn client_id(alloc: Global, nonce: u128, number: u64) -> Result<Text,
     Text::from_string(id)
 }
 
-// Adds the last `width` digits of a number.
+// Appends the last `width` hexadecimal digits of `number`.
 fn push_hex(text: &mut String, number: u128, width: usize) -> Result<(), AllocError>
     ensures { OnOk result (string_bytes text.new ≡ string_bytes text.old ++ hex_digits width number) }
 {
@@ -33,7 +38,7 @@ fn push_hex(text: &mut String, number: u128, width: usize) -> Result<(), AllocEr
     text.push(hex_digit((number % 16) as u8))
 }
 
-// The digit of a number below 16.
+// Returns the hexadecimal digit for `number`, which is below 16.
 fn hex_digit(number: u8) -> char
     requires { number < 16 }
     ensures { result ≡ digit_char number }
@@ -45,7 +50,9 @@ fn hex_digit(number: u8) -> char
     }
 }
 
-/// The number that the digits behind the nonce are, in 64 bits; anything where they are no digits.
+/// Returns the session's number in a client id: the digits after the nonce, modulo 2^64.
+///
+/// If `client` is no client id, the result is arbitrary.
 pub(crate) fn number_in(client: &str) -> u64
     ensures { result ≡ number_in client.now }
 {

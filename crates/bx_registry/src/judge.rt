@@ -1,4 +1,4 @@
-//! What a message comes to.
+//! The judgement of one message: what it changes, its entry and its reply.
 ghost use Rattle.std.specs.Prelude.{◌≡◌, ◌+◌, ◌<◌, ◌≤◌, ◌^◌, ◌∷◌, [], ℕ, Some, None, List, false, length, min, unwrap_or, map, filter, not, if◌then◌else◌, is_some, IfOk, Option, option_map};
 ghost use Rattle.std.specs.Option.{option_copied};
 ghost use Rattle.bx_names.specs.Faults.{name_fault, pattern_fault};
@@ -38,19 +38,29 @@ use bx_names::{ChannelName, NameError, Pattern, is_service};
 use bx_roster::{Edit, LiveSession};
 use std::alloc::{AllocError, AllocFailed, Global};
 
-/// What a message comes to: what it changes of the sessions, its entry's kind and the rider that it is, how it is
-/// answered, and whose the messages so far are then.
+/// The result of judging a message.
 #[derive(Drop)]
 pub(crate) struct Judgement {
+    /// The change to the sessions.
     pub(crate) edit: Option<Edit>,
+    /// The kind of the message's entry.
     pub(crate) kind: EntryKind,
+    /// The rider, if the message is one.
     pub(crate) rides: Option<Rider>,
+    /// The reply, or the ticket for the answer.
     pub(crate) slot: Slot,
+    /// The senders for judging the next message.
     pub(crate) senders: Senders,
 }
 
-/// Judges a message by the sessions behind those before it, which are those senders': what it comes to at this place
-/// and moment.
+/// Judges the message at `place`, given the sessions after the request's earlier messages.
+///
+/// `senders`: who sent those messages. `moment`: the clock, in milliseconds since the server
+/// started.
+///
+/// # Errors
+///
+/// `AllocError` if memory runs out.
 pub(crate) fn judge<P: Placing>(
     alloc: Global,
     setup: &Setup<'_, P>,
@@ -85,7 +95,7 @@ pub(crate) fn judge<P: Placing>(
     }
 }
 
-// A refused message changes nothing but the list.
+// Rejects a message with `error`. Only the list changes.
 fn refuse(
     config: &Config,
     posted: Posted<'_>,
@@ -119,7 +129,7 @@ fn refuse(
     })
 }
 
-// An accepted message of no session, which only a publish is: it changes no session, and has its success at once.
+// Accepts a publish without a session. It changes no session and succeeds at once.
 fn note(alloc: Global, config: &Config, posted: Posted<'_>) -> Result<Judgement, AllocError>
     requires { AreReadable posted.message_kind posted.message.now }
     ensures edit { IfOk result (λ j. j.edit ≡ None) }
@@ -148,7 +158,7 @@ fn note(alloc: Global, config: &Config, posted: Posted<'_>) -> Result<Judgement,
     })
 }
 
-// The entry's kind for an accepted message of no session.
+// Returns the kind of entry for a message without a session.
 fn sessionless_kind(
     alloc: Global,
     message_kind: MessageKind,
@@ -163,8 +173,7 @@ fn sessionless_kind(
     })
 }
 
-// An accepted message of a live session. A connect or a rider waits for its answer, every other message has its success
-// at once.
+// Accepts a message of a live session. A connect or a rider waits; any other succeeds at once.
 fn serve<P: Placing>(
     alloc: Global,
     setup: &Setup<'_, P>,
@@ -203,8 +212,7 @@ fn serve<P: Placing>(
     })
 }
 
-// The senders that the next message is judged among: none yet where this one ends its request, since the next message
-// begins another.
+// Returns the senders before the next message: `NoneYet` if that begins another request.
 fn senders_behind(posted: Posted<'_>, senders: Senders) -> Senders
     ensures { result ≡ senders_behind (posted_of posted.entry) senders }
 {
@@ -215,8 +223,8 @@ fn senders_behind(posted: Posted<'_>, senders: Senders) -> Senders
     }
 }
 
-// Whether an accepted message is a rider: its request's last, where all of them are accepted ones of this session, which
-// does not acknowledge.
+// Returns `true` if an accepted message is a rider. It must end a request of accepted messages from
+// one session, which does not acknowledge.
 fn is_rider(config: &Config, senders: Senders, posted: Posted<'_>, sender: &Sender<'_>) -> bool
     ensures { result ≡ is_rider config.now senders posted.entry.message_kind (posted_of posted.entry) (named sender.now) }
 {
@@ -227,7 +235,7 @@ fn is_rider(config: &Config, senders: Senders, posted: Posted<'_>, sender: &Send
         && may_ride(posted.message_kind)
 }
 
-// Whether waiting events may go out before the reply to an accepted message of this kind.
+// Returns `true` if a reply to `message_kind` may carry waiting events.
 fn may_ride(message_kind: MessageKind) -> bool
     ensures { result ≡ may_ride message_kind }
 {
@@ -237,7 +245,7 @@ fn may_ride(message_kind: MessageKind) -> bool
     )
 }
 
-// A rider takes its reply along, and is answered by its session.
+// Moves a rider's reply from its slot into the rider. The slot then waits for the answer.
 fn ridden<P: Placing>(
     setup: &Setup<'_, P>,
     is_rider: bool,
@@ -257,8 +265,8 @@ fn ridden<P: Placing>(
     }
 }
 
-// The entry's kind for an accepted message of a live session. Neither a handshake nor a message to an unknown meta
-// channel is one.
+// Returns the kind of entry for an accepted message of a live session. Handshakes and unknown meta
+// channels do not occur here.
 fn kind_for(
     alloc: Global,
     message_kind: MessageKind,
@@ -293,7 +301,7 @@ fn kind_for(
     })
 }
 
-// How an accepted message of a live session is answered where it is no rider.
+// Returns how an accepted message of a live session is answered, unless it is a rider.
 fn slot_for<P: Placing>(
     setup: &Setup<'_, P>,
     message_kind: MessageKind,
@@ -321,7 +329,7 @@ fn slot_for<P: Placing>(
     }
 }
 
-// The number that a connect acknowledges.
+// Returns the batch that a connect acknowledges.
 fn acked_by(ack: AckMember) -> Option<u64>
     ensures { result ≡ acked_by ack }
 {
@@ -331,7 +339,7 @@ fn acked_by(ack: AckMember) -> Option<u64>
     }
 }
 
-// A session is opened under this number.
+// Accepts a handshake, which opens session `number`.
 fn open(
     alloc: Global,
     config: &Config,
@@ -371,7 +379,7 @@ fn open(
     })
 }
 
-// How the handshake that opens the session with this client id is answered.
+// Creates the reply to a handshake that opens a session.
 fn opened_reply(config: &Config, message: &Message, client: &Text) -> Result<Reply, AllocError>
     ensures { IfOk result (λ reply. reply ≡ reply_to config.now message_kinds.Handshake message.now
         (Some client.now) advice.Opened (if is_ack message.now.ack then replies.AckTrue else replies.NoAck)) }
@@ -391,7 +399,7 @@ fn opened_reply(config: &Config, message: &Message, client: &Text) -> Result<Rep
     )
 }
 
-// Whether a handshake turns acknowledgement on.
+// Returns `true` if a handshake turns acknowledgement on.
 fn is_ack(ack: AckMember) -> bool
     ensures { result ≡ is_ack ack }
 {
@@ -401,8 +409,9 @@ fn is_ack(ack: AckMember) -> bool
     }
 }
 
-// How long a connect may be held: only a request's sole message is. (Bayeux 1.0, connect request; that only a sole
-// message is held is this server's choice.)
+// Returns how long a connect may be held, in milliseconds. Only a request's sole message is held.
+//
+// Bayeux 1.0, connect request. Holding only such a message is a policy of this server.
 fn hold_of(config: &Config, posted: Posted<'_>) -> u64
     ensures hold { result ≡ hold_of config.now (posted_of posted.entry) }
     ensures small { result < 2 ^ 32 }
@@ -416,7 +425,7 @@ fn hold_of(config: &Config, posted: Posted<'_>) -> u64
     }
 }
 
-// When a session is due after a message at this moment that is held so long.
+// Returns when a silent session expires after a message at `moment`, held for `hold` milliseconds.
 fn due_after(config: &Config, moment: u64, hold: u64) -> u64
     requires moment { moment ≤ greatest_moment }
     requires hold { hold < 2 ^ 32 }
@@ -426,7 +435,7 @@ fn due_after(config: &Config, moment: u64, hold: u64) -> u64
     moment + hold + u64::from(interval)
 }
 
-// What an accepted message of a session changes: a disconnect closes it.
+// Returns an accepted message's change: a disconnect closes its session, others extend it.
 fn edit_for(message_kind: MessageKind, number: u64, due: u64) -> Edit
     ensures { result ≡ edit_for message_kind number due }
 {
@@ -436,7 +445,7 @@ fn edit_for(message_kind: MessageKind, number: u64, due: u64) -> Edit
     }
 }
 
-// The subscription's patterns, without those of service channels.
+// Parses the patterns of a subscription, except those of service channels.
 #[tactic(auto, using(crate::proofs::Judging::reading))]
 fn patterns_of(alloc: Global, message: &Message) -> Result<Sequence<Pattern>, AllocError>
     requires { has_fault message.now.texts ≡ false }
@@ -451,7 +460,7 @@ fn patterns_of(alloc: Global, message: &Message) -> Result<Sequence<Pattern>, Al
     Ok(patterns)
 }
 
-// A text without a fault reads as a pattern, where there is memory.
+// Parses a valid pattern. Fails only if memory runs out.
 fn pattern_of(alloc: Global, text: &str) -> Result<Pattern, AllocError>
     requires { pattern_fault text.now ≡ None }
     ensures { IfOk result (λ p. p ≡ glob_of (segments text.now)) }
@@ -463,7 +472,7 @@ fn pattern_of(alloc: Global, text: &str) -> Result<Pattern, AllocError>
     }
 }
 
-// The event of a publish, without the publisher's id, with the name of its channel.
+// Creates the event of a publish, without the publisher's client id.
 fn event_of(alloc: Global, message: &Message) -> Result<SharedEvent, AllocError>
     requires { is_some (name_fault message.now.channel) ≡ false }
     ensures { IfOk result (λ e. e ≡ event_of message.now) }

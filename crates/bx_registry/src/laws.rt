@@ -1,12 +1,14 @@
-//! What is said of a roll holds of the registry whose roll it is.
+//! Laws that relate what the program keeps to the whole registry.
 ghost use Rattle.bx_registry.specs.Laws.{StepsAgree, RunsAgree};
 
-/// A roll after one more element is the roll of the registry after it, and finds what the registry finds there.
+/// Proves that a roll and its registry agree after one more element, and on its result.
+///
+/// A roll is what the program keeps of a registry.
 pub fn steps_agree()
     ensures { StepsAgree }
 {}
 
-/// So it is after any list of elements, such as those of a request.
+/// Proves that a roll and its registry agree after any list, such as a request.
 pub fn runs_agree()
     ensures { RunsAgree }
 {}

@@ -1,4 +1,4 @@
-//! Who is live: the only place where a message is judged, and what a request or a tick adds to the list.
+//! The registry of live sessions, the only place where messages are judged and become entries.
 #![tactic(auto)]
 
 mod change;

@@ -1,17 +1,17 @@
-//! What is planned for a request or a tick.
+//! The planned effect of a request or a tick.
 use crate::change::Change;
 use bx_entry::{Batch, Listing, Slot};
 use bx_message::Sequence;
 
-/// What a request or a tick adds to the list.
+/// What a request or a tick will add to the list and change.
 #[derive(Drop)]
 pub struct Plan {
-    /// The entries of its messages, or the tick's with the numbers of the sessions that it closes.
+    /// An entry for each message, or the tick's, which names the sessions that it closes.
     pub batch: Batch,
-    /// For each message in order how it is answered; none for a tick.
+    /// How each message is answered, in order. Empty for a tick.
     pub slots: Sequence<Slot>,
-    /// The messages or the tick, for contracts alone.
+    /// Ghost: the messages or the tick.
     pub elements: Listing,
-    /// What is to be committed.
+    /// The change to commit.
     pub change: Change,
 }

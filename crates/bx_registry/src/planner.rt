@@ -1,4 +1,4 @@
-//! The messages of a request, one after another.
+//! The judgement of a request, message by message.
 ghost use Rattle.std.specs.Prelude.{◌≡◌, ◌+◌, ◌<◌, ◌≤◌, ◌&&◌, ◌==◌, max, Some, List, length, IfOk};
 ghost use Rattle.bx_advice.specs.Limits.{greatest_length, greatest_moment};
 ghost use Rattle.bx_message.specs.MessageKinds.{is_handshake};
@@ -20,27 +20,31 @@ use bx_entry::{Entry, Placing, Senders, Slot};
 use bx_message::{Message, MessageKind, Sequence};
 use std::alloc::{AllocError, AllocFailed, Global};
 
-/// What the messages of a request come to.
+/// The result of judging a request's messages.
 #[derive(Drop)]
 pub(crate) struct Planning {
     pub(crate) entries: Sequence<Entry>,
     pub(crate) slots: Sequence<Slot>,
-    /// The greatest moment behind them.
+    /// The clock after the messages, in milliseconds.
     pub(crate) clock: u64,
 }
 
-/// Where a request starts: what it hands in beside its messages, and how far the list and the clock are.
+/// A request's moment and nonce, and the list's length and the clock before it.
 #[derive(Clone, Copy)]
 pub(crate) struct Start {
     pub(crate) moment: u64,
     pub(crate) nonce: u128,
-    /// The place of its first entry.
+    /// The place of the request's first entry.
     pub(crate) place: u64,
-    /// The greatest moment before it.
+    /// The greatest moment before the request.
     pub(crate) clock: u64,
 }
 
-/// Judges the messages of a request in order.
+/// Judges the messages of a request in order, and adds their edits to `draft`.
+///
+/// # Errors
+///
+/// `AllocError` if memory runs out. `draft` may then have some of the edits.
 pub(crate) fn plan_all<P: Placing>(
     alloc: Global,
     setup: &Setup<'_, P>,
@@ -83,7 +87,7 @@ pub(crate) fn plan_all<P: Placing>(
     })
 }
 
-// A message of the request that starts there, of which it is said whether a handshake was seen.
+// Pairs `message` with its request's data. `seen`: whether an earlier one is a handshake.
 fn posted_at(start: Start, message: &Message, sole: bool, last: bool, seen: bool) -> Posted<'_>
     ensures { posted_of result ≡ record {
       message = message.now;
@@ -106,7 +110,7 @@ fn posted_at(start: Start, message: &Message, sole: bool, last: bool, seen: bool
     }
 }
 
-// Judges the message at this place, behind messages that are those senders', and takes down what it changes.
+// Judges the message at `place`, after messages from `senders`, and adds its edit to `draft`.
 fn plan_next<P: Placing>(
     alloc: Global,
     setup: &Setup<'_, P>,

@@ -1,29 +1,29 @@
-//! A message as it stands in the list.
+//! A message of a request that is being judged.
 ghost use Rattle.std.specs.Prelude.{◌≡◌};
 ghost use Rattle.bx_message.specs.MessageKinds.{is_handshake, message_kind_of};
 ghost use Rattle.bx_message.specs.declared.message.Message.{Message};
 
 use bx_message::{Message, MessageKind};
 
-/// A message with what was handed in with its request.
+/// A message, with its request's moment and nonce.
 #[derive(Clone, Copy)]
 pub(crate) struct Posted<'a> {
     pub(crate) message: &'a Message,
-    /// What it is for, by its channel.
+    /// The kind of message, by its channel.
     pub(crate) message_kind: MessageKind,
-    /// The request's moment, in milliseconds.
+    /// The request's moment: milliseconds since the server started.
     pub(crate) moment: u64,
     pub(crate) nonce: u128,
-    /// Whether it is its request's sole message.
+    /// Whether this is its request's only message.
     pub(crate) sole: bool,
-    /// Whether it is its request's last message.
+    /// Whether this is its request's last message.
     pub(crate) last: bool,
-    /// Whether it is a handshake behind another one of its request.
+    /// Whether this is a handshake after another one in its request.
     pub(crate) second: bool,
     pub(crate) ghost by_channel: { message_kind ≡ message_kind_of message.now.channel },
 }
 
-/// Whether a message of this kind asks for a new session.
+/// Returns `true` if `message_kind` is a handshake.
 pub(crate) fn is_handshake(message_kind: MessageKind) -> bool
     ensures { (message : Message) → message_kind ≡ message_kind_of message.channel
         → result ≡ is_handshake message }

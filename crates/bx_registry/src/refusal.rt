@@ -1,4 +1,4 @@
-//! Which message is refused, and why.
+//! Which messages are refused, and why.
 ghost use Rattle.std.specs.Prelude.{◌≡◌, List, None, length, nat_lt, nat_le, not, is_some, is_none};
 ghost use Rattle.std.specs.List.{list_any};
 ghost use Rattle.bx_names.specs.Faults.{name_fault, pattern_fault};
@@ -12,8 +12,9 @@ use bx_advice::{Config, Error};
 use bx_message::{Message, MessageKind, Text, TextMember};
 use bx_names::{ChannelKind, is_meta, kind_of, name_fault, pattern_fault};
 
-/// Why a message is refused, where so many sessions are live, and it is `known` whether it names one
-/// of them: the first line that holds. They stand in the order of the errors.
+/// Returns the first error, in the order of `Error`, that refuses a message, if any.
+///
+/// `live`: how many sessions are live. `known`: whether the message names one of them.
 #[tactic(auto, using(crate::proofs::Judging::accepted))]
 pub(crate) fn refusal(
     config: &Config,
@@ -57,7 +58,7 @@ pub(crate) fn refusal(
     }
 }
 
-// Whether a message has to be of a session: a publish without a client id may be of none.
+// Returns `true` if a message needs a session. A publish without a client id may need none.
 fn is_needed(config: &Config, message_kind: MessageKind, client: &TextMember) -> bool
     ensures { result ≡ is_needed config.now message_kind client.now }
 {
@@ -70,7 +71,9 @@ fn is_needed(config: &Config, message_kind: MessageKind, client: &TextMember) ->
     }
 }
 
-// The text `1`, or one that begins with `1.`. (Bayeux 1.0, version.)
+// Returns `true` if a version is the string `1`, or begins with `1.`.
+//
+// Bayeux 1.0, version.
 fn is_version(version: &TextMember) -> bool
     ensures { result ≡ is_version version.now }
 {
@@ -80,7 +83,9 @@ fn is_version(version: &TextMember) -> bool
     }
 }
 
-// Whether one of the two polling types is offered. (Bayeux 1.0, connection types.)
+// Returns `true` if a handshake offers a supported connection type.
+//
+// Bayeux 1.0, connection types.
 fn has_polling(message: &Message) -> bool
     ensures { result ≡ list_any is_polling message.now.supported }
 {
@@ -106,7 +111,7 @@ fn is_text(member: &TextMember) -> bool
     }
 }
 
-// One of the two polling types, or absent.
+// Returns `true` if a connection type is supported or absent.
 fn is_connection(member: &TextMember) -> bool
     ensures { result ≡ is_connection member.now }
 {
@@ -117,14 +122,14 @@ fn is_connection(member: &TextMember) -> bool
     }
 }
 
-// Whether the channel reads as a name.
+// Returns `true` if the channel is a valid name.
 fn is_name(message: &Message) -> bool
     ensures { result ≡ not (is_some (name_fault message.now.channel)) }
 {
     name_fault(message.channel.as_str()).is_none()
 }
 
-// Whether some text of the subscription does not read as a pattern.
+// Returns `true` if the subscription has an invalid pattern.
 fn has_no_pattern(message: &Message) -> bool
     ensures { result ≡ list_any (λ text. is_some (pattern_fault text)) message.now.texts }
 {
@@ -135,7 +140,7 @@ fn has_no_pattern(message: &Message) -> bool
         .any(|text| pattern_fault(text.as_str()).is_some())
 }
 
-// Whether some text of the subscription is of a meta channel.
+// Returns `true` if the subscription names a meta channel.
 fn has_meta(message: &Message) -> bool
     ensures { result ≡ list_any is_meta message.now.texts }
 {

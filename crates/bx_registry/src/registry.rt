@@ -1,4 +1,4 @@
-//! The registry: who is live, beside the list that it comes of.
+//! The registry of live sessions.
 ghost use Rattle.std.specs.Prelude.{◌≡◌, ◌+◌, ◌≤◌, ◌==◌, ◌++◌, Err, None, [], ◌∷◌, length, IfOk, IfSome, IsOkUnless};
 ghost use Rattle.std.specs.List.{list_any};
 ghost use Rattle.bx_advice.specs.Limits.{greatest_length};
@@ -24,11 +24,12 @@ use bx_roster::{Edits, Table};
 use std::alloc::{AllocError, Global};
 use std::marker::Model;
 
-/// Who is live, and among how many shards sessions are placed: the only place where a message is judged. Contracts see the list of
-/// all that was admitted, which the program does not keep.
+/// The live sessions, and the number of shards in which they are placed.
 ///
-/// What a request or a tick comes to is planned first, which leaves the list as it is and has a record made for a session that is
-/// opened, and then committed, which takes no memory and refuses nothing.
+/// Messages are judged only here. A request or a tick is first planned, which leaves the list
+/// unchanged, and then committed, which neither allocates nor fails.
+///
+/// Model: includes the list of all that was admitted, which the program does not keep.
 #[derive(Drop)]
 pub struct Registry {
     config: Config,
@@ -55,8 +56,13 @@ impl Model for Registry {
 }
 
 impl Registry {
-    /// An empty list, for the configuration's number of shards. It takes room for the due moments of as many sessions as may
-    /// be live. An error means that memory was refused.
+    /// Creates a registry with an empty list and `config.shards` shards.
+    ///
+    /// Reserves room for the due moments of as many sessions as may be live.
+    ///
+    /// # Errors
+    ///
+    /// `AllocError` if memory runs out.
     pub fn new(alloc: Global, config: Config) -> Result<Registry, AllocError>
         ensures { IfOk result (λ r. (r.config ≡ config) × (r.shards ≡ config.shards) × (r.list ≡ [])) }
     {
@@ -71,38 +77,48 @@ impl Registry {
         })
     }
 
-    /// How many messages and ticks were admitted.
+    /// Returns how many messages and ticks were admitted.
     pub fn entries(&self) -> u64
         ensures { result ≡ length self.now.list }
     {
         self.entries
     }
 
-    /// How many sessions are live.
+    /// Returns how many sessions are live.
     pub fn sessions(&self) -> usize
         ensures { result ≡ count_live (registry self.now.config self.now.list).sessions }
     {
         self.table.counts().0
     }
 
-    /// How many sessions were opened.
+    /// Returns how many sessions were ever opened.
     pub fn opened(&self) -> u64
         ensures { result ≡ (roll_at self.now.config self.now.list).members.opened }
     {
         self.table.counts().1
     }
 
-    /// Whether the session with this number is live.
+    /// Returns `true` if session `number` is live.
     pub fn live(&self, number: u64) -> bool
         ensures { result ≡ list_any (λ (r : Registered). r.number == number) (roll_at self.now.config self.now.list).members.live }
     {
         self.table.known_at(number).is_some()
     }
 
-    /// What a request comes to: its messages are judged in order, each behind those before it, and the ticket of a
-    /// connect or a rider names the shard of its session. It is refused where its moment, in milliseconds, is above the
-    /// greatest that is taken, else where the list would become too long, or else where memory is refused. Where it opens a
-    /// session there is then a record for it, which `commit` fills.
+    /// Plans a request: judges its messages in order, each after the effects of those before it.
+    ///
+    /// The ticket of a connect or a rider names its session's shard. If a session is opened, its
+    /// record is reserved for [`commit`](Self::commit).
+    ///
+    /// `moment`: milliseconds since the server started.
+    ///
+    /// # Errors
+    ///
+    /// The first of these that applies; nothing has changed:
+    ///
+    /// - `Refused(BadMoment)`: the moment is too large.
+    /// - `Refused(Ended)`: the list would become too long.
+    /// - `Memory`: memory ran out.
     pub fn plan<P: Placing>(
         &mut self,
         alloc: Global,
@@ -153,9 +169,14 @@ impl Registry {
         })
     }
 
-    /// What a tick at this moment, in milliseconds, comes to: it closes the live sessions that were due before it. It
-    /// is refused as a request with one message is. It costs O(closed * log n) amortised, where n sessions may be
-    /// live.
+    /// Plans a tick, which closes the live sessions whose due moment is before the clock.
+    ///
+    /// `moment`: milliseconds since the server started. The clock is the greatest moment so far.
+    /// Takes O(closed * log n) amortized time, if n sessions may be live.
+    ///
+    /// # Errors
+    ///
+    /// As [`plan`](Self::plan) for one message.
     pub fn plan_tick(&mut self, alloc: Global, moment: u64) -> Result<Plan, AdmitFault>
         ensures same { self.new ≡ self.old }
         ensures refused { IfSome (refused_beyond moment (length self.old.list + 1)) (λ refusal. result ≡ Err (Refused refusal)) }
@@ -190,7 +211,7 @@ impl Registry {
         })
     }
 
-    // Moments and the list have an end.
+    // Checks that the moment and the list stay within their limits.
     fn check(&self, moment: u64, count: usize) -> Result<(), AdmitFault>
         ensures { result ≡ checked (refused_beyond moment (length self.now.list + count)) }
     {
@@ -203,7 +224,9 @@ impl Registry {
         Ok(())
     }
 
-    /// Makes a change that was planned at this very registry, with nothing committed since, and adds its elements to the list.
+    /// Applies a planned change and adds its `elements` to the list.
+    ///
+    /// The plan must come from this registry, with nothing committed since. Does not allocate.
     #[tactic(auto, using(crate::proofs::Planning::committing))]
     pub fn commit(&mut self, change: Change, elements: &Listing)
         requires { LeadsTo self.old change elements.now }
@@ -220,7 +243,7 @@ impl Registry {
         self.listing.join(elements);
     }
 
-    /// Places the sessions among so many shards from here on.
+    /// Places the sessions in `shards` shards from now on.
     pub fn reshard(&mut self, shards: ShardCount)
         ensures shards { self.new ≡ record self.old { shards = shards } }
         ensures in_range { (1 ≤ self.new.shards) × (self.new.shards ≤ 64) }

@@ -1,11 +1,11 @@
--- What the arguments of the program come to.
+-- What the program's arguments mean.
 use Rattle.std.specs.Prelude.{Option, Some, None, Result, Ok, Err}
 use Rattle.bx_advice.specs.Limits.{standard_limits, IsStandard}
 use Rattle.bx_replay.specs.Settings.{Settings}
 use Rattle.bx_replay.specs.declared.wrong_word.WrongWord.{WrongWord}
 use Rattle.bx_replay.specs.declared.arguments.Arguments.{Arguments}
 
--- how the server is run by them
+-- The settings of parsed arguments.
 abbrev pub run_by : Arguments → Settings
 run_by arguments = record {
   shards = arguments.config.shards;
@@ -21,13 +21,12 @@ run_by arguments = record {
   patterns = arguments.config.limits.patterns;
 }
 
--- but for how many events with how many bytes may wait for a session, how many sessions may be live, and how many patterns of one may be in force, the limits are
--- those of this server
+-- All limits except the four that arguments set are this server's standard ones.
 abbrev pub HasStandardLimits : Arguments → Type 0
 HasStandardLimits arguments =
     IsStandard (record arguments.config.limits { events = standard_limits.events; bytes = standard_limits.bytes; sessions = standard_limits.sessions; patterns = standard_limits.patterns })
 
--- how the server is run by what the words came to, where they are right
+-- The settings of arguments, if they are valid.
 abbrev pub said_by : Result Arguments WrongWord → Option Settings
 said_by (Ok arguments) = Some (run_by arguments)
 said_by (Err wrong) = None

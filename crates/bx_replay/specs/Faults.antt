@@ -4,7 +4,7 @@ use Rattle.bx_script.specs.Words.{CannotRead, HasFailed}
 use Rattle.bx_script.specs.declared.{error.ScriptFault.ScriptFault, lines.Lines.Lines, output.Output.Output}
 use Rattle.bx_script.specs.declared.error.ScriptFault.TheVariants.{Memory, Read, Write}
 
--- memory was refused, a read of the script failed or there were as many as there may be, or a write failed
+-- Memory ran out, the script could not be read on, or a write failed.
 abbrev pub IsReplayFault : {R W : Type 0} → Lines R → Output W → ScriptFault → Type 0
 IsReplayFault lines output Memory = ⊤
 IsReplayFault lines output Read = CannotRead lines

@@ -1,4 +1,4 @@
--- What the program keeps of the inputs whose outs are not printed.
+-- What is kept of the inputs whose outs are not printed yet.
 use Rattle.std.specs.Prelude.{ℕ, ◌≡◌, ◌==◌, IsSome, None, ⊤, if◌then◌else◌, map, [], ◌∷◌, List, flat_map, option_map, slice_get, string_bytes, Option, Some}
 use Rattle.std.specs.Io.KnownBytes.{Appends}
 use Rattle.bx_replay.specs.declared.kept.PendingLine.{PendingLine}
@@ -7,7 +7,7 @@ use Rattle.bx_entry.specs.Runs.{Out}
 use Rattle.bx_fanout.specs.declared.out.Out as fanout
 use Rattle.bx_theory.specs.Lines.{outs_text}
 
--- what is kept of the input of this number
+-- `a` is what is kept of input `i`.
 pub record IsKept (numbered : List Numbered) (i : ℕ) (a : PendingLine) : Type 0 where
   pub one : Numbered
   pub there : slice_get numbered i ≡ Some one
@@ -15,33 +15,33 @@ pub record IsKept (numbered : List Numbered) (i : ℕ) (a : PendingLine) : Type 
   pub callback : option_map string_bytes a.callback ≡ one.callback
   pub tick : a.tick ≡ is_tick one.input
 
--- whatever is kept is that of an input
+-- Everything that is kept belongs to an input.
 abbrev pub AreKept : List Numbered → (ℕ → Option PendingLine) → Type 0
 AreKept numbered kept = (i : ℕ) (a : PendingLine) → kept i ≡ Some a → IsKept numbered i a
 
--- These outs are printed, and what is kept after them is still that of the inputs.
+-- The outs were printed, and what is kept still belongs to inputs.
 pub record PrintsOuts (numbered : List Numbered) (os : List Out) (before after : Option (List ℕ)) (new : ℕ → Option PendingLine) : Type 0 where
   pub kept : AreKept numbered new
   pub appends : Appends before after (outs_text numbered os)
 
--- the lines of the inputs that are held
+-- The lines of the held inputs.
 abbrev pub held_texts : List Numbered → List ℕ → List ℕ
 held_texts numbered is = flat_map (λ index. held_text (slice_get numbered index)) is
 
--- what is kept but for one input
+-- What is kept, except for input `i`.
 abbrev pub without : ℕ → (ℕ → Option PendingLine) → ℕ → Option PendingLine
 without i kept j = if j == i then None else kept j
 
--- all of these inputs are kept, and stand here once
+-- All of these inputs are kept, and each is listed once.
 abbrev pub AllKept : (ℕ → Option PendingLine) → List ℕ → Type 0
 AllKept kept [] = ⊤
 AllKept kept (i ∷ is) = IsSome (kept i) × AllKept (without i kept) is
 
--- the inputs of outs
+-- The inputs of outs.
 abbrev pub inputs_given : List fanout.Out → List ℕ
 inputs_given os = map (λ (o : fanout.Out). o.input) os
 
--- these inputs are kept, and nothing is kept under the next number
+-- These inputs are kept, and none is kept under the next number, `count`.
 pub record Keeps (kept : ℕ → Option PendingLine) (is : List ℕ) (count : ℕ) : Type 0 where
   pub all : AllKept kept is
   pub none : kept count ≡ None

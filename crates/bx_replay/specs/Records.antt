@@ -1,4 +1,4 @@
--- What the first line of a record says to the program.
+-- The settings in the first line of a record.
 use Rattle.std.specs.Prelude.{ℕ, ◌^◌, ◌<◌, ◌≤◌, ◌≡◌, ◌⊎◌, ◌++◌, List, Option, Some}
 use Rattle.std.specs.List.{slice_split}
 use Rattle.bx_advice.specs.declared.config.Config.{Config}
@@ -7,7 +7,7 @@ use Rattle.bx_script.specs.Words.{first_of, is_space}
 use Rattle.bx_record.specs.Record.{config_text}
 use Rattle.bx_replay.specs.Settings.{Settings, settings_in}
 
--- times of 32 bits, and limits as words can set them
+-- Times of 32 bits, and limits as arguments can set them.
 pub record CanSay (c : Config) : Type 0 where
   pub times : (c.timeout < 2 ^ 32) × (c.interval < 2 ^ 32) × (c.max_interval < 2 ^ 32)
   pub events : (1 ≤ c.limits.events) × (c.limits.events ≤ 65536)
@@ -15,7 +15,7 @@ pub record CanSay (c : Config) : Type 0 where
   pub sessions : (1 ≤ c.limits.sessions) × (c.limits.sessions ≤ STANDARD_SESSIONS)
   pub patterns : (1 ≤ c.limits.patterns) × (c.limits.patterns ≤ STANDARD_PATTERNS)
 
--- a configuration with one worker
+-- The settings of a configuration, with one worker.
 abbrev pub alone : Config → Settings
 alone c = record {
   shards = c.shards;
@@ -31,10 +31,10 @@ alone c = record {
   patterns = c.limits.patterns;
 }
 
--- what the words of a record's first line say
+-- The settings that the first line of a record gives.
 abbrev pub recorded_settings : List ℕ → Option Settings
 recorded_settings text = settings_in (slice_split is_space (first_of text))
 
--- they say its configuration, whatever stands behind it
+-- The line of a configuration gives its settings, whatever text follows it.
 abbrev pub ConfigsAreTaken : Type 0
 ConfigsAreTaken = (c : Config) (rest : List ℕ) → CanSay c → recorded_settings (config_text c ++ rest) ≡ Some (alone c)

@@ -1,4 +1,4 @@
--- What a server has taken in of a script, and what was printed of that.
+-- What a server has taken in of a script, and what was printed for it.
 use Rattle.std.specs.Prelude.{ℕ, ◌≡◌, ◌++◌, List, [], ◌∷◌, length, map, ⊤, Option, Some, None}
 use Rattle.std.specs.{BTreeMap.get, Io.KnownBytes.Appends, Ordering.nat_cmp}
 use Rattle.bx_replay.specs.Kept.{AllKept, AreKept, PrintsOuts, held_texts}
@@ -13,51 +13,52 @@ use Rattle.bx_theory.specs.Lines.{inputs_in, outs_text, printed_so_far}
 use Rattle.bx_script.specs.declared.line.Line as script
 use Rattle.bx_script.specs.declared.line.Line.TheVariants.{Bad, Rejected, Accepted, Resharded}
 
--- the lines that were taken in, as the definitions have them
+-- The lines that were taken in, in the definitions' form.
 abbrev pub read_lines : List script.Line → List Line
 read_lines ls = map said_by ls
 
--- these lines, whose requests have their nonces
+-- These lines, each request with its nonce.
 abbrev pub seen_lines : List script.Line → List Line
 seen_lines ls = with_nonces 0 (read_lines ls)
 
--- and one more line behind them
+-- One more line after them.
 abbrev pub seen_behind : List script.Line → script.Line → Line
 seen_behind ls l = line_with (nonce_at (read_lines ls)) (said_by l)
 
--- among how many shards the sessions stand after a line
+-- The number of shards after a line.
 abbrev pub shards_after : script.Line → ℕ → ℕ
 shards_after (Resharded shards) before = shards
 shards_after _ before = before
 
--- What more lines print.
+-- What further lines print.
 pub record Prints (config : Config) (old new : List script.Line) (before after : Option (List ℕ)) : Type 0 where
   pub text : List ℕ
   pub appends : Appends before after text
   pub is : printed_so_far config (seen_lines new) ≡ printed_so_far config (seen_lines old) ++ text
 
--- What more lines would print, of which a front is written at a fault.
+-- The beginning of what further lines print, written before a fault.
 pub record PrintsFront (config : Config) (old new : List script.Line) (before after : Option (List ℕ)) : Type 0 where
   pub text : List ℕ
   pub front : AppendsFront before after text
   pub is : printed_so_far config (seen_lines new) ≡ printed_so_far config (seen_lines old) ++ text
 
--- the lines of what was read, where the bytes are known
+-- `ls` are the lines that were read, if the bytes are known.
 abbrev pub Reads : Dialect → Option (List ℕ) → Option (List ℕ) → List script.Line → Type 0
 Reads dialect None new ls = ⊤
 Reads dialect (Some xs) None ls = ⊥
 Reads dialect (Some xs) (Some ys) ls = lines_in dialect xs ≡ read_lines ls ++ lines_in dialect ys
 
--- these lines are all
+-- `ls` are all lines of the text, if it is known.
 abbrev pub IsAll : Dialect → Option (List ℕ) → List script.Line → Type 0
 IsAll dialect None ls = ⊤
 IsAll dialect (Some text) ls = read_lines ls ≡ lines_in dialect text
 
--- what is printed at the end for the lines that are held
+-- What is printed at the end for the held lines.
 abbrev pub held_lines : Config → List script.Line → List ℕ
 held_lines config ls = held_texts (inputs_from 1 (seen_lines ls)) (held config (inputs_in (seen_lines ls)))
 
--- so many lines were taken in, which have these inputs; these outs were added, which are all, and the inputs that are held are kept
+-- All outs of the lines' inputs were added, and the held inputs are kept; `number` counts the
+-- lines.
 pub record Served (config : Config) (ls : List Line) (inputs : List ReadInput) (added : List Out) (kept : ℕ → Option PendingLine) (number : ℕ) : Type 0 where
   pub inputs_are : inputs ≡ inputs_in ls
   pub added_are : added ≡ outs config (inputs_in ls)
@@ -66,7 +67,8 @@ pub record Served (config : Config) (ls : List Line) (inputs : List ReadInput) (
   pub number_is : number ≡ length ls
 
 module _ {P : Type 0} {g : Ghosts P} where
-  -- One more input of a round: its outs, and those of earlier inputs that it makes whole, are printed.
+  -- One more input of a round: its outs, and those of earlier inputs that it completes, are
+  -- printed.
   pub record Hands (old : Round P g) (one : Numbered) (new : Round P g) (before after : Option (List ℕ)) (kept keeps : ℕ → Option PendingLine) : Type 0 where
     pub more : List Out
     pub inputs : inputs_of new ≡ inputs_of old ++ one.input ∷ []
@@ -77,13 +79,13 @@ module _ {P : Type 0} {g : Ghosts P} where
     pub held_are : AllKept keeps (held (setup_in new).config (inputs_of new))
     pub prints : (numbered : List Numbered) → length numbered ≡ length (inputs_of old) → AreKept numbered kept → PrintsOuts (numbered ++ one ∷ []) more before after keeps
 
-  -- One more input of a round, at a fault: a front of what its outs print is written.
+  -- One more input, cut off by a fault: the beginning of what its outs print is written.
   pub record HandsFront (old : Round P g) (one : Numbered) (before after : Option (List ℕ)) (kept : ℕ → Option PendingLine) : Type 0 where
     pub more : List Out
     pub adds : outs (setup_in old).config (inputs_of old ++ one.input ∷ []) ≡ outs (setup_in old).config (inputs_of old) ++ more
     pub prints : (numbered : List Numbered) → length numbered ≡ length (inputs_of old) → AreKept numbered kept → AppendsFront before after (outs_text (numbered ++ one ∷ []) more)
 
-  -- A server has taken in its lines: the outs of their inputs are printed, and it keeps the others, and the nonce that waits for the next request.
+  -- A server printed the outs of its lines, and keeps the held inputs and the next request's nonce.
   pub record Serves (s : ReplayServer P g) : Type 0 where
     pub served : Served (setup_in s.round).config (seen_lines s.lines) (inputs_of s.round) (added_by s.round) (get nat_cmp s.kept) s.number
     pub nonce_is : s.nonce ≡ nonce_at (read_lines s.lines)

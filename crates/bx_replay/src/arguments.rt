@@ -1,4 +1,4 @@
-//! The arguments of the program.
+//! The arguments of a replay.
 ghost use Rattle.std.specs.Prelude.{◌≡◌, IfOk, IfSome, option_map, map};
 ghost use Rattle.bx_advice.specs.Limits.{IsStandard};
 ghost use Rattle.bx_advice.specs.Options.{options_in};
@@ -10,26 +10,41 @@ use bx_advice::{Config, MAX_SHARDS, Options};
 use bx_message::number_of;
 use bx_workers::WorkerCount;
 
-/// How the server is run.
+/// The configuration and the number of workers.
 #[derive(Clone, Copy)]
 pub struct Arguments {
-    /// How many shards there are, the times in milliseconds, the limits and the options.
+    /// The number of shards, the times in milliseconds, the limits and the options.
     pub config: Config,
-    /// How many workers there are, 1 to 16.
+    /// The number of workers, from 1 to 16.
     pub workers: WorkerCount,
 }
 
 impl Arguments {
     ghost use Rattle.bx_replay.specs.Arguments.{HasStandardLimits, run_by, said_by};
 
-    /// What these words say. Limits come first, by their names and in this order, and each may be missing: behind
-    /// `--bytes` how many bytes waiting events of a session may have, 1 to [`MAX_BYTES`](bx_advice::MAX_BYTES), or `-`
-    /// where nothing is said of them; behind `--sessions` how many sessions may be live, 1 to 65,536; behind `--patterns`
-    /// how many patterns of a session may be in force, 1 to 1,024. Five words follow that say by digits alone how many
-    /// shards there are, 1 to 64, how many workers, 1 to 16, and in milliseconds the timeout, the interval and the longest
-    /// interval, each of 32 bits. A sixth has the options, as [`Options::read`] reads them, and is `-` where there is
-    /// none. A seventh says by digits alone how many events may wait for each session, 1 to 65,536, and 1,024 where there
-    /// is none. An error names a word that is not so, or says that there are not so many.
+    /// Parses the arguments of a replay.
+    ///
+    /// Limits come first, in this order; each may be missing:
+    ///
+    /// - `--bytes N`: bytes of a session's waiting events, 1 to
+    ///   [`MAX_BYTES`](bx_advice::MAX_BYTES), or `-` for the standard limit
+    /// - `--sessions N`: live sessions, 1 to 65,536
+    /// - `--patterns N`: active patterns of a session, 1 to 1,024
+    ///
+    /// Then come five to seven positional arguments:
+    ///
+    /// - the number of shards, 1 to 64
+    /// - the number of workers, 1 to 16
+    /// - the timeout, the interval and the longest interval, in milliseconds, each of 32 bits
+    /// - the options, as for [`Options::read`]; `-` if missing
+    /// - the number of events that may wait for a session, 1 to 65,536; 1,024 if missing
+    ///
+    /// Numbers are decimal digits only.
+    ///
+    /// # Errors
+    ///
+    /// `Count` if there are too few or too many arguments. Otherwise the first wrong argument,
+    /// positional ones before limits.
     pub fn read(words: &[&[u8]]) -> Result<Arguments, WrongWord>
         ensures said { said_by result ≡ settings_in (map (λ word. word.now) words.now) }
         ensures limits { IfOk result (λ arguments. HasStandardLimits arguments) }
@@ -46,7 +61,7 @@ impl Arguments {
             .ok_or(WrongWord::Patterns)
     }
 
-    // What the words behind the names say, with the standard limits of bytes, sessions and patterns.
+    // Parses the positional arguments, with the standard limits of bytes, sessions and patterns.
     fn read_words(words: &[&[u8]]) -> Result<Arguments, WrongWord>
         ensures said { said_by result ≡ words_in (map (λ word. word.now) words.now) }
         ensures limits { IfOk result (λ arguments. HasStandardLimits arguments) }
@@ -91,7 +106,7 @@ impl Arguments {
         }
     }
 
-    // The same with so many bytes that waiting events may have as this word says.
+    // Sets the limit of waiting bytes to `word`, if given. Returns `None` if it is invalid.
     fn with_bytes(self, word: Option<&[u8]>) -> Option<Arguments>
         requires { HasStandardLimits self }
         ensures said { option_map run_by result ≡ with_bytes (option_map (λ word. word.now) word.entry) (run_by self) }
@@ -110,7 +125,7 @@ impl Arguments {
         })
     }
 
-    // The same with so many live sessions as this word says.
+    // Sets the limit of live sessions to `word`, if given. Returns `None` if it is invalid.
     fn with_sessions(self, word: Option<&[u8]>) -> Option<Arguments>
         requires { HasStandardLimits self }
         ensures said { option_map run_by result ≡ with_sessions (option_map (λ word. word.now) word.entry) (run_by self) }
@@ -126,7 +141,7 @@ impl Arguments {
         })
     }
 
-    // The same with so many patterns of a session in force as this word says.
+    // Sets the limit of a session's patterns to `word`, if given. Returns `None` if it is invalid.
     fn with_patterns(self, word: Option<&[u8]>) -> Option<Arguments>
         requires { HasStandardLimits self }
         ensures said { option_map run_by result ≡ with_patterns (option_map (λ word. word.now) word.entry) (run_by self) }
@@ -142,6 +157,7 @@ impl Arguments {
         })
     }
 
+    // Parses seven positional arguments.
     fn of_words(
         shards: &[u8],
         workers: &[u8],
@@ -166,7 +182,7 @@ impl Arguments {
     }
 }
 
-// What stands behind this name in front of other words, where it does, and these words.
+// Returns the value after `name`, if `words` begin with `name`, and the remaining words.
 fn named_in<'a, 'b>(name: &[u8], words: &'a [&'b [u8]]) -> (Option<&'b [u8]>, &'a [&'b [u8]])
     ensures { (option_map (λ word. word.now) result.0, map (λ word. word.now) result.1.now) ≡ named_in name.now (map (λ word. word.now) words.now) }
 {
@@ -176,7 +192,7 @@ fn named_in<'a, 'b>(name: &[u8], words: &'a [&'b [u8]]) -> (Option<&'b [u8]>, &'
     }
 }
 
-// So many shards as these digits say.
+// Parses a number of shards.
 fn shards_in(digits: &[u8]) -> Option<usize>
     ensures { result ≡ count_in 64 digits.now }
 {
@@ -188,7 +204,7 @@ fn shards_in(digits: &[u8]) -> Option<usize>
     }
 }
 
-// The configuration with the options that this word says.
+// Sets the options that `word` names.
 fn with_options(config: Config, word: &[u8]) -> Option<Config>
     ensures said { result
         ≡ option_map (λ (o : Options). record config { ride = o.ride; anonymous = o.anonymous }) (options_in word.now) }
@@ -197,7 +213,7 @@ fn with_options(config: Config, word: &[u8]) -> Option<Config>
     Some(config.with(Options::read(word)?))
 }
 
-// The configuration with so many waiting events as these digits say.
+// Sets the limit of waiting events.
 fn with_limit(config: Config, limit: &[u8]) -> Option<Config>
     ensures said { result
         ≡ option_map (λ n. record config { limits = record config.limits { events = n } }) (count_in 65536 limit.now) }
@@ -209,21 +225,21 @@ fn with_limit(config: Config, limit: &[u8]) -> Option<Config>
     config.with_limit(time_in(limit)?)
 }
 
-// So many workers as these digits say.
+// Parses a number of workers.
 fn workers_in(digits: &[u8]) -> Option<WorkerCount>
     ensures { result ≡ count_in 16 digits.now }
 {
     WorkerCount::new(size_in(digits)?)
 }
 
-// The number of 64 bits that these digits say.
+// Parses a number of 64 bits.
 fn size_in(digits: &[u8]) -> Option<usize>
     ensures { result ≡ number_of digits.now }
 {
     usize::try_from(number_of(digits)?).ok()
 }
 
-// The number of 32 bits that these digits say.
+// Parses a number of 32 bits.
 fn time_in(digits: &[u8]) -> Option<u32>
     ensures { result ≡ time_in digits.now }
 {

@@ -20,13 +20,17 @@ use std::io::Write;
 pub struct PendingLine {
     /// The number of its line.
     pub line: u64,
-    /// The function that is called with its response.
+    /// The function that is called with its response, for a GET.
     pub callback: Option<String>,
-    /// Of a tick that is taken nothing is printed.
+    /// Whether the input is a tick, which prints nothing unless it is refused.
     pub tick: bool,
 }
 
-/// Prints these outs in order, and lets go of what was kept of their inputs. At a fault a front of that is printed.
+/// Prints `outs` in order, and drops what was kept of their inputs.
+///
+/// # Errors
+///
+/// `Memory` if memory runs out; `Memory` or `Write` if a write fails. A first part may be printed.
 pub fn print_outs<W: Write>(
     alloc: Global,
     kept: &mut BTreeMap<usize, PendingLine>,
@@ -47,6 +51,7 @@ pub fn print_outs<W: Write>(
     Ok(())
 }
 
+// Prints an out, and drops what was kept of its input.
 fn print_out<W: Write>(
     alloc: Global,
     kept: &mut BTreeMap<usize, PendingLine>,
@@ -74,7 +79,11 @@ fn print_out<W: Write>(
     )
 }
 
-/// Prints that the inputs of these numbers are held, or at a fault a front of that.
+/// Prints that the inputs `numbers` are held.
+///
+/// # Errors
+///
+/// `Memory` or `Write` if a write fails. A first part may be printed.
 pub fn print_held<W: Write>(
     kept: &BTreeMap<usize, PendingLine>,
     numbers: &[usize],

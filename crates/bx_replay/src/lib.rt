@@ -1,5 +1,4 @@
-//! A run of the server over a script or a record: what it reads, line by line, and what it prints; and the words that
-//! say how it is run.
+//! Replays of scripts and records: from lines to printed answers, and the arguments for a run.
 #![tactic(auto)]
 
 mod arguments;

@@ -11,9 +11,13 @@ use bx_script::ScriptFault;
 use std::alloc::{AllocError, Global};
 use std::io::BufRead;
 
-/// Reads the first line of a record, and says what its words, which have a space between them, come to. The reader stands
-/// behind the line then: what is left are the lines of what the server took in. A fault is `Memory`, or `Read` where a read
-/// failed.
+/// Reads the first line of a record, and parses its arguments, separated by single spaces.
+///
+/// Leaves `reader` at the next line. The inner result is that of [`Arguments::read`].
+///
+/// # Errors
+///
+/// `Memory` if memory runs out; `Read` if a read fails.
 pub fn read_settings<R: BufRead>(
     alloc: Global,
     reader: &mut R,
@@ -26,7 +30,7 @@ pub fn read_settings<R: BufRead>(
     Ok(Arguments::read(&words))
 }
 
-// The first line with its end, if it has one.
+// Reads the first line, including its line feed if it has one.
 fn read_line<R: BufRead>(alloc: Global, reader: &mut R) -> Result<Vec<u8>, ScriptFault>
     ensures line { IfOk result (λ line. IfSome (R.remaining reader.old) (λ text. first_of line.items ≡ first_of text)) }
     ensures left { OnOk result (IfSome (R.remaining reader.old) (λ text. R.remaining reader.new ≡ Some (rest_of text))) }
@@ -38,7 +42,7 @@ fn read_line<R: BufRead>(alloc: Global, reader: &mut R) -> Result<Vec<u8>, Scrip
     }
 }
 
-// What stands before the first line end, or all where there is none.
+// Returns what is before the first line feed, or all if there is none.
 fn first_line(text: &[u8]) -> &[u8]
     ensures { result.now ≡ first_of text.now }
 {
@@ -48,14 +52,14 @@ fn first_line(text: &[u8]) -> &[u8]
     }
 }
 
-// The index of the first line end.
+// Returns the index of the first line feed.
 fn end_in(text: &[u8]) -> Option<usize>
     ensures { result ≡ position is_newline text.now }
 {
     text.iter().position(|byte| *byte == b'\n')
 }
 
-// The words of a line, which have a space between them.
+// Splits a line at its spaces.
 fn words_of(alloc: Global, line: &[u8]) -> Result<Vec<&[u8]>, AllocError>
     ensures { IfOk result (λ words. map (λ word. word.now) words.items ≡ slice_split is_space line.now) }
 {

@@ -1,4 +1,4 @@
-//! A run of the server over a script, or over a record.
+//! A replay of a script or a record.
 ghost use Rattle.std.specs.Prelude.{◌≡◌, [], IfErr, IfOk, IfSome, OnErr};
 ghost use Rattle.bx_replay.specs.Serving.{IsAll, Prints, Serves, held_lines};
 ghost use Rattle.bx_script.specs.Replay.{replay_text};
@@ -19,11 +19,18 @@ use std::io::{BufRead, Write};
 use std::sync::Arc;
 use std::thread::Threads;
 
-/// Writes what the server answers to each line that it reads, numbered from 1, and at the end which lines have no
-/// answer yet: what the definition of a replay prints for the script, whatever the number of workers and of shards is, and
-/// wherever sessions are placed. A line that changes the number of shards redistributes them by the same placing. It answers
-/// `Memory` where memory was refused, `Read` only where a read failed or there were as many as there may be, and `Write`
-/// only where a write failed; what was written then is a front of the right output.
+/// Writes the answers to all lines, numbered from 1, and then which lines have no answer yet.
+///
+/// The output is the same for every number of workers or shards, and for every placing. A line that
+/// changes the number of shards redistributes the sessions by the same placing.
+///
+/// # Errors
+///
+/// - `Memory`: memory ran out.
+/// - `Read`: a read failed, or there were [`MAX_READS`](bx_script::MAX_READS) reads.
+/// - `Write`: a write failed.
+///
+/// On error, what was written is a first part of the right output.
 pub fn replay<T: Threads + Sync, P: Placing + Drop + Send + Sync, R: BufRead, W: Write>(
     rt: &T,
     alloc: Global,
@@ -43,7 +50,7 @@ pub fn replay<T: Threads + Sync, P: Placing + Drop + Send + Sync, R: BufRead, W:
     finish(alloc, &server, writer)
 }
 
-// Takes in all lines that the reader has.
+// Answers all lines that the reader has.
 fn answer_all<T: Threads + Sync, P: Placing + Drop + Send + Sync, R: BufRead, W: Write>(
     rt: &T,
     alloc: Global,
@@ -70,7 +77,7 @@ fn answer_all<T: Threads + Sync, P: Placing + Drop + Send + Sync, R: BufRead, W:
     }
 }
 
-// Writes which lines have no answer.
+// Writes which lines have no answer, and flushes.
 fn finish<P: Placing, W: Write>(
     alloc: Global,
     server: &ReplayServer<P>,

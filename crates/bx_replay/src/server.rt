@@ -1,4 +1,4 @@
-//! The server, fed with the lines of a script.
+//! The server of a replay, which takes in one line at a time.
 ghost use Rattle.std.specs.Prelude.{◌≡◌, ◌+◌, ◌++◌, ◌≤◌, ◌<◌, ◌^◌, [], ◌∷◌, length, option_map, string_bytes, IfErr, IfOk, OnErr, OnOk};
 ghost use Rattle.std.specs.BTreeMap.{get};
 ghost use Rattle.std.specs.Ordering.{nat_cmp};
@@ -24,22 +24,26 @@ use std::io::Write;
 use std::sync::Arc;
 use std::thread::Threads;
 
-/// What the program has of a script so far.
+/// The state of a replay between two lines.
 #[derive(Drop)]
 pub struct ReplayServer<P: Placing> {
-    /// The round that the lines are handed to.
+    /// The round that answers the inputs.
     pub round: Round<P>,
-    /// The inputs whose outs are not printed yet, by their numbers.
+    /// The inputs whose outs are not printed yet, by number.
     pub kept: BTreeMap<usize, PendingLine>,
-    /// How many lines were taken in.
+    /// Number of lines that were taken in.
     pub number: u64,
     /// The nonce of the next request.
     pub nonce: u128,
-    /// These lines.
+    /// Ghost: the lines that were taken in.
     pub lines: History<Line>,
 }
 
-/// A server that has taken in no line. The only fault is `Memory`.
+/// Creates a server that has taken in no line.
+///
+/// # Errors
+///
+/// `Memory` if memory runs out.
 pub fn new_server<P: Placing + Drop>(
     alloc: Global,
     config: Config,
@@ -61,7 +65,11 @@ pub fn new_server<P: Placing + Drop>(
     })
 }
 
-/// Takes one more line in, and prints what comes of it, or at a fault a front of that.
+/// Takes in one more line, and prints the answers that result.
+///
+/// # Errors
+///
+/// `Memory` if memory runs out; `Memory` or `Write` if a write fails. A first part may be printed.
 pub fn answer<T: Threads + Sync, P: Placing + Drop + Send + Sync, W: Write>(
     rt: &T,
     alloc: Global,
@@ -124,7 +132,7 @@ pub fn answer<T: Threads + Sync, P: Placing + Drop + Send + Sync, W: Write>(
     }
 }
 
-// The input, which has the nonce that waits where it is a request, and the nonce that waits behind it.
+// Sets the nonce of a request to the waiting one. Returns the input and the nonce for the next one.
 fn take_nonce(nonce: u128, input: Input) -> (Input, u128)
     ensures input { read_input result.0 ≡ with_nonce nonce (read_input input) }
     ensures left { result.1 ≡ nonce_left nonce (read_input input) }
@@ -135,7 +143,7 @@ fn take_nonce(nonce: u128, input: Input) -> (Input, u128)
     }
 }
 
-// Takes one more input in, and prints the outs that come of it.
+// Takes in one more input, and prints the outs that result.
 fn hand<T: Threads + Sync, P: Placing + Send + Sync, W: Write>(
     rt: &T,
     alloc: Global,
@@ -176,7 +184,7 @@ fn ticks(input: &Input) -> bool
     matches!(input, Input::Tick(_))
 }
 
-// The server goes on with so many shards, among which sessions are placed as before.
+// Changes the number of shards, with the same placing.
 fn reshard<T: Threads + Sync, P: Placing + Drop + Send + Sync>(
     rt: &T,
     alloc: Global,

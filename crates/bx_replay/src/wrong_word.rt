@@ -1,23 +1,22 @@
-//! What is wrong with the words that the program is called with.
+//! What is wrong with the arguments of a replay.
 use std::fmt::{self, Display, Formatter, Write};
 
-/// What is wrong with the words that say how the program runs: how many there are, or one that does not say its
-/// argument.
+/// What is wrong with the arguments: their number, or the value of one.
 #[derive(Clone, Copy, Debug, PartialEq, Eq)]
 pub enum WrongWord {
-    /// There are fewer than five words, or more than seven, but for limits by their names.
+    /// There are fewer than five or more than seven positional arguments.
     Count,
-    /// How many shards there are.
+    /// The number of shards.
     Shards,
-    /// How many workers there are.
+    /// The number of workers.
     Workers,
-    /// For how many milliseconds a connect is held.
+    /// How long a connect is held, in milliseconds.
     Timeout,
-    /// How many milliseconds clients are advised to wait between two connects.
+    /// How long clients are advised to wait between two connects, in milliseconds.
     Interval,
-    /// For how many milliseconds each accepted message keeps its session.
+    /// How long each accepted message keeps its session alive, in milliseconds.
     MaxInterval,
-    /// Which options are on.
+    /// The options.
     Options,
     /// How many events may wait for a session.
     Limit,
@@ -25,12 +24,12 @@ pub enum WrongWord {
     Bytes,
     /// How many sessions may be live.
     Sessions,
-    /// How many patterns of a session may be in force.
+    /// How many patterns a session may have.
     Patterns,
 }
 
 impl Display for WrongWord {
-    /// Writes what the word is called, and what it has to be.
+    /// Writes the rule that the arguments break.
     fn fmt<W: Write>(&self, f: &mut Formatter<W>) -> fmt::Result {
         f.write_str(match self {
             WrongWord::Count =>

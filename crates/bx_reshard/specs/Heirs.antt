@@ -1,4 +1,4 @@
--- Shards that take over the sessions of others: pointwise by shard, and by the number of a session or the place of a connect.
+-- Shards that take over the sessions of others, by shard, session number and connect's place.
 use Rattle.std.specs.Prelude.{ℕ, ◌≡◌, nat_eq, List, [], length, option_map, slice_get, if◌then◌else◌, ◌<◌, ◌&&◌, ◌∷◌, is_some, Option, Some, None}
 use Rattle.std.specs.{List.All, Map.lookup, Option.option_or}
 use Rattle.bx_names.specs.Globs.{Glob}
@@ -10,86 +10,89 @@ use Rattle.bx_connects.specs.Connects.{AreApart, connect_at, filed_as, filing_at
 use Rattle.bx_shard.specs.declared.sessions.Sessions.{Sessions}
 use Rattle.bx_shard.specs.Sessions.{patterns_in, kept_in}
 
--- what is lent for it to the shard where the session is placed, among so many
+-- What shard `k` of `count` is lent for a known connect of a session that is placed there.
 abbrev pub lent_as : (ℕ → ℕ → ℕ) → ℕ → ℕ → Option (ℕ × Option ℕ) → Option ConnectState
 lent_as placing count k None = None
 lent_as placing count k (Some known) = if nat_eq (placing known.0 count) k then held_by known.0 known.1 else None
 
+-- Session `n` in a shard, if both exist.
 abbrev pub kept_there : Option Sessions → ℕ → Option Kept
 kept_there None n = None
 kept_there (Some s) n = kept_in s n
 
+-- The patterns of session `n` in a shard, if any.
 abbrev pub patterns_there : Option Sessions → ℕ → List Glob
 patterns_there None n = []
 patterns_there (Some s) n = patterns_in s n
 
+-- The connect at `p` in a shard, if both exist.
 abbrev pub connect_there : Option Sessions → ℕ → Option ConnectState
 connect_there None p = None
 connect_there (Some s) p = connect_at s.connects p
 
--- what is kept of a session in one of the shards
+-- Session `n` in shard `k`, if both exist.
 abbrev pub kept_of : List Sessions → ℕ → ℕ → Option Kept
 kept_of heirs k n = kept_there (slice_get heirs k) n
 
--- the patterns of a session in one of the shards
+-- The patterns of session `n` in shard `k`.
 abbrev pub patterns_at : List Sessions → ℕ → ℕ → List Glob
 patterns_at heirs k n = patterns_there (slice_get heirs k) n
 
--- what became of a connect, as one of the shards knows it
+-- The connect at `p` in shard `k`, if it is known there.
 abbrev pub connect_of : List Sessions → ℕ → ℕ → Option ConnectState
 connect_of heirs k p = connect_there (slice_get heirs k) p
 
--- the configuration of one of the shards
+-- The configuration of shard `k`, if it exists.
 abbrev pub config_of : List Sessions → ℕ → Option Config
 config_of heirs k = option_map (λ (s : Sessions). s.config) (slice_get heirs k)
 
--- nothing is here yet
+-- An empty shard with this configuration.
 pub record IsEmptyOf (config : Config) (s : Sessions) : Type 0 where
   pub config_is : s.config ≡ config
   pub sessions : (n : ℕ) → kept_in s n ≡ None
   pub patterns : (n : ℕ) → patterns_in s n ≡ []
   pub connects : (p : ℕ) → connect_at s.connects p ≡ None
 
--- so it is in each of the shards
+-- No shard has patterns for a session that it does not have.
 abbrev pub AreAllClean : List Sessions → Type 0
 AreAllClean heirs = (k n : ℕ) → kept_of heirs k n ≡ None → patterns_at heirs k n ≡ []
 
--- the connects of the shards are as they were, and their configurations
+-- The connects and configurations of the shards are unchanged.
 pub record SameConnects (old new : List Sessions) : Type 0 where
   pub many : length new ≡ length old
   pub configs : (k : ℕ) → config_of new k ≡ config_of old k
   pub connects : (k p : ℕ) → connect_of new k p ≡ connect_of old k p
 
--- the sessions of the shards are as they were, with their patterns, and their configurations
+-- The sessions, patterns and configurations of the shards are unchanged.
 pub record SameSessions (old new : List Sessions) : Type 0 where
   pub many : length new ≡ length old
   pub configs : (k : ℕ) → config_of new k ≡ config_of old k
   pub sessions : (k n : ℕ) → kept_of new k n ≡ kept_of old k n
   pub patterns : (k n : ℕ) → patterns_at new k n ≡ patterns_at old k n
 
--- ---- all shards that are redistributed
+-- ---- All shards that are redistributed
 
--- what is kept of the session in the first of them that has it
+-- Session `n`, from the first shard that has it.
 abbrev pub kept_among : List Sessions → ℕ → Option Kept
 kept_among [] n = None
 kept_among (s ∷ ss) n = option_or (kept_in s n) (kept_among ss n)
 
--- its patterns there
+-- The patterns of session `n`, from the first shard that has it.
 abbrev pub patterns_among : List Sessions → ℕ → List Glob
 patterns_among [] n = []
 patterns_among (s ∷ ss) n = if is_some (kept_in s n) then patterns_in s n else patterns_among ss n
 
--- what is lent for a connect to the shard of this index
+-- What shard `k` is lent for the connect at `p`, by the first shard that lends it.
 abbrev pub lent_among : (ℕ → ℕ → ℕ) → ℕ → ℕ → List Sessions → ℕ → Option ConnectState
 lent_among placing count k [] p = None
 lent_among placing count k (s ∷ ss) p = option_or (lent_as placing count k (known_as (connect_at s.connects p))) (lent_among placing count k ss p)
 
--- no session stands in any of the shards
+-- There are `count` empty shards with this configuration.
 pub record AreEmpty (config : Config) (count : ℕ) (heirs : List Sessions) : Type 0 where
   pub many : length heirs ≡ count
   pub all : All (IsEmptyOf config) heirs
 
--- room was made for all that these shards have
+-- The new shards have room for all that the old ones have.
 pub record AreLent (placing : ℕ → ℕ → ℕ) (count : ℕ) (olds : List Sessions) (config : Config) (heirs : List Sessions) : Type 0 where
   pub many : length heirs ≡ count
   pub configs : (k : ℕ) → k < count → config_of heirs k ≡ Some config
@@ -98,37 +101,37 @@ pub record AreLent (placing : ℕ → ℕ → ℕ) (count : ℕ) (olds : List Se
   pub connects : (k p : ℕ) → connect_of heirs k p ≡ lent_among placing count k olds p
   pub apart : All (λ (s : Sessions). AreApart s.connects.held s.connects.filed) olds
 
--- ---- what moves
+-- ---- Moves
 
--- a session in the place that was made for it
+-- A moved session fills the room that was made for it, if any.
 abbrev pub overlaid : Option Kept → Option Kept → Option Kept
 overlaid None lent = lent
 overlaid (Some k) lent = option_map (λ (x : Kept). k) lent
 
--- the session of this number, once these entries have moved to where they are placed
+-- Session `n` in shard `k`, after one old shard's sessions have moved.
 abbrev pub settled : (ℕ → ℕ → ℕ) → ℕ → ℕ → ℕ → Option Kept → Option Kept → Option Kept
 settled placing count k n moved lent = if nat_eq (placing n count) k then overlaid moved lent else lent
 
--- the connect, once the answer that is filed for it has moved to where its session is placed
+-- A connect in shard `k`, after its answer filed in one old shard, if any, has moved.
 abbrev pub answered_with : (ℕ → ℕ → ℕ) → ℕ → ℕ → Option FiledAnswer → Option ConnectState → Option ConnectState
 answered_with placing count k None lent = lent
 answered_with placing count k (Some f) lent = if nat_eq (placing f.session count) k then filed_as f.place f.answer lent else lent
 
--- what is kept of the sessions of a list of entries
+-- Session `n` in these map entries, if it is there.
 abbrev pub kept_by : List (ℕ × WithRoom) → ℕ → Option Kept
 kept_by entries n = option_map (λ (x : WithRoom). x.kept) (lookup (nat_eq n) entries)
 
--- what is kept, once what each of these shards has was moved
+-- Session `n` in shard `k`, after all old shards' sessions have moved.
 abbrev pub settled_all : (ℕ → ℕ → ℕ) → ℕ → ℕ → ℕ → List Sessions → Option Kept → Option Kept
 settled_all placing count k n [] lent = lent
 settled_all placing count k n (s ∷ ss) lent = settled_all placing count k n ss (settled placing count k n (kept_in s n) lent)
 
--- the connect, once the answers that each of these shards has filed were moved
+-- The connect at `p` in shard `k`, after all old shards' filed answers have moved.
 abbrev pub answered_all : (ℕ → ℕ → ℕ) → ℕ → ℕ → ℕ → List Sessions → Option ConnectState → Option ConnectState
 answered_all placing count k p [] lent = lent
 answered_all placing count k p (s ∷ ss) lent = answered_all placing count k p ss (answered_with placing count k (filing_at s.connects.filed p) lent)
 
--- all that these shards have was moved
+-- Everything in the old shards has moved to the new ones.
 pub record AreMoved (placing : ℕ → ℕ → ℕ) (count : ℕ) (olds old new : List Sessions) : Type 0 where
   pub many : length new ≡ length old
   pub configs : (k : ℕ) → config_of new k ≡ config_of old k

@@ -1,4 +1,4 @@
--- Shards that are made of the sessions that were redistributed.
+-- Shards that are made of redistributed sessions.
 use Rattle.std.specs.Prelude.{ℕ, ◌≡◌, ◌≤◌, Bool, Some, List, [], length, map, slice_get, vec_capacity}
 use Rattle.std.specs.{List.All, Arc.arc_value}
 use Rattle.std.specs.declared.sync.Arc.{Arc}
@@ -6,11 +6,11 @@ use Rattle.bx_shard.specs.declared.shard.Shard.{Shard}
 use Rattle.bx_reshard.specs.declared.making.Room.{Room}
 use Rattle.bx_reshard.specs.Heirs.{AreLent}
 
--- all are handles to this placing
+-- All handles are to this placing.
 abbrev pub AreHandlesOf : {P Z : Type 0} → P → List (Arc P Z) → Type 0
 AreHandlesOf placing handles = All (λ h. arc_value h ≡ placing) handles
 
--- the shard of this index, with this placing among so many
+-- Shard `k` of `count`, with this placing, place and shut state.
 pub record IsMade {P : Type 0} (placing : P) (count place : ℕ) (shut : Bool) (k : ℕ) (s : Shard P) : Type 0 where
   pub placing_is : arc_value s.placing ≡ placing
   pub index_is : s.index ≡ k
@@ -18,15 +18,15 @@ pub record IsMade {P : Type 0} (placing : P) (count place : ℕ) (shut : Bool) (
   pub place_is : s.place ≡ place
   pub shut_is : s.is_shut ≡ shut
 
--- so is each of a row
+-- Each shard has its index in the list, and all have the same placing, place and shut state.
 abbrev pub AreMade : {P : Type 0} → P → ℕ → ℕ → Bool → List (Shard P) → Type 0
 AreMade {P} placing count place shut shards = (k : ℕ) (s : Shard P) → slice_get shards k ≡ Some s → IsMade placing count place shut k s
 
--- with the placing of the handles that were given for them
+-- The shards have the placing of the handles that they were given.
 abbrev pub AreMadeWith : {P Z : Type 0} → List (Arc P Z) → ℕ → ℕ → Bool → List (Shard P) → Type 0
 AreMadeWith {P} handles count place shut shards = (placing : P) → AreHandlesOf placing handles → AreMade placing count place shut shards
 
--- there is room for all that these shards have, and for the shards themselves
+-- There is room for the new shards and all that the old ones have.
 pub record IsReady {P : Type 0} (place_of : P → ℕ → ℕ → ℕ) (placing : P) (count : ℕ) (olds : List (Shard P)) (room : Room P) : Type 0 where
   pub first : Shard P
   pub there : slice_get olds 0 ≡ Some first

@@ -6,46 +6,46 @@ use Rattle.bx_connects.specs.declared.connects.ConnectState.{ConnectState}
 use Rattle.bx_connects.specs.declared.connects.ConnectState.TheVariants.{Held, Filed}
 use Rattle.bx_shard.specs.Words.{Refines, Setup, IsSound, State, connect_in, session_in}
 
--- ---- what the shards have
+-- ---- Contents of the shards
 
--- what the first of the shards has that has it
+-- The first value that `f` gives for any of the shards.
 abbrev pub among : {X : Type 0} → (State → Option X) → List State → Option X
 among f [] = None
 among f (s ∷ ss) = option_or (f s) (among f ss)
 
--- the session of this number, in whichever shard it stands
+-- Session `n`, in whichever shard has it.
 abbrev pub session_among : List State → ℕ → Option Kept
 session_among shards n = among (λ s. session_in s n) shards
 
--- what became of the connect at a place of the list, in whichever shard it is known
+-- The state of the connect at `p`, in whichever shard knows it.
 abbrev pub connect_among : List State → ℕ → Option ConnectState
 connect_among shards p = among (λ s. connect_in s p) shards
 
--- ---- what shards of one server are
+-- ---- Shards of one server
 
--- they have one configuration, and all have applied the same entries
+-- The shards have one configuration and have applied equally many entries.
 abbrev pub AreAlike : List State → Type 0
 AreAlike shards = (i j : ℕ) (s t : State) → slice_get shards i ≡ Some s → slice_get shards j ≡ Some t → (s.setup.config ≡ t.setup.config) × (s.place ≡ t.place)
 
--- no session stands in two of them, and no connect is known in two of them
+-- No two shards have the same session or know the same connect.
 abbrev pub AreApart : List State → Type 0
 AreApart shards = (i j : ℕ) (s t : State) → i ≢ j → slice_get shards i ≡ Some s → slice_get shards j ≡ Some t →
     ((n : ℕ) → is_some (session_in s n) ≡ true → session_in t n ≡ None) × ((p : ℕ) → is_some (connect_in s p) ≡ true → connect_in t p ≡ None)
 
--- shards that hold what the definition's shards hold are alike and apart
+-- Shards that agree with the definitions' shards are alike and apart.
 abbrev pub HoldersAreApart : Type 0
 HoldersAreApart = (setup : Setup) (list : List Listed) (taken : List ℕ) (n : ℕ) (shards : List State) → ((k : ℕ) (s : State) → slice_get shards k ≡ Some s → Refines setup list taken k n s) →
     AreAlike shards × AreApart shards
 
--- ---- after they were redistributed
+-- ---- After redistribution
 
--- the connect, without a waker, where its session is placed in this one of so many shards
+-- The connect without its waker, if its session is placed in shard `k` of `count`.
 abbrev pub redistributed_connect : (ℕ → ℕ → ℕ) → ℕ → ℕ → Option ConnectState → Option ConnectState
 redistributed_connect placing count k None = None
 redistributed_connect placing count k (Some (Held session deadline waker)) = if placing session count == k then Some (Held session deadline None) else None
 redistributed_connect placing count k (Some (Filed session place answer)) = if placing session count == k then Some (Filed session place answer) else None
 
--- The shard of this index after it: it has the sessions that are placed there and their connects.
+-- The new shard `k` has the sessions that are placed there, with their connects.
 pub record IsRedistributed (placing : ℕ → ℕ → ℕ) (count : ℕ) (old : List State) (k : ℕ) (new : State) : Type 0 where
   pub index : new.index ≡ k
   pub setup : (j : ℕ) (s : State) → slice_get old j ≡ Some s → new.setup ≡ record { config = s.setup.config; shards = count; placing = placing }
@@ -55,13 +55,12 @@ pub record IsRedistributed (placing : ℕ → ℕ → ℕ) (count : ℕ) (old : 
   pub connects : (p : ℕ) → connect_in new p ≡ redistributed_connect placing count k (connect_among old p)
   pub sound : IsSound new
 
--- all shards after it
+-- All `count` shards after redistribution.
 pub record Redistributed (placing : ℕ → ℕ → ℕ) (count : ℕ) (old new : List State) : Type 0 where
   pub many : length new ≡ count
   pub each : (k : ℕ) (s : State) → slice_get new k ≡ Some s → IsRedistributed placing count old k s
 
--- Where all shards of a server held what the definition's shards hold, those that were redistributed hold what the definition's hold with the other number of
--- shards and the other placing.
+-- Redistributed shards still agree with the definitions, with the new shard count and placing.
 abbrev pub RefinesRedistributed : Type 0
 RefinesRedistributed = (setup : Setup) (list : List Listed) (taken : List ℕ) (n count : ℕ) (placing : ℕ → ℕ → ℕ) (old new : List State) → 0 < setup.config.limits.batch →
     length old ≡ setup.shards → ((m : ℕ) → setup.placing m setup.shards < setup.shards) → ((k : ℕ) (s : State) → slice_get old k ≡ Some s → Refines setup list taken k n s) →

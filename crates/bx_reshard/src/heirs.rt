@@ -1,4 +1,4 @@
-//! Shards that are to take over the sessions of others, while they are made.
+//! The new shards, while they are built.
 ghost use Rattle.std.specs.Prelude.{◌≡◌, ◌<◌, ℕ, nat_eq, not, ◌&&◌, ◌||◌, length, option_map, is_some, if◌then◌else◌, OnOk, IfOk};
 ghost use Rattle.std.specs.List.{All};
 ghost use Rattle.std.specs.Option.{option_or};
@@ -11,14 +11,14 @@ use bx_session::{Answered, Session};
 use bx_shard::{Sessions, Wakers};
 use std::alloc::{AllocError, Global};
 
-/// The sessions of each of some shards that are being made.
+/// The sessions of each new shard, while it is built.
 #[derive(Drop)]
 pub(crate) struct Heirs {
     pub(crate) shards: Vec<Sessions>,
 }
 
 impl Heirs {
-    /// So many shards in which no session stands.
+    /// Creates `count` shards without sessions.
     pub(crate) fn new(alloc: Global, config: Config, count: usize) -> Result<Heirs, AllocError>
         ensures many { IfOk result (λ heirs. length heirs.shards.items ≡ count) }
         ensures empty { IfOk result (λ heirs. All (IsEmptyOf config) heirs.shards.items) }
@@ -31,7 +31,7 @@ impl Heirs {
         Ok(Heirs { shards })
     }
 
-    /// Makes room in the shard of this index for a session that stands among others.
+    /// Reserves session `number` in shard `slot`, and copies its patterns from `from`.
     pub(crate) fn lend_session(
         &mut self,
         alloc: Global,
@@ -55,7 +55,7 @@ impl Heirs {
         heir.lend(alloc, number, from)
     }
 
-    /// Makes room for a connect in the shard of this index, as if the session held it until then.
+    /// Reserves a connect in shard `slot` that `session` holds at `place` until `deadline`.
     pub(crate) fn lend_connect(
         &mut self,
         slot: usize,
@@ -75,7 +75,7 @@ impl Heirs {
         heir.lend_connect(place, session, deadline)
     }
 
-    /// Puts a session in the place that was made for it.
+    /// Stores a session in shard `slot`, where it is reserved.
     pub(crate) fn settle(&mut self, slot: usize, number: u64, session: Session)
         requires within { slot < length self.old.shards.items }
         ensures sessions { (k n : ℕ) → kept_of self.new.shards.items k n
@@ -89,7 +89,9 @@ impl Heirs {
         }
     }
 
-    /// Files the answer to a connect for which room was made. A waker beside that is to be woken.
+    /// Files the answer to a connect that is reserved in shard `slot`.
+    ///
+    /// `place`: that of the entry that gave it. Moves the connect's waker to `wakers`.
     pub(crate) fn file(&mut self, slot: usize, place: u64, answered: Answered, wakers: &mut Wakers)
         requires within { slot < length self.old.shards.items }
         ensures connects { (k p : ℕ) → connect_of self.new.shards.items k p

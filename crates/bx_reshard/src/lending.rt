@@ -1,4 +1,4 @@
-//! Room for the sessions of shards in those that are to take them over. All that takes memory is done here.
+//! Reserving sessions and connects in the new shards, so that moving them does not allocate.
 ghost use Rattle.std.specs.Prelude.{◌≡◌, ◌≤◌, ℕ, nat_eq, not, ◌&&◌, ◌||◌, length, map, is_some, if◌then◌else◌, OnOk, IfOk};
 ghost use Rattle.std.specs.List.{list_any};
 ghost use Rattle.std.specs.Option.{option_or};
@@ -13,7 +13,7 @@ use bx_entry::Placing;
 use bx_shard::{Sessions, Shard};
 use std::alloc::{AllocError, Global};
 
-/// Makes room for these sessions of a shard, and puts their patterns in force.
+/// Reserves the sessions `numbers` of an old shard, with their patterns.
 pub(crate) fn lend_sessions<P: Placing>(
     alloc: Global,
     heirs: &mut Heirs,
@@ -40,7 +40,7 @@ pub(crate) fn lend_sessions<P: Placing>(
     Ok(())
 }
 
-/// Makes room for the connects of a shard at these places.
+/// Reserves the connects of an old shard at `places`.
 pub(crate) fn lend_connects<P: Placing>(
     heirs: &mut Heirs,
     old: &Connects,
@@ -64,7 +64,7 @@ pub(crate) fn lend_connects<P: Placing>(
     Ok(())
 }
 
-/// Makes room for all sessions and connects of a shard.
+/// Reserves all sessions and connects of an old shard.
 pub(crate) fn lend_from<P: Placing>(
     alloc: Global,
     heirs: &mut Heirs,
@@ -93,7 +93,7 @@ pub(crate) fn lend_from<P: Placing>(
     lend_connects(heirs, connects, connects.filed_places(), placing, count)
 }
 
-/// Room for all that these shards have, in so many new ones.
+/// Creates `count` new shards, in which everything of the old ones is reserved.
 pub(crate) fn lend_all<P: Placing>(
     alloc: Global,
     config: Config,

@@ -1,4 +1,4 @@
-//! The sessions of all shards, among another number of shards.
+//! Redistribution of all sessions among another number of shards.
 #![tactic(auto)]
 
 mod heirs;

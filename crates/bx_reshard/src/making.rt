@@ -1,4 +1,4 @@
-//! Shards that are made of sessions that were redistributed.
+//! Making shards from redistributed sessions.
 ghost use Rattle.std.specs.Prelude.{◌≡◌, ◌≤◌, ◌<◌, [], length, map, vec_capacity, IfOk};
 ghost use Rattle.std.specs.Arc.{arc_value};
 ghost use Rattle.std.specs.List.{All};
@@ -12,8 +12,10 @@ use bx_shard::Shard;
 use std::alloc::{AllocError, Global};
 use std::sync::Arc;
 
-/// All that shards take memory for, before anything moves into them: room for their sessions and connects, a handle to
-/// the placing for each, room for the shards themselves, and what they have in common.
+/// All that the new shards allocate, before anything moves into them.
+///
+/// This is room for their sessions and connects, a handle to the placing for each, and room for the
+/// shards themselves. `place` and `is_shut` are common to all.
 #[derive(Drop)]
 pub(crate) struct Room<P> {
     pub(crate) heirs: Heirs,
@@ -23,7 +25,7 @@ pub(crate) struct Room<P> {
     pub(crate) is_shut: bool,
 }
 
-/// So many handles to the placing.
+/// Clones the handle to the placing `count` times.
 pub(crate) fn copy_handle<P: Drop>(
     alloc: Global,
     placing: &Arc<P>,
@@ -40,7 +42,7 @@ pub(crate) fn copy_handle<P: Drop>(
     Ok(handles)
 }
 
-/// The shards of those sessions, in their order. It takes no memory.
+/// Creates the shards from their sessions, in order. Does not allocate.
 pub(crate) fn finish<P: Placing + Drop>(room: Room<P>, count: ShardCount) -> Vec<Shard<P>>
     requires empty { room.shards.items ≡ [] }
     requires capacity { length room.heirs.shards.items ≤ vec_capacity room.shards }

@@ -1,4 +1,4 @@
-//! What shards have moves to where room was made for it. None of this takes memory.
+//! Moving sessions and answers to where they are reserved. Nothing here allocates.
 ghost use Rattle.std.specs.Prelude.{◌≡◌, ◌≤◌, ℕ, length, map};
 ghost use Rattle.bx_connects.specs.Connects.{filing_at};
 ghost use Rattle.bx_reshard.specs.Heirs.{AreMoved, SameConnects, SameSessions, answered_with, connect_of, patterns_at, kept_by, kept_of, settled};
@@ -11,7 +11,7 @@ use bx_session::{Answered, Session};
 use bx_shard::{Shard, Wakers};
 use indexmap::IndexMap;
 
-/// Moves these sessions to the shards where they are placed.
+/// Moves sessions to the new shards in which they are placed.
 pub(crate) fn move_sessions<P: Placing>(
     heirs: &mut Heirs,
     mut by_number: IndexMap<u64, Session>,
@@ -29,8 +29,10 @@ pub(crate) fn move_sessions<P: Placing>(
     }
 }
 
-/// Moves the answers that are filed to the shards where their sessions are placed. Wakers beside the connects for which room was
-/// made there are to be woken.
+/// Moves filed answers to the new shards in which their sessions are placed.
+///
+/// Drops the wakers of held connects, which wakes their tasks. Moves the wakers of the reserved
+/// connects to `wakers`.
 pub(crate) fn move_answers<P: Placing>(
     heirs: &mut Heirs,
     mut connects: Connects,
@@ -57,7 +59,7 @@ pub(crate) fn move_answers<P: Placing>(
     }
 }
 
-/// Moves all that these shards have to where room was made for it.
+/// Moves everything in `shards` to where it is reserved.
 pub(crate) fn move_all<P: Placing + Drop>(
     heirs: &mut Heirs,
     shards: Vec<Shard<P>>,

@@ -1,4 +1,4 @@
-//! The sessions of all shards, redistributed among another number of shards.
+//! Redistributing all sessions among another number of shards.
 ghost use Rattle.std.specs.Prelude.{◌≡◌, ◌≤◌, length, map, IfOk, IfErr};
 ghost use Rattle.std.specs.Arc.{arc_value};
 ghost use Rattle.bx_reshard.specs.Redistribution.{AreAlike, AreApart, Redistributed};
@@ -14,9 +14,15 @@ use bx_shard::{Shard, Wakers};
 use std::alloc::{AllocError, Global};
 use std::sync::Arc;
 
-/// Redistributes the sessions of these shards among so many shards, 1 to 64, by this placing: each session stands from then
-/// on in the shard where it is placed, with its patterns, its held connect and its answers that nobody took. Wakers are
-/// dropped, which wakes them. Where memory is refused nothing changes, and the shards come back.
+/// Redistributes the sessions of `shards` among `count` shards, as `placing` places them.
+///
+/// A session keeps its patterns, its held connect and its filed answers. Wakers are dropped, which
+/// wakes their tasks. There must be at least one shard. The shards must have one configuration,
+/// have applied the same entries, and share no session or connect.
+///
+/// # Errors
+///
+/// `shards`, unchanged, and `AllocError` if memory runs out.
 pub fn redistribute<P: Placing + Drop>(
     alloc: Global,
     shards: Vec<Shard<P>>,
@@ -38,7 +44,7 @@ pub fn redistribute<P: Placing + Drop>(
     }
 }
 
-// All that takes memory.
+// Allocates everything that the new shards need.
 fn make_room<P: Placing + Drop>(
     alloc: Global,
     shards: &[Shard<P>],
@@ -61,7 +67,7 @@ fn make_room<P: Placing + Drop>(
     })
 }
 
-// All that moves. It takes no memory.
+// Moves everything to the new shards. Does not allocate.
 fn move_in<P: Placing + Drop>(
     mut room: Room<P>,
     shards: Vec<Shard<P>>,

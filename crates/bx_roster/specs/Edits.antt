@@ -1,4 +1,4 @@
--- What edits make of the live sessions.
+-- How edits change the live sessions.
 use Rattle.std.specs.Prelude.{ℕ, ◌≡◌, ◌+◌, ◌<◌, ◌^◌, Bool, true, false, if◌then◌else◌, List, [], ◌∷◌, ◌++◌, length, fold, IsSome}
 use Rattle.bx_entry.specs.Registry.{Registered, extended, closed, swept}
 use Rattle.bx_roster.specs.Live.{Members, with_live, live_in}
@@ -7,18 +7,18 @@ use Rattle.bx_roster.specs.declared.edit.{Edit.Edit, Edits.Edits}
 use Rattle.bx_roster.specs.declared.edit.Edit.TheVariants.{Open, Extend, Close}
 use Rattle.bx_roster.specs.declared.edit.Edits.TheVariants.{Each, Sweep}
 
--- the sessions after one edit: one more session, a due moment moved on, or a session closed
+-- The sessions after one edit: one is opened, has its due moment extended, or is closed.
 abbrev pub edited : Members → Edit → Members
 edited ms (Open s) = record ms { opened = s.number; live = ms.live ++ s ∷ [] }
 edited ms (Extend number due) = with_live ms (live_in (extended number due ms.live))
 edited ms (Close number) = with_live ms (live_in (closed number ms.live))
 
--- the sessions after these edits in order, or after all that are overdue are closed
+-- The sessions after these edits in order, or after all that are overdue are closed.
 abbrev pub edited_by : Members → Edits → Members
 edited_by ms (Each edits) = fold edited ms edits
 edited_by ms (Sweep moment) = with_live ms (live_in (swept moment ms.live))
 
--- a session to be opened is the next one, and finds room
+-- A session that is opened is the next one, and there is room for it.
 pub record IsNext (ms : Members) (s : Registered) : Type 0 where
   pub room : length ms.live < ms.limit
   pub number : s.number ≡ ms.opened + 1
@@ -26,44 +26,44 @@ pub record IsNext (ms : Members) (s : Registered) : Type 0 where
   pub named : IsNamed s
   pub live : s.live ≡ true
 
--- an edit can be made at these sessions: what is opened is the next, what is closed is live
+-- The edit can be made: what it opens is the next session, and what it closes is live.
 abbrev pub CanEdit : Members → Edit → Type 0
 CanEdit ms (Open s) = IsNext ms s
 CanEdit ms (Extend number due) = Unit {0}
 CanEdit ms (Close number) = IsSome (known_at number ms.live)
 
--- so can each of these, one after another
+-- Each of these edits can be made, one after another.
 abbrev pub CanEditEach : Members → List Edit → Type 0
 CanEditEach ms [] = Unit {0}
 CanEditEach ms (e ∷ es) = CanEdit ms e × CanEditEach (edited ms e) es
 
--- so can all edits of a change
+-- All edits of a change can be made.
 abbrev pub CanEditBy : Members → Edits → Type 0
 CanEditBy ms (Each edits) = CanEditEach ms edits
 CanEditBy ms (Sweep moment) = Unit {0}
 
--- whether an edit opens a session
+-- Whether an edit opens a session.
 abbrev pub is_open : Edit → Bool
 is_open (Open s) = true
 is_open (Extend number due) = false
 is_open (Close number) = false
 
--- how many sessions an edit opens
+-- How many sessions an edit opens.
 abbrev pub opened_by : Edit → ℕ
 opened_by (Open s) = 1
 opened_by (Extend number due) = 0
 opened_by (Close number) = 0
 
--- how many sessions these edits open
+-- How many sessions these edits open.
 abbrev pub opened_by_each : List Edit → ℕ
 opened_by_each [] = 0
 opened_by_each (e ∷ es) = opened_by e + opened_by_each es
 
--- how many sessions a change opens
+-- How many sessions a change opens.
 abbrev pub opens : Edits → ℕ
 opens (Each edits) = opened_by_each edits
 opens (Sweep moment) = 0
 
--- how many sessions may be opened before the next record is made
+-- How many sessions can be opened before another record must be made.
 abbrev pub room_of : Bool → ℕ
 room_of ready = if ready then 1 else 0

@@ -1,41 +1,44 @@
--- What a map of records by number comes to.
+-- A map of records by session number, as a list of sessions.
 use Rattle.std.specs.Prelude.{ℕ, zero, suc, ◌≡◌, ◌+◌, ◌^◌, ◌<◌, ◌≤◌, true, List, [], ◌∷◌, ◌++◌, length, Option, Some, None, is_some, max, if◌then◌else◌}
 use Rattle.bx_entry.specs.Registry.{Registered}
 use Rattle.bx_roster.specs.Tables.{IsNamed}
 
--- what stands under a number, where something does: a session, or a record that is vacant
+-- What is stored under a number, if anything: a session or a vacant record.
 abbrev pub Record : Type 0
 Record = Option (Option Registered)
 
+-- The session of a record, if any.
 abbrev pub session_of : Option (Option Registered) → Option Registered
 session_of None = None
 session_of (Some record_there) = record_there
 
+-- The sessions with one more, if there is one.
 abbrev pub with_one : List Registered → Option Registered → List Registered
 with_one rs None = rs
 with_one rs (Some r) = rs ++ r ∷ []
 
--- the sessions that stand under the numbers from 1 to this one, in the order of their numbers
+-- The sessions with numbers from 1 to `n`, in ascending order.
 unfoldable pub sessions_to : (ℕ → Record) → ℕ → List Registered
 sessions_to at zero = []
 sessions_to at (suc n) = with_one (sessions_to at n) (session_of (at (suc n)))
 
--- a session stands under its own number
+-- A live session is stored under its own number.
 pub record Stands (n : ℕ) (r : Registered) : Type 0 where
   pub number : r.number ≡ n
   pub above : 0 < n
   pub named : IsNamed r
   pub live : r.live ≡ true
 
--- a session that is due no earlier than this moment, nor than before
+-- The session, due no earlier than before and no earlier than `due`.
 abbrev pub later : ℕ → Registered → Registered
 later due r = record r { due = max r.due due }
 
+-- How many records are under a number: 1 or 0.
 abbrev pub vacant_count : Record → ℕ
 vacant_count o = if is_some o then 1 else 0
 
--- Under the numbers of sessions that were opened stand sessions alone; under the next one there may be a vacant record, and nothing
--- stands beyond. So there is one record for each live session, and at most one more.
+-- Each live session has a record. At most one more, a vacant one, is under the next number to be
+-- opened, and none is beyond.
 pub record IsKept (at : ℕ → Record) (records limit count opened : ℕ) : Type 0 where
   pub fits : count ≤ limit
   pub small : limit < 2 ^ 64
@@ -46,9 +49,9 @@ pub record IsKept (at : ℕ → Record) (records limit count opened : ℕ) : Typ
   pub vacant : (n : ℕ) → at n ≡ Some None → n ≡ opened + 1
   pub stand : (n : ℕ) (r : Registered) → at n ≡ Some (Some r) → Stands n r
 
--- ---- a walk over the map
+-- ---- A walk over the map
 
--- the sessions among these records
+-- The sessions in these records.
 abbrev pub sessions_in : List (Option Registered) → List Registered
 sessions_in [] = []
 sessions_in (None ∷ records) = sessions_in records

@@ -1,22 +1,22 @@
--- The sessions that are live.
+-- The live sessions.
 use Rattle.std.specs.Prelude.{ℕ, Bool, List, filter}
 use Rattle.bx_entry.specs.Registry.{Registered}
 
--- how many sessions may be live, how many were ever opened, and those that are live, in the order of their numbers
+-- How many sessions may be live, how many were ever opened, and the live ones by number.
 pub record Members : Type 0 where
   pub limit : ℕ
   pub opened : ℕ
   pub live : List Registered
 
--- the sessions of a list that are live
+-- The live sessions of a list.
 abbrev pub live_in : List Registered → List Registered
 live_in sessions = filter (λ (r : Registered). r.live) sessions
 
--- these sessions in place of those that are live
+-- The members with these live sessions.
 abbrev pub with_live : Members → List Registered → Members
 with_live ms live = record ms { live = live }
 
--- what contracts see of a table: the live sessions, and whether there is a vacant record for the next one
+-- A table in contracts: the live sessions, and whether there is a vacant record for the next one.
 pub record Prepared : Type 0 where
   pub members : Members
   pub ready : Bool

@@ -1,4 +1,4 @@
--- The queue of due moments: for each session that is live an entry that stands at its due moment or before it.
+-- The queue of due moments, with an entry for each live session at its due moment or before.
 use Rattle.std.specs.Prelude.{ℕ, ◌≡◌, ◌+◌, ◌<◌, ◌≤◌, ◌==◌, ◌&&◌, nat_le, nat_lt, Bool, true, false, List, [], ◌∷◌, ◌++◌, All, length, map, filter, Option, Some, None}
 use Rattle.std.specs.{List.list_any, BinaryHeap.IsHeap, Ordering.nat_cmp, Ordering.ordering_then}
 use Rattle.std.specs.declared.cmp.Ordering.{Ordering}
@@ -7,60 +7,60 @@ use Rattle.bx_roster.specs.Live.{Members}
 use Rattle.bx_roster.specs.Tables.{AllLive, IsTable, due_at}
 use Rattle.bx_roster.specs.declared.due_queue.Due.{Due}
 
--- how many entries there is room for, those that are late, and those that wait
+-- How many entries there is room for, the late entries and the waiting ones.
 pub record Queue : Type 0 where
   pub room : ℕ
   pub late : List Due
   pub waiting : List Due
 
--- all entries of a queue
+-- All entries of a queue.
 abbrev pub entries : Queue → List Due
 entries q = q.late ++ q.waiting
 
--- an entry is greater than those of later moments
+-- The order of entries: one of an earlier moment is greater.
 abbrev pub due_order : Due → Due → Ordering
 due_order x y = ordering_then (nat_cmp y.moment.0 x.moment.0) (nat_cmp x.number y.number)
 
--- none of these entries stands before this moment
+-- No entry is earlier than `moment`.
 abbrev pub IsFrom : ℕ → List Due → Type 0
 IsFrom moment dues = All (λ (d : Due). moment ≤ d.moment.0) dues
 
--- the late entries are those that were late, and behind them some that stand before this moment
+-- The list `after` is `before`, followed by entries that are earlier than `moment`.
 abbrev pub IsLateBy : ℕ → List Due → List Due → Type 0
 IsLateBy moment before after = (moved : List Due) × (after ≡ before ++ moved) × All (λ (d : Due). d.moment.0 < moment) moved
 
--- whether an entry is the session's and stands at its due moment or before it
+-- Whether an entry is the session's and is at its due moment or before.
 abbrev pub files : Registered → Due → Bool
 files r d = (d.number == r.number) && nat_le d.moment.0 r.due
 
--- each of these sessions has an entry that stands at its due moment or before it
+-- Each session has an entry at its due moment or before.
 abbrev pub AllFiled : List Due → List Registered → Type 0
 AllFiled dues [] = Unit {0}
 AllFiled dues (r ∷ rs) = (list_any (files r) dues ≡ true) × AllFiled dues rs
 
--- the waiting entries are in the order of a heap, and there is room for as many entries as there may be
+-- The waiting entries form a heap, and there is room for as many entries as there may be.
 pub record IsQueue (waiting late : List Due) (waiting_room late_room room : ℕ) : Type 0 where
   pub heap : IsHeap due_order waiting
   pub fits : length late + length waiting ≤ room
   pub waiting_fits : room ≤ waiting_room
   pub late_fits : room ≤ late_room
 
--- the sessions are live and in the order of their numbers
+-- The sessions are live and in the order of their numbers.
 pub record IsRoster (ms : Members) : Type 0 where
   pub table : IsTable 0 ms.opened ms.live
   pub all : AllLive ms.live
 
--- each session of a roster is filed in the queue, which has room for all that may be live
+-- Each session of a roster is in the queue, which has room for all that may be live.
 pub record IsQueued (ms : Members) (q : Queue) : Type 0 where
   pub roster : IsRoster ms
   pub filed : AllFiled (entries q) ms.live
   pub room : ms.limit ≤ q.room
 
--- whether there is a due moment, and it is before this one
+-- Whether there is a due moment and it is before `moment`.
 abbrev pub is_past : ℕ → Option ℕ → Bool
 is_past moment None = false
 is_past moment (Some due) = nat_lt due moment
 
--- the numbers of those entries whose session was due before this moment
+-- The numbers of the entries whose sessions were due before `moment`.
 abbrev pub past_numbers : ℕ → List Registered → List Due → List ℕ
 past_numbers moment live dues = filter (λ n. is_past moment (due_at n live)) (map (λ (d : Due). d.number) dues)

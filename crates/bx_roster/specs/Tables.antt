@@ -1,36 +1,36 @@
--- The table of sessions that a registry keeps, in the order of their numbers, closed ones among them.
+-- Lists of sessions in the order of their numbers.
 use Rattle.std.specs.Prelude.{ℕ, ◌≡◌, ◌≢◌, ◌<◌, ◌≤◌, ◌==◌, Bool, true, List, [], ◌∷◌, drop, if◌then◌else◌, Option, Some, None}
 use Rattle.bx_entry.specs.Registry.{Registered, hex_digits}
 
--- a client id ends in the digits of its session's number
+-- A client id ends in the hexadecimal digits of its session's number.
 abbrev pub IsNamed : Registered → Type 0
 IsNamed r = drop 32 r.client ≡ hex_digits 16 r.number
 
--- the numbers ascend from above `low` to `high` at most, and each client id ends in its session's number
+-- The numbers ascend above `low` and up to `high`, and each client id ends in its session's number.
 abbrev pub IsTable : ℕ → ℕ → List Registered → Type 0
 IsTable low high [] = low ≤ high
 IsTable low high (r ∷ rs) = (low < r.number) × IsNamed r × IsTable r.number high rs
 
--- no session has this number
+-- No session has this number.
 abbrev pub IsAbsent : ℕ → List Registered → Type 0
 IsAbsent number [] = Unit {0}
 IsAbsent number (r ∷ rs) = (r.number ≢ number) × IsAbsent number rs
 
--- each session is live
+-- Each session is live.
 abbrev pub AllLive : List Registered → Type 0
 AllLive [] = Unit {0}
 AllLive (r ∷ rs) = (r.live ≡ true) × AllLive rs
 
--- the client id of a session, and whether it acknowledges
+-- The client id of a session, and whether it acknowledges.
 abbrev pub known_of : Registered → List ℕ × Bool
 known_of r = (r.client, r.ack)
 
--- those of the first session with this number
+-- The client id of the first session with this number, and whether it acknowledges.
 abbrev pub known_at : ℕ → List Registered → Option (List ℕ × Bool)
 known_at number [] = None
 known_at number (r ∷ rs) = if r.number == number then Some (known_of r) else known_at number rs
 
--- the due moment of the first session with this number
+-- The due moment of the first session with this number.
 abbrev pub due_at : ℕ → List Registered → Option ℕ
 due_at number [] = None
 due_at number (r ∷ rs) = if r.number == number then Some r.due else due_at number rs

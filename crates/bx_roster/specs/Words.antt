@@ -1,4 +1,4 @@
--- The words of this crate's definitions, for those who import several.
+-- Names of this crate's definitions, for files that import several.
 pub use Rattle.bx_roster.specs.Edits.{CanEdit, CanEditBy, CanEditEach, IsNext, edited, edited_by, is_open, opened_by, opened_by_each, opens, room_of}
 pub use Rattle.bx_roster.specs.Kept.{IsKept, Record, Stands, later, session_of, sessions_in, vacant_count, with_one}
 unfoldable pub use Rattle.bx_roster.specs.Kept.{sessions_to}

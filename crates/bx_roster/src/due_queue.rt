@@ -1,4 +1,4 @@
-//! The queue of due moments.
+//! The queue of sessions by due moment.
 ghost use Rattle.std.specs.Prelude.{◌≡◌, ◌+◌, ◌<◌, ◌≤◌, ◌++◌, ◌∷◌, [], length, nat_lt, vec_capacity, vec_len, IfOk, IfNone, IfSome, IsPermutation, MatchOption};
 ghost use Rattle.std.specs.BinaryHeap.{IsHeap, heap_capacity, heap_items, heap_len};
 ghost use Rattle.bx_roster.specs.Queues.{IsFrom, IsLateBy, Queue, due_order, entries};
@@ -8,16 +8,21 @@ use std::cmp::Reverse;
 use std::collections::BinaryHeap;
 use std::marker::Model;
 
-/// When a session is to be looked at: at its due moment or before it. The earliest is the greatest.
+/// An entry: when to look at a session, at its due moment or before.
+///
+/// The earliest entry compares as the greatest.
 #[derive(Clone, Copy, PartialEq, Eq, PartialOrd, Ord)]
 pub(crate) struct Due {
-    /// In milliseconds.
+    /// Milliseconds since the server started.
     pub(crate) moment: Reverse<u64>,
     pub(crate) number: u64,
 }
 
-/// The entries of sessions. Those that wait stand in a heap, and those that were found late in a list. There is room
-/// from the first on.
+/// The entries of sessions: a heap of those that wait, and a list of those found late.
+///
+/// All memory is allocated at creation.
+///
+/// Model: the room, the late entries and the waiting ones.
 #[derive(Drop)]
 pub(crate) struct DueQueue {
     waiting: BinaryHeap<Due>,
@@ -38,7 +43,7 @@ impl Model for DueQueue {
 }
 
 impl DueQueue {
-    /// No entry, and room for so many.
+    /// Creates an empty queue with room for `room` entries.
     pub(crate) fn new(alloc: Global, room: usize) -> Result<DueQueue, AllocError>
         ensures { IfOk result (λ q. q ≡ record { room = room; late = []; waiting = [] }) }
     {
@@ -49,14 +54,14 @@ impl DueQueue {
         })
     }
 
-    /// Whether there is room for one more.
+    /// Returns `true` if there is room for one more entry.
     pub(crate) fn has_room(&self) -> bool
         ensures { result ≡ nat_lt (length (entries self.now)) self.now.room }
     {
         self.late.len() + self.waiting.len() < self.room
     }
 
-    /// Adds an entry, in the time of the logarithm of how many there are.
+    /// Adds an entry, for which there must be room. Takes logarithmic time.
     pub(crate) fn file(&mut self, moment: u64, number: u64)
         requires { length (entries self.old) < self.old.room }
         ensures room { self.new.room ≡ self.old.room }
@@ -67,7 +72,7 @@ impl DueQueue {
         let _ = self.waiting.push(Due { moment, number });
     }
 
-    /// Gives up all entries.
+    /// Removes all entries.
     pub(crate) fn clear(&mut self)
         ensures { self.new ≡ record { room = self.old.room; late = []; waiting = [] } }
     {
@@ -75,8 +80,9 @@ impl DueQueue {
         self.late.clear();
     }
 
-    /// Finds the entries that stand before this moment, in milliseconds, late. Each takes the time of the logarithm
-    /// of how many wait.
+    /// Moves the entries before `moment`, in milliseconds, to the late ones.
+    ///
+    /// Takes logarithmic time for each.
     pub(crate) fn expire(&mut self, moment: u64)
         ensures room { self.new.room ≡ self.old.room }
         ensures same { IsPermutation (entries self.old) (entries self.new) }
@@ -86,14 +92,14 @@ impl DueQueue {
         move_before(&mut self.waiting, &mut self.late, moment);
     }
 
-    /// The entries that were found late.
+    /// Returns the late entries.
     pub(crate) fn late(&self) -> &[Due]
         ensures { result.now ≡ self.now.late }
     {
         self.late.as_slice()
     }
 
-    /// Takes one of the late entries out.
+    /// Removes and returns one of the late entries, if any.
     pub(crate) fn take_late(&mut self) -> Option<Due>
         ensures waiting { self.new.waiting ≡ self.old.waiting }
         ensures room { self.new.room ≡ self.old.room }
@@ -105,7 +111,7 @@ impl DueQueue {
     }
 }
 
-// Moves the entries that stand before this moment behind those that are late.
+// Moves the entries before `moment` from the heap to the end of `late`.
 fn move_before(waiting: &mut BinaryHeap<Due>, late: &mut Vec<Due>, moment: u64)
     requires heap { IsHeap due_order (heap_items waiting.old) }
     requires room { vec_len late.old + heap_len waiting.old ≤ vec_capacity late.old }
@@ -121,7 +127,7 @@ fn move_before(waiting: &mut BinaryHeap<Due>, late: &mut Vec<Due>, moment: u64)
     }
 }
 
-// The first entry, where it stands before this moment.
+// Removes and returns the first entry, if it is before `moment`.
 fn pop_before(waiting: &mut BinaryHeap<Due>, moment: u64) -> Option<Due>
     requires { IsHeap due_order (heap_items waiting.old) }
     ensures heap { IsHeap due_order (heap_items waiting.new) }

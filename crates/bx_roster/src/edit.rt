@@ -1,24 +1,23 @@
-//! What a request or a tick changes of the sessions.
+//! How a request or a tick changes the live sessions.
 use crate::session::LiveSession;
 use bx_message::Sequence;
 
-/// A change of the sessions.
+/// A change to the live sessions.
 #[derive(Drop)]
 pub enum Edit {
-    /// One more session.
+    /// Opens a session.
     Open(LiveSession),
-    /// The due moment of the session of this number moves on to this one, in milliseconds, never
-    /// back.
+    /// Moves the due moment of a session to `due`, in milliseconds, but never back.
     Extend { number: u64, due: u64 },
-    /// The session of this number is closed.
+    /// Closes a session.
     Close { number: u64 },
 }
 
-/// All changes of the sessions.
+/// All changes by a request or a tick.
 #[derive(Drop)]
 pub enum Edits {
-    /// These in order.
+    /// Several changes, in order.
     Each(Sequence<Edit>),
-    /// All sessions are closed that were due before this moment, in milliseconds.
+    /// Closes every session whose due moment is before this one, in milliseconds.
     Sweep(u64),
 }

@@ -1,4 +1,4 @@
-//! The live sessions by their numbers, and which of them are overdue.
+//! The live sessions by number, and which of them are overdue.
 #![tactic(auto)]
 
 mod due_queue;

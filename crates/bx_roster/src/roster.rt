@@ -1,4 +1,4 @@
-//! The live sessions by number.
+//! The live sessions by number, without the queue of due moments.
 ghost use Rattle.std.specs.Prelude.{◌≡◌, ◌+◌, ◌<◌, ◌≤◌, ◌^◌, ◌++◌, ◌∷◌, [], length, true, false, option_map, OnOk, OnErr};
 ghost use Rattle.indexmap.specs.IndexMap.{values};
 ghost use Rattle.bx_entry.specs.Registry.{closed, extended};
@@ -14,9 +14,11 @@ use indexmap::IndexMap;
 use std::alloc::{AllocFailed, Global};
 use std::marker::Model;
 
-/// The live sessions by number, and perhaps a vacant record for the next one. Contracts see the sessions in the order of their
-/// numbers, whatever the order in the map, and whether there is a vacant record. So the map never has more than one record
-/// more than there are live sessions.
+/// The live sessions by number, and possibly a vacant record for the next one.
+///
+/// Otherwise the map has no records.
+///
+/// Model: the live sessions in ascending order of number, and whether there is a vacant record.
 #[derive(Drop)]
 pub(crate) struct Roster {
     records: IndexMap<u64, Option<LiveSession>>,
@@ -42,7 +44,7 @@ impl Model for Roster {
 }
 
 impl Roster {
-    /// No session was opened; so many may be live.
+    /// Creates an empty roster for at most `limit` live sessions.
     pub(crate) fn new(alloc: Global, limit: usize) -> Roster
         ensures { result ≡ record { members = record { limit = limit; opened = 0; live = [] }; ready = false } }
     {
@@ -54,7 +56,7 @@ impl Roster {
         }
     }
 
-    /// How many sessions are live, and how many were opened.
+    /// Returns how many sessions are live, and how many were opened.
     pub(crate) fn counts(&self) -> (usize, u64)
         ensures live { result.0 ≡ length self.now.members.live }
         ensures opened { result.1 ≡ self.now.members.opened }
@@ -66,7 +68,7 @@ impl Roster {
         (self.count, self.opened)
     }
 
-    /// The live session with this number.
+    /// Returns session `number`, if it is live.
     pub(crate) fn find(&self, number: u64) -> Option<&LiveSession>
         ensures known { option_map (λ s. known_of s.now) result ≡ known_at number self.now.members.live }
         ensures due { option_map (λ s. s.now.due) result ≡ due_at number self.now.members.live }
@@ -77,14 +79,14 @@ impl Roster {
         }
     }
 
-    /// The due moment of the live session with this number, in milliseconds.
+    /// Returns the due moment of session `number`, in milliseconds, if it is live.
     pub(crate) fn due_of(&self, number: u64) -> Option<u64>
         ensures { result ≡ due_at number self.now.members.live }
     {
         Some(self.find(number)?.due)
     }
 
-    /// Files each session in a queue that has none and room for all of them.
+    /// Files every session in `queue`, which must be empty and have room for all.
     pub(crate) fn file_all(&self, queue: &mut DueQueue)
         requires empty { entries queue.old ≡ [] }
         requires few { length self.now.members.live ≤ queue.old.room }
@@ -95,7 +97,9 @@ impl Roster {
         file_each(queue, &self.records);
     }
 
-    /// Puts a vacant record under the next number, where there is none.
+    /// Adds a vacant record for the next session, if there is none.
+    ///
+    /// On error, nothing has changed.
     pub(crate) fn prepare(&mut self) -> Result<(), AllocFailed<(u64, Option<LiveSession>)>>
         requires { self.old.members.opened + 1 < 2 ^ 64 }
         ensures members { self.new.members ≡ self.old.members }
@@ -106,7 +110,7 @@ impl Roster {
         Ok(())
     }
 
-    /// Fills the vacant record with a session. It takes no memory.
+    /// Stores the next session in the vacant record. Does not allocate.
     pub(crate) fn open(&mut self, session: LiveSession)
         requires next { IsNext self.old.members session }
         requires ready { self.old.ready ≡ true }
@@ -127,7 +131,9 @@ impl Roster {
         *vacant = Some(session);
     }
 
-    /// Moves the due moment of a session on, in milliseconds, never back. It takes no memory.
+    /// Moves a session's due moment to `due`, in milliseconds, but never back.
+    ///
+    /// Does not allocate.
     pub(crate) fn extend(&mut self, number: u64, due: u64)
         ensures extended { self.new ≡ record self.old {
           members = with_live self.old.members (live_in (extended number due self.old.members.live));
@@ -140,7 +146,7 @@ impl Roster {
         move_on(session, due);
     }
 
-    /// Closes a session, which leaves the map. It takes no memory.
+    /// Closes a session, which leaves the map. Does not allocate.
     pub(crate) fn close(&mut self, number: u64)
         ensures closed { self.new ≡ record self.old {
           members = with_live self.old.members (live_in (closed number self.old.members.live));
@@ -157,7 +163,7 @@ impl Roster {
     }
 }
 
-// Files the sessions among these records.
+// Files the sessions among `records`.
 fn file_each(queue: &mut DueQueue, records: &IndexMap<u64, Option<LiveSession>>)
     requires empty { entries queue.old ≡ [] }
     requires few { length (sessions_in (values records.now)) ≤ queue.old.room }
@@ -172,7 +178,7 @@ fn file_each(queue: &mut DueQueue, records: &IndexMap<u64, Option<LiveSession>>)
     }
 }
 
-// Moves the due moment of a session on, never back.
+// Moves a session's due moment to `due`, but never back.
 fn move_on(session: &mut Option<LiveSession>, due: u64)
     ensures { session.new ≡ option_map (later due) session.old }
 {

@@ -1,4 +1,4 @@
-//! A session as the registry knows it.
+//! Sessions, as the registry knows them.
 ghost use Rattle.std.specs.Prelude.{◌≡◌};
 ghost use Rattle.bx_roster.specs.Tables.{known_of};
 
@@ -8,15 +8,15 @@ use std::marker::Model;
 /// A session that was opened.
 #[derive(Drop)]
 pub struct LiveSession {
-    /// Sessions are counted from 1 on, in the order in which they were opened.
+    /// The session's number, from 1 in the order of opening.
     pub number: u64,
-    /// Its client id, which ends in the digits of its number.
+    /// The client id, which ends with the digits of the number.
     pub client: Text,
-    /// Whether it acknowledges.
+    /// Whether the session acknowledges batches.
     pub ack: bool,
-    /// A tick behind this moment closes it, in milliseconds.
+    /// The due moment, in milliseconds. A later tick closes the session.
     pub due: u64,
-    /// Whether it was not closed.
+    /// Whether the session is still live.
     pub live: bool,
 }
 
@@ -34,17 +34,17 @@ impl Model for LiveSession {
     } };
 }
 
-/// What a message is judged by of the session that it names.
+/// What is known of a session, to judge its messages.
 #[derive(Clone, Copy)]
 pub struct Known<'a> {
-    /// Its client id.
+    /// The client id.
     pub client: &'a Text,
-    /// Whether it acknowledges.
+    /// Whether the session acknowledges batches.
     pub ack: bool,
 }
 
 impl LiveSession {
-    /// What is known of it.
+    /// Returns what the session's messages are judged by.
     pub fn known(&self) -> Known<'_>
         ensures { (result.client.now, result.ack) ≡ known_of self.now }
     {

@@ -1,4 +1,4 @@
-//! The table of sessions, with the queue of their due moments.
+//! The live sessions, with a queue of their due moments.
 ghost use Rattle.std.specs.Prelude.{◌≡◌, ◌+◌, ◌<◌, ◌≤◌, ◌^◌, ◌++◌, ◌∷◌, [], length, fold, nat_lt, option_map, true, false, IfOk, OnOk, OnErr};
 ghost use Rattle.std.specs.List.{list_any};
 ghost use Rattle.bx_entry.specs.Registry.{closed, extended, overdue, swept};
@@ -15,12 +15,17 @@ use bx_message::Sequence;
 use std::alloc::{AllocError, AllocFailed, Global};
 use std::marker::Model;
 
-/// The sessions, and a queue in which each one that is live stands at its due moment or before it: moving a due moment
-/// on leaves the queue as it is, and a tick that meets such an entry files it again.
+/// The live sessions, with a queue of their due moments.
 ///
-/// So a tick walks over no session that is not filed before it. It takes the time of the logarithm of how many there
-/// are for each session that it closes, and as long for each entry whose session was closed or moved on since it was
-/// filed; the message that did so pays for that, and the openings pay for making room. No clause speaks of time.
+/// Each live session has an entry in the queue, at its due moment or before. Extending the session
+/// leaves the entry as it is; a tick after the entry files it again.
+///
+/// So a tick looks only at sessions whose entry is before its moment. It takes logarithmic time for
+/// each session that it closes, and for each entry whose session was closed or extended since it
+/// was filed. Making room takes logarithmic time for each opening, on average.
+///
+/// Model: the live sessions in ascending order of number, and whether one more can be opened
+/// without allocating.
 #[derive(Drop)]
 pub struct Table {
     roster: Roster,
@@ -39,8 +44,11 @@ impl Model for Table {
 }
 
 impl Table {
-    /// A table to which no session came, with room in the queue for as many live sessions as the limit says. An error means
-    /// that memory was refused.
+    /// Creates an empty table for at most `limit` live sessions.
+    ///
+    /// # Errors
+    ///
+    /// `AllocError` if memory runs out for the queue, which has room for twice as many.
     pub fn new(alloc: Global, limit: usize) -> Result<Table, AllocError>
         ensures { IfOk result (λ t. t ≡ record { members = record { limit = limit; opened = 0; live = [] }; ready = false }) }
     {
@@ -50,7 +58,7 @@ impl Table {
         })
     }
 
-    /// How many sessions are live, and how many were opened.
+    /// Returns how many sessions are live, and how many were opened.
     pub fn counts(&self) -> (usize, u64)
         ensures live { result.0 ≡ length self.now.members.live }
         ensures opened { result.1 ≡ self.now.members.opened }
@@ -62,15 +70,20 @@ impl Table {
         self.roster.counts()
     }
 
-    /// What is known of the live session with this number.
+    /// Returns what is known of session `number`, if it is live.
     pub fn known_at(&self, number: u64) -> Option<Known<'_>>
         ensures { option_map (λ k. (k.client.now, k.ack)) result ≡ known_at number self.now.members.live }
     {
         Some(self.roster.find(number)?.known())
     }
 
-    /// Makes a record for the session that these edits open, where they open one; a record that is there already is left. An
-    /// error means that memory was refused, and nothing changes then.
+    /// Reserves a record for the session that `edits` open, if they open one.
+    ///
+    /// A record that is already reserved is left as it is.
+    ///
+    /// # Errors
+    ///
+    /// `AllocError` if memory runs out; nothing has changed.
     pub fn prepare(&mut self, edits: &[Edit]) -> Result<(), AllocError>
         requires { self.old.members.opened + 1 < 2 ^ 64 }
         ensures members { self.new.members ≡ self.old.members }
@@ -83,7 +96,7 @@ impl Table {
         Ok(())
     }
 
-    // Adds a session.
+    // Adds the next session, for which a record is reserved.
     fn open(&mut self, session: LiveSession)
         requires next { IsNext self.old.members session }
         requires ready { self.old.ready ≡ true }
@@ -100,7 +113,7 @@ impl Table {
         self.roster.open(session);
     }
 
-    // Moves the due moment of a session on, never back.
+    // Moves a session's due moment to `due`, but never back.
     fn extend(&mut self, number: u64, due: u64)
         ensures { self.new ≡ record self.old {
           members = with_live self.old.members (live_in (extended number due self.old.members.live));
@@ -118,7 +131,10 @@ impl Table {
         self.roster.close(number);
     }
 
-    /// Makes these edits, of which one may open a session where a record was prepared for it. It takes no memory.
+    /// Applies `edits`. Does not allocate.
+    ///
+    /// They may open one session, for which [`prepare`](Self::prepare) must have reserved a record.
+    /// They may only close live sessions.
     pub fn apply(&mut self, edits: Edits)
         requires can { CanEditBy self.old.members edits }
         requires room { opens edits ≤ room_of self.old.ready }
@@ -130,7 +146,7 @@ impl Table {
         }
     }
 
-    // Makes these edits in order.
+    // Applies `edits` in order.
     fn edit(&mut self, edits: Sequence<Edit>)
         requires can { CanEditEach self.old.members edits }
         requires room { opened_by_each edits ≤ room_of self.old.ready }
@@ -154,8 +170,14 @@ impl Table {
         }
     }
 
-    /// The numbers of the live sessions that were due before this moment, in milliseconds, ascending. It looks at the
-    /// sessions that are filed before it, and at no other. An error means that memory was refused.
+    /// Returns the live sessions whose due moment is before `moment`, in ascending order.
+    ///
+    /// `moment`: milliseconds since the server started. Looks only at the sessions whose entry is
+    /// before it.
+    ///
+    /// # Errors
+    ///
+    /// `AllocError` if memory runs out; no session has changed.
     pub fn overdue(&mut self, alloc: Global, moment: u64) -> Result<Sequence<u64>, AllocError>
         ensures same { self.new ≡ self.old }
         ensures overdue { IfOk result (λ numbers. numbers ≡ overdue moment self.old.members.live) }
@@ -163,12 +185,12 @@ impl Table {
         self.queue.expire(moment);
         let mut numbers = past_numbers(alloc, &self.roster, self.queue.late(), moment)?;
         numbers.sort_unstable();
-        // A session has one entry, but no clause says so.
+        // Prover: a session has only one entry, but no contract says so.
         numbers.dedup();
         Ok(Sequence::from_vec(numbers))
     }
 
-    // Closes the sessions that were due before this moment.
+    // Closes the sessions whose due moment is before `moment`.
     fn sweep(&mut self, moment: u64)
         ensures { self.new.members ≡ with_live self.old.members (live_in (swept moment self.old.members.live)) }
     {
@@ -177,14 +199,14 @@ impl Table {
     }
 }
 
-// Whether one of these edits opens a session.
+// Returns `true` if one of `edits` opens a session.
 fn opens_one(edits: &[Edit]) -> bool
     ensures { result ≡ list_any is_open edits.now }
 {
     edits.iter().any(|edit| matches!(edit, Edit::Open(_)))
 }
 
-// The numbers of those entries whose session was due before this moment.
+// Returns the sessions of `late` entries whose due moment is before `moment`.
 fn past_numbers(
     alloc: Global,
     roster: &Roster,
@@ -211,7 +233,7 @@ fn is_past(due: Option<u64>, moment: u64) -> bool
     }
 }
 
-// Closes the sessions of late entries that were due before this moment, and files those again that are due later.
+// Closes the sessions of late entries that are due before `moment`, and files the others again.
 fn settle_late(roster: &mut Roster, queue: &mut DueQueue, moment: u64)
     requires roster { IsRoster roster.old.members }
     requires filed { AllFiled (entries queue.old) roster.old.members.live }
@@ -226,7 +248,7 @@ fn settle_late(roster: &mut Roster, queue: &mut DueQueue, moment: u64)
     }
 }
 
-// Closes the session of an entry that was taken out, or files it again if it is due later.
+// Closes the session of a removed entry, or files it again if it is due at `moment` or later.
 fn settle(roster: &mut Roster, queue: &mut DueQueue, due: Due, moment: u64)
     requires roster { IsRoster roster.old.members }
     requires filed { AllFiled (due ∷ entries queue.old) roster.old.members.live }
@@ -245,8 +267,9 @@ fn settle(roster: &mut Roster, queue: &mut DueQueue, due: Due, moment: u64)
     }
 }
 
-// Files the live sessions anew where no room is left, which gives up the entries of closed ones. As there is room for
-// twice as many as may be live, as many can be opened before that comes again.
+// Files the live sessions anew if there is no room, which drops the entries of closed ones. The
+// queue has room for twice the limit of live sessions, so as many can be opened before this happens
+// again.
 fn make_room(queue: &mut DueQueue, roster: &Roster)
     requires filed { AllFiled (entries queue.old) roster.now.members.live }
     requires few { length roster.now.members.live < queue.old.room }

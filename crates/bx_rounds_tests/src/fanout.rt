@@ -1,5 +1,5 @@
-//! Five inputs at once and one by one, with one worker and with several, by each placing, and with another number of shards; and events
-//! that ride, with one worker and with several.
+//! Tests of rounds: inputs in one run or several, by one worker or several, with several placings,
+//! with riders, and after resharding.
 ghost use Rattle.std.specs.Prelude.{◌≤◌};
 
 use crate::requests::request;
@@ -16,18 +16,18 @@ use std::sync::atomic::{AtomicBool, AtomicU16, Ordering};
 use std::test::Fail;
 use std::thread::{Threads, yield_now};
 
-// How many sessions are opened before the inputs, a request each. They hear nothing; but with fewer live sessions one worker
-// does for an event.
+// Number of sessions opened before the inputs, each by a request. They subscribe to nothing, but
+// with fewer live sessions one worker handles an event alone.
 const CROWD: usize = 1_024;
 
-// More than any test has.
+// More inputs than any test has.
 const MOST_INPUTS: usize = 10_000;
 
 const HANDSHAKE: &str =
     r#"{"channel":"/meta/handshake","version":"1.0","supportedConnectionTypes":["long-polling"]}"#;
 
-// Two handshakes, a subscription and a connect of the first of these sessions, and an event from the second one that
-// answers the connect. Each with its moment.
+// Two handshakes, a subscription and a connect of the first session, and an event from the second
+// session that answers the connect. Each has its moment.
 const INPUTS: [(u64, &str); 5] = [
     (
         0,
@@ -51,7 +51,7 @@ const INPUTS: [(u64, &str); 5] = [
     ),
 ];
 
-// The number of each out and its response, in the order in which they are added.
+// The number and response of each out, in the order in which they are added.
 const OUTS: [(usize, &str); 5] = [
     (
         1_024,
@@ -72,8 +72,8 @@ const OUTS: [(usize, &str); 5] = [
     (1_028, r#"[{"channel":"/a/b","successful":true}]"#),
 ];
 
-// Where events ride, behind these: another event from the second session waits for the first one, whose own publish has both before
-// its reply.
+// Inputs after these in a round with riders: another event from the second session waits for the
+// first. The reply to the first session's own publish then comes after both events.
 const RIDING: [(u64, &str); 2] = [
     (
         30,
@@ -99,7 +99,8 @@ const ALONE: [(u64, &str); 1] = [(
     r#"{"channel":"/meta/connect","clientId":"000000000000000000000000000000000000000000000401","connectionType":"long-polling"}"#,
 )];
 
-// A run: its inputs, what it gives, how many inputs were taken in by then, and which of these, counted from 0, are held.
+// A run: its inputs, its outs, the number of inputs taken in by its end, and the numbers of the
+// held ones.
 type HoldRun = (
     &'static [(u64, &'static str)],
     &'static [(usize, &'static str)],
@@ -116,7 +117,7 @@ const OPENED_FIRST: &str =
 const SUPERSEDED_FIRST: &str =
     r#"[{"channel":"/meta/connect","clientId":"000000000000000000000000000000000000000000000001","error":"408::Superseded connect","successful":false}]"#;
 
-// A session whose connect is held until it connects once more.
+// One run: a session's connect is held until the session connects again.
 const TOGETHER: [HoldRun; 1] = [(
     &[(0, HANDSHAKE), (1, CONNECT_FIRST), (2, CONNECT_FIRST)],
     &[(0, OPENED_FIRST), (1, SUPERSEDED_FIRST)],
@@ -124,25 +125,26 @@ const TOGETHER: [HoldRun; 1] = [(
     &[2],
 )];
 
-// The same by a run for each input.
+// The same with one run for each input.
 const APART: [HoldRun; 3] = [
     (&[(0, HANDSHAKE)], &[(0, OPENED_FIRST)], 1, &[]),
     (&[(1, CONNECT_FIRST)], &[], 2, &[1]),
     (&[(2, CONNECT_FIRST)], &[(1, SUPERSEDED_FIRST)], 3, &[2]),
 ];
 
-// In which shards sessions stand, over and over: in turn, all in the first shard, and some together.
+// Tables for placings. Of two shards, the second table uses only the first shard, and the others
+// use both.
 const TABLES: [&[u8]; 3] = [&[0, 1, 2], &[], &[1, 2, 2]];
 
-// How often a worker that is held looks whether it may go on.
+// How often a waiting worker checks whether it may go on.
 const LOOKS: u32 = 10_000_000;
 
-// So many of the inputs.
+// Returns the first `count` inputs.
 fn inputs(alloc: Global, count: usize) -> Result<Vec<Input>, Fail> {
     requests(alloc, INPUTS.get(..count).ok_or("too few inputs")?)
 }
 
-// A request of each of these moments and bodies.
+// Creates a request for each moment and body.
 fn requests(alloc: Global, table: &[(u64, &str)]) -> Result<Vec<Input>, Fail> {
     let mut inputs = Vec::new(alloc);
     for (moment, body) in table {
@@ -151,7 +153,7 @@ fn requests(alloc: Global, table: &[(u64, &str)]) -> Result<Vec<Input>, Fail> {
     Ok(inputs)
 }
 
-// The requests of the crowd.
+// Creates the requests that open the crowd's sessions.
 fn crowd(alloc: Global) -> Result<Vec<Input>, AllocError> {
     let mut inputs = Vec::new(alloc);
     for _ in 0..CROWD {
@@ -160,7 +162,7 @@ fn crowd(alloc: Global) -> Result<Vec<Input>, AllocError> {
     Ok(inputs)
 }
 
-// A round of so many shards and workers, in which sessions stand by this table.
+// Creates a round that places sessions by `table`.
 fn round(
     alloc: Global,
     (shards, workers): (usize, usize),
@@ -170,7 +172,7 @@ fn round(
     round_of(alloc, config, workers, table)
 }
 
-// A round of four shards in which events ride.
+// Creates a round of four shards with riders.
 fn riding_round(alloc: Global, workers: usize) -> Result<Round<ByTable>, Fail> {
     let config = Config::new(4, 30_000, 0, 10_000).ok_or("no configuration")?;
     let options = Options {
@@ -191,7 +193,7 @@ fn round_of(
     Ok(Round::new(alloc, config, placing, workers)?)
 }
 
-// Deals with these inputs, as one run.
+// Runs `inputs` in one run.
 fn run<R: Threads + Sync, G: Gate + Sync>(
     rt: &R,
     alloc: Global,
@@ -209,7 +211,7 @@ fn run<R: Threads + Sync, G: Gate + Sync>(
     Ok(())
 }
 
-// Opens the sessions of the crowd.
+// Opens the crowd's sessions.
 fn open_crowd<R: Threads + Sync>(
     rt: &R,
     alloc: Global,
@@ -219,7 +221,7 @@ fn open_crowd<R: Threads + Sync>(
     run(rt, alloc, &OpenGate, round, &crowd(alloc)?, &mut outs)
 }
 
-// Behind the crowd, a round of so many shards and workers gives the right outs of the inputs, so many of them in a run.
+// Checks the outs of the inputs after the crowd, with at most `at_once` inputs a run.
 fn check_round<R: Abort + Threads + Sync>(
     rt: &R,
     alloc: Global,
@@ -250,7 +252,8 @@ fn check_given<R: Abort + Threads + Sync>(
     check(rt, alloc, &outs, &OUTS)
 }
 
-// The same of a run up to the connect and of a tick, whose workers pass one gate, and of the event, whose workers pass another.
+// Checks the outs with gates: `few` for the run up to the connect and for a final tick, `many` for
+// the event.
 fn check_gated<R: Abort + Threads + Sync, F: Gate + Sync, G: Gate + Sync>(
     rt: &R,
     alloc: Global,
@@ -294,7 +297,7 @@ fn check<R: Abort>(
     Ok(())
 }
 
-// The body of an out's response.
+// Writes the body of an out's response.
 fn written(alloc: Global, out: &Out) -> Result<Vec<u8>, Fail> {
     match &out.result {
         Ok(items) => Ok(body_text(alloc, items.as_slice())?),
@@ -302,6 +305,7 @@ fn written(alloc: Global, out: &Out) -> Result<Vec<u8>, Fail> {
     }
 }
 
+// One run and several runs add the same outs.
 #[test]
 fn one_run_gives_what_several_give(rt: HostRuntime) -> Result<(), Fail> {
     let alloc = rt.alloc();
@@ -313,7 +317,7 @@ fn one_run_gives_what_several_give(rt: HostRuntime) -> Result<(), Fail> {
     Ok(())
 }
 
-// The same inputs, behind them riders that a team brings up, and a connect, which one worker does.
+// Checks the inputs, then riders handled by `team`, and then a connect handled by worker 0.
 fn check_riding<R: Abort + Threads + Sync>(
     rt: &R,
     alloc: Global,
@@ -326,7 +330,7 @@ fn check_riding<R: Abort + Threads + Sync>(
     check_team(rt, alloc, round, 0b1, &ALONE, &[])
 }
 
-// A team brings the shards up behind these inputs, and gives these outs.
+// Checks that `team` handles the inputs `asked` and that their outs are `right`.
 fn check_team<R: Abort + Threads + Sync>(
     rt: &R,
     alloc: Global,
@@ -341,7 +345,7 @@ fn check_team<R: Abort + Threads + Sync>(
     Ok(())
 }
 
-// One run of these inputs gives these outs.
+// Checks that one run of the inputs `asked` adds the outs `right`.
 fn check_outs<R: Abort + Threads + Sync, G: Gate + Sync>(
     rt: &R,
     alloc: Global,
@@ -366,6 +370,7 @@ fn check_riding_by<R: Abort + Threads + Sync>(
     check_riding(rt, alloc, &mut round, team)
 }
 
+// Riders get the same from one worker and from four.
 #[test]
 fn events_ride_by_one_worker_and_by_four(rt: HostRuntime) -> Result<(), Fail> {
     for (workers, team) in [(1, 0b1), (4, 0b1111)] {
@@ -374,7 +379,7 @@ fn events_ride_by_one_worker_and_by_four(rt: HostRuntime) -> Result<(), Fail> {
     Ok(())
 }
 
-// So many inputs were taken in, and these are held.
+// Checks how many inputs were taken in, and which are held.
 fn check_held<R: Abort>(
     rt: &R,
     alloc: Global,
@@ -387,7 +392,7 @@ fn check_held<R: Abort>(
     Ok(())
 }
 
-// Each of these runs gives what it is to give, and leaves held what it is to leave.
+// Checks the outs of each run, and the inputs held after it.
 fn check_holds<R: Abort + Threads + Sync>(
     rt: &R,
     alloc: Global,
@@ -412,6 +417,7 @@ fn check_holds_by<R: Abort + Threads + Sync>(
     check_holds(rt, alloc, &mut round, runs)
 }
 
+// A round reports its held connects.
 #[test]
 fn a_held_connect_is_told_beside_what_is_given(rt: HostRuntime) -> Result<(), Fail> {
     for workers in [1, 2] {
@@ -421,7 +427,7 @@ fn a_held_connect_is_told_beside_what_is_given(rt: HostRuntime) -> Result<(), Fa
     Ok(())
 }
 
-// Holds one worker before its work until another has done its own.
+// A gate that holds one worker before its work until another is done.
 #[derive(Drop)]
 struct Holding {
     held: usize,
@@ -458,8 +464,8 @@ impl Gate for Holding {
     }
 }
 
-// No clause says that a run's workers are threads: where one thread does the work of both, one after another, worker 0
-// gives up here.
+// Shows that a run's workers run concurrently, which no clause states. If one thread did the work
+// of both in turn, worker 0 would give up.
 #[test]
 fn workers_run_beside_one_another(rt: HostRuntime) -> Result<(), Fail> {
     let alloc = rt.alloc();
@@ -475,7 +481,7 @@ fn workers_run_beside_one_another(rt: HostRuntime) -> Result<(), Fail> {
     Ok(())
 }
 
-// Among four shards, deals with the crowd and all inputs but the last one, so that a connect is held, and then goes on with 64.
+// Holds a connect in a round of 4 shards, and redistributes the sessions among 64.
 fn redistributed<R: Threads + Sync, G: Gate + Sync>(
     rt: &R,
     alloc: Global,
@@ -515,7 +521,7 @@ fn hold<R: Threads + Sync, G: Gate + Sync>(
     run(rt, alloc, gate, round, held, outs)
 }
 
-// Deals with the last input. Until then the connect is held.
+// Runs the last input, and checks that the connect is held until then.
 fn answer_held<R: Abort + Threads + Sync, G: Gate + Sync>(
     rt: &R,
     alloc: Global,
@@ -530,7 +536,7 @@ fn answer_held<R: Abort + Threads + Sync, G: Gate + Sync>(
     check_held(rt, alloc, round, 1_029, &[])
 }
 
-// The held connect goes with its session: behind the move the last input gives the right outs.
+// Checks that a held connect moves with its session: the event still answers it.
 fn check_redistributed<R: Abort + Threads + Sync, G: Gate + Sync>(
     rt: &R,
     alloc: Global,
@@ -543,7 +549,7 @@ fn check_redistributed<R: Abort + Threads + Sync, G: Gate + Sync>(
     check(rt, alloc, &outs, &OUTS)
 }
 
-// At which workers wait until all of a team are there.
+// A gate where workers wait until their whole team has come.
 #[derive(Drop)]
 struct Meeting {
     // A bit for each worker of the team.
@@ -584,15 +590,16 @@ impl Gate for Meeting {
     }
 }
 
-// The team was there, all at once, and each of it was done.
+// Checks that the team's workers were there at the same time, and all finished.
 fn check_met<R: Abort>(rt: &R, meeting: &Meeting) {
     let (team, went) = (meeting.team, meeting.went.load(Ordering::SeqCst));
     assert!(rt; !meeting.gave_up.load(Ordering::SeqCst), "team {team:b}");
     assert_eq!(rt; went, team, "team {team:b}");
 }
 
-// No clause says how many threads there are: where they are fewer than the workers, whoever came gives up here. An event
-// can reach the crowd, and all workers bring it that find a shard; of the other inputs few deliveries are to be expected.
+// Shows that there is a thread for each worker, which no clause states: with fewer threads, workers
+// would give up. The event could reach the crowd, so every worker with a shard takes part. The
+// other inputs have too few deliveries for that.
 #[test]
 fn as_many_threads_run_as_workers(rt: HostRuntime) -> Result<(), Fail> {
     let alloc = rt.alloc();
@@ -606,7 +613,7 @@ fn as_many_threads_run_as_workers(rt: HostRuntime) -> Result<(), Fail> {
     Ok(())
 }
 
-// A held connect goes with its session into more shards, and each worker finds some of these.
+// Shows that a held connect moves to one of 64 shards, and that each worker has some of them.
 #[test]
 fn each_worker_finds_a_shard_among_more(rt: HostRuntime) -> Result<(), Fail> {
     let alloc = rt.alloc();

@@ -1,5 +1,6 @@
-//! Tests of the crates `bx_script`, `bx_world`, `bx_fanout` and `bx_replay`, in a crate of their own: the gate proves a crate once more
-//! where it has tests.
+//! Tests of `bx_script`, `bx_world`, `bx_fanout` and `bx_replay`.
+//!
+//! A separate crate, because `.ci/run` proves a crate with tests twice.
 #![tactic(auto)]
 
 #[cfg(test)]

@@ -1,5 +1,5 @@
-//! Replays of scripts where sessions are placed otherwise than by the program, and such as end with a fault of a reader or a writer: what is
-//! written then is a front of the right output. Other scripts are rows of the program.
+//! Tests of replays with several placings, and with readers and writers that fail. After a failure,
+//! the output is a front of the right one. Other scripts are rows of the program.
 use bx_advice::Config;
 use bx_entry::{AllFirst, ByRemainder, ByTable, Placing};
 use bx_replay::replay;
@@ -13,7 +13,7 @@ use std::sync::Arc;
 use std::test::Fail;
 use std::thread::Threads;
 
-// Scripts, and what each prints: lines of all kinds, and an event that answers a connect.
+// Scripts and their output: replies, bad lines and a held connect; an event that answers a connect.
 const RUNS: [(&str, &str); 2] = [
     (
         r#"0 P [{"channel":"/meta/handshake","version":"1.0","supportedConnectionTypes":["long-polling"]}]
@@ -45,7 +45,7 @@ x
     ),
 ];
 
-// An event that answers two of three connects, and a batch that comes again among another number of shards.
+// An event that answers two of three connects, and a batch sent again after resharding.
 const PLACED: [(&str, &str); 2] = [
     (
         r#"0 P [{"channel":"/meta/handshake","version":"1.0","supportedConnectionTypes":["long-polling"]}]
@@ -84,8 +84,8 @@ const PLACED: [(&str, &str); 2] = [
     ),
 ];
 
-// A connect that is held at the end, and ended another one; disconnects of sessions that do not live, or no longer, which are refused; ticks
-// up to the moment when a session ends and past it, and then its publish; and a batch that comes again until it is acknowledged.
+// A held connect that supersedes another; disconnects of sessions that are not live; ticks up to
+// the end of a session, followed by its publish; a batch sent until it is acknowledged.
 const WHOLE: [(&str, &str); 4] = [
     (
         r#"0 P [{"channel":"/meta/handshake","version":"1.0","supportedConnectionTypes":["long-polling"]}]
@@ -153,7 +153,7 @@ const WHOLE: [(&str, &str); 4] = [
     ),
 ];
 
-// Replays a script with two workers, among three shards, and returns how that ends.
+// Replays a script with two workers and three shards, and returns the result.
 fn replayed<T, P, R, W>(
     rt: &T,
     alloc: Global,
@@ -173,7 +173,7 @@ where
     Ok(replay(rt, alloc, config, placing, workers, lines, output))
 }
 
-// A script prints this by this placing.
+// Checks the output of a script with `placing`.
 fn check_placed<R: Abort + Threads + Sync, P: Placing + Drop + Send + Sync>(
     rt: &R,
     alloc: Global,
@@ -204,6 +204,7 @@ fn check_placings<R: Abort + Threads + Sync>(
     check_placed(rt, alloc, ByRemainder, run)
 }
 
+// The output is the same with each of three placings.
 #[test]
 fn wherever_sessions_are_placed_the_same_is_printed(rt: HostRuntime) -> Result<(), Fail> {
     for run in RUNS {
@@ -218,7 +219,7 @@ fn wherever_sessions_are_placed_the_same_is_printed(rt: HostRuntime) -> Result<(
     Ok(())
 }
 
-// Gives a few bytes a read, and fails behind so many reads.
+// A reader that returns at most 40 bytes a read, and fails after `reads` reads.
 #[derive(Drop)]
 struct Reader<'a> {
     bytes: &'a [u8],
@@ -238,7 +239,8 @@ impl Read for Reader<'_> {
     }
 }
 
-// Takes a few bytes a write, and fails behind so many writes, or when it is flushed.
+// A writer that takes at most 40 bytes a write. It fails after `writes` writes, or on a flush
+// unless `flushes`.
 #[derive(Drop)]
 struct Writer {
     written: Vec<u8>,
@@ -266,7 +268,8 @@ impl Write for Writer {
     }
 }
 
-// Whether a run came to its end, and wrote all that is right; where not, it ended with this fault, and wrote a front of that.
+// Returns `true` if the replay ended well, and checks its output. Otherwise checks for `fault`, and
+// that the output is a front of the right one.
 fn is_whole<R: Abort>(
     rt: &R,
     ended: Result<(), ScriptFault>,
@@ -283,7 +286,7 @@ fn is_whole<R: Abort>(
     false
 }
 
-// Runs a script by a reader that fails behind so many reads.
+// Replays a script from a reader that fails after `reads` reads.
 fn check_read<R: Abort + Threads + Sync>(
     rt: &R,
     alloc: Global,
@@ -307,7 +310,7 @@ fn check_read<R: Abort + Threads + Sync>(
     Ok(is_whole(rt, ended, ScriptFault::Read, written.as_slice(), right))
 }
 
-// The same with a reader that fails behind no read, behind one, and so on, until it does not fail.
+// Replays with a reader that fails after 0 reads, 1 read and so on, until it does not fail.
 fn check_reads<R: Abort + Threads + Sync>(
     rt: &R,
     alloc: Global,
@@ -321,6 +324,7 @@ fn check_reads<R: Abort + Threads + Sync>(
     Err(Fail::from("more reads than there may be"))
 }
 
+// A failed read leaves a front of the output.
 #[test]
 fn a_failed_read_leaves_a_front(rt: HostRuntime) -> Result<(), Fail> {
     for run in RUNS {
@@ -329,7 +333,7 @@ fn a_failed_read_leaves_a_front(rt: HostRuntime) -> Result<(), Fail> {
     Ok(())
 }
 
-// Runs a script with this writer, which fails where it is written to or flushed.
+// Replays a script to `writer`, which may fail on a write or a flush.
 fn check_writer<R: Abort + Threads + Sync>(
     rt: &R,
     alloc: Global,
@@ -356,7 +360,7 @@ fn new_writer(alloc: Global, writes: usize, flushes: bool) -> Writer {
     }
 }
 
-// Runs a script with a writer that fails behind no write, behind one, and so on, until it does not fail.
+// Replays with a writer that fails after 0 writes, 1 write and so on, until it does not fail.
 fn check_writes<R: Abort + Threads + Sync>(
     rt: &R,
     alloc: Global,
@@ -370,6 +374,7 @@ fn check_writes<R: Abort + Threads + Sync>(
     Err(Fail::from("more writes than there may be"))
 }
 
+// A failed write leaves a front of the output.
 #[test]
 fn a_failed_write_leaves_a_front(rt: HostRuntime) -> Result<(), Fail> {
     for run in RUNS {
@@ -378,6 +383,7 @@ fn a_failed_write_leaves_a_front(rt: HostRuntime) -> Result<(), Fail> {
     Ok(())
 }
 
+// A failed flush is a write fault, after all output.
 #[test]
 fn a_failed_flush_is_a_write_fault(rt: HostRuntime) -> Result<(), Fail> {
     let mut writer = new_writer(rt.alloc(), 100, false);

@@ -1,9 +1,9 @@
-//! A request as the tests hand it in: a body of JSON, at a moment.
+//! The requests that the tests send.
 use bx_cut::Bodies;
 use bx_entry::{Arrival, Door, Input};
 use std::alloc::{AllocError, Global};
 
-/// A request of this body, at a moment.
+/// Creates a request with a JSON body at `moment`, on the publishers' listener.
 pub fn request(alloc: Global, moment: u64, body: &str) -> Result<Input, AllocError> {
     Ok(Input::Post(Arrival {
         moment,

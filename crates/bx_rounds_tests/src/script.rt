@@ -1,4 +1,4 @@
-//! What the lines of a script say, and what is printed for them.
+//! Tests of reading a script's lines, and of writing the answers to them.
 use crate::same::same;
 use bx_advice::BODY_LIMIT;
 use bx_entry::{Input, Refusal};
@@ -12,7 +12,7 @@ use std::io::{BufRead, BufReader, Read, Write};
 use std::process::Abort;
 use std::test::Fail;
 
-// What a line says, in words. Of a long document the length stands in its place.
+// Describes a line. A document of over 9 bytes is given by its length.
 fn told(alloc: Global, line: &Line) -> Result<String, AllocError> {
     match line {
         Line::Bad => String::from_str(alloc, "bad"),
@@ -51,7 +51,7 @@ fn told_input(alloc: Global, name: &str, input: &Input) -> Result<String, AllocE
     Ok(text)
 }
 
-// What the lines of a script say, each before a semicolon.
+// Describes all lines, each followed by a semicolon.
 fn all_told<R: BufRead>(
     alloc: Global,
     dialect: Dialect,
@@ -78,11 +78,11 @@ const SCRIPT: &[u8] =
 const TOLD: &str =
     "post 0 - |[]\r|;bad;bad;post 0 - |\0|;bad;tick 7;bad;bad;tick 0;post 1 cb |[]|;turned 400;bad;shards 64;bad;shards 1;tick 0;post 2 - |[]| | |;turned 400;turned 400;bad;nonce 255;bad;bad;bad;bad;nonce 340282366920938463463374607431768211455;note;note;note;bad;bad;bad;bad;bad;bad;bad;bad;bad;bad;bad;bad;";
 
-// The same where it is read as a script: what a record alone has is bad there.
+// The same lines read as a script. Lines that only records have are bad there.
 const TOLD_AS_SCRIPT: &str =
     "post 0 - |[]\r|;bad;bad;post 0 - |\0|;bad;tick 7;bad;bad;tick 0;post 1 cb |[]|;turned 400;bad;shards 64;bad;shards 1;tick 0;bad;bad;bad;bad;bad;bad;bad;bad;bad;bad;bad;bad;bad;bad;bad;bad;bad;bad;bad;bad;bad;bad;bad;bad;bad;";
 
-// Gives one byte a read, and a fault in place of the read of a number.
+// A reader that returns one byte a read, and `fault` once after its number of reads.
 #[derive(Drop)]
 struct Slow {
     bytes: &'static [u8],
@@ -107,7 +107,7 @@ impl Read for Slow {
     }
 }
 
-// The record says this, or is not read, where this reader reads it.
+// Checks the description of the record in `reader`, or the fault that reading it ends with.
 fn check_told<R: BufRead>(
     rt: &impl Abort,
     alloc: Global,
@@ -132,6 +132,7 @@ fn check_slowly(
     Ok(())
 }
 
+// Shows what each line is read as, also by slow and failing readers.
 #[test]
 fn lines_say_what_they_say(rt: HostRuntime) -> Result<(), Fail> {
     let alloc = rt.alloc();
@@ -152,7 +153,7 @@ fn lines_say_what_they_say(rt: HostRuntime) -> Result<(), Fail> {
     Ok(())
 }
 
-// How many lines a script has, where each is handed on.
+// Returns the number of lines, or `None` if one is not accepted or there are over 5,000.
 fn handed(alloc: Global, script: &str) -> Result<Option<u32>, ScriptFault> {
     let mut lines = Lines::new(alloc, Dialect::Script, script.as_bytes());
     for count in 0..5_001 {
@@ -165,6 +166,7 @@ fn handed(alloc: Global, script: &str) -> Result<Option<u32>, ScriptFault> {
     Ok(None)
 }
 
+// A script of 5,000 lines is read.
 #[test]
 fn a_script_has_thousands_of_lines(rt: HostRuntime) -> Result<(), Fail> {
     let script = "7 T\n".repeat(rt.alloc(), 5_000)?;
@@ -177,7 +179,7 @@ fn a_script_has_thousands_of_lines(rt: HostRuntime) -> Result<(), Fail> {
     Ok(())
 }
 
-// A line of a head, so many equal bytes and an end, and a line behind it.
+// Creates a line of `head`, `count` times `byte` and `end`, followed by a tick.
 fn long_script(
     alloc: Global,
     head: &str,
@@ -189,6 +191,7 @@ fn long_script(
     format!(in alloc; "{head}{bytes}{end}\n5 T\n")
 }
 
+// Long lines are read, but documents only up to their limit.
 #[test]
 fn long_lines_say_what_they_say(rt: HostRuntime) -> Result<(), Fail> {
     let alloc = rt.alloc();
@@ -219,7 +222,7 @@ fn long_lines_say_what_they_say(rt: HostRuntime) -> Result<(), Fail> {
     Ok(())
 }
 
-// Writes what a script's lines are answered, to eight lines.
+// Writes the answers to eight lines of a script.
 fn write_all(alloc: Global, out: &mut Output<&mut Vec<u8>>) -> Result<(), ScriptFault> {
     write_bad(out, 1)?;
     write_status(out, 2, Status::TooLarge)?;
@@ -237,6 +240,7 @@ fn write_results(alloc: Global, out: &mut Output<&mut Vec<u8>>) -> Result<(), Sc
     write_result(alloc, out, 7, &None, true, &Err(Refusal::BadMoment))
 }
 
+// Shows what is written for each answer, and that a full buffer is an error.
 #[test]
 fn what_is_printed(rt: HostRuntime) -> Result<(), Fail> {
     let alloc = rt.alloc();
@@ -255,7 +259,7 @@ fn what_is_printed(rt: HostRuntime) -> Result<(), Fail> {
     Ok(())
 }
 
-// Takes so many writes, and refuses the next.
+// A writer that fails once, after `writes` writes.
 #[derive(Drop)]
 struct Broken {
     held: Vec<u8>,
@@ -281,7 +285,7 @@ impl Write for Broken {
     }
 }
 
-// A response to line 12, to a writer.
+// Writes a response to line 12.
 fn respond<W: Write>(
     alloc: Global,
     writer: &mut W,
@@ -302,6 +306,7 @@ fn check_front(rt: &impl Abort, alloc: Global, writes: usize, name: &Option<Stri
     same(rt, is_front, true, writes);
 }
 
+// A failed write leaves a front of the output.
 #[test]
 fn a_failed_write_leaves_a_front(rt: HostRuntime) -> Result<(), Fail> {
     let name = Some(String::from_str(rt.alloc(), "cb")?);
@@ -311,7 +316,7 @@ fn a_failed_write_leaves_a_front(rt: HostRuntime) -> Result<(), Fail> {
     Ok(())
 }
 
-// Takes two bytes a write, and is interrupted before each.
+// A writer that takes two bytes a write, and is interrupted before each.
 #[derive(Drop)]
 struct Halting {
     held: Vec<u8>,
@@ -341,6 +346,7 @@ fn respond_twice<W: Write>(alloc: Global, writer: &mut W) -> Result<(), ScriptFa
     write_held(&mut out, 7)
 }
 
+// Short and interrupted writes are continued.
 #[test]
 fn short_and_interrupted_writes_go_on(rt: HostRuntime) -> Result<(), Fail> {
     let mut writer = Halting {
@@ -353,7 +359,7 @@ fn short_and_interrupted_writes_go_on(rt: HostRuntime) -> Result<(), Fail> {
     Ok(())
 }
 
-// Takes one byte a write.
+// A writer that takes one byte a write.
 #[derive(Drop)]
 struct Narrow {
     held: Vec<u8>,
@@ -386,6 +392,7 @@ fn check_narrow(
     Ok(())
 }
 
+// A long text is written whole, even a byte a write.
 #[test]
 fn a_long_text_is_written_byte_by_byte(rt: HostRuntime) -> Result<(), Fail> {
     let alloc = rt.alloc();
@@ -394,7 +401,7 @@ fn a_long_text_is_written_byte_by_byte(rt: HostRuntime) -> Result<(), Fail> {
     check_narrow(&rt, alloc, &Some(name), wanted.as_str())
 }
 
-// Is interrupted so often, and then takes all.
+// A writer that is interrupted `interruptions` times, and then takes everything.
 #[derive(Drop)]
 struct Interrupted {
     held: Vec<u8>,
@@ -416,6 +423,7 @@ impl Write for Interrupted {
     }
 }
 
+// A write goes on after 100,000 interruptions.
 #[test]
 fn a_write_is_tried_after_many_interruptions(rt: HostRuntime) -> Result<(), Fail> {
     let mut writer = Interrupted {
@@ -428,6 +436,7 @@ fn a_write_is_tried_after_many_interruptions(rt: HostRuntime) -> Result<(), Fail
     Ok(())
 }
 
+// Shows which digits are read as a number.
 #[test]
 fn digits_say_numbers(rt: HostRuntime) {
     for (digits, number) in [
@@ -443,6 +452,7 @@ fn digits_say_numbers(rt: HostRuntime) {
     }
 }
 
+// Shows the texts of the faults.
 #[test]
 fn faults_have_texts(rt: HostRuntime) -> Result<(), Fail> {
     let alloc = rt.alloc();

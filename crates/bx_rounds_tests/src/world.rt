@@ -1,4 +1,4 @@
-//! Schedules of a world, and what each of their steps gives.
+//! Tests of a world: schedules, and the output of each step.
 use crate::requests::request;
 use bx_advice::Config;
 use bx_entry::{AdmitFault, AllFirst, ByRemainder, ByTable, Input, Placing, Refusal, Slot, Ticket};
@@ -9,21 +9,21 @@ use std::process::Abort;
 use std::sync::Arc;
 use std::test::Fail;
 
-// A step.
+// A step of a schedule.
 #[derive(Clone, Copy, Debug)]
 enum Deed {
-    // A request, with its moment and its body.
+    // A request's moment and body.
     Post(u64, &'static str),
     Tick(u64),
     Apply(usize),
-    // The place and the shard of a ticket.
+    // A ticket's place and shard.
     Take(u64, usize),
 }
 
-// A step, and its output in words.
+// A step and its output as text.
 type Line = (Deed, &'static str);
 
-// Two handshakes, and a subscription of the first of these sessions.
+// Two handshakes, and a subscription of the first session.
 const OPENING: [Line; 3] = [
     (
         Deed::Post(
@@ -48,7 +48,7 @@ const OPENING: [Line; 3] = [
     ),
 ];
 
-// Behind these a connect of the first session, which waits in the shard of this index.
+// A connect of the first session after these, for that session in shard 0 and in shard 1.
 const CONNECT: [Line; 2] = [
     (
         Deed::Post(
@@ -66,7 +66,7 @@ const CONNECT: [Line; 2] = [
     ),
 ];
 
-// And an event from the second session, which answers the connect.
+// An event from the second session that answers the connect.
 const EVENT: Line = (
     Deed::Post(
         20,
@@ -75,12 +75,12 @@ const EVENT: Line = (
     r#"from 4: {"channel":"/a/b","successful":true}"#,
 );
 
-// What answers the connect.
+// The answer to the connect.
 const ANSWER: &str =
     r#"{"channel":"/a/b","data":7}{"advice":{"interval":0,"reconnect":"retry","timeout":30000},"channel":"/meta/connect","clientId":"000000000000000000000000000000000000000000000001","successful":true}"#;
 
-// Behind these five admissions: the connect's session stands in shard 1, so its answer is filed once that shard has applied all
-// five entries, whatever shard 0 has applied.
+// Steps after these five entries, with the connect's session in shard 1. The answer is filed once
+// shard 1 has applied all five, whatever shard 0 has applied.
 const APPLICATIONS: [Line; 15] = [
     (Deed::Take(3, 1), "none"),
     (Deed::Apply(1), "applied"),
@@ -99,7 +99,7 @@ const APPLICATIONS: [Line; 15] = [
     (Deed::Take(3, 1), "none"),
 ];
 
-// A connect that is held until a tick at its deadline, which no tick before it answers.
+// A connect that is held until a tick at its deadline. An earlier tick does not answer it.
 const HELD: [Line; 16] = [
     (Deed::Apply(1), "level"),
     (Deed::Tick(4_611_686_018_427_387_905), "refused: BadMoment"),
@@ -151,7 +151,7 @@ fn steps(alloc: Global, lines: &[Line]) -> Result<Vec<Step>, AllocError> {
     Ok(steps)
 }
 
-// An output in words.
+// Writes an output as text.
 fn push_out(alloc: Global, out: &StepOut, text: &mut Vec<u8>) -> Result<(), AllocError> {
     match out {
         StepOut::Admitted { first, slots } => push_slots(alloc, *first, slots.as_slice(), text),
@@ -205,13 +205,13 @@ fn check_out<R: Abort>(rt: &R, alloc: Global, out: &StepOut, line: &Line) -> Res
     Ok(())
 }
 
-// A world of two shards.
+// Creates a world of two shards.
 fn world<P: Placing + Drop>(alloc: Global, placing: &Arc<P>) -> Result<World<P>, Fail> {
     let config = Config::new(2, 30_000, 0, 10_000).ok_or("no configuration")?;
     Ok(World::new(alloc, config, placing.clone()?)?)
 }
 
-// One run of the whole schedule gives these outputs.
+// Checks the outputs of the whole schedule in one run.
 fn check_run<R: Abort, P: Placing>(
     rt: &R,
     alloc: Global,
@@ -228,7 +228,7 @@ fn check_run<R: Abort, P: Placing>(
     Ok(())
 }
 
-// The steps give these outputs one by one.
+// Checks the outputs step by step.
 fn check_steps<R: Abort, P: Placing>(
     rt: &R,
     alloc: Global,
@@ -254,7 +254,7 @@ fn check<R: Abort, P: Placing + Drop>(
     Ok(())
 }
 
-// The same in a world of its own, by one run of the whole schedule or step by step.
+// Checks the outputs in a new world, in one run or step by step.
 fn check_in<R: Abort, P: Placing + Drop>(
     rt: &R,
     alloc: Global,
@@ -270,7 +270,8 @@ fn check_in<R: Abort, P: Placing + Drop>(
     }
 }
 
-// The five admissions, where the connect's session stands in this shard, and other lines behind them.
+// Creates a schedule of the five entries, with the connect's session in `shard`, followed by
+// `behind`.
 fn schedule(alloc: Global, shard: usize, behind: &[Line]) -> Result<Vec<Line>, Fail> {
     let mut lines = Vec::from_slice(alloc, &OPENING)?;
     lines.push(*CONNECT.get(shard).ok_or("no shard")?)?;
@@ -279,6 +280,7 @@ fn schedule(alloc: Global, shard: usize, behind: &[Line]) -> Result<Vec<Line>, F
     Ok(lines)
 }
 
+// Shows the output of each step of two schedules.
 #[test]
 fn each_step_gives_its_output(rt: HostRuntime) -> Result<(), Fail> {
     let alloc = rt.alloc();
@@ -287,8 +289,8 @@ fn each_step_gives_its_output(rt: HostRuntime) -> Result<(), Fail> {
     check(&rt, alloc, &placing, &HELD)
 }
 
-// Ten applications, five of each shard; bit k of the order says which shard makes application k. Behind each of them
-// somebody asks for the connect's answer, which is given as this shard, the one of its session, has made its fifth.
+// Creates ten applications, five of each shard. Bit k of `order` is the shard of application k.
+// After each, the answer to the connect is asked for; it is there after the fifth of `shard`.
 fn applications(alloc: Global, order: u32, shard: usize) -> Result<Vec<Line>, AllocError> {
     let mut lines = Vec::new(alloc);
     let mut left = 5_u32;
@@ -305,7 +307,7 @@ fn applications(alloc: Global, order: u32, shard: usize) -> Result<Vec<Line>, Al
     Ok(lines)
 }
 
-// The connect's session stands in this shard.
+// Checks all orders of the applications, with the connect's session in `shard`.
 fn check_orders<R: Abort, P: Placing + Drop>(
     rt: &R,
     alloc: Global,
@@ -322,6 +324,7 @@ fn check_orders<R: Abort, P: Placing + Drop>(
     Ok(())
 }
 
+// The order in which shards apply entries does not matter.
 #[test]
 fn no_order_of_the_shards_matters(rt: HostRuntime) -> Result<(), Fail> {
     let alloc = rt.alloc();
@@ -333,7 +336,7 @@ fn no_order_of_the_shards_matters(rt: HostRuntime) -> Result<(), Fail> {
     Ok(())
 }
 
-// Where a tick stands in the list, or why it is refused.
+// Admits a tick, and returns its place or why it is refused.
 fn ticked<P: Placing>(alloc: Global, world: &mut World<P>, moment: u64) -> Result<u64, AdmitFault> {
     match world.admit_tick(alloc, moment) {
         Ok(admitted) => Ok(admitted.first),
@@ -341,7 +344,8 @@ fn ticked<P: Placing>(alloc: Global, world: &mut World<P>, moment: u64) -> Resul
     }
 }
 
-// A tick past the greatest moment is refused and changes nothing; one at that moment is the first entry of the list.
+// Checks that a tick past the greatest moment is refused and changes nothing. One at that moment
+// becomes the list's first entry.
 fn check_calls<R: Abort, P: Placing>(
     rt: &R,
     alloc: Global,
@@ -360,6 +364,7 @@ fn check_calls<R: Abort, P: Placing>(
     Ok(())
 }
 
+// A tick is admitted up to the greatest moment.
 #[test]
 fn a_tick_is_taken_up_to_the_greatest_moment(rt: HostRuntime) -> Result<(), Fail> {
     let alloc = rt.alloc();

@@ -1,4 +1,4 @@
--- What a line says, and what is left of a script's reading.
+-- What a line means, and what is left of a script to read.
 use Rattle.std.specs.Prelude.{ℕ, ◌≡◌, List, [], ◌∷◌, Option, Some, None, string_bytes, option_map}
 use Rattle.bx_script.specs.Replay.{Dialect, line_of, lines_of}
 use Rattle.bx_script.specs.Replay as replay
@@ -11,12 +11,12 @@ use Rattle.bx_script.specs.declared.dialect.Dialect as dialects
 use Rattle.bx_script.specs.declared.line.Line.TheVariants.{Bad, Rejected, Accepted, Resharded, Announced, Noted}
 use Rattle.bx_script.specs.declared.dialect.Dialect.TheVariants.{Script, Recorded}
 
--- what is read, in the words of the replay
+-- A dialect in the definitions' form.
 abbrev pub dialect_of : dialects.Dialect → Dialect
 dialect_of Script = replay.Script
 dialect_of Recorded = replay.Recorded
 
--- what a line is read as, in the words of the replay
+-- A line in the definitions' form.
 abbrev pub said_by : Line → replay.Line
 said_by Bad = replay.Bad
 said_by (Rejected status) = replay.Rejected (code_of status)
@@ -25,33 +25,33 @@ said_by (Resharded shards) = replay.Resharded shards
 said_by (Announced nonce) = replay.Announced nonce
 said_by Noted = replay.Noted
 
--- what is left of the script
+-- What is left of the script.
 abbrev pub unread : {R : Type 0} → (R → Option (List ℕ)) → Lines R → Option (List ℕ)
 unread remaining lines = remaining lines.reader
 
--- how often the script may be read on
+-- How many more times the script may be read.
 abbrev pub reads_left : {R : Type 0} → Lines R → ℕ
 reads_left lines = lines.reads.left
 
--- a read of the script failed, or there were as many as there may be
+-- A read of the script failed, or no more reads are allowed.
 abbrev pub CannotRead : {R : Type 0} → Lines R → Type 0
 CannotRead lines = HasEnded lines.reads
 
--- why what reads a script may end
+-- Why an operation that reads a script may fail.
 abbrev pub IsFault : {R : Type 0} → Lines R → ScriptFault → Type 0
 IsFault lines fault = IsReadFault lines.reads fault
 
--- as what the script is read
+-- The dialect of the script.
 abbrev pub read_as : {R : Type 0} → Lines R → Dialect
 read_as lines = dialect_of lines.dialect
 
--- the next line of a script says what the first says, and the others are left
+-- `line` is what the script's first line means, and the lines after it are left.
 pub record NextLine (dialect : Dialect) (line : Line) (script : List ℕ) (rest : Option (List ℕ)) : Type 0 where
   pub said : said_by line ≡ line_of dialect (first_of script)
   pub behind : lines_of script ≡ first_of script ∷ lines_of (rest_of script)
   pub left : rest ≡ Some (rest_of script)
 
--- what comes next: nothing where the script is at its end, else its first line
+-- The script is at its end and there is no line, or its first line is read.
 abbrev pub IsNext : Dialect → Option Line → List ℕ → Option (List ℕ) → Type 0
 IsNext dialect None script rest = (script ≡ []) × (rest ≡ Some [])
 IsNext dialect (Some line) script rest = NextLine dialect line script rest

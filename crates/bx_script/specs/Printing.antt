@@ -4,23 +4,23 @@ use Rattle.std.specs.Io.KnownBytes.{Appends}
 use Rattle.bx_entry.specs.Inputs.{ReadInput, Request, Unread, Tick}
 use Rattle.bx_script.specs.Replay.{Numbered}
 
--- whether an input is a tick
+-- Whether an input is a tick.
 abbrev pub is_tick : ReadInput → Bool
 is_tick (Request moment nonce ms) = false
 is_tick (Unread fault) = false
 is_tick (Tick moment) = true
 
--- an input with the number of its line and the name of its callback
+-- An input with the number of its line and the name of its callback.
 abbrev pub numbered : ℕ → Option (List ℕ) → ReadInput → Numbered
 numbered number name read = record { line = number; callback = name; input = read }
 
--- Known bytes grew by a front of a text.
+-- The known bytes grew by the beginning of a text.
 pub record AppendsFront (old new : Option (List ℕ)) (text : List ℕ) : Type 0 where
   pub written : List ℕ
   pub unwritten : List ℕ
   pub whole : text ≡ written ++ unwritten
   pub appends : Appends old new written
 
--- A text is written: known bytes grew by it, or at a fault by a front of it.
+-- The known bytes grew by a text or, on an error, by its beginning.
 abbrev pub Writes : {A E : Type 0} → Option (List ℕ) → Option (List ℕ) → Result A E → List ℕ → Type 0
 Writes old new r text = MatchResult r (λ _. Appends old new text) (λ _. AppendsFront old new text)

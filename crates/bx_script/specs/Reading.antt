@@ -6,27 +6,27 @@ use Rattle.bx_script.specs.Kept.{kept_with}
 use Rattle.bx_script.specs.declared.part.ReadOutcome.{ReadOutcome}
 use Rattle.bx_script.specs.declared.part.ReadOutcome.TheVariants.{Again, More, Line, End}
 
--- the first line, and what stands behind it
+-- The first line, and then what follows it.
 abbrev pub first_of : List ℕ → List ℕ
 first_of script = before_first is_newline script
 
 abbrev pub rest_of : List ℕ → List ℕ
 rest_of script = after_first is_newline script
 
--- what a step made of the bytes that were left, and of what is kept
+-- The effect of one read on the bytes that are left and on what is kept.
 abbrev pub PartRead : ReadOutcome → List ℕ → List ℕ → List ℕ → List ℕ → Type 0
 PartRead Again before after kept now = (after ≡ before) × (now ≡ kept)
 PartRead More before after kept now = (before ≢ []) × (kept_with now (first_of after) ≡ kept_with kept (first_of before)) × (rest_of after ≡ rest_of before)
 PartRead Line before after kept now = (before ≢ []) × (now ≡ kept_with kept (first_of before)) × (after ≡ rest_of before)
 PartRead End before after kept now = (before ≡ []) × (after ≡ before) × (now ≡ kept)
 
--- the same where the reader's bytes are known
+-- The same if the reader's bytes are known.
 abbrev pub ReadsPart : ReadOutcome → Option (List ℕ) → Option (List ℕ) → List ℕ → List ℕ → Type 0
 ReadsPart step None new kept now = ⊤
 ReadsPart step (Some before) None kept now = ⊥
 ReadsPart step (Some before) (Some after) kept now = PartRead step before after kept now
 
--- there was a line, and what is kept of it; or there was none
+-- A line was read, and `kept` is what is kept of it; or no line was left.
 abbrev pub LineRead : Bool → List ℕ → List ℕ → List ℕ → Type 0
 LineRead true before after kept = (before ≢ []) × (kept ≡ kept_with [] (first_of before)) × (after ≡ rest_of before)
 LineRead false before after kept = (before ≡ []) × (after ≡ [])
@@ -36,18 +36,18 @@ ReadsLine found None new kept = ⊤
 ReadsLine found (Some before) None kept = ⊥
 ReadsLine found (Some before) (Some after) kept = LineRead found before after kept
 
--- a line that was begun
+-- A line has begun, so the text was not empty (`true`), or nothing was read (`false`).
 abbrev pub IsBegun : Bool → List ℕ → List ℕ → Type 0
 IsBegun true before after = before ≢ []
 IsBegun false before after = after ≡ before
 
--- what is left of a line and what is kept of it, beside all of it
+-- What is kept and what is left of a line give what is kept of the whole line.
 abbrev pub ReadingOn : Bool → Option (List ℕ) → Option (List ℕ) → List ℕ → Type 0
 ReadingOn began None new kept = ⊤
 ReadingOn began (Some before) None kept = ⊥
 ReadingOn began (Some before) (Some after) kept = IsBegun began before after × (kept_with kept (first_of after) ≡ kept_with [] (first_of before)) × (rest_of after ≡ rest_of before)
 
--- how many of these bytes stand in the line, and how many are read with its end
+-- How many of the shown bytes belong to the line, and how many are consumed with its end.
 abbrev pub IsCut : List ℕ → ℕ → ℕ → ReadOutcome → Type 0
 IsCut shown n used Again = ⊥
 IsCut shown n used More = (shown ≢ []) × (n ≡ length shown) × (used ≡ length shown) × (position_or_len is_newline shown ≡ length shown)

@@ -1,10 +1,10 @@
-//! As what a text is read.
+//! The dialects of a script.
 
-/// As what a text is read, line by line.
+/// The dialect in which the lines of a script are parsed.
 #[derive(Clone, Copy, Debug, PartialEq, Eq)]
 pub enum Dialect {
     /// A script of requests and ticks.
     Script,
-    /// A record of what a server took in: forms, nonces and notes of answers are known too.
+    /// A record of a server's input, which may also have forms, nonces and notes of answers.
     Recorded,
 }

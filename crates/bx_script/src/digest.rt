@@ -1,13 +1,13 @@
-//! The digest that a line says.
+//! The digest in a line.
 ghost use Rattle.std.specs.Prelude.{◌≡◌};
 ghost use Rattle.bx_script.specs.Replay.{is_digest};
 
 use crate::nonce::are_hexadecimal;
 
-// How many digits a digest has, which are 256 bits.
+// Number of hexadecimal digits in a digest of 256 bits.
 const DIGEST_DIGITS: usize = 64;
 
-// Whether these are 64 hexadecimal digits of either case.
+// Returns `true` if `digits` are 64 hexadecimal digits of either case.
 pub(crate) fn is_digest(digits: &[u8]) -> bool
     ensures { result ≡ is_digest digits.now }
 {

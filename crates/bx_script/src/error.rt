@@ -1,3 +1,4 @@
+//! Errors of reading a script and of writing its results.
 ghost use Rattle.std.specs.Prelude.{◌≡◌, ◌≢◌};
 ghost use Rattle.std.specs.IoError.{error_kind};
 ghost use Rattle.bx_script.specs.declared.error.ScriptFault.TheVariants.{Memory};
@@ -7,19 +8,19 @@ use std::error::Error;
 use std::io::ErrorKind;
 use std::{fmt, io};
 
-/// Why a script is not read on, or what it gives is not written.
+/// Why a script cannot be read, or its results cannot be written.
 #[derive(Clone, Copy, Debug, PartialEq, Eq)]
 pub enum ScriptFault {
-    /// Memory was refused.
+    /// Memory ran out.
     Memory,
-    /// A read failed, or it was read as often as it is at most.
+    /// A read failed, or there were [`MAX_READS`](crate::MAX_READS) reads.
     Read,
     /// A write failed.
     Write,
 }
 
 impl ScriptFault {
-    /// What a failed read comes to: `Memory` where it says so, else `Read`.
+    /// Converts the error of a read: out of memory to `Memory`, any other to `Read`.
     pub fn of_read(error: &io::Error) -> ScriptFault
         ensures memory { error_kind error.now ≡ ErrorKind.OutOfMemory → result ≡ ScriptFault.Memory }
         ensures other { error_kind error.now ≢ ErrorKind.OutOfMemory → result ≡ ScriptFault.Read }
@@ -30,7 +31,7 @@ impl ScriptFault {
         }
     }
 
-    /// What a failed write comes to: `Memory` where it says so, else `Write`.
+    /// Converts the error of a write: out of memory to `Memory`, any other to `Write`.
     pub fn of_write(error: &io::Error) -> ScriptFault
         ensures memory { error_kind error.now ≡ ErrorKind.OutOfMemory → result ≡ ScriptFault.Memory }
         ensures other { error_kind error.now ≢ ErrorKind.OutOfMemory → result ≡ ScriptFault.Write }

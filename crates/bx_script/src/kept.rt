@@ -1,15 +1,17 @@
-//! What is kept of a line.
+//! The part of a line that is kept in memory.
 ghost use Rattle.std.specs.Prelude.{◌≡◌, ◌<◌, OnOk, vec_len, if◌then◌else◌};
 ghost use Rattle.bx_script.specs.Kept.{is_lone_zero, kept_with, without_zeros};
 
 use bx_advice::BODY_LIMIT;
 use std::alloc::AllocError;
 
-/// How many bytes of a line are kept at most. A body or a query of a longer one is too large by any line's
-/// head: at most 20 digits behind a zero, a letter, two spaces.
+/// Greatest number of bytes of a line that are kept.
+///
+/// The body or query of a longer line is too large in any case: before it are at most a zero, 20
+/// digits, a letter and two spaces.
 pub(crate) const KEPT_LIMIT: usize = BODY_LIMIT + 32;
 
-// Keeps a further part of the line.
+// Keeps another part of the line.
 pub(crate) fn keep(kept: &mut Vec<u8>, part: &[u8]) -> Result<(), AllocError>
     ensures { OnOk result (kept.new.items ≡ kept_with kept.old.items part.now) }
 {
@@ -23,7 +25,7 @@ pub(crate) fn keep(kept: &mut Vec<u8>, part: &[u8]) -> Result<(), AllocError>
     keep_on(kept, rest)
 }
 
-// The same behind a byte that is kept.
+// Keeps another part of the line, after at least one byte.
 fn keep_on(kept: &mut Vec<u8>, part: &[u8]) -> Result<(), AllocError>
     requires { 0 < vec_len kept.old }
     ensures { OnOk result (kept.new.items ≡ kept_with kept.old.items part.now) }
@@ -33,7 +35,7 @@ fn keep_on(kept: &mut Vec<u8>, part: &[u8]) -> Result<(), AllocError>
     kept.extend_from_slice(&part[..room])
 }
 
-// What of a part tells something behind what is kept: zeros behind a lone zero don't.
+// Returns `part`, without its leading zeros if just a zero is kept: they change no number.
 fn told_by<'a>(kept: &[u8], part: &'a [u8]) -> &'a [u8]
     ensures { result.now ≡ (if is_lone_zero kept.now then without_zeros part.now else part.now) }
 {
@@ -44,7 +46,7 @@ fn told_by<'a>(kept: &[u8], part: &'a [u8]) -> &'a [u8]
     }
 }
 
-// What stands behind the zeros at the beginning.
+// Returns `part` without the zeros at its start.
 fn without_zeros(part: &[u8]) -> &[u8]
     ensures { result.now ≡ without_zeros part.now }
 {

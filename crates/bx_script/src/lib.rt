@@ -1,4 +1,4 @@
-//! The lines of a script: how they are read, what each says, and what is printed for it.
+//! Scripts: reading and parsing their lines, and printing a result for each.
 #![tactic(auto)]
 
 mod dialect;

@@ -1,4 +1,4 @@
-//! What a line says.
+//! Parsing a line of a script.
 ghost use Rattle.std.specs.Prelude.{◌≡◌, ◌≢◌, IfOk, OnOk, option_map, position, string_bytes};
 ghost use Rattle.std.specs.List.{after_first, before_first};
 ghost use Rattle.bx_cut.specs.Bodies.{texts_of};
@@ -18,46 +18,60 @@ use bx_message::{Status, number_of};
 use bx_transport::{TransportError, read_get, read_post};
 use std::alloc::{AllocError, Global};
 
-// (HTML, the media type of a form.)
+// Media type of a form in HTML.
 const FORM_TYPE: &[u8] = b"application/x-www-form-urlencoded";
 
-/// What a line says.
+/// The meaning of a line.
 #[derive(Drop)]
 pub enum Line {
-    /// It has no known form.
+    /// The line is malformed.
     Bad,
-    /// A request whose body or query is not taken.
+    /// A request whose body or query is rejected.
     Rejected {
-        /// The status that is printed for it.
+        /// The status to print.
         status: Status,
     },
     /// A request or a tick.
     Accepted {
-        /// The name of the callback, of a GET alone.
+        /// The name of the callback, for a GET only.
         callback: Option<String>,
-        /// The request, whose nonce is 0, or the tick.
+        /// The request, with nonce 0, or the tick.
         input: Input,
     },
-    /// From here on there are so many shards.
+    /// The number of shards changes.
     Resharded {
-        /// How many they are, 1 to 64.
+        /// The new number of shards, from 1 to 64.
         shards: ShardCount,
     },
-    /// The next request has a nonce.
+    /// The nonce of the next request.
     Announced {
-        /// This one.
+        /// The nonce.
         nonce: u128,
     },
-    /// A note of an answer that was given, which says nothing of what comes.
+    /// A note that an answer was given, which has no effect.
     Noted,
 }
 
 impl Line {
-    /// Reads a line: digits, which are a moment in milliseconds, a space, and behind them `T` alone, `P`
-    /// with a space and a body, `G` with a space and a query, or `S` with a space and a number of shards. In a record
-    /// it may also be `F` with a space and a form, or `N` with a space and 32 hexadecimal digits, which are a nonce;
-    /// and a note of an answer has no moment: it is `A`, a space, digits, which are a place, a space, and 64
-    /// hexadecimal digits, which are a SHA-256. A body is copied once. An error means that memory was refused.
+    /// Parses a line.
+    ///
+    /// A line is a moment in milliseconds, in decimal digits, a space, and one of:
+    ///
+    /// - `T`: a tick
+    /// - `P`, a space and a body: a POST
+    /// - `G`, a space and a query: a GET
+    /// - `S`, a space and a number of shards
+    /// - in a record, `F`, a space and a form: a POST
+    /// - in a record, `N`, a space and 32 hexadecimal digits: a nonce
+    ///
+    /// In a record, the note of an answer has no moment. It is `A`, a space, a place, a space, and
+    /// the 64 hexadecimal digits of a SHA-256.
+    ///
+    /// Copies a body once.
+    ///
+    /// # Errors
+    ///
+    /// `AllocError` if memory runs out.
     pub fn read(alloc: Global, dialect: Dialect, text: &[u8]) -> Result<Line, AllocError>
         ensures said { IfOk result (λ line. said_by line ≡ line_of (dialect_of dialect) text.now) }
     {
@@ -68,7 +82,7 @@ impl Line {
     }
 }
 
-// A line that has a moment.
+// Parses a line that has a moment.
 fn read_timed(alloc: Global, dialect: Dialect, text: &[u8]) -> Result<Line, AllocError>
     ensures { IfOk result (λ line. said_by line ≡ timed_line (dialect_of dialect) text.now) }
 {
@@ -79,7 +93,7 @@ fn read_timed(alloc: Global, dialect: Dialect, text: &[u8]) -> Result<Line, Allo
     }
 }
 
-// What stands before the first space, and behind it.
+// Returns what is before the first space, and what is after it.
 fn cut_at_space(text: &[u8]) -> (&[u8], &[u8])
     ensures before { result.0.now ≡ before_first is_space text.now }
     ensures behind { result.1.now ≡ after_first is_space text.now }
@@ -90,14 +104,14 @@ fn cut_at_space(text: &[u8]) -> (&[u8], &[u8])
     }
 }
 
-// The index of the first space.
+// Returns the index of the first space.
 fn space_in(text: &[u8]) -> Option<usize>
     ensures { result ≡ position is_space text.now }
 {
     text.iter().position(|byte| *byte == b' ')
 }
 
-// What follows a line's moment.
+// Parses what follows the moment.
 fn read_command(
     alloc: Global,
     dialect: Dialect,
@@ -127,7 +141,7 @@ fn read_command(
     }
 }
 
-// What follows a moment in a record alone.
+// Parses what may follow the moment in a record only.
 fn read_recorded(alloc: Global, moment: u64, rest: &[u8]) -> Result<Line, AllocError>
     ensures { IfOk result (λ line. said_by line ≡ recorded_command Recorded moment rest.now) }
 {
@@ -140,7 +154,7 @@ fn read_recorded(alloc: Global, moment: u64, rest: &[u8]) -> Result<Line, AllocE
     }
 }
 
-// A POST with this body, of this content type or none.
+// Parses the body of a POST.
 fn read_body(
     alloc: Global,
     moment: u64,
@@ -156,7 +170,7 @@ fn read_body(
     }
 }
 
-// A GET with this query.
+// Parses the query of a GET.
 fn read_query(alloc: Global, moment: u64, query: &[u8]) -> Result<Line, AllocError>
     ensures { IfOk result (λ line. said_by line ≡ handed_by moment (query_taken query.now)) }
 {
@@ -166,7 +180,7 @@ fn read_query(alloc: Global, moment: u64, query: &[u8]) -> Result<Line, AllocErr
     }
 }
 
-// What a line comes to whose body or query is not taken for this.
+// Converts `error` to a rejected line. Fails if it is `Memory`.
 fn turned(error: TransportError) -> Result<Line, AllocError>
     ensures status { IfOk result (λ line. said_by line ≡ Rejected (code_of (transport_status error))) }
     ensures reason { OnOk result (error ≢ TransportError.Memory) }
@@ -193,7 +207,7 @@ fn request(moment: u64, callback: Option<String>, bodies: Bodies) -> Line
     }
 }
 
-// A change of the number of shards to what these digits say.
+// Parses a number of shards.
 fn read_shards(digits: &[u8]) -> Line
     ensures { said_by result ≡ resharded_by digits.now }
 {
@@ -215,7 +229,7 @@ fn shards_of(number: u64) -> Line
     }
 }
 
-// The nonce that these digits say.
+// Parses a nonce.
 fn read_nonce(digits: &[u8]) -> Line
     ensures { said_by result ≡ announced_by digits.now }
 {
@@ -225,7 +239,7 @@ fn read_nonce(digits: &[u8]) -> Line
     }
 }
 
-// The note of an answer that a place and a digest are.
+// Parses the note of an answer: a place and a digest.
 fn read_note(note: &[u8]) -> Line
     ensures { said_by result ≡ noted_by note.now }
 {

@@ -1,4 +1,4 @@
-//! The lines of a script, one after another.
+//! Reading a script line by line.
 ghost use Rattle.std.specs.Prelude.{◌≡◌, ◌<◌, ◌^◌, IfErr, IfOk, IfSome, OnOk};
 ghost use Rattle.bx_script.specs.Lines.{CannotRead, IsFault, IsNext, dialect_of, read_as, reads_left, unread};
 
@@ -9,7 +9,9 @@ use crate::part::Reads;
 use std::alloc::Global;
 use std::io::BufRead;
 
-/// The reading of a script, line by line, of which a bounded part of one line is kept.
+/// A reader of a script's lines.
+///
+/// Keeps a bounded part of one line in memory.
 #[derive(Drop)]
 pub struct Lines<R> {
     dialect: Dialect,
@@ -19,7 +21,9 @@ pub struct Lines<R> {
 }
 
 impl<R: BufRead> Lines<R> {
-    /// The script, or the record, may be read [`MAX_READS`](crate::MAX_READS) times, and no read has failed.
+    /// Creates a reader of lines.
+    ///
+    /// Reads `reader` at most [`MAX_READS`](crate::MAX_READS) times.
     pub fn new(alloc: Global, dialect: Dialect, reader: R) -> Lines<R>
         ensures dialect { read_as result ≡ dialect_of dialect }
         ensures script { unread R.remaining result ≡ R.remaining reader }
@@ -34,9 +38,17 @@ impl<R: BufRead> Lines<R> {
         }
     }
 
-    /// What the next line says; none at the script's end. A line ends at a line feed, which is no part of it, or with
-    /// the script. Of a long line what tells nothing is read and not kept. It answers `Memory`, or `Read` where a read
-    /// fails or there were as many as there may be; some part of the script is lost then.
+    /// Reads the next line, and returns `None` at the end of the script.
+    ///
+    /// A line ends at a line feed, which is not part of it, or with the script. Bytes of a long
+    /// line that do not matter are not kept.
+    ///
+    /// # Errors
+    ///
+    /// - `Memory`: memory ran out.
+    /// - `Read`: a read failed, or there were [`MAX_READS`](crate::MAX_READS) reads.
+    ///
+    /// On error a part of the script may be lost.
     pub fn next_line(&mut self, alloc: Global) -> Result<Option<Line>, ScriptFault>
         ensures next { IfOk result (λ next. IfSome (unread R.remaining self.old)
             (λ script. IsNext (read_as self.old) next script (unread R.remaining self.new))) }

@@ -1,13 +1,13 @@
-//! The nonce that a line says.
+//! The nonce in a line.
 ghost use Rattle.std.specs.Prelude.{◌≡◌};
 ghost use Rattle.std.specs.Char.{is_ascii_hexdigit};
 ghost use Rattle.std.specs.List.{list_all};
 ghost use Rattle.bx_script.specs.Replay.{nonce_of};
 
-// How many digits a nonce has, which are 128 bits.
+// Number of hexadecimal digits in a nonce of 128 bits.
 const NONCE_DIGITS: usize = 32;
 
-// The number that 32 hexadecimal digits of either case say; none where there are fewer or more, or anything else stands there.
+// Parses exactly 32 hexadecimal digits of either case. Returns `None` for any other text.
 pub(crate) fn nonce_of(digits: &[u8]) -> Option<u128>
     ensures { result ≡ nonce_of digits.now }
 {

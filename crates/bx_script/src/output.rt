@@ -1,4 +1,4 @@
-//! The writer that lines are printed to.
+//! The writer that results are printed to.
 ghost use Rattle.std.specs.Prelude.{◌≡◌, ◌≢◌, ◌+◌, ◌<◌, ◌^◌, ◌↔◌, IfErr, IfOk, IsTrue, OnErr};
 ghost use Rattle.std.specs.Io.{WritesAtMost};
 ghost use Rattle.std.specs.Io.KnownBytes.{Keeps, WriteAppends};
@@ -8,10 +8,10 @@ ghost use Rattle.bx_script.specs.Output.{HasFailed, interruptions_left, written}
 use crate::error::ScriptFault;
 use std::io::{Error, ErrorKind, Write};
 
-/// How often a writer may be interrupted: 2^40 times.
+/// Greatest number of interruptions of a writer: 2^40.
 pub const MAX_INTERRUPTIONS: u64 = 1_099_511_627_776;
 
-/// A writer, and whether it failed.
+/// A writer, and whether it has failed.
 #[derive(Drop)]
 pub struct Output<W> {
     writer: W,
@@ -20,7 +20,7 @@ pub struct Output<W> {
 }
 
 impl<W: Write> Output<W> {
-    /// The writer may be interrupted [`MAX_INTERRUPTIONS`] times in all, and has not failed.
+    /// Creates an output that permits [`MAX_INTERRUPTIONS`] interruptions in all.
     pub fn new(writer: W) -> Output<W>
         ensures written { written W.contents result ≡ W.contents writer }
         ensures interruptions { interruptions_left result ≡ 2 ^ 40 }
@@ -33,7 +33,11 @@ impl<W: Write> Output<W> {
         }
     }
 
-    /// Hands on what the writer holds back. `Write` where the writer cannot, or `Memory` where it was refused memory.
+    /// Flushes the writer.
+    ///
+    /// # Errors
+    ///
+    /// `Memory` if the writer is out of memory; otherwise `Write`.
     pub fn flush(&mut self) -> Result<(), ScriptFault>
         ensures bytes { Keeps (written W.contents self.old) (written W.contents self.new) }
         ensures fault { IfErr result (λ e. e ≢ ScriptFault.Read) }
@@ -45,7 +49,8 @@ impl<W: Write> Output<W> {
         }
     }
 
-    // Writes some of a text that is not empty, or nothing where the write was interrupted, and gives how many bytes that is.
+    // Writes some of `text`, which is not empty, and returns the number of bytes. That is 0 if the
+    // write was interrupted.
     pub(crate) fn write_some(&mut self, text: &[u8]) -> Result<usize, ScriptFault>
         ensures within { WritesAtMost result text.now }
         ensures bytes { WriteAppends (written W.contents self.old) (written W.contents self.new) result text.now }
@@ -64,7 +69,7 @@ impl<W: Write> Output<W> {
         }
     }
 
-    // Whether the write was interrupted, and not too often.
+    // Returns `true` if the write was interrupted, and not too often.
     fn may_go_on(&self, error: &Error) -> bool
         ensures { IsTrue result
             ↔ ((error_kind error.now ≡ ErrorKind.Interrupted) × (0 < interruptions_left self.now)) }
@@ -72,6 +77,7 @@ impl<W: Write> Output<W> {
         error.kind() == ErrorKind::Interrupted && self.interruptions_left > 0
     }
 
+    // Marks the writer as failed, and converts `error`.
     fn fail(&mut self, error: &Error) -> ScriptFault
         ensures failed { HasFailed self.new }
         ensures bytes { written W.contents self.new ≡ written W.contents self.old }

@@ -1,4 +1,4 @@
-//! The reading of a line.
+//! Reading a line in parts.
 ghost use Rattle.std.specs.Prelude.{◌≡◌, ◌<◌, ◌^◌, IfOk, ◌≤◌, OnOk, IfErr, length, position};
 ghost use Rattle.bx_script.specs.Reading.{IsCut, ReadsLine, ReadsPart};
 ghost use Rattle.bx_script.specs.Replay.{is_newline};
@@ -8,12 +8,12 @@ use crate::kept::keep;
 use memchr::memchr;
 use std::io::{BufRead, ErrorKind};
 
-// What one read of a part of a line came to.
+// The result of reading a part of a line.
 #[derive(Clone, Copy)]
 enum ReadOutcome {
-    // It was interrupted.
+    // The read was interrupted.
     Again,
-    // The line goes on.
+    // The line continues.
     More,
     // The line is complete.
     Line,
@@ -21,10 +21,10 @@ enum ReadOutcome {
     End,
 }
 
-/// How often a script is read on at most: 2^40 times.
+/// Greatest number of reads of a script: 2^40.
 pub const MAX_READS: u64 = 1_099_511_627_776;
 
-/// How often a script may still be read on, and whether a read of it failed.
+/// How many reads of a script are left, and whether one has failed.
 #[derive(Drop)]
 pub struct Reads {
     left: u64,
@@ -35,7 +35,7 @@ pub struct Reads {
 impl Reads {
     ghost use Rattle.bx_script.specs.Reads.{HasEnded, IsReadFault};
 
-    // The script may be read so often.
+    // Allows [`MAX_READS`] reads.
     pub(crate) fn new() -> Reads
         ensures left { result.left ≡ 2 ^ 40 }
         ensures sound { ¬ HasEnded result }
@@ -46,7 +46,8 @@ impl Reads {
         }
     }
 
-    // Reads a line and keeps of it what tells what it says. It gives whether there was a line.
+    // Reads a line into `kept`, without the bytes that do not matter. Returns `true` if there was a
+    // line.
     pub(crate) fn read_text<R: BufRead>(
         &mut self,
         reader: &mut R,
@@ -70,7 +71,7 @@ impl Reads {
         Err(ScriptFault::Read)
     }
 
-    // Reads what the reader has at hand, up to the end of the line.
+    // Reads what the reader has buffered, up to the end of the line.
     fn read_part<R: BufRead>(
         &mut self,
         reader: &mut R,
@@ -96,7 +97,7 @@ impl Reads {
     }
 }
 
-// How many of the bytes stand in the line, how many are read with its end, and what comes of reading these.
+// Returns how many bytes belong to the line, how many to consume, and the outcome.
 fn cut(shown: &[u8]) -> (usize, usize, ReadOutcome)
     ensures parts { IsCut shown.now result.0 result.1 result.2 }
     ensures before { result.0 ≤ length shown.now }
@@ -111,7 +112,7 @@ fn cut(shown: &[u8]) -> (usize, usize, ReadOutcome)
     }
 }
 
-// The index of the first newline.
+// Returns the index of the first line feed.
 fn newline_in(shown: &[u8]) -> Option<usize>
     ensures { result ≡ position is_newline shown.now }
 {

@@ -1,5 +1,6 @@
-//! What is printed for the lines of a script. At a fault a front of it is written; a fault comes only where a write failed,
-//! or, where a response is written, where memory was refused.
+//! Printing the results of a script's lines.
+//!
+//! On error, a first part of the text may have been written.
 ghost use Rattle.std.specs.Prelude.{◌≡◌, ◌≢◌, ◌++◌, IfErr, IfOk, OnErr, codes, decimal, option_map, string_bytes};
 ghost use Rattle.bx_entry.specs.Inputs.{ReadInput};
 ghost use Rattle.bx_message.specs.Statuses.{code_of};
@@ -16,7 +17,11 @@ use itoa::Buffer;
 use std::alloc::{AllocError, Global};
 use std::io::Write;
 
-/// Writes that the line of this number has no known form: `bad`. A fault means that the write failed.
+/// Writes `bad` for line `number`, which is malformed.
+///
+/// # Errors
+///
+/// `Memory` or `Write` if a write fails.
 pub fn write_bad<W: Write>(writer: &mut Output<W>, number: u64) -> Result<(), ScriptFault>
     ensures text { Writes (written W.contents writer.old) (written W.contents writer.new) result
         (line_text number (codes "bad")) }
@@ -26,7 +31,11 @@ pub fn write_bad<W: Write>(writer: &mut Output<W>, number: u64) -> Result<(), Sc
     write_line(writer, number, b"bad", b"")
 }
 
-/// Writes that some message of the line of this number has no answer: `held`. A fault means that the write failed.
+/// Writes `held` for line `number`, which has a message without an answer.
+///
+/// # Errors
+///
+/// `Memory` or `Write` if a write fails.
 pub fn write_held<W: Write>(writer: &mut Output<W>, number: u64) -> Result<(), ScriptFault>
     ensures text { Writes (written W.contents writer.old) (written W.contents writer.new) result
         (line_text number (codes "held")) }
@@ -36,7 +45,11 @@ pub fn write_held<W: Write>(writer: &mut Output<W>, number: u64) -> Result<(), S
     write_line(writer, number, b"held", b"")
 }
 
-/// Writes with which status the line of this number is refused. A fault means that the write failed.
+/// Writes the status with which line `number` is refused.
+///
+/// # Errors
+///
+/// `Memory` or `Write` if a write fails.
 pub fn write_status<W: Write>(
     writer: &mut Output<W>,
     number: u64,
@@ -51,8 +64,14 @@ pub fn write_status<W: Write>(
     write_line(writer, number, b"", buffer.format(status.code()).as_bytes())
 }
 
-/// Writes what the input in the line of this number comes to: the status of its refusal, or 200 and the response, an
-/// array or the call of the callback with it. For a tick that is not refused it writes nothing.
+/// Writes the result of the input in line `number`.
+///
+/// That is the status of its refusal, or 200 and the response: an array, or a call of `callback`
+/// with it. Writes nothing for a tick that is not refused.
+///
+/// # Errors
+///
+/// `Memory` if memory runs out; `Memory` or `Write` if a write fails.
 pub fn write_result<W: Write>(
     alloc: Global,
     writer: &mut Output<W>,
@@ -88,7 +107,7 @@ fn write_response<W: Write>(
     write_line(writer, number, b"200 ", body.as_slice())
 }
 
-// The body of a response.
+// Formats the body of a response.
 fn body_of(alloc: Global, callback: &Option<String>, items: &[Item]) -> Result<Vec<u8>, AllocError>
     ensures { IfOk result (λ body. body.items
         ≡ response_text (option_map string_bytes callback.now) items.now) }
@@ -119,7 +138,7 @@ fn write_line<W: Write>(
     put(writer, b"\n")
 }
 
-// Writes all of a text.
+// Writes all of `text`.
 fn put<W: Write>(writer: &mut Output<W>, text: &[u8]) -> Result<(), ScriptFault>
     ensures text { Writes (written W.contents writer.old) (written W.contents writer.new) result text.now }
     ensures fault { IfErr result (λ e. e ≢ ScriptFault.Read) }

@@ -1,4 +1,4 @@
--- What is waited for only so long.
+-- Waiting with a time limit.
 use Rattle.std.specs.Prelude.{◌≡◌, ◌⊎◌, ℕ, ⊤, List, map, Option, Some, None, Result, Ok, Err, IsSomeAnd}
 use Rattle.std.specs.IoError.{error_kind}
 use Rattle.std.specs.declared.io.Error.{Error}
@@ -12,33 +12,33 @@ use Rattle.tokio.specs.declared.time.sleep.Sleep.{Sleep}
 use Rattle.bx_serve.specs.declared.patient.PatientFault.{PatientFault}
 use Rattle.bx_serve.specs.declared.patient.PatientFault.TheVariants.{Body, Late}
 
--- the source of the timer, where there is one
+-- There is a timer, and `source` is its source.
 abbrev pub TimerNeeds : Option Sleep → ℕ → Type 0
 TimerNeeds timer source = IsSomeAnd timer (λ sleep. source ≡ sleep_source sleep)
 
--- one of these sources, or that of the timer
+-- `source` is one of `sources`, or that of the timer.
 abbrev pub OrTimer : (ℕ → Type 0) → Option Sleep → ℕ → Type 0
 OrTimer sources timer source = sources source ⊎ TimerNeeds timer source
 
--- Of what a call gave that may wait: just that, or, where it waits, that it still does, or that it has lasted too long.
+-- The result of a call under a time limit: its own if ready, otherwise pending or timed out.
 abbrev pub InTime : {O : Type 0} → Poll (Result O Error) → Poll (Result O Error) → Type 0
 InTime (Ready given) made = made ≡ Ready given
 InTime Pending (Ready (Ok given)) = ⊥
 InTime Pending (Ready (Err e)) = error_kind e ≡ TimedOut
 InTime Pending Pending = ⊤
 
--- what may fail so may be too late besides
+-- An error of the call, or `TimedOut`.
 abbrev pub OrLate : (Error → Type 0) → Error → Type 0
 OrLate fails e = fails e ⊎ (error_kind e ≡ TimedOut)
 
 module _ {D E : Type 0} (source : Runs (Result (Frame D) E)) where
-  -- Behind these frames the body ended, or went on, or failed. It may be late at any time.
+  -- After these frames the body ended, continued or failed. It may be late at any time.
   abbrev pub Comes : List (Frame D) → Option (Result (Frame D) (PatientFault E)) → Type 0
   Comes frames None = source (map Ok frames) None
   Comes frames (Some (Ok frame)) = source (map Ok frames) (Some (Ok frame))
   Comes frames (Some (Err (Body e))) = source (map Ok frames) (Some (Err e))
   Comes frames (Some (Err Late)) = ⊤
 
-  -- what a patient body yields up to its first fault; nothing is said of what follows a fault
+  -- What a body under a time limit yields, up to its first fault. What follows is not specified.
   abbrev pub Outlasts : Runs (Result (Frame D) (PatientFault E))
   Outlasts xs last = (frames : List (Frame D)) → xs ≡ map Ok frames → Comes frames last

@@ -1,4 +1,4 @@
-//! The connections that come, each as a task.
+//! A stream of accepted connections, each as a task.
 ghost use Rattle.std.specs.Prelude.{◌≡◌, ◌==◌, if◌then◌else◌, IfSome, false};
 ghost use Rattle.futures.specs.Poll.{IfReady, OnPending};
 ghost use Rattle.futures.specs.Task.{Covers, Keeps};
@@ -13,8 +13,10 @@ use std::time::Clock;
 use tokio::net::Incoming;
 use tokio::time::Interval;
 
-/// The tasks of the connections that come. Where none can be accepted, as while the process has no descriptor left, it
-/// waits for a while before it asks again.
+/// A stream of the tasks that serve accepted connections.
+///
+/// After a failed accept, for example if no file descriptor is free, it pauses before it tries
+/// again.
 #[derive(Drop)]
 pub struct Connections<R, M> {
     clock: R,
@@ -24,7 +26,7 @@ pub struct Connections<R, M> {
     is_paused: bool,
 }
 
-/// The most connections that are taken, where 0 says any number.
+/// Converts a number of connections, 0 for any number, to a limit.
 pub fn most_of(count: u64) -> usize
     ensures { result ≡ (if count == 0 then 18446744073709551615 else count) }
 {
@@ -36,7 +38,7 @@ pub fn most_of(count: u64) -> usize
 }
 
 impl<R, M> Connections<R, M> {
-    /// The connections of `incoming`. After a failed accept it waits for one period of `pause`.
+    /// Creates the stream for `incoming`, whose pauses last for one period of `pause`.
     pub fn new(clock: R, incoming: Incoming, maker: M, pause: Interval) -> Connections<R, M>
         ensures { result.maker ≡ maker }
     {
@@ -51,7 +53,7 @@ impl<R, M> Connections<R, M> {
 }
 
 impl<R: Clock, M> Connections<R, M> {
-    // Ready once nothing is to be waited for; false where there are no timers any more.
+    // Waits until the pause, if any, is over. Returns `false` if there are no timers any more.
     fn poll_pause(&mut self, cx: &mut Context<'_>) -> Poll<bool>
         ensures maker { self.new.maker ≡ self.old.maker }
         ensures over { IfReady result (λ _. self.new.is_paused ≡ false) }
@@ -88,7 +90,7 @@ impl<R: Clock + Drop, M: Maker> Stream for Connections<R, M> {
             },
             Poll::Ready(Some(Err(_))) => {
                 self.is_paused = true;
-                // Without a clock it waits for the tick that comes next.
+                // If the clock cannot be read, the pause ends at the next tick.
                 let _ = self.pause.reset(&self.clock);
                 cx.yield_now()
             }

@@ -1,4 +1,4 @@
-//! Serves HTTP on listeners: each connection that comes is a task of a runtime.
+//! Serves HTTP on one listener or two, with a task for each connection.
 #![tactic(auto)]
 
 mod connections;

@@ -19,25 +19,33 @@ use std::time::{Clock, Duration};
 use tokio::net::TcpListener;
 use tokio::runtime::Runtime;
 
-// How long no connection is asked for after one could not be accepted, in milliseconds. (This server's choice.)
+// Pause after a failed accept, in milliseconds. Policy of this server.
 const PAUSE: u64 = 20;
 
-// How long a body may bring nothing, or a peer take nothing of what is written, in milliseconds. (This server's
-// choice.)
+// Longest wait for more of a body, or for the peer to take more of what is written, in
+// milliseconds. Policy of this server.
 const PATIENCE: u64 = 30_000;
 
-// How long a body may take to be whole, from the first wait for more of it on, in milliseconds. (This server's choice.)
+// Longest time for a whole body, from the first wait for more of it, in milliseconds. Policy of
+// this server.
 const WHOLE: u64 = 300_000;
 
-/// A listener, and what serves its connections.
+/// A listener and the service for its connections.
 pub type Entrance<S> = (TcpListener, S);
 
-/// Serves so many connections of these entrances over HTTP, each as a task of the runtime, until `end` is ready: from
-/// then on no connection is taken, and those that are open are served for as long as the runtime's shutdown may take. 0
-/// is any number. A head has 30 seconds to come; a body fails where nothing comes of it for 30 seconds, or where it is
-/// not whole within five minutes, and a connection whose peer takes nothing of what is written for 30 seconds. A
-/// connection for which there is no memory is dropped, and the next one is served. `Err` where there is no memory to
-/// begin with, or the system refuses the runtime a call.
+/// Serves up to `count` connections over HTTP, each as a task, until `end` is ready.
+///
+/// A `count` of 0 is no limit. At the end it waits for the open connections, up to the runtime's
+/// shutdown timeout.
+///
+/// A connection ends if the head of a request takes more than 30 seconds, or if the peer takes no
+/// written data for 30 seconds. A body fails if no data arrives for 30 seconds, or if it is not
+/// whole in five minutes. A connection for which there is no memory is dropped, and the next one is
+/// served.
+///
+/// # Errors
+///
+/// The error of a system call, or of memory that runs out before any connection is served.
 pub fn serve_until<R, S, E, A, T>(
     rt: R,
     runtime: &mut Runtime,
@@ -64,7 +72,7 @@ where
     run_until(&rt, runtime, first, other, most_of(count), end)
 }
 
-// The connections of an entrance.
+// Creates the stream of an entrance's connections.
 fn connections_of<R, S, E>(
     rt: &R,
     runtime: &Runtime,

@@ -17,7 +17,7 @@ use hyper::service::Service;
 use std::time::{Clock, Duration};
 use tokio::net::TcpStream;
 
-/// A future whose output nobody wants.
+/// A future that drops the output of another.
 #[derive(Drop)]
 pub struct Quiet<F> {
     inner: F,
@@ -38,38 +38,37 @@ impl<F: Future<Output = T>, T: Drop> Future for Quiet<F> {
     }
 }
 
-/// Makes the task of a connection.
+/// A factory for the tasks of connections.
 pub trait Maker: Drop {
     type Task: Future<Output = ()>;
 
-    // Holds of what may be asked for tasks.
+    // Ghost: what must hold for `make` to be called.
     ghost can_make: { Self → Type 0 } = { λ _. ⊤ };
 
-    /// The task of this connection; none where there is no memory for it.
+    /// Creates the task that serves `socket`, or returns `None` if memory runs out.
     fn make(&self, socket: TcpStream) -> Option<Self::Task>
         requires { can_make self.now }
         ensures { IfSome result Self.Task.can_poll };
 }
 
-/// A connection as it is served.
+/// A connection whose peer must keep taking data.
 pub type Served<R> = Peer<TcpStream, TokioTimer<R>>;
 
-/// The body of a request as it comes to a service.
+/// The body of a request, as the service gets it.
 pub type Coming<R> = Patient<Incoming<Served<R>>, Option<TokioTimer<R>>>;
 
-/// Serves each connection over HTTP, by a service of its own. It waits no longer than `limit` at a time for more of a
-/// body, or for the peer to take more of what is written, and no longer than `whole` until a body is whole.
+/// A [`Maker`] that serves each connection over HTTP with a clone of a service.
 #[derive(Drop)]
 pub struct Server<R, S> {
-    /// Serves one connection, with a timer for its heads.
+    /// The HTTP settings, with a timer for the heads of requests.
     pub http: http1::Builder<TokioTimer<R>>,
-    /// The service, of which each connection has a copy.
+    /// The service, cloned for each connection.
     pub service: S,
-    /// Measures how long something is waited for.
+    /// The timer for bodies and peers.
     pub timer: TokioTimer<R>,
-    /// How long a wait for more of a body, or for the peer, may last.
+    /// The longest wait for more of a body, or for the peer to take data.
     pub limit: Duration,
-    /// How long a body may take to be whole, from the first wait for more of it on.
+    /// The longest time for a whole body, from the first wait for more of it.
     pub whole: Duration,
 }
 

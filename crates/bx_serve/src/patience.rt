@@ -1,4 +1,4 @@
-//! How long something is waited for.
+//! Limits on waiting.
 ghost use Rattle.std.specs.Prelude.{◌≡◌, ◌≤◌, IfSome, Some};
 ghost use Rattle.std.specs.Time.{instant_nanos};
 ghost use Rattle.futures.specs.Poll.{OnPending};
@@ -11,23 +11,24 @@ use hyper::rt::Timer;
 use std::time::{Duration, Instant};
 use tokio::time::Sleep;
 
-/// A limit to how long something is waited for, counted anew each time that it came; and perhaps one to how long it may
-/// take as a whole, which nothing counts anew.
+/// A limit on each wait for progress, and optionally one on all waits together.
+///
+/// Progress restarts the first limit, but not the second.
 #[derive(Drop)]
 pub struct Patience<T> {
     timer: T,
     limit: Duration,
-    // How long it may take from the first wait on; none: any time.
+    // The limit on the whole, from the first wait. `None` is no limit.
     whole: Option<Duration>,
-    // When that is over; none before the first wait, or where it may take any time.
+    // When the whole is late. `None` before the first wait, or without a limit on the whole.
     end: Option<Instant>,
     sleep: Option<Sleep>,
-    // The sleep ends when this wait is over.
+    // Whether `sleep` runs for the present wait.
     is_timed: bool,
 }
 
 impl<T> Patience<T> {
-    /// Nothing is counted before the first wait.
+    /// Creates limits, whose time starts with the first wait.
     pub fn new(timer: T, limit: Duration, whole: Option<Duration>) -> Patience<T> {
         Patience {
             timer,
@@ -39,7 +40,7 @@ impl<T> Patience<T> {
         }
     }
 
-    /// What was waited for came: the next wait is counted anew.
+    /// Records progress, so that the next wait may last for the full limit.
     pub fn renew(&mut self)
         ensures sleep { self.new.sleep ≡ self.old.sleep }
         ensures end { self.new.end ≡ self.old.end }
@@ -49,7 +50,8 @@ impl<T> Patience<T> {
 }
 
 impl<T: Timer> Patience<T> {
-    // When a wait that begins is over; none where the clock cannot be read.
+    // Returns when a wait that begins now is late, or `None` if the clock cannot be read. The first
+    // call sets `end`.
     fn deadline(&mut self) -> Option<Instant>
         ensures in_time { IfSome result (λ d. IfSome self.new.end (λ e. instant_nanos d ≤ instant_nanos e)) }
         ensures sleep { self.new.sleep ≡ self.old.sleep }
@@ -68,7 +70,7 @@ impl<T: Timer> Patience<T> {
         }
     }
 
-    // Lets the time begin, unless it runs. False where there is no timer.
+    // Starts the timer, unless it runs. Returns `false` if there is no timer.
     fn is_begun(&mut self) -> bool
         ensures { IfSome self.old.end (λ e. self.new.end ≡ Some e) }
     {
@@ -89,8 +91,9 @@ impl<T: Timer> Patience<T> {
         true
     }
 
-    /// Ready once the wait has lasted for the limit, or all of it for as long as it may take as a whole; and at once
-    /// where the clock cannot be read, or there is no memory for a timer.
+    /// Waits until this wait or the whole is late.
+    ///
+    /// It is ready at once if the clock cannot be read, or if there is no memory for a timer.
     pub fn poll_over(&mut self, cx: &mut Context<'_>) -> Poll<()>
         ensures waits { OnPending result (Covers cx.new (TimerNeeds self.new.sleep)) }
         ensures kept { Keeps cx.old cx.new }

@@ -1,4 +1,4 @@
-//! A body that is not waited for for ever.
+//! Bodies with a time limit.
 ghost use Rattle.std.specs.Prelude.{◌≡◌, Option};
 ghost use Rattle.http.specs.declared.request.Request.{Request};
 ghost use Rattle.bx_serve.specs.Handing.{IsWithPatience};
@@ -14,18 +14,19 @@ use hyper::rt::Timer;
 use hyper::service::Service;
 use std::time::Duration;
 
-/// Why a body ends before its end.
+/// Why a body failed.
 #[derive(Drop)]
 pub enum PatientFault<E> {
-    /// The body failed by itself.
+    /// The body itself failed.
     Body(E),
-    /// Nothing came of it for as long as it is waited for, or it was not whole in time.
+    /// No data arrived in time, or the body was not whole in time.
     Late,
 }
 
-/// A body that fails where nothing comes of it for as long as it is waited for, counted anew from each frame, or where
-/// it is not whole in time. Where the clock cannot be read, or there is no memory for a timer, it fails as soon as it
-/// would wait.
+/// A body that fails if no frame arrives in time, or if it is not whole in time.
+///
+/// Each frame restarts the first limit. If the clock cannot be read, or there is no memory for a
+/// timer, it fails as soon as it would wait.
 #[derive(Drop)]
 pub struct Patient<B, T> {
     body: B,
@@ -33,7 +34,7 @@ pub struct Patient<B, T> {
 }
 
 impl<B, T> Patient<B, T> {
-    /// Nothing is counted before the first wait.
+    /// Creates a body with limits, whose time starts with the first wait.
     pub fn new(body: B, patience: Patience<T>) -> Patient<B, T>
         ensures { result.body ≡ body }
     {
@@ -75,16 +76,16 @@ impl<B: Body, T: Timer> Body for Patient<B, T> {
     }
 }
 
-/// Hands each request to a service with a patient body.
+/// A service that calls another, with a time limit on each request's body.
 #[derive(Drop)]
 pub struct Patiently<S, T> {
-    /// The service that is called.
+    /// The inner service.
     pub service: S,
-    /// Measures how long a body brings nothing.
+    /// The timer for bodies.
     pub timer: T,
-    /// How long it may bring nothing.
+    /// The longest wait for a frame.
     pub limit: Duration,
-    /// How long it may take to be whole, from the first wait for more of it on.
+    /// The longest time for a whole body, from the first wait for more of it.
     pub whole: Duration,
 }
 
@@ -102,7 +103,7 @@ where
 
     ghost can_call = { λ p. S.can_call p.service };
 
-    // What the service within may return for the same request with a patient body.
+    // Ghost: a future that the inner service may return for the same request with a patient body.
     ghost calls = { λ p came future. (handed : Request (Patient B (Option T))) × (IsWithPatience came handed × S.calls p.service handed future) };
 
     fn call(&self, request: Request<B>) -> S::Future {

@@ -1,4 +1,4 @@
-//! A connection whose peer has to take what is written.
+//! A connection whose peer must keep taking what is written.
 ghost use Rattle.std.specs.Prelude.{◌≡◌};
 ghost use Rattle.futures.specs.Poll.{OnPending};
 ghost use Rattle.futures.specs.Task.{Covers, Keeps};
@@ -12,9 +12,10 @@ use std::io;
 use std::io::ErrorKind;
 use tokio::io::{AsyncRead, AsyncWrite};
 
-/// A connection that fails with `TimedOut` where the peer takes nothing of what is written for as long as it is waited
-/// for, counted anew from each write that took something. Where the clock cannot be read, or there is no memory for a
-/// timer, it fails as soon as it would wait.
+/// A connection whose writes fail with `TimedOut` if the peer takes no data in time.
+///
+/// Each completed write, flush or shutdown restarts the limit. If the clock cannot be read, or
+/// there is no memory for a timer, a write fails as soon as it would wait.
 #[derive(Drop)]
 pub struct Peer<I, T> {
     io: I,
@@ -22,7 +23,7 @@ pub struct Peer<I, T> {
 }
 
 impl<I, T> Peer<I, T> {
-    /// Nothing is counted before the first wait.
+    /// Creates a connection with a limit, whose time starts with the first wait.
     pub fn new(io: I, patience: Patience<T>) -> Peer<I, T>
         ensures { result.io ≡ io }
     {
@@ -31,7 +32,7 @@ impl<I, T> Peer<I, T> {
 }
 
 impl<I: AsyncWrite, T: Timer> Peer<I, T> {
-    // What a write gave; an error in place of a wait that has lasted too long.
+    // Returns the result of a write, or `TimedOut` if it is pending for too long.
     fn poll_taken<O>(
         &mut self,
         cx: &mut Context<'_>,

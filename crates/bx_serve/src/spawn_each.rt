@@ -1,4 +1,4 @@
-//! The futures of a stream, each as a task.
+//! Runs each future of a stream as a task.
 ghost use Rattle.std.specs.Prelude.{◌≡◌, IfSome};
 ghost use Rattle.futures.specs.Runs.{AllItems};
 
@@ -14,14 +14,17 @@ use std::thread::Threads;
 use std::time::Clock;
 use tokio::runtime::Runtime;
 
-// How many futures one poll spawns before it lets tasks run.
+// How many futures one poll spawns before it yields to other tasks.
 const BUDGET: u32 = 128;
 
-/// Runs each future of a stream, or of two, as a task of the runtime, until the streams have ended or so many futures
-/// have come, and each task is done; or until `end` is ready: from then on no future is asked for, and each task that
-/// was spawned is waited for as long as the runtime's shutdown may take. A future for which there is no memory is
-/// dropped, and those behind it are run as ever. `Err` where there is no memory to begin with, or the system refuses
-/// the runtime a call.
+/// Runs up to `count` futures of one stream or two as tasks, until `end` is ready.
+///
+/// At the end it waits for the tasks, up to the runtime's shutdown timeout. A future for which
+/// there is no memory is dropped, and the next one is run.
+///
+/// # Errors
+///
+/// The error of a system call, or of memory that runs out before any task is run.
 pub fn run_until<R, S, F, A, T>(
     rt: &R,
     runtime: &mut Runtime,
@@ -47,7 +50,7 @@ where
     }
 }
 
-// The same for one stream to its end.
+// Does the same for one stream, without `count`.
 fn run<R, S, F, A, T>(rt: &R, runtime: &mut Runtime, futures: S, end: A) -> io::Result<()>
 where
     R: Wait + Threads + Clock + RandomSource + AllocGlobal + Sync,
@@ -63,8 +66,10 @@ where
     runtime.block_on_with(rt, &tasks, SpawnEach::new(&tasks, futures.take_until(end)))
 }
 
-/// Spawns each future of a stream, and is ready once the stream has ended, or the set is shut down. A future for which
-/// there is no memory is dropped, and those behind it are spawned as ever.
+/// A future that spawns each future of a stream as a task.
+///
+/// It is ready once the stream ends or the set of tasks is shut down. A future for which there is
+/// no memory is dropped.
 #[derive(Drop)]
 pub struct SpawnEach<'a, F: Future, S> {
     tasks: &'a TaskSet<F>,
@@ -72,7 +77,7 @@ pub struct SpawnEach<'a, F: Future, S> {
 }
 
 impl<'a, F: Future, S> SpawnEach<'a, F, S> {
-    /// Nothing is spawned before the first poll.
+    /// Creates the future, which spawns only when it is polled.
     pub fn new(tasks: &'a TaskSet<F>, futures: S) -> SpawnEach<'a, F, S>
         ensures { result.futures ≡ futures }
     {

@@ -14,10 +14,10 @@ use std::test::Fail;
 use std::time::{Clock, Duration, Instant};
 use tokio::time::Driver;
 
-// For how many seconds each body is looked at.
+// How many seconds each test of a body lasts.
 const SECONDS: u64 = 400;
 
-// A clock that shows as many seconds as it is told.
+// A clock that shows the stored number of seconds.
 #[derive(Clone, Copy)]
 struct Told<'a>(&'a AtomicU64);
 
@@ -31,7 +31,7 @@ impl Clock for Told<'_> {
     }
 }
 
-// A body that brings a frame each few seconds, so many in all.
+// A body with a frame every `step` seconds, of which `left` are to come.
 #[derive(Drop)]
 struct Drips<'a> {
     seconds: &'a AtomicU64,
@@ -58,7 +58,7 @@ impl Body for Drips<'_> {
     }
 }
 
-// How a body ended, and at which second.
+// How a body ended, and in which second.
 #[derive(Clone, Copy, Debug, PartialEq, Eq)]
 enum End {
     Whole(u64),
@@ -66,8 +66,8 @@ enum End {
     Open,
 }
 
-// How a body ends that brings a frame each so many seconds, and is waited for 30 seconds at a time and for so many as a
-// whole.
+// Polls a body of `count` frames, one every `step` seconds, and returns how it ends. The limits are
+// 30 seconds for a frame and `whole` seconds in all.
 fn end_of<R: RandomSource + AllocGlobal>(
     rt: &R,
     step: u64,

@@ -1,4 +1,4 @@
--- What an exchange may answer, by how far its request is.
+-- The responses that an exchange may give, by its state.
 use Rattle.std.specs.Prelude.{◌≡◌, ◌⊎◌, ℕ, List, Option, Some, None, option_map, string_bytes, Vec, Result, Ok, Err}
 use Rattle.std.specs.Global.{Global}
 use Rattle.futures.specs.Runs.{Runs}
@@ -21,57 +21,57 @@ use Rattle.bx_service.specs.Responses.{IsAnswer, IsRefusal}
 use Rattle.bx_transport.specs.Statuses.{transport_status}
 use Rattle.bx_service.specs.Statuses.{body_status, post_status}
 
--- a response as it is sent
+-- A response as it is sent.
 abbrev pub Sent : Type 0
 Sent = Response (Pieces (List ℕ))
 
--- what the future of a response's items gives
+-- The output of the future of a response's items.
 abbrev pub Gathered : Type 0
 Gathered = Result (Vec Item Global) Unanswered
 
--- The response for what that future gave: 200 with these items, or 503 where their text found no memory; and where it gave no items, 503.
+-- The response for that output: 200 with its items, or 503 if it failed or memory runs out.
 abbrev pub ForItems : Option (List ℕ) → Gathered → Sent → Type 0
 ForItems callback (Ok items) sent = IsAnswer callback items.items sent ⊎ IsRefusal Unavailable sent
 ForItems callback (Err none) sent = IsRefusal Unavailable sent
 
 module _ {I : Type 0} (gives : I → Gathered → Type 0) where
-  -- the response for a future of items: that for some items that it may give
+  -- The response for a future of items, by some output that it may give.
   abbrev pub ForFuture : Option (List ℕ) → I → Sent → Type 0
   ForFuture callback items sent = (gathered : Gathered) × (gives items gathered × ForItems callback gathered sent)
 
-  -- the response for what was said of the documents: that for the future of their items, or the status of why they are
-  -- refused
+  -- The response for what the backend returned: that for the future, or the status of the fault.
   abbrev pub ForOutcome : Option (List ℕ) → Result I Declined → Sent → Type 0
   ForOutcome callback (Ok items) sent = ForFuture callback items sent
   ForOutcome callback (Err declined) sent = IsRefusal (post_status declined.fault) sent
 
   module _ (admits : Bodies → Result I Declined → Type 0) where
-    -- the response for these documents: that for something that the backend may say of them
+    -- The response for `documents`, by some result that the backend may return.
     abbrev pub ForDocuments : Option (List ℕ) → List (List ℕ) → Sent → Type 0
     ForDocuments callback documents sent =
         (bodies : Bodies) × ((texts_of bodies ≡ documents) × ((outcome : Result I Declined) × (admits bodies outcome × ForOutcome callback outcome sent)))
 
-    -- the response for a body as it is taken: that for its documents, or the status of one that carries none
+    -- The response for a body: that for its documents, or the status of its fault.
     abbrev pub ForBody : Result (List (List ℕ)) TransportError → Sent → Type 0
     ForBody (Ok documents) sent = ForDocuments None documents sent
     ForBody (Err error) sent = IsRefusal (transport_status error) sent
 
-    -- the response for a query as it is taken: as a call of its callback
+    -- The response for a query: a call of its callback, or the status of its fault.
     abbrev pub ForQuery : Result (List ℕ × List (List ℕ)) TransportError → Sent → Type 0
     ForQuery (Ok taken) sent = ForDocuments (Some taken.0) taken.1 sent
     ForQuery (Err error) sent = IsRefusal (transport_status error) sent
 
-    -- the response for a body that was collected, or was not; 503 where its documents found no memory
+    -- The response for the result of collecting a body; 503 if memory runs out for its documents.
     abbrev pub ForCollected : Option (List ℕ) → Result (Vec ℕ Global) CollectError → Sent → Type 0
     ForCollected kind (Ok all) sent = ForBody (post_taken kind all.items) sent ⊎ IsRefusal Unavailable sent
     ForCollected kind (Err fault) sent = IsRefusal (body_status fault) sent
 
-    -- the response for a query; 503 where its documents found no memory
+    -- The response for a query; 503 if memory runs out for its documents.
     abbrev pub ForAsked : List ℕ → Sent → Type 0
     ForAsked query sent = ForQuery (get_taken query) sent ⊎ IsRefusal Unavailable sent
 
     module _ {B D E : Type 0} (unread : D → List ℕ) (yields : B → Runs (Result (Frame D) E)) where
-      -- The response for a request, by how far it is. While its body comes, it is that for what the body's collection may give.
+      -- The response for a request, by its state. While its body arrives, it is that for some
+      -- result of collecting it.
       abbrev pub MayAnswer : State I B → Sent → Type 0
       MayAnswer (Collecting kind body) sent =
           (collected : Result (Vec ℕ Global) CollectError) × (Gives unread (yields body.body) body.limit body.bytes.items collected

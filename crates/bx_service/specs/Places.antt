@@ -1,9 +1,9 @@
--- The place of a request that was admitted.
+-- The place of an admitted request.
 use Rattle.std.specs.Prelude.{ℕ, ⊤, Option}
 use Rattle.bx_service.specs.declared.exchange.State.{State}
 use Rattle.bx_service.specs.declared.exchange.State.TheVariants.{Collecting, Asked, Held, Refused}
 
--- where a request was admitted, its items may tell this place
+-- If the request was admitted, its items may report `place`.
 abbrev pub IsPlaced : {I B : Type 0} → (I → Option ℕ → Type 0) → Option ℕ → State I B → Type 0
 IsPlaced stands place (Collecting content_type body) = ⊤
 IsPlaced stands place (Asked uri) = ⊤

@@ -3,7 +3,7 @@ use Rattle.std.specs.Prelude.{⊤}
 use Rattle.bx_service.specs.declared.exchange.State.{State}
 use Rattle.bx_service.specs.declared.exchange.State.TheVariants.{Collecting, Asked, Held, Refused}
 
--- a body that is collected may be polled, and so may the items that come
+-- The body being collected, or the items being awaited, may be polled.
 abbrev pub CanPoll : {I B : Type 0} → (I → Type 0) → (B → Type 0) → State I B → Type 0
 CanPoll items_can body_can (Collecting content_type body) = body_can body.body
 CanPoll items_can body_can (Asked uri) = ⊤

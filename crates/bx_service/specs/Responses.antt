@@ -1,4 +1,4 @@
--- What responses carry.
+-- What responses contain.
 use Rattle.std.specs.Prelude.{◌≡◌, ◌⊎◌, ℕ, List, [], Option, Some, None, codes}
 use Rattle.http.specs.Response.{head_of, body_of}
 use Rattle.http.specs.declared.response.Response.{Response}
@@ -10,28 +10,28 @@ use Rattle.bx_message.specs.declared.{reply.Item.Item, status.Status.Status}
 use Rattle.bx_message.specs.declared.status.Status.TheVariants.{MethodNotAllowed}
 use Rattle.bx_message.specs.Statuses.{code_of}
 
--- the fields of a response without a body: where the method is not allowed, those that are
+-- The fields of a response without a body: the allowed methods with 405, otherwise none.
 abbrev pub refusal_fields : Status → Entries FieldValue
 refusal_fields MethodNotAllowed = insert [] (codes "allow") (plain_value (codes "GET, POST"))
 refusal_fields _ = []
 
--- it has this status, and no body
+-- A response with `status` and no body.
 pub record IsRefusal (status : Status) (response : Response (Pieces (List ℕ))) : Type 0 where
   pub number : (head_of response).status ≡ code_of status
   pub fields : (head_of response).headers ≡ refusal_fields status
   pub empty : body_of response ≡ []
 
--- how a response with a body is to be read: as JSON, or as a script
+-- The content type of a body: JSON, or JavaScript for a callback.
 abbrev pub kind_of : Option (List ℕ) → List ℕ
 kind_of None = codes "application/json;charset=UTF-8"
 kind_of (Some callback) = codes "application/javascript;charset=UTF-8"
 
--- its status is 200, and it carries these items
+-- A response with status 200 and `items`.
 pub record IsAnswer (callback : Option (List ℕ)) (items : List Item) (response : Response (Pieces (List ℕ))) : Type 0 where
   pub number : (head_of response).status ≡ 200
   pub fields : (head_of response).headers ≡ insert [] (codes "content-type") (plain_value (kind_of callback))
   pub whole : body_of response ≡ answer_text callback items
 
--- it has one of the statuses, and a body exactly with 200
+-- A response: a status without a body, or 200 with items.
 abbrev pub IsResponse : Response (Pieces (List ℕ)) → Type 0
 IsResponse response = ((status : Status) × IsRefusal status response) ⊎ ((callback : Option (List ℕ)) × ((items : List Item) × IsAnswer callback items response))

@@ -1,4 +1,4 @@
--- The statuses of requests.
+-- How requests are routed, and the statuses of refused ones.
 use Rattle.std.specs.Prelude.{ℕ, List, [], ◌∷◌, Bool, true, false, ◌||◌, nat_eq, codes, if◌then◌else◌}
 use Rattle.std.specs.{List.starts_with, Str.bytes_eq, Str.str_eq_ignore_ascii_case}
 use Rattle.http_header.specs.FieldValue.{FieldValue}
@@ -15,34 +15,34 @@ use Rattle.bx_transport.specs.declared.error.TransportError.TheVariants as trans
 use Rattle.bx_service.specs.declared.route.Route.{Route}
 use Rattle.bx_service.specs.declared.route.Route.TheVariants as routes
 
--- whether a path is served: `/cometd`, or one below it
+-- Whether a path is served: `/cometd` or a path below it.
 abbrev pub is_served : List ℕ → Bool
 is_served path = bytes_eq path (codes "/cometd") || starts_with nat_eq path (codes "/cometd/")
 
--- whether these values name no transfer coding but `chunked`, and that but once, whatever the case of its letters
+-- Whether there is no value, or a single one that is `chunked` in any letter case.
 abbrev pub are_plain : List FieldValue → Bool
 are_plain [] = true
 are_plain (value ∷ []) = str_eq_ignore_ascii_case value.bytes (codes "chunked")
 are_plain (value ∷ other ∷ values) = false
 
--- a route, but where the fields name a transfer coding besides that one
+-- `route`, or 501 if the fields name a transfer coding other than one `chunked`.
 abbrev pub unless_coded : Entries FieldValue → Route → Route
 unless_coded fields route = if are_plain (get_all fields (codes "transfer-encoding")) then route else routes.Refused NotImplemented
 
--- how a request of this method for this path, with these fields, is served
+-- How a request with this method, path and fields is served.
 abbrev pub route_of : List ℕ → List ℕ → Entries FieldValue → Route
 route_of method path fields =
     if is_served path then (if bytes_eq method (codes "POST") then unless_coded fields routes.Post
     else (if bytes_eq method (codes "GET") then unless_coded fields routes.Get else routes.Refused MethodNotAllowed))
     else routes.Refused NotFound
 
--- of a POST whose body is not collected: where it is too large, and for want of memory, as its transport has it
+-- The status of a POST whose body is not collected.
 abbrev pub body_status : CollectError → Status
 body_status bodies.TooLarge = transport_status transports.TooLarge
 body_status bodies.Failed = BadRequest
 body_status bodies.Memory = transport_status transports.Memory
 
--- of what the hub refuses; of what is not admitted that of its refusal
+-- The status of a request that the hub refuses: that of its refusal, or 503.
 abbrev pub post_status : PostFault → Status
 post_status (posts.Refused refusal) = refusal_status refusal
 post_status _ = Unavailable

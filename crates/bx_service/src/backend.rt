@@ -1,4 +1,4 @@
-//! What a service stands on.
+//! What a service needs from the server of messages: a [`Backend`], here over a hub.
 ghost use Rattle.std.specs.Prelude.{⊤, ◌≡◌, ◌⊎◌, ℕ, [], None, Option, Result, IfOk, IfErr};
 ghost use Rattle.std.specs.Arc.{arc_value};
 ghost use Rattle.std.specs.Vec.Iter.{into_iter_items};
@@ -19,27 +19,27 @@ use futures::Future;
 use std::alloc::{AllocError, Global};
 use std::sync::{Arc, Wait};
 
-/// Tells the moment of a request.
+/// A source of the moments of requests.
 pub trait Clock {
-    // Holds of a clock and of a moment that it may tell.
+    // Ghost: which moments a clock may return.
     ghost tells: { Self → ℕ → Type 0 } = { λ _ _. ⊤ };
 
-    /// Milliseconds, from whatever beginning.
+    /// Returns the current moment, in milliseconds since any fixed start.
     fn now(&self) -> u64
         ensures { tells self.now result };
 }
 
-/// Draws what client ids are made of.
+/// A source of nonces, from which client ids are made.
 pub trait Nonces {
-    // Holds of a source of nonces and of a nonce that it may draw.
+    // Ghost: which nonces a source may return.
     ghost draws: { Self → ℕ → Type 0 } = { λ _ _. ⊤ };
 
-    /// 128 bits.
+    /// Returns a nonce of 128 bits.
     fn next(&self) -> u128
         ensures { draws self.now result };
 }
 
-/// The response has no items: an answer cannot be told, or there is no memory.
+/// The error if an answer is unavailable or memory runs out.
 #[derive(Clone, Copy, Debug, PartialEq, Eq)]
 pub struct Unanswered;
 
@@ -55,39 +55,44 @@ impl<J: Naming> From<Stopped<J>> for Unanswered {
     }
 }
 
-/// Documents that were not taken.
+/// Documents that were refused.
 #[derive(Drop)]
 pub struct Declined {
-    /// Why: for what the hub refuses their request, or the want of memory.
+    /// Why they were refused.
     pub fault: PostFault,
-    /// The documents, as they were handed in.
+    /// The documents, unchanged.
     pub bodies: Bodies,
 }
 
-/// Answers requests by their documents. A service asks no more of the server of messages, so that its own types do not
-/// name what that is made of.
+/// A server that answers requests by their documents.
+///
+/// A service knows only this trait, so its types do not name the parts of a hub.
 pub trait Backend: Drop {
-    /// The future of the items of a response.
+    /// The future of a response's items.
     type Items: Future<Output = Result<Vec<Item>, Unanswered>>;
 
-    // Holds of the documents of a request and of what may be said of them.
+    // Ghost: which outcomes the documents of a request may have.
     ghost admits: { Self → Bodies → Result Self.Items Declined → Type 0 } = { λ _ _ _. ⊤ };
 
-    // Holds of items and of the place that may be told of them.
+    // Ghost: which places `place` may return for some items.
     ghost stands: { Self.Items → Option ℕ → Type 0 } = { λ _ _. ⊤ };
 
-    /// Takes the documents of a request, or gives them back with the reason for which it is refused.
+    /// Admits the documents of a request, and returns the future of the response's items.
+    ///
+    /// # Errors
+    ///
+    /// [`Declined`] with the documents and the reason, if the request is refused.
     fn admit(&self, bodies: Bodies) -> Result<Self::Items, Declined>
         ensures can_poll { IfOk result Self.Items.can_poll }
         ensures back { IfErr result (λ d. d.bodies ≡ bodies) }
         ensures admitted { admits self.now bodies result };
 
-    /// The place of the first message that such items answer; none where they answer none.
+    /// Returns the place of the first message that `items` answer, or `None` without messages.
     fn place(&self, items: &Self::Items) -> Option<u64>
         ensures { stands items.now result };
 }
 
-/// A hub with the door, the clock and the nonces of its requests.
+/// A [`Backend`] over a hub, for the requests of one listener.
 #[derive(Drop)]
 pub struct HubBackend<J: Naming, P: Placing, G: Gate + Drop, R: Wait + Drop, C, N> {
     rt: R,
@@ -99,7 +104,10 @@ pub struct HubBackend<J: Naming, P: Placing, G: Gate + Drop, R: Wait + Drop, C, 
 }
 
 impl<J: Naming, P: Placing, G: Gate + Drop, R: Wait + Drop, C, N> HubBackend<J, P, G, R, C, N> {
-    /// Requests go to this hub, by this door, at the clock's moments and with these nonces.
+    /// Creates a backend that posts to `hub`.
+    ///
+    /// `door`: the listener by which the requests come. `clock` and `nonces` give each its moment
+    /// and its nonce.
     pub fn new(
         rt: R,
         alloc: Global,
@@ -133,9 +141,9 @@ where
 {
     type Items = Gathering<J, P, G, R>;
 
-    // Nothing of the response is there yet, and its slots, and the place that it tells, are what one thread gives for
-    // the request with these documents; or the request is refused and its documents come back, also without memory for
-    // one more handle of the hub.
+    // Ghost: on success no items are there yet, and the slots and the place are those that a single
+    // thread gives. On error the documents are unchanged, and the hub refused them or memory ran
+    // out.
     ghost admits = { λ backend bodies outcome.
         IfOk outcome (λ g. (g.items.items ≡ []) × (g.held ≡ None)
         × AreSlotsFor (C.tells backend.clock) (N.draws backend.nonces) backend.door (setup_of J.config J.placing) (texts_of bodies)
@@ -146,7 +154,8 @@ where
 
     ghost stands = { λ items place. place ≡ items.first };
 
-    // What may fail for other reasons than the hub's comes before the post, so what is refused is not listed.
+    // Clones the handle before the post, so that a declined request is never listed. Locks as
+    // `Hub::post` does.
     fn admit(&self, bodies: Bodies) -> Result<Gathering<J, P, G, R>, Declined> {
         let Ok(hub) = Arc::try_clone(&self.hub) else {
             return Err(Declined {

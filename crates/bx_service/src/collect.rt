@@ -9,17 +9,17 @@ use http_body::{Body, Frame};
 use std::alloc::{AllocError, Global};
 use std::mem;
 
-// A poll takes so many frames before other tasks have their turn.
+// How many frames one poll takes before it yields to other tasks.
 const BUDGET: usize = 64;
 
 /// Why a body was not collected.
 #[derive(Clone, Copy, Debug, PartialEq, Eq)]
 pub enum CollectError {
-    /// Its data has more bytes than the limit.
+    /// The data exceeds the limit.
     TooLarge,
-    /// The body failed, as it does where its connection ends too early.
+    /// The body failed, for example because the connection ended early.
     Failed,
-    /// Memory was refused.
+    /// Memory ran out.
     Memory,
 }
 
@@ -33,8 +33,10 @@ impl From<AllocError> for CollectError {
     }
 }
 
-/// All the data of a body, in one buffer. What comes is copied behind what came before, so that no more than the limit
-/// is kept, in however small pieces it comes. Trailers are dropped.
+/// A future of all the data of a body, in one buffer.
+///
+/// Each frame's data is copied to the end of the buffer. So no more than the limit is kept, however
+/// small the frames are. Trailers are dropped.
 #[derive(Drop)]
 pub struct Collect<B> {
     alloc: Global,
@@ -45,7 +47,7 @@ pub struct Collect<B> {
 }
 
 impl<B> Collect<B> {
-    /// It gives at most `limit` bytes.
+    /// Creates a future that collects at most `limit` bytes.
     pub fn new(alloc: Global, body: B, limit: usize) -> Collect<B>
         ensures { (result.body ≡ body) × (result.limit ≡ limit) × (result.bytes.items ≡ []) }
     {
@@ -89,7 +91,7 @@ where
     }
 }
 
-// Puts the data of a frame behind the bytes, where the limit leaves room for it.
+// Appends the data of `frame`, if that stays within `limit`.
 fn add<D: Buf + Drop>(
     bytes: &mut Vec<u8>,
     limit: usize,

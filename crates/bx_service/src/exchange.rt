@@ -1,4 +1,4 @@
-//! One request and its response.
+//! One request over HTTP, up to its response.
 ghost use Rattle.std.specs.Prelude.{◌≡◌, [], Err, IfOk, None, MatchOption, option_copied, option_map, string_bytes, unwrap_or, Result};
 ghost use Rattle.std.specs.Arc.{arc_value};
 ghost use Rattle.futures.specs.Poll.{IfReady, OnPending};
@@ -40,37 +40,42 @@ use std::alloc::Global;
 use std::mem;
 use std::sync::Arc;
 
-/// The future of a response.
+/// The future of a request's response.
 #[derive(Drop)]
 pub struct Exchange<S, I, B, O: Observer> {
     pub(crate) alloc: Global,
-    // None where there was no memory for one more handle on it and on the observer, and after the output.
+    // `None` if a handle on it or on the observer could not be cloned, and after the output.
     pub(crate) backend: Option<Arc<S, Global>>,
     pub(crate) state: State<I, B>,
     pub(crate) watch: Watch<O>,
 }
 
-/// How far a request is.
+/// The progress of a request.
 #[derive(Drop)]
 pub(crate) enum State<I, B> {
-    /// The body of a POST comes.
+    /// The body of a POST is being collected.
     Collecting {
         content_type: Option<HeaderValue>,
         body: Collect<B>,
     },
-    /// A GET for this target, whose query has its documents.
+    /// A GET, whose query has the documents.
     Asked(Uri),
-    /// It was admitted, and its items come. With the name of a callback it is answered as a script.
+    /// The request was admitted, and waits for its items.
+    ///
+    /// With `callback` the response is a script.
     Held {
         callback: Option<String>,
         items: I,
     },
-    /// It is refused.
+    /// The request is refused with this status.
     Refused(Status),
 }
 
 impl<I: Future, B: Body> State<I, B> {
-    /// The state of a request that came.
+    /// Creates the state of a new request, from its head.
+    ///
+    /// It is `Refused` if the route refuses it, or if the query of a GET or the `Content-Length` of
+    /// a POST exceeds `limit`.
     pub(crate) fn new(alloc: Global, limit: BodyLimit, parts: Parts, body: B) -> State<I, B>
         requires { B.can_poll body }
         ensures again { CanPoll I.can_poll B.can_poll result }
@@ -94,7 +99,7 @@ impl<I: Future, B: Body> State<I, B> {
         }
     }
 
-    // The state of a request that is larger than the limit.
+    // Returns the state of a request that exceeds the limit.
     fn too_large() -> State<I, B>
         ensures again { CanPoll I.can_poll B.can_poll result }
         ensures refused { result ≡ Refused (transport_status TooLarge) }
@@ -103,14 +108,14 @@ impl<I: Future, B: Body> State<I, B> {
     }
 }
 
-// The query of a target; that of one without a query is empty.
+// Returns the query of `uri`, or an empty one.
 fn query_of(uri: &Uri) -> &str
     ensures { result.now ≡ query_of uri.now }
 {
     uri.query().unwrap_or("")
 }
 
-// Whether the length of a body, as its request says it, is above the limit.
+// Returns `true` if a `Content-Length` is a number that exceeds the limit.
 fn says_more(limit: BodyLimit, length: Option<&HeaderValue>) -> bool
     ensures { result ≡ says_more limit (option_map (λ value. value.bytes) (option_copied length.entry)) }
 {
@@ -123,7 +128,7 @@ fn says_more(limit: BodyLimit, length: Option<&HeaderValue>) -> bool
     }
 }
 
-// The state of a request with these documents.
+// Posts the documents of a request, and returns its next state.
 fn admitted<S, I, B, D, O>(
     backend: &S,
     watch: &mut Watch<O>,
@@ -153,7 +158,7 @@ where
     }
 }
 
-// The state of a POST whose body was collected, or was not.
+// Reads the collected body of a POST and posts its documents.
 fn posted<S, I, B, D, O>(
     alloc: Global,
     backend: &S,
@@ -182,7 +187,7 @@ where
     }
 }
 
-// The state of a GET for this target.
+// Reads the query of a GET and posts its documents.
 fn asked<S, I, B, D, O>(alloc: Global, backend: &S, watch: &mut Watch<O>, uri: &Uri) -> State<I, B>
 where
     S: Backend<Items = I>,
@@ -200,7 +205,7 @@ where
     }
 }
 
-// The response of a request that is refused.
+// Creates the response to a refused request, and reports it to the observer.
 fn refused<O: Observer>(
     alloc: Global,
     watch: &Watch<O>,
@@ -217,7 +222,7 @@ fn refused<O: Observer>(
     }
 }
 
-// The response of a request whose answers came.
+// Creates the response to an admitted request: its items, or 503 if they or memory are unavailable.
 fn answered<O: Observer>(
     alloc: Global,
     watch: &Watch<O>,
@@ -247,7 +252,7 @@ where
     D: Buf + Drop,
     O: Observer,
 {
-    // Goes on until the request is admitted or refused.
+    // Polls until the request is admitted or refused.
     fn poll_admitted(&mut self, backend: &S, cx: &mut Context<'_>) -> Poll<()>
         requires { CanPoll I.can_poll B.can_poll self.old.state }
         ensures again { CanPoll I.can_poll B.can_poll self.new.state }
@@ -278,7 +283,7 @@ where
         }
     }
 
-    // Goes on until the answers are there.
+    // Polls until the response is complete.
     fn poll_answered(
         &mut self,
         cx: &mut Context<'_>,
@@ -319,11 +324,12 @@ where
 
     ghost can_poll = { λ e. CanPoll I.can_poll B.can_poll e.state };
 
-    // A response is what its state says. Without a handle on its backend there is none.
+    // Ghost: the response that the state allows. Without a backend there is none.
     ghost gives = { λ e given. IfOk given (λ sent. MatchOption e.backend ⊥
         (λ backend. MayAnswer I.gives (S.admits (arc_value backend)) D.unread B.yields e.state sent)) };
 
-    // With its output it lets go of the backend: a further poll gives want of memory, posts nothing and takes nothing.
+    // Drops the backend with the output. A later poll posts no messages and returns
+    // `ServiceFault::Memory`.
     fn poll(&mut self, cx: &mut Context<'_>) -> Poll<Self::Output>
         requires { CanPoll I.can_poll B.can_poll self.old.state }
         ensures value { IfReady result (λ given. IfOk given (λ sent. MatchOption self.old.backend ⊥

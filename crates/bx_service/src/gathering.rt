@@ -1,4 +1,4 @@
-//! The items of a response, as the answers come.
+//! The items of a response, collected as the answers arrive.
 ghost use Rattle.std.specs.Prelude.{◌≡◌, ◌++◌, ◌∷◌, ◌<◌, List, Result, [], None, Some, false, IfOk, OnOk, MatchOption, length};
 ghost use Rattle.std.specs.Vec.Iter.{into_iter_items};
 ghost use Rattle.futures.specs.Poll.{IfReady, OnPending};
@@ -21,8 +21,10 @@ use std::mem;
 use std::sync::{Arc, Wait};
 use std::vec::IntoIter;
 
-/// A request that was admitted: the items that are there, the connect or the rider that is waited for, and the slots
-/// behind it.
+/// The future of the items that answer an admitted request.
+///
+/// It takes the slots in order, and waits at each connect or rider for its answer. Polling for an
+/// answer locks its shard.
 #[derive(Drop)]
 pub struct Gathering<J: Naming, P: Placing, G: Gate + Drop, R: Wait + Drop> {
     rt: R,
@@ -32,13 +34,15 @@ pub struct Gathering<J: Naming, P: Placing, G: Gate + Drop, R: Wait + Drop> {
     items: Vec<Item>,
     held: Option<PendingAnswer<J>>,
     slots: IntoIter<Slot>,
-    // The place of the first message.
+    // The place of the first message, if there is one.
     first: Option<u64>,
     ghost within: { AreBelow (length (list_of pass)) (into_iter_items slots) } by { are_below-prop (length (list_of pass)) (into_iter_items slots) },
 }
 
 impl<J: Naming, P: Placing + Drop, G: Gate + Drop, R: Wait + Copy + Drop> Gathering<J, P, G, R> {
-    /// The items of these slots, which the hub gave to a post with this pass, whose first message has this place.
+    /// Creates the future for `slots`, which the hub returned for a post with `pass`.
+    ///
+    /// `first`: the place of the first message.
     pub(crate) fn new(
         rt: R,
         alloc: Global,
@@ -65,14 +69,14 @@ impl<J: Naming, P: Placing + Drop, G: Gate + Drop, R: Wait + Copy + Drop> Gather
         }
     }
 
-    /// The place of the first message.
+    /// Returns the place of the first message, or `None` without messages.
     pub(crate) fn place(&self) -> Option<u64>
         ensures { result ≡ self.now.first }
     {
         self.first
     }
 
-    // From here on the answer under this ticket is waited for.
+    // Starts to wait for the answer under `ticket`.
     fn wait_for(&mut self, ticket: Ticket)
         requires { ticket.place < length (list_of self.old.pass) }
         ensures waits { awaited self.new.held ≡ Some (awaited_as ticket self.old.pass false) }
@@ -81,7 +85,7 @@ impl<J: Naming, P: Placing + Drop, G: Gate + Drop, R: Wait + Copy + Drop> Gather
         self.held = Some(PendingAnswer::new(self.pass.again(), ticket));
     }
 
-    // Puts the items of the message that is waited for behind the others, once they are there.
+    // Polls the awaited answer, if any, and appends its items.
     fn poll_held(&mut self, cx: &mut Context<'_>) -> Result<Poll<()>, Unanswered>
         ensures same { OnOk result ((all : List Item)
             → AreAll (setup_of J.config J.placing) self.new.pass self.new.items.items (awaited self.new.held)
@@ -108,7 +112,7 @@ impl<J: Naming, P: Placing + Drop, G: Gate + Drop, R: Wait + Copy + Drop> Gather
         Ok(Poll::Ready(()))
     }
 
-    // Takes the slot that came before the others: its reply, or its connect or rider, which is waited for from now on.
+    // Handles the next slot: appends its reply, or starts to wait for its answer and polls it.
     fn take(&mut self, slot: Slot, cx: &mut Context<'_>) -> Result<Poll<()>, Unanswered>
         requires below { IsBelow (length (list_of self.old.pass)) slot }
         requires free { self.old.held ≡ None }
@@ -134,7 +138,7 @@ impl<J: Naming, P: Placing + Drop, G: Gate + Drop, R: Wait + Copy + Drop> Gather
         }
     }
 
-    // Goes on until all items are there, or a connect or a rider is waited for.
+    // Polls until all items are there or an answer is still to come.
     fn gather(&mut self, cx: &mut Context<'_>) -> Result<Poll<()>, Unanswered>
         ensures same { OnOk result ((all : List Item)
             → AreAll (setup_of J.config J.placing) self.new.pass self.new.items.items (awaited self.new.held)
@@ -161,7 +165,7 @@ impl<J: Naming, P: Placing + Drop, G: Gate + Drop, R: Wait + Copy + Drop> Future
     for Gathering<J, P, G, R> {
     type Output = Result<Vec<Item>, Unanswered>;
 
-    // That the message which is waited for is answered.
+    // Ghost: the awaited connect or rider must be answered.
     ghost needs = { λ g s. MatchOption g.held ⊥ (λ h. s ≡ h.source.id) };
 
     ghost gives = { λ g gathered. IfOk gathered (λ items. AreAll (setup_of J.config J.placing) g.pass g.items.items
@@ -179,7 +183,7 @@ impl<J: Naming, P: Placing + Drop, G: Gate + Drop, R: Wait + Copy + Drop> Future
     }
 }
 
-// The place of the first message of a request with these slots, whose messages stand from this place on.
+// Returns `first`, or `None` if the request has no messages.
 fn place_of(first: u64, slots: &[Slot]) -> Option<u64>
     ensures { result ≡ place_of first slots.now }
 {
@@ -189,7 +193,7 @@ fn place_of(first: u64, slots: &[Slot]) -> Option<u64>
     }
 }
 
-// Puts the items of an answer behind the others: its events, then its reply.
+// Appends an answer's events and then its reply.
 fn add_answer(items: &mut Vec<Item>, answer: Answer) -> Result<(), AllocError>
     ensures { OnOk result (items.new.items ≡ items.old.items ++ items_of answer) }
 {
@@ -200,7 +204,7 @@ fn add_answer(items: &mut Vec<Item>, answer: Answer) -> Result<(), AllocError>
     add_reply(items, reply)
 }
 
-// Puts a reply behind the others.
+// Appends a reply.
 fn add_reply(items: &mut Vec<Item>, reply: Reply) -> Result<(), AllocError>
     ensures { OnOk result (items.new.items ≡ items.old.items ++ ReplyItem reply ∷ []) }
 {

@@ -1,4 +1,4 @@
-//! HTTP: a request's body is collected, its messages are handed to the hub, and the answers become a response.
+//! Bayeux over HTTP: collects a request's body, posts its messages, and responds with the answers.
 #![tactic(auto)]
 
 mod backend;

@@ -1,8 +1,10 @@
-//! How large a request may be.
+//! The size limit of a request.
 use bx_advice::BODY_LIMIT;
 use std::marker::Model;
 
-/// How many bytes the body of a POST and the query of a GET may have: 1 to [`BODY_LIMIT`]. Contracts see the number.
+/// The most bytes that the body of a POST or the query of a GET may have: 1 to [`BODY_LIMIT`].
+///
+/// Model: the number.
 #[derive(Clone, Copy, Debug, PartialEq, Eq)]
 pub struct BodyLimit {
     bytes: usize,
@@ -25,7 +27,7 @@ impl BodyLimit {
     ghost use Rattle.std.specs.Prelude.{◌≡◌, ◌≤◌, ◌↔◌, IsSome, IfSome, nat_lt};
     ghost use Rattle.bx_advice.specs.declared.config.TheConstants.{BODY_LIMIT};
 
-    /// So many bytes; none where they are not 1 to [`BODY_LIMIT`].
+    /// Creates a limit, or returns `None` if `bytes` is not from 1 to [`BODY_LIMIT`].
     pub fn new(bytes: usize) -> Option<BodyLimit>
         ensures valid { IsSome result ↔ ((1 ≤ bytes) × (bytes ≤ BODY_LIMIT)) }
         ensures bytes { IfSome result (λ limit. limit ≡ bytes) }
@@ -36,21 +38,21 @@ impl BodyLimit {
         Some(BodyLimit { bytes })
     }
 
-    /// [`BODY_LIMIT`], which holds where nothing else is said.
+    /// Returns the largest limit, [`BODY_LIMIT`], which is the default.
     pub fn greatest() -> BodyLimit
         ensures { result ≡ BODY_LIMIT }
     {
         BodyLimit { bytes: BODY_LIMIT }
     }
 
-    /// The number.
+    /// Returns the limit in bytes.
     pub fn get(self) -> usize
         ensures { result ≡ self }
     {
         self.bytes
     }
 
-    /// Whether so many bytes are more.
+    /// Returns `true` if `count` bytes exceed the limit.
     pub(crate) fn is_passed_by(self, count: u64) -> bool
         ensures { result ≡ nat_lt self count }
     {

@@ -1,48 +1,51 @@
-//! Who looks on at connections and requests.
+//! Observers of connections and requests.
 use bx_hub::PostFault;
 use bx_message::{Item, Status};
 use std::alloc::Global;
 use std::sync::Arc;
 
-/// What came about at a service.
+/// An event at a service.
 #[derive(Clone, Copy)]
 pub enum Event<'a> {
-    /// A connection came.
+    /// A connection was opened.
     Opened,
-    /// A connection is gone.
+    /// A connection was closed.
     Closed,
-    /// A request came.
+    /// A request arrived.
     Asked,
-    /// Its documents were taken. Their first message has this place of the list; none where they have no message.
+    /// Its documents were admitted; the first message, if any, has this place.
     Admitted(Option<u64>),
-    /// Its documents were not taken, for this reason.
+    /// Its documents were refused for this reason.
     Refused(PostFault),
-    /// These items answer the request whose first message has this place; or its answers could not be given.
+    /// The answers are complete, or unavailable if `items` is `None`.
+    ///
+    /// `place` is that of [`Admitted`](Event::Admitted).
     Answered {
         place: Option<u64>,
         items: Option<&'a [Item]>,
     },
-    /// Its response has this status; none where there was no memory for one.
+    /// The response has this status, or `None` if there was no memory for one.
     Responded(Option<Status>),
-    /// The future of its response is gone.
+    /// The future of the response was dropped.
     Left {
         was_admitted: bool,
     },
 }
 
-/// Looks on at a service. It is told of each connection and each request, and changes neither: what a request may be
-/// answered names no observer.
+/// A receiver of a service's events.
+///
+/// It is called for each connection and request. It cannot change a response.
 pub trait Observer: Drop {
-    /// Is told that this came about.
+    /// Receives `event`.
     fn see(&self, event: Event<'_>);
 }
 
-/// Nobody looks on.
+/// Ignores every event.
 impl Observer for () {
     fn see(&self, _event: Event<'_>) {}
 }
 
-/// Both look on, this one first.
+/// Forwards every event to both observers, in order.
 impl<A: Observer, B: Observer> Observer for (A, B) {
     fn see(&self, event: Event<'_>) {
         self.0.see(event);
@@ -50,7 +53,7 @@ impl<A: Observer, B: Observer> Observer for (A, B) {
     }
 }
 
-/// One looks on that others know too.
+/// Forwards every event to a shared observer.
 impl<O: Observer> Observer for Arc<O, Global> {
     fn see(&self, event: Event<'_>) {
         (**self).see(event);

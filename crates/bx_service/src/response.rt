@@ -1,5 +1,4 @@
-//! The responses over HTTP: a refusal has a status and no body, an answer has a media type and
-//! items.
+//! The responses over HTTP: a refusal has a status and no body, an answer a media type and items.
 ghost use Rattle.std.specs.Prelude.{◌≡◌, IfOk, option_map};
 ghost use Rattle.bx_service.specs.Responses.{IsAnswer, IsRefusal};
 
@@ -11,7 +10,13 @@ use http::Response;
 use http::header::{ALLOW, CONTENT_TYPE, HeaderValue};
 use std::alloc::{AllocError, Global};
 
-/// A response without a body.
+/// Creates a response with `status` and no body.
+///
+/// A 405 has the field `Allow`.
+///
+/// # Errors
+///
+/// `AllocError` if memory runs out.
 pub(crate) fn refusal(alloc: Global, status: Status) -> Result<Response<Pieces<Bytes>>, AllocError>
     ensures { IfOk result (IsRefusal status) }
 {
@@ -26,7 +31,11 @@ pub(crate) fn refusal(alloc: Global, status: Status) -> Result<Response<Pieces<B
     Ok(response)
 }
 
-/// A response that carries these items; with the name of a callback it is a script.
+/// Creates a response with `items`, as a script that calls `callback` or, without one, as JSON.
+///
+/// # Errors
+///
+/// `AllocError` if memory runs out.
 pub(crate) fn answer(
     alloc: Global,
     callback: Option<&str>,

@@ -7,21 +7,24 @@ use bx_message::Status;
 use http::header::TRANSFER_ENCODING;
 use http::{HeaderMap, Method};
 
-/// How the documents of a request come.
+/// Where the documents of a request are.
 #[derive(Clone, Copy, Debug, PartialEq, Eq)]
 pub(crate) enum Route {
-    /// In its body.
+    /// In the body.
     Post,
-    /// In its query.
+    /// In the query.
     Get,
-    /// They are not asked for: it is answered with this status.
+    /// Nowhere: the request is refused with this status.
     Refused(Status),
 }
 
 impl Route {
-    /// How a request of this method for this path, with these fields, is served. Another path than those served is not
-    /// found, another method than POST and GET is not allowed (this server's choice), and a transfer coding besides
-    /// `chunked` is not implemented (RFC 9112, section 6.1).
+    /// Returns the route of a request.
+    ///
+    /// It is refused, in this order, if the path is not served (404), the method is neither POST
+    /// nor GET (405), or the fields name a transfer coding other than one `chunked` (501).
+    ///
+    /// RFC 9112, section 6.1, for 501. The rest is a policy of this server.
     pub(crate) fn of(method: &Method, path: &str, fields: &HeaderMap) -> Route
         ensures { result ≡ route_of method.now path.now fields.now }
     {
@@ -38,7 +41,7 @@ impl Route {
         }
     }
 
-    // The same, but where the fields name a transfer coding besides `chunked`.
+    // Returns `self`, or a refusal if the fields name a transfer coding other than one `chunked`.
     fn unless_coded(self, fields: &HeaderMap) -> Route
         ensures { result ≡ unless_coded fields.now self }
     {
@@ -50,7 +53,8 @@ impl Route {
     }
 }
 
-// Whether the fields name no transfer coding but `chunked`, and that but once, whatever the case of its letters.
+// Returns `true` if the fields name no transfer coding, or only `chunked` and only once. Ignores
+// case.
 fn are_plain(fields: &HeaderMap) -> bool
     ensures { result ≡ are_plain (get_all fields.now (codes "transfer-encoding")) }
 {
@@ -61,7 +65,7 @@ fn are_plain(fields: &HeaderMap) -> bool
     }
 }
 
-// Whether it is `/cometd`, or a path below it. (This server's choice.)
+// Returns `true` for `/cometd` and the paths below it. Policy of this server.
 fn is_served(path: &str) -> bool
     ensures { result ≡ is_served path.now }
 {

@@ -1,4 +1,4 @@
-//! The service of a connection.
+//! The service of a connection, for `hyper`.
 ghost use Rattle.std.specs.Prelude.{◌≡◌, IfOk, IfSome};
 ghost use Rattle.http.specs.Request.{head_of, body_of};
 ghost use Rattle.bx_advice.specs.declared.config.TheConstants.{BODY_LIMIT};
@@ -22,10 +22,10 @@ use std::error::Error;
 use std::fmt;
 use std::sync::Arc;
 
-/// Why no response is given; the connection ends.
+/// Why a connection ends without a response.
 #[derive(Clone, Copy, Debug, PartialEq, Eq)]
 pub enum ServiceFault {
-    /// There was no memory even for a refusal.
+    /// Memory ran out, even for a refusal.
     Memory,
 }
 
@@ -37,7 +37,7 @@ impl fmt::Display for ServiceFault {
 
 impl Error for ServiceFault {}
 
-/// Serves Bayeux over HTTP: each call takes a request to the backend, and gives the future of its response.
+/// A service of Bayeux over HTTP, which creates an [`Exchange`] for each request.
 #[derive(Drop)]
 pub struct BayeuxService<S, O: Observer = ()> {
     alloc: Global,
@@ -47,8 +47,13 @@ pub struct BayeuxService<S, O: Observer = ()> {
 }
 
 impl<S: Drop> BayeuxService<S, ()> {
-    /// A service over the backend, which takes bodies and queries of up to [`bx_advice::BODY_LIMIT`] bytes. An error
-    /// means that memory was refused.
+    /// Creates a service over `backend`.
+    ///
+    /// It accepts bodies and queries of up to [`bx_advice::BODY_LIMIT`] bytes.
+    ///
+    /// # Errors
+    ///
+    /// `AllocError` if memory runs out.
     pub fn new(alloc: Global, backend: S) -> Result<BayeuxService<S>, AllocError>
         ensures backend { IfOk result (λ service. arc_value service.backend ≡ backend) }
         ensures limit { IfOk result (λ service. service.limit ≡ BODY_LIMIT) }
@@ -58,8 +63,13 @@ impl<S: Drop> BayeuxService<S, ()> {
 }
 
 impl<S: Drop, O: Observer> BayeuxService<S, O> {
-    /// The same, at which this one looks on. Each copy of it but the first one is of a connection, which is open until
-    /// the copy is dropped.
+    /// Creates a service like [`new`](Self::new), with an observer.
+    ///
+    /// Each clone counts as a connection, which is open until the clone is dropped.
+    ///
+    /// # Errors
+    ///
+    /// `AllocError` if memory runs out.
     pub fn observed(
         alloc: Global,
         backend: S,
@@ -76,7 +86,7 @@ impl<S: Drop, O: Observer> BayeuxService<S, O> {
         })
     }
 
-    /// The same, with this limit of bodies and queries.
+    /// Returns the service with another limit of bodies and queries.
     pub fn with_limit(self, limit: BodyLimit) -> BayeuxService<S, O>
         ensures { result ≡ record self { limit = limit } }
     {
@@ -113,11 +123,11 @@ where
 
     type Future = Exchange<S, I, B, O>;
 
-    // Bodies of this type may be polled as they come.
+    // Ghost: every body of this type may be polled.
     ghost can_call = { λ _. (body : B) → B.can_poll body };
 
-    // The exchange begins as its request and the limit say, and its handle, where it has one, is on the service's
-    // backend.
+    // Ghost: the exchange starts as its request and the limit determine. Its backend, if any, is
+    // the service's.
     ghost calls = { λ service request exchange. Begins service.limit (head_of request) (body_of request) exchange.state
         × IfSome exchange.backend (λ handle. arc_value handle ≡ arc_value service.backend) };
 

@@ -1,4 +1,4 @@
-//! The statuses of what the service refuses.
+//! The statuses of refused requests.
 ghost use Rattle.std.specs.Prelude.{◌≡◌};
 ghost use Rattle.bx_message.specs.Statuses.{code_of};
 ghost use Rattle.bx_service.specs.Statuses.{body_status, post_status};
@@ -9,7 +9,7 @@ use bx_message::Status;
 use bx_transport::TransportError;
 use http::StatusCode;
 
-/// The status as HTTP's parts have it.
+/// Converts `status` to a `StatusCode` of the `http` crate.
 pub(crate) fn code_of(status: Status) -> StatusCode
     ensures { result ≡ code_of status }
 {
@@ -19,8 +19,10 @@ pub(crate) fn code_of(status: Status) -> StatusCode
     }
 }
 
-/// The status of a POST whose body was not collected: of one that is too large, and where memory was refused, as the
-/// transport has it. (This server's choice.)
+/// Returns the status of a POST whose body was not collected.
+///
+/// If it is too large or memory ran out, the status is that of the same `TransportError`. Policy of
+/// this server.
 pub(crate) fn body_status(fault: CollectError) -> Status
     ensures { result ≡ body_status fault }
 {
@@ -31,8 +33,9 @@ pub(crate) fn body_status(fault: CollectError) -> Status
     }
 }
 
-/// The status of a request that the hub refuses: of one that is not admitted that of its refusal. (This server's
-/// choice.)
+/// Returns the status of a request that the hub refused.
+///
+/// A `Refused` has its refusal's own status; all others are 503. Policy of this server.
 pub(crate) fn post_status(fault: PostFault) -> Status
     ensures { result ≡ post_status fault }
 {

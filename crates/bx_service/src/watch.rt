@@ -1,4 +1,4 @@
-//! What an observer is told when something ends.
+//! Handles on an observer, which report the events of connections and requests.
 ghost use Rattle.std.specs.Prelude.{◌≡◌};
 ghost use Rattle.bx_service.specs.declared.service.ServiceFault.TheVariants.{Memory};
 
@@ -10,14 +10,16 @@ use bx_message::{Item, Status};
 use std::alloc::{AllocError, Global};
 use std::sync::Arc;
 
-/// The observer of a service. A service of a connection tells it when the connection is gone.
+/// A service's handle on its observer.
+///
+/// Dropping a connection's handle reports its end.
 pub(crate) struct Outlook<O: Observer> {
     observer: Arc<O, Global>,
     is_connection: bool,
 }
 
 impl<O: Observer> Outlook<O> {
-    /// This one looks on at a service of no connection.
+    /// Creates a handle that belongs to no connection.
     pub(crate) fn new(alloc: Global, observer: O) -> Result<Outlook<O>, AllocError> {
         Ok(Outlook {
             observer: Arc::new(alloc, observer)?,
@@ -25,7 +27,7 @@ impl<O: Observer> Outlook<O> {
         })
     }
 
-    /// A connection came, which is there until what is given is dropped.
+    /// Reports a new connection, whose end is reported when the result is dropped.
     pub(crate) fn open(&self) -> Result<Outlook<O>, AllocError> {
         let observer = Arc::try_clone(&self.observer)?;
         observer.see(Event::Opened);
@@ -35,7 +37,7 @@ impl<O: Observer> Outlook<O> {
         })
     }
 
-    /// A request came, which is there until what is given is dropped.
+    /// Reports a new request, whose end is reported when the result is dropped.
     pub(crate) fn ask(&self) -> Watch<O> {
         let observer = Arc::try_clone(&self.observer).ok();
         self.observer.see(Event::Asked);
@@ -59,29 +61,29 @@ impl<O: Observer> Drop for Outlook<O> {
     }
 }
 
-/// The observer of one request.
+/// A request's handle on the observer.
 pub(crate) struct Watch<O: Observer> {
-    // None where there was no memory for one more handle.
+    // `None` if the handle could not be cloned.
     observer: Option<Arc<O, Global>>,
     is_admitted: bool,
-    // Of its first message, once it is admitted.
+    // The place of the first message, once the request is admitted.
     place: Option<u64>,
 }
 
 impl<O: Observer> Watch<O> {
-    /// Whether the observer is told of the request.
+    /// Returns `true` if the observer receives the request's events.
     pub(crate) fn is_told(&self) -> bool {
         self.observer.is_some()
     }
 
-    // Tells that this came about.
+    // Reports `event`.
     fn tell(&self, event: Event<'_>) {
         if let Some(observer) = &self.observer {
             observer.see(event);
         }
     }
 
-    /// Its documents were taken.
+    /// Reports that the documents were admitted.
     pub(crate) fn admit(&mut self, place: Option<u64>)
         ensures { self.new.place ≡ place }
     {
@@ -90,12 +92,12 @@ impl<O: Observer> Watch<O> {
         self.tell(Event::Admitted(place));
     }
 
-    /// Its documents were not taken.
+    /// Reports that the documents were refused.
     pub(crate) fn refuse(&self, fault: PostFault) {
         self.tell(Event::Refused(fault));
     }
 
-    /// This is what its answers came to.
+    /// Reports the items, or that they are unavailable.
     pub(crate) fn answer(&self, gathered: &Result<Vec<Item>, Unanswered>) {
         let items = match gathered {
             Ok(items) => Some(items.as_slice()),
@@ -105,12 +107,12 @@ impl<O: Observer> Watch<O> {
         self.tell(Event::Answered { place, items });
     }
 
-    /// Its response has this status.
+    /// Reports the response's status.
     pub(crate) fn respond(&self, status: Status) {
         self.tell(Event::Responded(Some(status)));
     }
 
-    /// There was no memory for its response.
+    /// Reports that there is no memory for a response.
     pub(crate) fn give_up(&self) -> ServiceFault
         ensures { result ≡ Memory }
     {

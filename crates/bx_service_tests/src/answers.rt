@@ -1,4 +1,4 @@
-//! Responses that are given in several pieces.
+//! Tests of responses that are written in several pieces.
 use bx_message::{Event, Item, RawJson, SharedEvent, Text};
 use bx_names::ChannelName;
 use bx_pieces::Pieces;
@@ -11,13 +11,13 @@ use std::alloc::{AllocError, Global};
 use std::process::Abort;
 use std::test::*;
 
-// How many signs the data of a large event has: two such events do not fit 64 KiB, and one with a small one does.
+// Characters in a large event's data. 64 KiB hold one with a small event, but not two.
 const LARGE: usize = 40_000;
 
-// How many frames the response with such events has.
+// Number of frames of a response with these events.
 const FRAMES: usize = 3;
 
-// So many of a sign, as a JSON text.
+// Returns a JSON text of `count` times `sign`.
 fn data(alloc: Global, sign: &str, count: usize) -> Result<String, AllocError> {
     let mut text = String::new(alloc);
     text.push_str("\"")?;
@@ -28,7 +28,7 @@ fn data(alloc: Global, sign: &str, count: usize) -> Result<String, AllocError> {
     Ok(text)
 }
 
-// An event of such a text.
+// Creates an event whose data are `count` times `sign`.
 fn event(alloc: Global, sign: &str, count: usize) -> Result<Item, Fail> {
     let name = ChannelName::read(alloc, "/a/b")?;
     let payload = data(alloc, sign, count)?;
@@ -40,7 +40,7 @@ fn event(alloc: Global, sign: &str, count: usize) -> Result<Item, Fail> {
     Ok(Item::EventItem(SharedEvent::new(alloc, event, name)?))
 }
 
-// Three large events, and a small one before the last of them.
+// Returns three large events, with a small one before the last of them.
 fn items(alloc: Global) -> Result<Vec<Item>, Fail> {
     let mut items = Vec::new(alloc);
     items.push(event(alloc, "x", LARGE)?)?;
@@ -50,7 +50,7 @@ fn items(alloc: Global) -> Result<Vec<Item>, Fail> {
     Ok(items)
 }
 
-// The text of the response with them, where the small event has such a sign.
+// Returns the text of a response with these events; `sign` is the small one's data.
 fn wanted(alloc: Global, front: &str, sign: &str, back: &str) -> Result<String, Fail> {
     let mut text = String::new(alloc);
     text.push_str(front)?;
@@ -68,7 +68,7 @@ fn wanted(alloc: Global, front: &str, sign: &str, back: &str) -> Result<String, 
     Ok(text)
 }
 
-// The data of the next frame; nothing at the end.
+// Returns the data of the next frame, or `None` at the end.
 fn next_data(task: &MockTask, body: &mut Pieces<Bytes>) -> Result<Option<Bytes>, Fail> {
     match task.poll(&mut body.frame()) {
         Poll::Pending => Err(Fail::from("it waits")),
@@ -81,8 +81,8 @@ fn next_data(task: &MockTask, body: &mut Pieces<Bytes>) -> Result<Option<Bytes>,
     }
 }
 
-// A response with them says before each frame how many bytes are left, and its frames, three of at most 64 KiB, are
-// this text.
+// Checks that a response's three frames, of at most 64 KiB each, add up to `wanted`, and that the
+// body always knows how many bytes are left.
 fn check_pieces<R: Abort>(
     rt: &R,
     alloc: Global,
@@ -105,13 +105,14 @@ fn check_pieces<R: Abort>(
     Ok(())
 }
 
-// It says how many bytes are left, and that it is at its end just where none are.
+// Checks that `body` reports how many bytes are left, and its end only if none are.
 fn check_left<R: Abort>(rt: &R, body: &Pieces<Bytes>, whole: usize, given: usize) {
     let left = whole.saturating_sub(given) as u64;
     assert_eq!(rt; body.size_hint().exact(), Some(left));
     assert_eq!(rt; body.is_end_stream(), left == 0);
 }
 
+// A long array and a long script are written in three pieces.
 #[test]
 fn responses_of_several_pieces(rt: HostRuntime) -> Result<(), Fail> {
     let alloc = rt.alloc();

@@ -1,4 +1,4 @@
-//! A service over a hub, and two tasks that poll its exchanges.
+//! A hub and services over it, for tests of exchanges.
 use bx_entry::ByRemainder;
 use bx_hub::{Hub, OpenGate, Pass};
 use bx_service::{BayeuxService, Clock, Nonces};
@@ -8,10 +8,10 @@ use std::alloc::Global;
 use std::sync::{Arc, Wait};
 use std::test::*;
 
-/// A hub as the tests have it.
+/// The hub of these tests.
 pub type TestHub<J, H> = Hub<J, ByRemainder, OpenGate, H>;
 
-/// A clock that stands still at its moment.
+/// A clock fixed at a moment in milliseconds.
 #[derive(Clone, Copy)]
 pub struct Still(pub u64);
 
@@ -21,7 +21,7 @@ impl Clock for Still {
     }
 }
 
-/// Draws no other number than 0.
+/// A source of nonces that are all 0.
 #[derive(Clone, Copy)]
 pub struct Zeros;
 
@@ -31,23 +31,26 @@ impl Nonces for Zeros {
     }
 }
 
-/// A service over a hub, the same at the readers' door, at a moment that is too great, and with a small limit of
-/// bodies, and two tasks that were not woken.
+/// Four services over one hub, and two tasks, neither of them woken.
 #[derive(Drop)]
 pub struct Bench<J: Naming, S: Drop, H: Wait + Drop> {
     pub alloc: Global,
     pub hub: Arc<TestHub<J, H>, Global>,
     pub pass: Pass<J>,
+    /// At the publishers' listener.
     pub service: BayeuxService<S>,
+    /// At the read-only listener.
     pub readers: BayeuxService<S>,
+    /// With a clock past the greatest moment.
     pub too_late: BayeuxService<S>,
+    /// With a small body limit.
     pub small: BayeuxService<S>,
     pub first: MockTask,
     pub second: MockTask,
 }
 
 impl<J: Naming, S: Drop, H: Wait + Drop> Bench<J, S, H> {
-    /// Lets the clock tick.
+    /// Posts a tick at `moment`, in milliseconds.
     pub fn tick<W: Wait>(&mut self, rt: &W, moment: u64) -> Result<(), Fail> {
         self.hub
             .tick(rt, self.alloc, &mut self.pass, moment)

@@ -1,4 +1,4 @@
-//! What a held connect gives, and which tasks are woken.
+//! Tests of held connects: what they return, and which tasks they wake.
 ghost use Rattle.std.specs.Prelude.{◌≡◌};
 ghost use Rattle.bx_entry.specs.Placings.{by_remainder};
 
@@ -18,23 +18,23 @@ use std::process::Abort;
 use std::sync::{Arc, Wait};
 use std::test::*;
 
-// A step of a run, and what it must show.
+// One step of a run, with what it must show.
 #[derive(Clone, Copy, Debug)]
 enum Step {
     // A task polls the connect, which waits. The poll does not wake the task.
     Waits(Task),
-    // A task polls it and is given this, and nothing is known of the answer from then on.
+    // A task polls the connect and gets `Want`. Two more polls return no answer.
     Gives(Task, Want),
-    // The first task polls what waits under this ticket, and is given this.
+    // The first task polls a new future of this ticket and gets `Want`.
     Other(Ticket, Want),
-    // Whether a task is woken.
+    // Whether the task has been woken.
     Woken(Task, bool),
     Post(&'static str),
     Tick(u64),
     Close,
-    // The connect's shard is paused.
+    // Pauses the connect's shard.
     Pause,
-    // The one answer that nobody took is swept.
+    // A sweep drops exactly one answer.
     Sweep,
 }
 
@@ -42,9 +42,10 @@ const WAITS: Step = Step::Waits(Task::First);
 
 const IS_WOKEN: Step = Step::Woken(Task::First, true);
 
-// The second session publishes an event that the first one gets.
+// Opens the second session.
 const HANDSHAKE: Step = Step::Post(texts::HANDSHAKE);
 
+// The second session publishes an event, which the first one gets.
 const PUBLISH: Step = Step::Post(texts::PUBLISH);
 
 const EVENT: Want = Want::Answer(texts::CONNECTED_WITH_EVENT);
@@ -53,9 +54,10 @@ const GIVES_EVENT: Step = Step::Gives(Task::First, EVENT);
 
 const GIVES_NOTHING: Step = Step::Gives(Task::First, Want::None);
 
-// A publish answers the connect, by its event. The answer is filed when the task is polled.
+// A publish answers the connect by its event.
 const PUBLISHED: [Step; 5] = [WAITS, HANDSHAKE, PUBLISH, IS_WOKEN, GIVES_EVENT];
 
+// A newer connect answers the held one.
 const SUPERSEDED: [Step; 4] = [
     WAITS,
     Step::Post(texts::CONNECT),
@@ -63,6 +65,7 @@ const SUPERSEDED: [Step; 4] = [
     Step::Gives(Task::First, Want::Answer(texts::SUPERSEDED)),
 ];
 
+// The session's disconnect answers the connect.
 const DISCONNECTED: [Step; 4] = [
     WAITS,
     Step::Post(texts::DISCONNECT),
@@ -70,6 +73,7 @@ const DISCONNECTED: [Step; 4] = [
     Step::Gives(Task::First, Want::Answer(texts::SESSION_ENDED)),
 ];
 
+// A tick at the deadline answers the connect; an earlier one does not.
 const TIMED_OUT: [Step; 5] = [
     Step::Tick(29_999),
     WAITS,
@@ -78,6 +82,7 @@ const TIMED_OUT: [Step; 5] = [
     Step::Gives(Task::First, Want::Answer(texts::CONNECTED)),
 ];
 
+// Closing the hub wakes the task, which gets a fault.
 const CLOSED: [Step; 4] = [
     WAITS,
     Step::Close,
@@ -85,10 +90,10 @@ const CLOSED: [Step; 4] = [
     Step::Gives(Task::First, Want::Fault(HubFault::Closed)),
 ];
 
-// An answer that was filed before the hub was closed is given.
+// An answer filed before the hub closed can still be taken.
 const FILED_BEFORE: [Step; 4] = [HANDSHAKE, PUBLISH, Step::Close, GIVES_EVENT];
 
-// Nothing is known of an answer that another took, of a place where no connect stands, and of one in no shard.
+// A taken answer, another message's place and an unknown shard have no answer.
 const TAKEN: [Step; 6] = [
     HANDSHAKE,
     PUBLISH,
@@ -98,9 +103,10 @@ const TAKEN: [Step; 6] = [
     Step::Other(Ticket { place: 2, shard: 2 }, Want::None),
 ];
 
+// A swept answer is gone.
 const SWEPT: [Step; 4] = [WAITS, Step::Tick(30_000), Step::Sweep, GIVES_NOTHING];
 
-// It goes from one task to the other; the one that polled it last is woken, and the other is not.
+// The connect moves to the second task. Only the task that polled last is woken.
 const MOVED: [Step; 7] = [
     WAITS,
     Step::Waits(Task::Second),
@@ -111,7 +117,7 @@ const MOVED: [Step; 7] = [
     Step::Gives(Task::Second, EVENT),
 ];
 
-// Back in the first task, that one is woken.
+// The connect moves back to the first task, which is woken.
 const MOVED_BACK: [Step; 8] = [
     WAITS,
     Step::Waits(Task::Second),
@@ -123,7 +129,7 @@ const MOVED_BACK: [Step; 8] = [
     GIVES_EVENT,
 ];
 
-// Polls for other reasons do not wake the task that polls, and its waker stays.
+// Repeated polls do not wake the task, and its waker stays.
 const POLLED_AGAIN: [Step; 8] = [
     WAITS,
     WAITS,
@@ -135,7 +141,7 @@ const POLLED_AGAIN: [Step; 8] = [
     GIVES_EVENT,
 ];
 
-// In a shard that is paused nothing is answered, and who asks is told so.
+// A paused shard answers no connect, and a poll returns a fault.
 const PAUSED: [Step; 6] = [
     WAITS,
     Step::Pause,
@@ -145,7 +151,7 @@ const PAUSED: [Step; 6] = [
     Step::Gives(Task::First, Want::Fault(HubFault::Paused)),
 ];
 
-// Each is a run over a hub of its own, in which the first session's connect is held.
+// All runs, each over its own hub, with the first session's connect held.
 const RUNS: [&[Step]; 12] = [
     &PUBLISHED,
     &SUPERSEDED,
@@ -161,7 +167,7 @@ const RUNS: [&[Step]; 12] = [
     &PAUSED,
 ];
 
-// What waits under this ticket gives this.
+// Checks what a poll of a new future of `ticket` returns.
 fn other<J: Naming, H: Wait + Drop, Q: Wait + Copy + Drop, R: Abort>(
     rt: &R,
     bench: &Bench<J, H, Q>,
@@ -172,7 +178,7 @@ fn other<J: Naming, H: Wait + Drop, Q: Wait + Copy + Drop, R: Abort>(
     check_poll(rt, bench.alloc, &bench.poll(Task::First, &mut held), want)
 }
 
-// It gives this, and has nothing more to give.
+// Checks that a poll of `held` returns `want`, and that two more return no answer.
 fn gives<J: Naming, H: Wait + Drop, Q: Wait + Copy + Drop, R: Abort>(
     rt: &R,
     bench: &Bench<J, H, Q>,
@@ -264,6 +270,7 @@ fn run_in_hub<J: Naming, R: Wait + Abort>(
     run(rt, &mut bench, steps)
 }
 
+// Held connects return their answers or faults, and wake the task that polled last.
 #[test]
 fn held_connects(rt: HostRuntime) -> Result<(), Fail> {
     let alloc = rt.alloc();
@@ -271,7 +278,7 @@ fn held_connects(rt: HostRuntime) -> Result<(), Fail> {
     for steps in RUNS {
         let placing = Arc::new(alloc, ByRemainder)?;
         let tasks = (MockTask::new(&rt)?, MockTask::new(&rt)?);
-        // A task is woken from the first on, until it is polled.
+        // A new task counts as woken until its first poll.
         tasks.0.enter(|_cx| ());
         tasks.1.enter(|_cx| ());
         run_in_hub::<Brand, _>(&rt, alloc, Opened::new(), config, placing, tasks, steps)?;

@@ -1,4 +1,4 @@
-//! Requests whose bodies and responses one thread polls, each run by a table of steps over a hub of its own.
+//! Tests of HTTP exchanges: one thread polls them, step by step.
 ghost use Rattle.std.specs.Prelude.{◌≡◌};
 ghost use Rattle.bx_entry.specs.Placings.{by_remainder};
 
@@ -20,7 +20,7 @@ use std::process::Abort;
 use std::sync::{Arc, Wait};
 use std::test::*;
 
-// A request is given this at its first poll.
+// Checks what the first poll of a request returns.
 fn asks<S, I, R>(
     rt: &R,
     alloc: Global,
@@ -38,7 +38,7 @@ where
     check_given(rt, alloc, &mut exchange, task, want)
 }
 
-// A request waits at its first poll, and is given up.
+// Checks that a request waits at its first poll, and drops it.
 fn waits<S, I, R>(
     rt: &R,
     alloc: Global,
@@ -56,7 +56,7 @@ where
     Ok(())
 }
 
-// Bodies of which more and more is there, each broken off, are refused.
+// Checks that a POST of `text` gets 400 wherever its body breaks off.
 fn breaks<S, I, R>(
     rt: &R,
     alloc: Global,
@@ -76,7 +76,7 @@ where
     Ok(())
 }
 
-// The request of a step, and what it must be given.
+// Returns the request and expected response of a step that is one request to `Bench::service`.
 fn asked(step: &Step) -> Option<(Ask, Want)> {
     match step {
         Step::Post(text, want) => Some((Ask::post(Content::Whole(*text)), Want::Json(*want))),
@@ -157,7 +157,7 @@ where
     Ok(())
 }
 
-// An exchange waits while these steps are taken, wakes its task or not, and then gives what it must.
+// Checks an exchange before, between and after the steps of `held`.
 fn watch<F, J, S, I, H, R>(
     rt: &R,
     bench: &mut Bench<J, S, H>,
@@ -186,6 +186,7 @@ where
     Ok(())
 }
 
+// Makes the exchange of `held` and checks it.
 fn hold<J, S, I, H, R>(rt: &R, bench: &mut Bench<J, S, H>, held: &Held) -> Result<(), Fail>
 where
     J: Naming,
@@ -199,7 +200,7 @@ where
     watch(rt, bench, &mut exchange, held)
 }
 
-// The run of this number.
+// Takes all steps of the run at index `number`.
 fn run<J, S, I, H, R>(rt: &R, bench: &mut Bench<J, S, H>, number: usize) -> Result<(), Fail>
 where
     J: Naming,
@@ -216,7 +217,7 @@ where
     take_all(rt, bench, run.last)
 }
 
-// What requests that come by this door at this moment go to.
+// Creates a backend for `door` whose clock is fixed at `moment`, in milliseconds.
 fn backend_of<'a, J: Naming, R: Wait>(
     rt: &'a R,
     alloc: Global,
@@ -266,6 +267,7 @@ fn run_in_hub<J: Naming, R: Wait + Abort>(
     run(rt, &mut bench, number)
 }
 
+// Exchanges get the responses that their runs expect.
 #[test]
 fn exchanges(rt: HostRuntime) -> Result<(), Fail> {
     let alloc = rt.alloc();
@@ -277,7 +279,7 @@ fn exchanges(rt: HostRuntime) -> Result<(), Fail> {
         });
         let placing = Arc::new(alloc, ByRemainder)?;
         let tasks = (MockTask::new(&rt)?, MockTask::new(&rt)?);
-        // A task is woken from the first on, until it is polled.
+        // A new task counts as woken until its first poll.
         tasks.0.enter(|_cx| ());
         tasks.1.enter(|_cx| ());
         run_in_hub::<Brand, _>(&rt, alloc, Opened::new(), config, placing, tasks, number)?;

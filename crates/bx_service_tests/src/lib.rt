@@ -1,5 +1,6 @@
-//! Tests of the crates `bx_held` and `bx_service`, in a crate of their own: the gate proves a crate once more where it
-//! has tests. Held connects, and requests whose bodies and responses one thread polls.
+//! Tests of `bx_held` and `bx_service`: held connects and HTTP exchanges.
+//!
+//! They are a separate crate because the gate proves a crate with tests twice.
 #![tactic(auto)]
 
 #[cfg(test)]

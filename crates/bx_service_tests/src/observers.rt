@@ -1,4 +1,4 @@
-//! What an observer is told of connections and requests, over a backend that says what it is told to.
+//! Tests of observers: the events that a service reports, over a backend with fixed outcomes.
 use crate::requests::{Ask, Content, POST};
 use bx_cut::Bodies;
 use bx_entry::Refusal;
@@ -14,7 +14,7 @@ use std::sync::Arc;
 use std::sync::atomic::{AtomicU64, Ordering};
 use std::test::*;
 
-// What came about, a digit each: the first event is the leftmost.
+// The events seen, one hexadecimal digit each, oldest first.
 #[derive(Drop)]
 struct Digits(AtomicU64);
 
@@ -49,7 +49,7 @@ impl Observer for Digits {
     }
 }
 
-// What a backend says of each request, but for its items.
+// How a request ends: with items, without them, with a refusal, or never.
 #[derive(Clone, Copy)]
 enum Said {
     Items,
@@ -86,7 +86,7 @@ impl Backend for Saying {
     }
 }
 
-// Items that are there at the second poll, or never.
+// The future of a request's items: ready at its second poll, or never.
 #[derive(Drop)]
 struct Given {
     alloc: Global,
@@ -107,6 +107,7 @@ impl Future for Given {
     }
 }
 
+// Two observers each see all events of a connection and its request, in order.
 #[test]
 fn observers_are_told(rt: HostRuntime) -> Result<(), Fail> {
     let alloc = rt.alloc();

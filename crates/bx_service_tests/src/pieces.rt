@@ -1,14 +1,14 @@
-//! A body that a test makes.
+//! Request bodies for tests.
 use bytes::Bytes;
 use futures::task::{Context, Poll};
 use http_body::{Body, Frame};
 use std::alloc::{AllocError, Global};
 
-/// The connection of a body ended too early.
+/// The error of a body that breaks off.
 #[derive(Clone, Copy, Debug)]
 pub struct Broken;
 
-/// Bytes that come as one frame once their task was polled before, and then the end of the body or a fault.
+/// A body of one frame, then its end or an error.
 #[derive(Drop)]
 pub struct Pieces {
     is_late: bool,
@@ -17,7 +17,7 @@ pub struct Pieces {
 }
 
 impl Pieces {
-    /// A body that is there.
+    /// Creates a body that is ready at the first poll.
     pub fn whole(alloc: Global, text: &[u8]) -> Result<Pieces, AllocError> {
         Ok(Pieces {
             is_late: false,
@@ -26,7 +26,7 @@ impl Pieces {
         })
     }
 
-    /// A body of which nothing is there at the first poll.
+    /// Creates a body whose first poll is pending.
     pub fn late(alloc: Global, text: &[u8]) -> Result<Pieces, AllocError> {
         let pieces = Pieces::whole(alloc, text)?;
         Ok(Pieces {
@@ -35,7 +35,7 @@ impl Pieces {
         })
     }
 
-    /// A body that is broken off behind this text.
+    /// Creates a body that fails after `text`.
     pub fn broken(alloc: Global, text: &[u8]) -> Result<Pieces, AllocError> {
         let pieces = Pieces::whole(alloc, text)?;
         Ok(Pieces {

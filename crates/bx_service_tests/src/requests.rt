@@ -1,4 +1,4 @@
-//! Requests as tables have them, and what each must be given.
+//! Requests of the runs, and checks of their responses.
 use crate::pieces::Pieces;
 use bx_service::{Collect, ServiceFault};
 use bytes::Bytes;
@@ -17,19 +17,19 @@ pub const SCRIPT: &str = "application/javascript;charset=UTF-8";
 
 pub const FORM: &str = "application/x-www-form-urlencoded";
 
-/// What an exchange gives.
+/// The output of an exchange.
 pub type Given = Result<Response<bx_pieces::Pieces<Bytes>>, ServiceFault>;
 
-/// What a request has behind its fields.
+/// The body of a request.
 #[derive(Clone, Copy, Debug)]
 pub enum Content {
     /// This text.
     Whole(&'static str),
-    /// This text, of which nothing is there at the first poll.
+    /// This text, after a first poll that is pending.
     Late(&'static str),
-    /// So many bytes of this text, behind which the body is broken off.
+    /// The first `usize` bytes of this text, after which the body breaks off.
     Broken(&'static str, usize),
-    /// This text and spaces behind it, so many bytes in all.
+    /// This text, padded with spaces to `usize` bytes.
     Padded(&'static str, usize),
 }
 
@@ -39,14 +39,14 @@ pub struct Ask {
     pub method: &'static str,
     pub target: &'static str,
     pub kind: &'static str,
-    /// How many bytes its fields say that the body has.
+    /// The value of `Content-Length`, in bytes, if the request has one.
     pub said: Option<u64>,
-    /// The lines of its transfer codings.
+    /// The values of `Transfer-Encoding`, one for each line.
     pub codings: &'static [&'static str],
     pub content: Content,
 }
 
-/// A POST to `/cometd` of JSON, to be filled.
+/// A POST of an empty JSON body to `/cometd`, as a base for others.
 pub const POST: Ask = Ask {
     method: "POST",
     target: "/cometd",
@@ -57,7 +57,7 @@ pub const POST: Ask = Ask {
 };
 
 impl Ask {
-    /// A POST to `/cometd` of this JSON.
+    /// Creates a JSON POST of `content` to `/cometd`.
     pub fn post(content: Content) -> Ask {
         Ask { content, ..POST }
     }
@@ -78,7 +78,7 @@ impl Ask {
         }
     }
 
-    /// The request.
+    /// Builds the request.
     pub fn request(&self, alloc: Global) -> Result<Request<Pieces>, Fail> {
         let body = self.body(alloc)?;
         let mut builder = Request::builder(alloc)
@@ -95,14 +95,14 @@ impl Ask {
     }
 }
 
-/// What a request must be given.
+/// The response that a request must get.
 #[derive(Clone, Copy, Debug)]
 pub enum Want {
-    /// 200 and this JSON.
+    /// Status 200 with this JSON.
     Json(&'static str),
-    /// 200 and this script.
+    /// Status 200 with this script.
     Script(&'static str),
-    /// This other status, and nothing.
+    /// Another status, with an empty body.
     Status(u16),
 }
 
@@ -137,7 +137,7 @@ impl Want {
     }
 }
 
-/// It waits, and a poll wakes the task that polls only where more of its request's body may be there.
+/// Checks that a poll of `exchange` is pending, and that it wakes `task` only if `is_woken`.
 pub fn check_pending<F: Future<Output = Given>, R: Abort>(
     rt: &R,
     exchange: &mut F,
@@ -153,7 +153,7 @@ pub fn check_pending<F: Future<Output = Given>, R: Abort>(
     }
 }
 
-/// It gives this at the next poll.
+/// Checks that the next poll of `exchange` returns the response `want`.
 pub fn check_given<F: Future<Output = Given>, R: Abort>(
     rt: &R,
     alloc: Global,
@@ -180,7 +180,7 @@ pub fn check_given<F: Future<Output = Given>, R: Abort>(
     Ok(())
 }
 
-// It says what its body is, and which methods are allowed, exactly where that is asked.
+// Checks `Content-Type` and `Allow`: their values, and that they are missing if not wanted.
 fn check_fields<R: Abort>(rt: &R, response: &Response<bx_pieces::Pieces<Bytes>>, want: Want) {
     for (name, value) in [(CONTENT_TYPE, want.kind()), (ALLOW, want.allow())] {
         let field = response.headers().get(name);

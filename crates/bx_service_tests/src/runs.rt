@@ -1,4 +1,4 @@
-//! The runs of exchanges: what is asked in each, and what must be given.
+//! The runs of the exchange tests: requests and expected responses.
 mod readers;
 
 use crate::requests::{Ask, Content, FORM, JSON, POST, Want};
@@ -8,50 +8,50 @@ use bx_advice::BODY_LIMIT;
 /// A step of a run. The second task polls.
 #[derive(Clone, Copy, Debug)]
 pub enum Step {
-    /// A POST of this JSON is given this JSON.
+    /// A POST of the first JSON gets the second.
     Post(&'static str, &'static str),
-    /// A POST of this kind and text is given this.
+    /// A POST of this media type and text gets `Want`.
     Body(&'static str, &'static str, Want),
-    /// A request of this method and target, without a body, is given this.
+    /// A request with this method and target, and an empty body, gets `Want`.
     Target(&'static str, &'static str, Want),
-    /// A POST of `[]` with these lines of its transfer codings is given this.
+    /// A POST of `[]` with these lines of `Transfer-Encoding` gets `Want`.
     Coded(&'static [&'static str], Want),
-    /// A request is given this.
+    /// A request gets `Want`.
     Ask(Ask, Want),
-    /// A request to a service that takes [`SMALL`] bytes is given this.
+    /// A request to a service whose limit is [`SMALL`] bytes gets `Want`.
     Small(Ask, Want),
-    /// A request at the readers' door is given this.
+    /// A request at the read-only listener gets `Want`.
     Read(Ask, Want),
-    /// A POST of this JSON at the readers' door is given this.
+    /// A POST of this JSON at the read-only listener gets `Want`.
     ReadText(&'static str, Want),
-    /// A POST of this JSON at a moment that is too great is given this.
+    /// A POST of this JSON past the greatest moment gets `Want`.
     TooLate(&'static str, Want),
-    /// A POST of this JSON waits, and is given up.
+    /// A POST of this JSON waits, and is dropped.
     Wait(&'static str),
-    /// Each front of this JSON is refused where the body is broken off behind it.
+    /// A POST of this JSON gets 400 wherever its body breaks off.
     Break(&'static str),
     Tick(u64),
     Close,
-    /// The first session's shard is paused.
+    /// Pauses the first session's shard.
     Pause,
-    /// So many answers that nobody took are swept.
+    /// A sweep drops exactly this number of answers.
     Sweep(usize),
 }
 
-/// An exchange that waits while steps are taken. The first task polls.
+/// An exchange that waits during other steps. The first task polls.
 #[derive(Clone, Copy, Debug)]
 pub struct Held {
     pub content: Content,
-    /// Whether it waits for its request's body, by a task that is woken.
+    /// Whether its first poll waits for the request's body, and so wakes the task.
     pub is_late: bool,
-    /// It waits behind these too.
+    /// Steps after which it still waits.
     pub before: &'static [Step],
     pub then: &'static [Step],
-    /// Whether the task is woken then, and what the exchange gives; or it is given up.
+    /// Whether its task is then woken, and its response; or `None` to drop it.
     pub gives: Option<(bool, Want)>,
 }
 
-/// A run over a hub of its own.
+/// A run over its own hub.
 #[derive(Clone, Copy, Debug)]
 pub struct Run {
     pub first: &'static [Step],
@@ -61,14 +61,14 @@ pub struct Run {
     pub ride: bool,
 }
 
-// A first session that is subscribed, and a second one.
+// Opens and subscribes the first session, and opens the second.
 const OPENED: [Step; 3] = [
     Step::Post(texts::HANDSHAKE, texts::HANDSHAKEN),
     Step::Post(texts::HANDSHAKE, texts::SECOND_HANDSHAKEN),
     Step::Post(texts::SUBSCRIBE, texts::SUBSCRIBED),
 ];
 
-// The same where the first session acknowledges.
+// The same with an acknowledging first session.
 const OPENED_WITH_ACK: [Step; 3] = [
     Step::Post(texts::ACK_HANDSHAKE, texts::ACK_HANDSHAKEN),
     Step::Post(texts::HANDSHAKE, texts::SECOND_HANDSHAKEN),
@@ -83,11 +83,11 @@ const TOO_LARGE: Want = Want::Status(413);
 
 const CODED: Want = Want::Status(501);
 
-/// How many bytes a body or a query may have where the limit is small.
+/// The small limit of a body or query, in bytes.
 pub const SMALL: usize = 16;
 
-// Bodies and queries at a small limit and beyond it, with a length that is said and with none. One that is said to be
-// beyond it is refused before any of it came, and one whose said length is within it is waited for.
+// Bodies and queries are accepted at the small limit and refused beyond it. A body whose
+// `Content-Length` is beyond it is refused before any of it has arrived.
 const SMALL_LIMIT: Run = Run {
     first: &[
         Step::Small(
@@ -174,7 +174,7 @@ const SMALL_LIMIT: Run = Run {
     ride: false,
 };
 
-// A document to a path below the one that is served, and one of which nothing is there at first.
+// A POST to a path below `/cometd` is answered, as is one whose body arrives late.
 const ANSWERED: Run = Run {
     first: &[Step::Ask(
         Ask {
@@ -195,9 +195,8 @@ const ANSWERED: Run = Run {
     ride: false,
 };
 
-// Paths, methods and transfer codings that are not served, bodies and queries without messages, a body at its limit and
-// beyond it, one that is said to be beyond it before any of it came, and a moment that is too great: what is refused
-// opens no session.
+// Paths, methods, transfer codings, documents, bodies past the limit and a late moment are refused,
+// and open no session. A `Content-Length` past the limit is refused before the body arrives.
 const REFUSED: Run = Run {
     first: &[
         Step::Target("POST", "/cometdx", Want::Status(404)),
@@ -294,6 +293,7 @@ const REFUSED: Run = Run {
     ride: false,
 };
 
+// A closed hub answers 503.
 const CLOSED: Run = Run {
     first: &[
         Step::Close,
@@ -304,7 +304,7 @@ const CLOSED: Run = Run {
     ride: false,
 };
 
-// A form of two documents, and queries whose answers are scripts.
+// A form of two documents is answered, and queries are answered by scripts.
 const OTHER_FORMS: Run = Run {
     first: &[
         Step::Post(texts::HANDSHAKE, texts::HANDSHAKEN),
@@ -335,7 +335,7 @@ const OTHER_FORMS: Run = Run {
     ride: false,
 };
 
-// A connect of the first session is held, and given what belongs to the end of its wait.
+// A publish answers a held connect with its event.
 const PUBLISHED: Run = Run {
     first: &OPENED,
     held: Some(Held {
@@ -349,6 +349,7 @@ const PUBLISHED: Run = Run {
     ride: false,
 };
 
+// A newer connect answers the held one.
 const SUPERSEDED: Run = Run {
     first: &OPENED,
     held: Some(Held {
@@ -362,6 +363,7 @@ const SUPERSEDED: Run = Run {
     ride: false,
 };
 
+// The session's disconnect answers the held connect.
 const DISCONNECTED: Run = Run {
     first: &OPENED,
     held: Some(Held {
@@ -375,6 +377,7 @@ const DISCONNECTED: Run = Run {
     ride: false,
 };
 
+// A tick at the deadline answers the held connect; an earlier one does not.
 const TIMED_OUT: Run = Run {
     first: &OPENED,
     held: Some(Held {
@@ -388,6 +391,7 @@ const TIMED_OUT: Run = Run {
     ride: false,
 };
 
+// Closing the hub ends the held connect with 503.
 const SHUT: Run = Run {
     first: &OPENED,
     held: Some(Held {
@@ -401,7 +405,7 @@ const SHUT: Run = Run {
     ride: false,
 };
 
-// Where its shard is paused, nothing tells the task so.
+// Pausing the shard does not wake the task, but the next poll gets 503.
 const PAUSED: Run = Run {
     first: &OPENED,
     held: Some(Held {
@@ -415,7 +419,7 @@ const PAUSED: Run = Run {
     ride: false,
 };
 
-// A connect of the second session, which stands in the first shard, is told of the hub's end too.
+// Closing the hub also ends the second session's connect, in the other shard.
 const FIRST_SHARD_SHUT: Run = Run {
     first: &OPENED,
     held: Some(Held {
@@ -429,7 +433,7 @@ const FIRST_SHARD_SHUT: Run = Run {
     ride: false,
 };
 
-// While the first session's shard is paused, nothing else is refused than what waits for an answer of it.
+// While the first session's shard is paused, only requests that need its answer get 503.
 const OTHERS_GO_ON: Run = Run {
     first: &[
         Step::Post(texts::HANDSHAKE, texts::HANDSHAKEN),
@@ -446,7 +450,7 @@ const OTHERS_GO_ON: Run = Run {
     ride: false,
 };
 
-// A body that is broken off anywhere is refused, and opens no session.
+// A body that breaks off is refused and opens no session.
 const BROKEN_OFF: Run = Run {
     first: &[
         Step::Break(texts::HANDSHAKE),
@@ -457,8 +461,8 @@ const BROKEN_OFF: Run = Run {
     ride: false,
 };
 
-// A held exchange is given up: what was published since comes with the next connect, since the session acknowledges.
-// The answer that nobody took is swept.
+// An acknowledging session's held connect is dropped. Its next connect gets the event published
+// meanwhile. The answer that was not taken is swept, once.
 const GIVEN_UP: Run = Run {
     first: &OPENED_WITH_ACK,
     held: Some(Held {
@@ -477,7 +481,7 @@ const GIVEN_UP: Run = Run {
     ride: false,
 };
 
-// Where the session does not acknowledge, what the answer had is lost with it.
+// A plain session's held connect is dropped. The event in its answer is lost.
 const LOST: Run = Run {
     first: &OPENED,
     held: Some(Held {
@@ -494,8 +498,8 @@ const LOST: Run = Run {
     ride: false,
 };
 
-// What waits for a session rides on its next publish, by a query too. While its connect is held, that is given the
-// first event, and the rider the one behind. A rider whose shard is paused is not answered.
+// Waiting events ride with the session's next publish, also by a query. A held connect gets the
+// first event, and the rider the second. In a paused shard, a rider gets 503.
 const RIDDEN: Run = Run {
     first: &[
         Step::Post(texts::HANDSHAKE, texts::HANDSHAKEN),

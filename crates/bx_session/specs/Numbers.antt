@@ -4,10 +4,10 @@ use Rattle.bx_advice.specs.declared.config.Config.{Config}
 use Rattle.bx_entry.specs.Words.{Kept, kept_step, session}
 use Rattle.bx_entry.specs.declared.entry.Entry.{Entry}
 
--- an entry forms one batch at most
+-- An entry forms at most one batch.
 abbrev pub NumbersStep : Type 0
 NumbersStep = (config : Config) (k : Kept) (e : Entry) → (kept_step config k e).num ≤ k.num + 1
 
--- so no more batches are formed than there are entries
+-- A session forms at most as many batches as there are entries.
 abbrev pub NumbersCount : Type 0
 NumbersCount = (config : Config) (number : ℕ) (es : List Entry) → (session config number es).num ≤ length es

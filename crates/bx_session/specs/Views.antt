@@ -1,4 +1,4 @@
--- A session as the program holds it, and what its calls answer, in the words of the definition.
+-- A session as the program stores it, and the answers of its calls, in terms of the definition.
 use Rattle.std.specs.Prelude.{ℕ, ◌+◌, ◌≤◌, ◌^◌, ◌&&◌, min, length, is_some, Bool, true, false, List, [], ◌∷◌, ◌++◌, nat_lt, if◌then◌else◌, Option, Some, None}
 use Rattle.std.specs.Option.{option_to_list}
 use Rattle.bx_advice.specs.declared.{config.Config.Config, advice.Outcome.Outcome}
@@ -9,58 +9,58 @@ use Rattle.bx_message.specs.declared.{event.Event.Event, reply.AckReply.AckReply
 use Rattle.bx_session.specs.declared.answered.{Answered.Answered, Connection.Connection, Delivery.Delivery}
 use Rattle.bx_session.specs.declared.answered.Delivery.TheVariants.{Waits, Given, Overflowed}
 
--- what is kept of a session, and for how many more events it has room without taking memory
+-- A session, and for how many more events it has room without allocating.
 pub record WithRoom : Type 0 where
   pub kept : Kept
   pub spare : ℕ
 
--- no more batches were formed than the list may have entries
+-- At most as many batches were formed as the list may have entries.
 abbrev pub Countable : Kept → Type 0
 Countable k = k.num ≤ greatest_length
 
--- an event that comes is both kept and given, where the session acknowledges and holds a connect
+-- Whether the next event is both kept and sent: the session acknowledges and holds a connect.
 abbrev pub wants_two : Kept → Bool
 wants_two k = k.ack && is_some k.held
 
--- for how many events the answer to a rider wants room: one may come at the rider's own entry
+-- How many events a rider's answer needs room for; the rider's own entry may add one.
 abbrev pub ride_most : Config → Kept → ℕ
 ride_most config k = if k.ack then 0 else min config.limits.batch (length k.queue + 1)
 
--- ---- a connect
+-- ---- Connects
 
--- a connect that is to be answered
+-- A connect that is not answered yet.
 abbrev pub pending : ℕ → List ℕ → Option (List ℕ) → ℕ → ℕ → Pending
 pending place client id moment hold = record { place = place; client = client; id = id; moment = moment; hold = hold }
 
--- the moment at which a hold ends, if it is a number of 64 bits
+-- The moment at which a hold ends, if it is less than 2^64.
 abbrev pub deadline_of : Pending → Option ℕ
 deadline_of p = if nat_lt (deadline p) (2 ^ 64) then Some (deadline p) else None
 
--- ---- answers
+-- ---- Answers
 
--- an answer of these parts
+-- An answer with these parts.
 abbrev pub answered : ℕ → List Event → Reply → Answered
 answered place given reply = record { place = place; answer = record { events = given; reply = reply } }
 
--- the answer to a connect, with these events
+-- The answer to a connect, with the events `given`.
 abbrev pub answer_to : Config → Pending → List Event → Outcome → AckReply → Answered
 answer_to config p given outcome ack = answered p.place given (connect_reply config p.client p.id outcome ack)
 
--- an answer as the program gives it: its events without their places
+-- An answer as the program gives it: its events without their places.
 abbrev pub answered_of : Filed → Answered
 answered_of f = answered f.connect (events_of f.publications) f.reply
 
--- what a connect answers: first the one that it superseded
+-- The answers that a connect causes, first that to the one that it superseded.
 abbrev pub connection_answers : Connection → List Answered
 connection_answers c = option_to_list c.superseded ++ option_to_list c.answered
 
--- what a delivery answers
+-- The answers that a delivery causes.
 abbrev pub delivery_answers : Delivery → List Answered
 delivery_answers Waits = []
 delivery_answers (Given a) = a ∷ []
 delivery_answers Overflowed = []
 
--- whether it says that the session overflows
+-- Whether a delivery makes the session overflow.
 abbrev pub is_overflow : Delivery → Bool
 is_overflow Waits = false
 is_overflow (Given a) = false

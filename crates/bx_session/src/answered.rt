@@ -1,31 +1,31 @@
-//! What a session answers.
+//! What a session returns for a connect or an event.
 use bx_message::Answer;
 
-/// The answer to a connect: its events, oldest first, and its reply.
+/// The answer to a connect or a rider.
 #[derive(Drop)]
 pub struct Answered {
-    /// The place of the connect in the list.
+    /// The place of the connect or rider in the list.
     pub place: u64,
     /// The events, oldest first, and the reply.
     pub answer: Answer,
 }
 
-/// What a connect comes to.
+/// The result of [`Session::connect`](crate::Session::connect).
 #[derive(Drop)]
 pub struct Connection {
-    /// The answer to the connect that was held, if one was.
+    /// The answer to the connect that was held, if any.
     pub superseded: Option<Answered>,
-    /// The answer to the connect itself; none where it is held.
+    /// The answer to the new connect, or `None` if it is held.
     pub answered: Option<Answered>,
 }
 
-/// What becomes of an event.
+/// The result of [`Session::deliver`](crate::Session::deliver).
 #[derive(Drop)]
 pub enum Delivery {
-    /// It waits for a connect.
+    /// The event waits for a connect.
     Waits,
-    /// The connect that was held is answered with it.
+    /// The held connect is answered with the event.
     Given(Answered),
-    /// The session overflows: its patterns are in force no longer.
+    /// The session overflowed. The caller must remove its patterns.
     Overflowed,
 }

@@ -1,18 +1,18 @@
-//! Laws of sessions, for every configuration and whatever is kept of a session.
+//! Laws of sessions, for every configuration and every state of a session.
 ghost use Rattle.bx_session.specs.Filing.{FilesAlike};
 ghost use Rattle.bx_session.specs.Numbers.{NumbersCount, NumbersStep};
 
-/// An entry gives all its answers at its own place.
+/// Proves that an entry gives all its answers at its own place.
 pub fn files_alike()
     ensures { FilesAlike }
 {}
 
-/// An entry forms one batch at most.
+/// Proves that an entry forms at most one batch.
 pub fn numbers_step()
     ensures { NumbersStep }
 {}
 
-/// No more batches are formed than there are entries.
+/// Proves that no more batches are formed than there are entries.
 pub fn numbers_count()
     ensures { NumbersCount }
 {}

@@ -1,4 +1,4 @@
-//! One session: its batches, its held connect, its overflow, its end.
+//! One session: its batches, its held connect, its overflow and its end.
 #![tactic(auto)]
 
 mod answered;

@@ -1,18 +1,18 @@
-//! Which patterns are in force, for contracts alone.
+//! Ghost: the active patterns of a session.
 ghost use Rattle.std.specs.Prelude.{◌≡◌, fold};
 ghost use Rattle.bx_names.specs.InForce.{with_pattern, without_pattern};
 
 use bx_history::{History, Lists};
 use bx_names::Pattern;
 
-/// What a subscription to these patterns leaves in force.
+/// Ghost: returns the patterns that are active after a subscription to `patterns`.
 pub(crate) fn with_all(in_force: &History<Pattern>, patterns: &[Pattern]) -> History<Pattern>
     ensures { result ≡ fold with_pattern in_force.now patterns.now }
 {
     History::of::<(&History<Pattern>, &[Pattern]), Subscribed>(&(in_force, patterns))
 }
 
-/// What an unsubscription from these patterns leaves in force.
+/// Ghost: returns the patterns that are active after an unsubscription from `patterns`.
 pub(crate) fn without_all(in_force: &History<Pattern>, patterns: &[Pattern]) -> History<Pattern>
     ensures { result ≡ fold without_pattern in_force.now patterns.now }
 {

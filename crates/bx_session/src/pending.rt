@@ -1,4 +1,4 @@
-//! A connect until it is answered.
+//! A connect that is not answered yet.
 ghost use Rattle.std.specs.Prelude.{◌≡◌, ◌==◌, IfOk, [], ◌∷◌, not};
 ghost use Rattle.std.specs.Option.{option_copied};
 ghost use Rattle.bx_advice.specs.declared.advice.Outcome.TheVariants.{Connected};
@@ -11,8 +11,11 @@ use bx_message::{AckReply, Answer, RawJson, Reply, Sequence, SharedEvent, Text, 
 use std::alloc::{AllocError, Global};
 use std::marker::Model;
 
-/// A connect that is to be answered. It has all that its answer needs, room for one event included, so
-/// that it is answered without taking memory.
+/// A connect that is not answered yet.
+///
+/// It has all that its answer needs, including room for one event, so answering does not allocate.
+///
+/// Model: its place, client id, message id, moment and hold.
 #[derive(Drop)]
 pub struct PendingConnect {
     place: u64,
@@ -38,9 +41,14 @@ impl Model for PendingConnect {
 }
 
 impl PendingConnect {
-    /// The connect at this place of the list, of the client with this id; `id` is the message's, which
-    /// its reply repeats. It may be held for `hold` milliseconds from `moment` on, which is in
-    /// milliseconds too. An error means that memory was refused.
+    /// Creates the connect at `place` in the list, sent by client id `client`.
+    ///
+    /// `id`: the message's, which the reply repeats. `moment`: milliseconds since the server
+    /// started. `hold`: how long the connect may be held from then on, in milliseconds.
+    ///
+    /// # Errors
+    ///
+    /// `AllocError` if memory runs out.
     pub fn new(
         alloc: Global,
         place: u64,
@@ -62,28 +70,30 @@ impl PendingConnect {
         })
     }
 
-    /// Whether the connect is to be answered at once, with or without events.
+    /// Returns `true` if the connect is answered at once, with or without events.
     pub(crate) fn is_answered_at_once(&self) -> bool
         ensures { result ≡ (self.now.hold == 0) }
     {
         self.hold == 0
     }
 
-    /// Its place in the list.
+    /// Returns the connect's place in the list.
     pub fn place(&self) -> u64
         ensures { result ≡ self.now.place }
     {
         self.place
     }
 
-    /// The moment at which its hold ends, in milliseconds; none where no moment of 64 bits is that late.
+    /// Returns the moment at which the hold ends, in milliseconds.
+    ///
+    /// Returns `None` if that does not fit in 64 bits.
     pub fn deadline(&self) -> Option<u64>
         ensures { result ≡ deadline_of self.now }
     {
         self.moment.checked_add(self.hold)
     }
 
-    /// Whether its hold ends at or before this moment.
+    /// Returns `true` if the hold has ended by `moment`.
     pub(crate) fn is_due(&self, moment: u64) -> bool
         ensures { result ≡ ends_by moment self.now }
     {
@@ -111,7 +121,7 @@ impl PendingConnect {
         )
     }
 
-    /// Answers the connect with one event.
+    /// Answers the connect with success and one event.
     pub(crate) fn answer_one(self, config: &Config, event: SharedEvent, ack: AckReply) -> Answered
         ensures { result ≡ answer_to config.now self (event ∷ []) Connected ack }
     {
@@ -130,7 +140,7 @@ impl PendingConnect {
         )
     }
 
-    /// Answers the connect with these events.
+    /// Answers the connect with success and `events`.
     pub(crate) fn answer_all(
         self,
         config: &Config,
@@ -153,7 +163,7 @@ impl PendingConnect {
     }
 }
 
-// The answer of these parts.
+// Creates an answer from its parts.
 fn answer_of(place: u64, events: Vec<SharedEvent>, reply: Reply) -> Answered
     ensures { result ≡ answered place events.items reply }
 {

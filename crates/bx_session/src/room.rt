@@ -1,4 +1,4 @@
-//! Room for the answer to a rider.
+//! Reserved room for the answer to a rider.
 ghost use Rattle.std.specs.Prelude.{◌≡◌, ◌≤◌, [], IfOk};
 ghost use Rattle.std.specs.Vec.{vec_capacity};
 
@@ -6,7 +6,9 @@ use bx_message::SharedEvent;
 use std::alloc::{AllocError, Global};
 use std::marker::Model;
 
-/// Room for the events of an answer, so that it can be given without taking memory. Contracts see for how many.
+/// Room for the events of an answer, so that sending them does not allocate.
+///
+/// Model: for how many events there is room.
 #[derive(Drop)]
 pub struct RideRoom {
     events: Vec<SharedEvent>,
@@ -24,7 +26,11 @@ impl Model for RideRoom {
 }
 
 impl RideRoom {
-    /// For so many events. An error means that memory was refused.
+    /// Reserves room for `count` events.
+    ///
+    /// # Errors
+    ///
+    /// `AllocError` if memory runs out.
     pub fn new(alloc: Global, count: usize) -> Result<RideRoom, AllocError>
         ensures { IfOk result (λ room. count ≤ room) }
     {
@@ -32,7 +38,7 @@ impl RideRoom {
         Ok(RideRoom { events })
     }
 
-    /// The list that the events go into.
+    /// Converts the room into an empty list.
     pub(crate) fn into_list(self) -> Vec<SharedEvent>
         ensures empty { result.items ≡ [] }
         ensures room { vec_capacity result ≡ self }

@@ -1,4 +1,4 @@
-//! One session, entry by entry.
+//! One session: its subscriptions, connects, deliveries and riders.
 ghost use Rattle.std.specs.Prelude.{◌≡◌, ◌<◌, ◌≤◌, ◌+◌, ◌&&◌, not, ℕ, [], IfOk, IsOk, OnOk, OnErr, true, false, length, map, take, drop, fold, nat_lt, is_some, if◌then◌else◌, Option, None, Some, option_map, IsTrue, ◌^◌};
 ghost use Rattle.std.specs.Option.{option_to_list};
 ghost use Rattle.std.specs.VecDeque.Iter.{deque_iter_rest};
@@ -24,17 +24,23 @@ use std::alloc::{AllocError, Global};
 use std::collections::vec_deque::Iter;
 use std::marker::Model;
 
-/// One session: the events that wait for its client or are outstanding, the connect that is held, and
-/// how many patterns are in force. Which ones these are contracts alone see: whoever keeps them says how
-/// many come and go, and takes them all out where a call says that the session overflowed.
+/// One session: its queued events, its held connect and its number of patterns.
+///
+/// A connect asks for events, and is held if there are none. An acknowledging session keeps the
+/// events that it sends until its client acknowledges them. A plain session drops them.
+///
+/// With too many patterns or events a session overflows. It drops its events, and later connects
+/// fail. The caller, which keeps the patterns, must then remove them. A held connect stays held.
+/// Overflow is a policy of this server.
 #[derive(Drop)]
 pub struct Session {
     number: u64,
     ack: bool,
     has_overflowed: bool,
     held: Option<PendingConnect>,
-    // How many patterns are in force, and which.
+    // Number of active patterns.
     patterns: usize,
+    // Ghost: the active patterns.
     in_force: History<Pattern>,
     window: Window,
 }
@@ -68,8 +74,11 @@ impl Model for Session {
 }
 
 impl Session {
-    /// A session that was just opened, with this number; `ack` says whether its connects acknowledge batches
-    /// (the acknowledgement extension of CometD). Takes no memory.
+    /// Creates a live session.
+    ///
+    /// `ack`: whether the session acknowledges batches. Does not allocate.
+    ///
+    /// CometD's acknowledgement extension.
     pub fn open(alloc: Global, number: u64, ack: bool) -> Session
         ensures { result.kept ≡ after (λ s. begun ack s s.stage) (kept (unopened number)) }
     {
@@ -84,52 +93,52 @@ impl Session {
         }
     }
 
-    /// Its number.
+    /// Returns the session's number.
     pub fn number(&self) -> u64
         ensures { result ≡ self.now.kept.number }
     {
         self.number
     }
 
-    /// How many of its patterns are in force.
+    /// Returns how many patterns are active.
     pub fn patterns(&self) -> usize
         ensures { result ≡ length self.now.kept.patterns }
     {
         self.patterns
     }
 
-    /// The number of the last batch formed; 0 where there was none.
+    /// Returns the last batch's number, or 0 before the first.
     pub fn last_batch(&self) -> u64
         ensures { result ≡ self.now.kept.num }
     {
         self.window.given().number
     }
 
-    /// Whether it has overflowed, so that each connect is refused from then on.
+    /// Returns `true` if the session has overflowed.
     pub fn is_overflowed(&self) -> bool
         ensures { result ≡ self.now.kept.overflow }
     {
         self.has_overflowed
     }
 
-    /// Whether a connect is held.
+    /// Returns `true` if a connect is held.
     pub fn is_held(&self) -> bool
         ensures { result ≡ is_some self.now.kept.held }
     {
         self.held.is_some()
     }
 
-    /// The place of the connect that is held, if one is.
+    /// Returns the place of the held connect, if any.
     pub fn held_place(&self) -> Option<u64>
         ensures { result ≡ option_map (λ p. p.place) self.now.kept.held }
     {
         self.held.as_ref().map(|held| held.place())
     }
 
-    /// These patterns are in force too, of which so many were not. Where they are more than the limit then, the
-    /// session overflows, and the answer is true: its events are dropped, and all of its patterns are to be
-    /// taken out. A held connect stays held. Nothing happens after an overflow. (That a session
-    /// overflows is this server's choice.)
+    /// Adds `patterns` and returns `true` if the session overflows.
+    ///
+    /// `fresh`: how many active patterns this adds. After an overflow, changes nothing and returns
+    /// `false`.
     pub fn subscribe(&mut self, config: &Config, patterns: &[Pattern], fresh: usize) -> bool
         requires fresh { length self.old.kept.patterns + fresh ≡ length (fold with_pattern self.old.kept.patterns patterns.now) }
         ensures overflows { result ≡ (not self.old.kept.overflow && self.new.kept.overflow) }
@@ -147,7 +156,9 @@ impl Session {
         false
     }
 
-    /// These patterns are in force no longer, of which so many were.
+    /// Removes `patterns`.
+    ///
+    /// `gone`: how many active patterns this removes.
     pub fn unsubscribe(&mut self, patterns: &[Pattern], gone: usize)
         requires gone { length (fold without_pattern self.old.kept.patterns patterns.now) + gone ≡ length self.old.kept.patterns }
         ensures kept { self.new.kept ≡ after (unsubscribed patterns.now) self.old.kept }
@@ -156,8 +167,11 @@ impl Session {
         self.in_force = without_all(&self.in_force, patterns);
     }
 
-    /// Makes room for one event, so that it can be delivered. The session is as before, also where memory
-    /// is refused.
+    /// Reserves room to deliver one event.
+    ///
+    /// # Errors
+    ///
+    /// `AllocError` if memory runs out; nothing has changed.
     pub fn reserve(&mut self) -> Result<(), AllocError>
         ensures ok { OnOk result (0 < self.new.spare) }
         ensures refused { OnErr result (self.old.spare ≡ 0) }
@@ -166,7 +180,7 @@ impl Session {
         self.window.reserve(1)
     }
 
-    // Drops the events, and takes none from here on.
+    // Drops all events and patterns, and marks the session as overflowed.
     fn overflow(&mut self)
         ensures { self.new.kept ≡ after overflowed self.old.kept }
     {
@@ -176,7 +190,7 @@ impl Session {
         self.has_overflowed = true;
     }
 
-    // What the reply to a connect acknowledges in this case.
+    // Returns the batch number for a successful connect's reply in an acknowledging session.
     fn ack_for(&self, outcome: Outcome) -> AckReply
         ensures { result ≡ ack_given self.now.kept.ack self.now.kept.num outcome }
     {
@@ -188,7 +202,7 @@ impl Session {
         }
     }
 
-    // Answers the held connect, if there is one, without events.
+    // Answers the held connect, if any, without events.
     fn release(&mut self, config: &Config, outcome: Outcome) -> Option<Answered>
         ensures answer { (place : ℕ) → option_to_list result ≡ map answered_of (answers_of (released config.now place outcome) self.old.kept) }
         ensures kept { self.new.kept ≡ after unheld self.old.kept }
@@ -200,7 +214,7 @@ impl Session {
         }
     }
 
-    // How many events at the front the connect acknowledges, and how many it is to be given of those behind them.
+    // Returns how many events a connect acknowledges, and how many after those it gets.
     fn look_ahead(&self, config: &Config, acked: Option<u64>) -> (usize, usize)
         ensures part { take result.1 (drop result.0 self.now.kept.queue) ≡ given config.now (acknowledged acked (resumed self.now.kept)) }
         ensures none { given config.now (acknowledged acked (resumed self.now.kept)) ≡ [] → result.1 ≡ 0 }
@@ -212,7 +226,7 @@ impl Session {
         (done, self.window.portion(done, config.limits.batch))
     }
 
-    // The events that the connect is to be given.
+    // Clones the events that a connect gets.
     fn events_for(
         &self,
         alloc: Global,
@@ -229,7 +243,7 @@ impl Session {
         clone_part(alloc, self.window.events(), done, count)
     }
 
-    // Takes the acknowledgement of a connect.
+    // Drops the events that a connect acknowledges.
     fn acknowledge(&mut self, acked: Option<u64>)
         ensures { self.new.kept ≡ after (acknowledged acked) self.old.kept }
     {
@@ -239,7 +253,7 @@ impl Session {
         }
     }
 
-    // Answers the connect with these events, which it is to be given, or holds it.
+    // Answers `connect` with `events`. Without events, holds it if it may be held.
     fn settle(
         &mut self,
         config: &Config,
@@ -266,7 +280,7 @@ impl Session {
         None
     }
 
-    // The events that a connect is given are outstanding, or a plain session forgets them.
+    // Marks the events just sent as outstanding. A plain session drops them.
     fn give(&mut self, config: &Config, count: usize)
         requires given { count ≡ length (given config.now (resumed self.old.kept)) }
         requires countable { Countable self.old.kept }
@@ -279,13 +293,21 @@ impl Session {
         }
     }
 
-    /// A connect of the session, with the number of the batch that it acknowledges. A connect that is held
-    /// ends as superseded. After an overflow this one is refused. Else an acknowledging session takes the
-    /// acknowledgement first, and gives the outstanding batch again, or else forms the next one; a plain
-    /// session gives its first events and forgets them. With nothing to give, the connect is held if it
-    /// may be, and else answered without events. Where memory is refused the session is as before.
-    /// (Bayeux 1.0, connect; the acknowledgement extension of CometD. That an older connect ends as
-    /// superseded is this server's choice.)
+    /// Answers or holds a connect that acknowledges batch `acked`, if any.
+    ///
+    /// The connect held before ends as superseded. After an overflow, the new one fails. Otherwise:
+    ///
+    /// - An acknowledging session drops the events that `acked` covers. It sends the outstanding
+    ///   batch again, or forms the next one.
+    /// - A plain session sends its first events and drops them.
+    /// - Without events, the connect is held if it may be, and otherwise answered.
+    ///
+    /// Bayeux 1.0, connect; CometD's acknowledgement extension. Superseding is a policy of this
+    /// server.
+    ///
+    /// # Errors
+    ///
+    /// `AllocError` if memory runs out for the events to send; nothing has changed.
     pub fn connect(
         &mut self,
         alloc: Global,
@@ -308,7 +330,7 @@ impl Session {
         })
     }
 
-    // Answers the connect, or holds it, where none is held.
+    // Answers or holds `connect`, while no other is held.
     fn admit(
         &mut self,
         config: &Config,
@@ -330,8 +352,13 @@ impl Session {
         self.settle(config, connect, events)
     }
 
-    /// A further handle of an event that is to come, where two are wanted, since the event is both kept and given:
-    /// where the session acknowledges and holds a connect. An error means that memory was refused.
+    /// Clones `event` for [`deliver`](Self::deliver) if an acknowledging session holds a connect.
+    ///
+    /// The event is then both sent and kept.
+    ///
+    /// # Errors
+    ///
+    /// `AllocError` if memory runs out.
     pub fn further(&self, event: &SharedEvent) -> Result<Option<SharedEvent>, AllocError>
         ensures { IfOk result (λ further. further ≡ (if wants_two self.now.kept then Some event.now else None)) }
     {
@@ -342,7 +369,7 @@ impl Session {
         }
     }
 
-    // Whether the event is taken too.
+    // Returns `true` if `event` is within the limits.
     fn has_room(&self, config: &Config, event: &SharedEvent) -> bool
         ensures room { result ≡ has_room config.now event.now (resumed self.now.kept) }
         ensures fits { IsTrue result → bytes_of self.now.kept.queue + event_size event.now < 2 ^ 64 }
@@ -351,11 +378,16 @@ impl Session {
         !self.window.is_full(limits.events, limits.bytes, event)
     }
 
-    /// An event of the session, of the publish at this place of the list, with a handle of it, and a further one where two
-    /// are wanted. It goes to the connect that is held: an acknowledging session keeps it as the next batch, a
-    /// plain one forgets it. Where none is held it waits. Where as many events wait or are outstanding as may, or where theirs
-    /// and its own bytes are more than may be, the session overflows instead: its events are dropped, and all of its patterns
-    /// are to be taken out. Takes no memory. (Bayeux 1.0, delivery of events; that a session overflows is this server's choice.)
+    /// Delivers the event published at `place`.
+    ///
+    /// Sends it to the held connect, or queues it if no connect is held. An acknowledging session
+    /// that sends it also keeps `further`, from [`further`](Self::further), as its next batch. If
+    /// the event would exceed a limit, the session overflows instead.
+    ///
+    /// Call [`reserve`](Self::reserve) first. The session must not have overflowed. Does not
+    /// allocate.
+    ///
+    /// Bayeux 1.0, delivery of events.
     pub fn deliver(
         &mut self,
         config: &Config,
@@ -392,8 +424,13 @@ impl Session {
         }
     }
 
-    /// Room for the answer to a rider of the session, whatever the rider itself does: for the events that wait and for
-    /// one more, but for no more than a connect is given. An error means that memory was refused.
+    /// Reserves room for the events sent with the reply to a rider, a request's last message.
+    ///
+    /// These are the queued events and one that the rider may publish, up to one batch.
+    ///
+    /// # Errors
+    ///
+    /// `AllocError` if memory runs out.
     pub fn reserve_ride(&self, alloc: Global, config: &Config) -> Result<RideRoom, AllocError>
         ensures { IfOk result (λ room. ride_most config.now self.now.kept ≤ room) }
     {
@@ -405,9 +442,12 @@ impl Session {
         RideRoom::new(alloc, most)
     }
 
-    /// The events that go out with the answer to a rider, into room for them: a plain session gives those that wait, but no
-    /// more than to a connect, and forgets them; an acknowledging one gives none. Takes no memory. (That events ride is
-    /// this server's choice.)
+    /// Removes the events to send with the reply to a rider, and returns them in `room`.
+    ///
+    /// A plain session sends its first events, up to one batch. An acknowledging session sends
+    /// none. Does not allocate.
+    ///
+    /// Policy of this server.
     pub fn ride(&mut self, config: &Config, room: RideRoom) -> Vec<SharedEvent>
         requires room { ride_portion config.now (resumed self.old.kept) ≤ room }
         ensures events { result.items ≡ events_of (take (ride_portion config.now (resumed self.old.kept)) self.old.kept.queue) }
@@ -421,8 +461,9 @@ impl Session {
         self.window.hand_over(count, room)
     }
 
-    /// A tick at this moment, in milliseconds: a connect whose hold ends then, or did before, is answered
-    /// with success and without events. Takes no memory.
+    /// Answers the held connect, with success and no events, if its hold has ended by `moment`.
+    ///
+    /// `moment`: milliseconds since the server started. Does not allocate.
     pub fn tick(&mut self, config: &Config, moment: u64) -> Option<Answered>
         ensures answer { (place : ℕ) → option_to_list result ≡ map answered_of (answers_of (expired config.now place moment) self.old.kept) }
         ensures kept { (place : ℕ) → self.new.kept ≡ after (expired config.now place moment) self.old.kept }
@@ -433,8 +474,11 @@ impl Session {
         }
     }
 
-    /// The session's disconnect: a connect that is held is answered with success, with the advice of a
-    /// session that left, and without events. Takes no memory. (Bayeux 1.0, disconnect.)
+    /// Answers the held connect, with success and no events, when its client disconnects.
+    ///
+    /// The reply advises the client not to reconnect. Does not allocate.
+    ///
+    /// Bayeux 1.0, disconnect.
     pub fn close(&mut self, config: &Config) -> Option<Answered>
         ensures answer { (place : ℕ) → option_to_list result ≡ map answered_of (answers_of (released config.now place Disconnected) self.old.kept) }
         ensures kept { (place : ℕ) → self.new.kept ≡ after (released config.now place Disconnected) self.old.kept }
@@ -443,7 +487,7 @@ impl Session {
     }
 }
 
-// Handles of so many of the events, behind the first ones.
+// Clones `count` of the events after the first `behind`.
 fn clone_part(
     alloc: Global,
     events: Iter<'_, SharedEvent>,
@@ -459,7 +503,7 @@ fn clone_part(
     Ok(part)
 }
 
-// Whether a count and so many more pass a limit.
+// Returns `true` if `count + more` exceeds `limit`.
 fn passes(count: usize, more: usize, limit: usize) -> bool
     ensures { result ≡ nat_lt limit (count + more) }
 {

@@ -1,4 +1,4 @@
-//! The flags.
+//! Command-line flags of `bayeuxd`.
 ghost use Rattle.std.specs.Prelude.{◌≤◌, IfSome};
 ghost use Rattle.bx_advice.specs.declared.config.TheConstants.{BODY_LIMIT};
 
@@ -10,15 +10,15 @@ use clap::error::ErrorKind;
 use clap::{Arg, ArgAction, ArgMatches, Command, Error};
 use std::alloc::{AllocError, Global};
 
-/// The version that the program says.
+/// The version that `--version` prints.
 pub const VERSION: &str = "0.1.0";
 
-// What a flag's value is to be, where it is something else.
+// Accepted values of the flags, for error messages.
 const SHARDS: &str = "a number from 1 to 64";
 
 const TIME: &str = "a number of milliseconds up to 4294967295, or of seconds as 30s";
 
-// Of events and of sessions.
+// For `--limit` and `--sessions`.
 const LIMIT: &str = "a number from 1 to 65536";
 
 const BYTES: &str = "a number from 1 to 4294967295";
@@ -29,8 +29,14 @@ const BODY: &str = "a number from 1 to 1048576";
 
 const CONNECTIONS: &str = "a number";
 
-/// What these flags say, where so many processors are there; or what is wrong with them, with a text for it; or the text that
-/// `--help` or `--version` asks for. Without `--shards` there are as many shards as processors, up to 64.
+/// Parses the flags in `words`.
+///
+/// Without `--shards` there are as many shards as `processors`, at least 1 and at most 64.
+///
+/// # Errors
+///
+/// If a flag or a value is wrong, or memory runs out; each error has a text for the user. `--help`
+/// and `--version` are errors too, with their texts.
 pub fn read_flags<'a>(
     alloc: Global,
     words: &'a [String],
@@ -69,7 +75,7 @@ pub fn read_flags<'a>(
     })
 }
 
-// The configuration that the flags say.
+// Returns the configuration that the flags give.
 fn read_config(
     alloc: Global,
     command: &mut Command<'_>,
@@ -102,7 +108,7 @@ fn read_config(
     }
 }
 
-// The configuration of as many shards as are said, or as there are processors.
+// Creates a configuration with the shards that `--shards` gives, or one for each processor.
 fn config_of(
     matches: &ArgMatches<'_>,
     processors: usize,
@@ -117,7 +123,7 @@ fn config_of(
     Config::new(shards, timeout, interval, max_interval)
 }
 
-// The configuration with what the flag of this name says, if it is said.
+// Applies the value of flag `name`, if it is given. Returns `None` if the value is wrong.
 fn with_number<F: FnOnce(Config, u32) -> Option<Config>>(
     config: Config,
     matches: &ArgMatches<'_>,
@@ -132,7 +138,7 @@ fn with_number<F: FnOnce(Config, u32) -> Option<Config>>(
     }
 }
 
-// The most bytes of a body: as many as are said, or else as there may be at most.
+// Returns the size limit of a body, or `None` if it is out of range. The default is [`BODY_LIMIT`].
 fn body_of(matches: &ArgMatches<'_>) -> Option<usize>
     ensures { IfSome result (λ bytes. (1 ≤ bytes) × (bytes ≤ BODY_LIMIT)) }
 {
@@ -146,7 +152,7 @@ fn body_of(matches: &ArgMatches<'_>) -> Option<usize>
     Some(bytes)
 }
 
-// The milliseconds that the flag of this name says, or else its standard text.
+// Returns the value of flag `name` in milliseconds. `standard` is its default.
 fn read_time(
     alloc: Global,
     command: &mut Command<'_>,
@@ -160,7 +166,7 @@ fn read_time(
     }
 }
 
-// The text of the flag of this name, or else its standard one.
+// Returns the value of flag `name`, or `standard`.
 fn value_of<'a>(matches: &ArgMatches<'a>, name: &str, standard: &'static str) -> &'a str {
     match matches.get_str(name) {
         Some(text) => text,
@@ -168,7 +174,7 @@ fn value_of<'a>(matches: &ArgMatches<'a>, name: &str, standard: &'static str) ->
     }
 }
 
-// That the value of this flag is not what it is to be.
+// Creates the error for a wrong value of flag `name`.
 fn wrong(
     alloc: Global,
     command: &mut Command<'_>,
@@ -191,7 +197,7 @@ fn command<'a>(alloc: Global) -> Result<Command<'a>, AllocError> {
     with_running(alloc, with_options(alloc, with_limits(alloc, command)?)?)
 }
 
-// With the flags of the server as a whole.
+// Adds the flags for the server as a whole.
 fn with_server<'a>(alloc: Global, command: Command<'a>) -> Result<Command<'a>, AllocError> {
     command
         .arg(value(
@@ -220,7 +226,7 @@ fn with_server<'a>(alloc: Global, command: Command<'a>) -> Result<Command<'a>, A
         ))
 }
 
-// With those of the times.
+// Adds the flags for times.
 fn with_times<'a>(alloc: Global, command: Command<'a>) -> Result<Command<'a>, AllocError> {
     command
         .arg(value(
@@ -243,7 +249,7 @@ fn with_times<'a>(alloc: Global, command: Command<'a>) -> Result<Command<'a>, Al
         ))
 }
 
-// With those of the limits.
+// Adds the flags for limits.
 fn with_limits<'a>(alloc: Global, command: Command<'a>) -> Result<Command<'a>, AllocError> {
     command
         .arg(value(
@@ -278,7 +284,7 @@ fn with_limits<'a>(alloc: Global, command: Command<'a>) -> Result<Command<'a>, A
         ))
 }
 
-// With those of the options.
+// Adds the flags for options of the protocol.
 fn with_options<'a>(alloc: Global, command: Command<'a>) -> Result<Command<'a>, AllocError> {
     command
         .arg(switch(
@@ -293,7 +299,7 @@ fn with_options<'a>(alloc: Global, command: Command<'a>) -> Result<Command<'a>, 
         ))
 }
 
-// With those of whoever runs it.
+// Adds the flags for operating the server.
 fn with_running<'a>(alloc: Global, command: Command<'a>) -> Result<Command<'a>, AllocError> {
     let answers = switch(
         alloc,
@@ -324,12 +330,12 @@ fn with_running<'a>(alloc: Global, command: Command<'a>) -> Result<Command<'a>, 
         .arg(switch(alloc, "until-eof", "It ends at the end of standard input"))
 }
 
-// A flag with a value.
+// Creates a flag with a value.
 fn value<'a>(alloc: Global, name: &'a str, kind: &'a str, help: &'a str) -> Arg<'a> {
     Arg::new(alloc, name).long(name).value_name(kind).help(help)
 }
 
-// A flag without one.
+// Creates a flag without a value.
 fn switch<'a>(alloc: Global, name: &'a str, help: &'a str) -> Arg<'a> {
     Arg::new(alloc, name)
         .long(name)

@@ -1,4 +1,4 @@
-//! How the daemon is run, as its flags or its words say.
+//! The settings of `bayeuxd`, from its flags or its positional arguments.
 #![tactic(auto)]
 
 mod flags;

@@ -5,7 +5,7 @@ use std::io::{ErrorKind, Read};
 use std::rt::Files;
 use std::{fs, io};
 
-/// What 64 hexadecimal digits say, the upper one of each byte first; none where they are not these.
+/// Parses 64 hexadecimal digits, the upper one of each byte first, or returns `None`.
 pub fn read_digits(digits: &[u8]) -> Option<[u8; 32]> {
     if digits.len() != 64 {
         return None;
@@ -28,7 +28,11 @@ fn digit_of(digit: u8) -> Option<u8>
     }
 }
 
-/// The seed of a file, which begins with its 64 hexadecimal digits. `InvalidData` where it does not; else the error of the file.
+/// Reads the seed from a file, which must begin with its 64 hexadecimal digits.
+///
+/// # Errors
+///
+/// The file's error if 64 bytes cannot be read; `InvalidData` if these are not hexadecimal digits.
 pub fn read_seed<R: Files>(rt: &R, path: &str) -> io::Result<[u8; 32]> {
     let mut file = fs::open(rt, path)?;
     let mut digits = [0; 64];

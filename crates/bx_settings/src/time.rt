@@ -1,6 +1,8 @@
-//! Times as they are written.
+//! Times in the form of flags, such as `30s`.
 
-/// The milliseconds that `30s`, `500ms` or `500` says; none of any other text, nor past 32 bits.
+/// Converts a text such as `30s`, `500ms` or `500` to milliseconds.
+///
+/// Returns `None` for any other text, and if the result exceeds 32 bits.
 pub(crate) fn milliseconds(text: &str) -> Option<u32> {
     match text.strip_suffix("s") {
         Some(front) => match front.strip_suffix("m") {
@@ -11,7 +13,7 @@ pub(crate) fn milliseconds(text: &str) -> Option<u32> {
     }
 }
 
-// The number of 32 bits that these digits say.
+// Parses a number of up to 32 bits.
 fn number(digits: &str) -> Option<u32> {
     u32::try_from(bx_message::number_of(digits.as_bytes())?).ok()
 }

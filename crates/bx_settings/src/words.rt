@@ -1,4 +1,4 @@
-//! The words in their order.
+//! Positional arguments of `bayeuxd`.
 ghost use Rattle.std.specs.Prelude.{◌≡◌, IfSome, map, string_bytes};
 ghost use Rattle.bx_settings.specs.Saying.{IsConfigOf, IsSaidBy};
 
@@ -8,10 +8,17 @@ use bx_advice::{BODY_LIMIT, Config, Options};
 use bx_message::number_of;
 use std::net::SocketAddr;
 
-/// What these words say in their order; none where they are not an IP address with a port, four numbers in their ranges, a seed of 64
-/// hexadecimal digits and a number of connections, and then at most options and a limit. The times are in milliseconds. The options are
-/// those of [`Options::read`], and `-` where there are none. The limit says how many events may wait for each session, 1 to
-/// 65,536, and is 1,024 where there is none.
+/// Parses positional arguments, or returns `None` if they are wrong.
+///
+/// They are, in this order:
+///
+/// - an IP address with a port
+/// - the number of shards, 1 to 64
+/// - `timeout`, `interval` and `max_interval`, in milliseconds, up to 32 bits
+/// - the seed, 64 hexadecimal digits
+/// - the number of connections
+/// - optionally the options, as for [`Options::read`]; `-` for none
+/// - optionally how many events may wait for a session: 1 to 65,536, by default 1,024
 pub fn read_words(words: &[String]) -> Option<Settings<'_>>
     ensures { IfSome result (IsSaidBy (map string_bytes words.now)) }
 {
@@ -60,7 +67,7 @@ fn config_of(shards: &[u8], timeout: &[u8], interval: &[u8], max_interval: &[u8]
     )
 }
 
-// The configuration with what the words behind the others say.
+// Applies the optional arguments to `config`.
 fn with_more(config: Config, words: &[String]) -> Option<Config>
     ensures shards { IfSome result (λ c. c.shards ≡ config.shards) }
     ensures times { IfSome result (λ c. (c.timeout ≡ config.timeout) × (c.interval ≡ config.interval) × (c.max_interval ≡ config.max_interval)) }

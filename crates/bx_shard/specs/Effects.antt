@@ -1,4 +1,4 @@
--- What the calls on one session do to the connects of its shard.
+-- How operations on one session change the connects of its shard.
 use Rattle.std.specs.Prelude.{ℕ, nat_eq, List, [], ◌∷◌, map, Option, Some, None, option_map, if◌then◌else◌}
 use Rattle.bx_entry.specs.Words.{Kept, answers_of, Pending, Session}
 use Rattle.bx_session.specs.declared.answered.Answered.{Answered}
@@ -6,31 +6,31 @@ use Rattle.bx_session.specs.Views.{answered_of, deadline_of}
 use Rattle.bx_connects.specs.declared.connects.ConnectState.{ConnectState}
 use Rattle.bx_connects.specs.Connects.{filing, held_by}
 
--- the connects with one more, which this session holds
+-- The connects, with one more that session `number` holds.
 abbrev pub holding : ℕ → Pending → (ℕ → Option ConnectState) → ℕ → Option ConnectState
 holding number connect connects p = if nat_eq connect.place p then held_by number (deadline_of connect) else connects p
 
--- the connects once the entry at this place has given these answers, one after another
+-- The connects after the entry at `place` gives these answers in order.
 abbrev pub filing_each : ℕ → List Answered → (ℕ → Option ConnectState) → ℕ → Option ConnectState
 filing_each place [] connects p = connects p
 filing_each place (a ∷ rest) connects p = filing_each place rest (filing place (Some a) connects) p
 
--- the answers that a change of the session gives, as the program gives them, if the session is here
+-- The answers that `change` gives if the shard has the session, in the program's type.
 abbrev pub answers_by : (Session → Session) → Option Kept → List Answered
 answers_by change None = []
 answers_by change (Some k) = map answered_of (answers_of change k)
 
--- A connect of a session that is here is held at first; then the answer to the one that it superseded is filed, and its own, where they are given.
+-- A connect is held if its session is here; then the answers that `change` gives are filed.
 abbrev pub connect_filing : ℕ → Pending → (Session → Session) → Option Kept → (ℕ → Option ConnectState) → ℕ → Option ConnectState
 connect_filing number connect change None connects p = connects p
 connect_filing number connect change (Some k) connects p = filing_each connect.place (answers_by change (Some k)) (holding number connect connects) p
 
--- nothing is known any longer of the connect at this place, if there is one
+-- The connects without the one at this place, if any.
 abbrev pub forgetting : Option ℕ → (ℕ → Option ConnectState) → ℕ → Option ConnectState
 forgetting None connects p = connects p
 forgetting (Some place) connects p = if nat_eq place p then None else connects p
 
--- the place of the connect that a session holds, if it is here and holds one
+-- The place of the connect that a session holds, if any.
 abbrev pub held_in : Option Kept → Option ℕ
 held_in None = None
 held_in (Some k) = option_map (λ (q : Pending). q.place) k.held

@@ -1,4 +1,4 @@
--- What one entry does to the sessions of a shard and to their connects.
+-- How one entry changes the sessions of a shard and their connects.
 use Rattle.std.specs.Prelude.{ℕ, ◌≡◌, Bool, [], take, is_some, if◌then◌else◌, Option, Some, None}
 use Rattle.std.specs.Option.{option_and_then}
 use Rattle.bx_advice.specs.declared.config.Config.{Config}
@@ -11,36 +11,36 @@ use Rattle.bx_shard.specs.declared.sessions.Sessions.{Sessions}
 use Rattle.bx_shard.specs.Sessions.{AreCounted, AreHeld, kept_in}
 use Rattle.bx_shard.specs.States.{Files, IsGiven, KeepsSessions, begun, session_after}
 
--- ---- riders
+-- ---- Riders
 
--- the entry without its rider
+-- The entry without its rider.
 abbrev pub alone : Entry → Entry
 alone e = record e { rides = None }
 
--- the rider that an entry is
+-- The entry's rider, if any.
 abbrev pub rides_of : Entry → Option Rider
 rides_of e = rider_of e.kind e.rides
 
--- the rider, where its session is here
+-- The entry's rider, if its session is in the shard.
 abbrev pub rider_in : (ℕ → Option Kept) → Entry → Option Rider
 rider_in sessions e = option_and_then (λ (r : Rider). if is_some (sessions r.session) then Some r else None) (rides_of e)
 
--- the answer to a rider before any event was given
+-- The answer to a rider before it gets any events.
 abbrev pub unridden : Rider → Answer
 unridden rider = record { events = []; reply = rider.reply }
 
--- what is kept of a session that gave a rider what waited
+-- A session after a rider got its share of the waiting events.
 abbrev pub given_up : Config → Kept → Kept
 given_up config k = after (forgotten (ride_portion config (resumed k))) k
 
--- the answer to a rider with the events of its session, if that is here
+-- The answer to a rider, with its session's events if the session is in the shard.
 abbrev pub completed_by : Config → Option Kept → Option ConnectState → Option ConnectState
 completed_by config None state = state
 completed_by config (Some k) state = completed (events_of (take (ride_portion config (resumed k)) k.queue)) state
 
--- ---- an entry
+-- ---- Entries
 
--- the sessions after the entry; `stands` says whether a session that it opens stands here
+-- The sessions after an entry; `stands`: whether a session that it opens belongs to the shard.
 pub record Followed (stands : Bool) (e : Entry) (old new : Sessions) : Type 0 where
   pub config : new.config ≡ old.config
   pub sessions : (n : ℕ) → kept_in new n ≡ session_after old.config stands e n (kept_in old n)

@@ -1,4 +1,4 @@
--- An event is handed to one session after another.
+-- How an event is delivered to one session after another.
 use Rattle.std.specs.Prelude.{ℕ, ◌≡◌, ◌&&◌, nat_eq, true, false, List, [], ◌∷◌, Bool, Some, map, option_map, IfSome, if◌then◌else◌}
 use Rattle.bx_names.specs.Words.{Glob, any_matches, segments, is_broadcast}
 use Rattle.bx_advice.specs.declared.config.Config.{Config}
@@ -11,46 +11,46 @@ use Rattle.bx_shard.specs.declared.{publish.Parcel.Parcel, sessions.Sessions.Ses
 use Rattle.bx_shard.specs.Effects.{answers_by, filing_each}
 use Rattle.bx_shard.specs.Sessions.{AreHeld, HasRoom, kept_in}
 
--- an event with the place of its publish
+-- An event with the place of its publish.
 abbrev pub published_at : ℕ → Event → Publication
 published_at place e = record { place = place; event = e }
 
--- whether an event is of a broadcast channel that one of these patterns matches
+-- Whether an event's channel is broadcast and matches one of the patterns.
 abbrev pub reaches : Event → List Glob → Bool
 reaches e patterns = is_broadcast e.channel && any_matches patterns (segments e.channel)
 
--- for whom these parcels are
+-- The numbers of the sessions that the parcels are for.
 abbrev pub numbers_of : List Parcel → List ℕ
 numbers_of xs = map (λ (x : Parcel). x.number) xs
 
--- the session has room for the event, and two handles are there if it wants them
+-- The session has room for the event; the parcel has a second handle if the session needs it.
 pub record IsPacked (s : Sessions) (x : Parcel) : Type 0 where
   pub room : HasRoom s x.number
   pub further : IfSome (kept_in s x.number) (λ (k : Kept). wants_two k ≡ true → x.further ≡ Some x.event)
 
--- the session can get what is in the parcel
+-- The session can receive its parcel.
 pub record IsReady (s : Sessions) (x : Parcel) : Type 0 where
   pub here : IfSome (kept_in s x.number) (λ (k : Kept). (k.overflow ≡ false) × Countable k)
   pub packed : IsPacked s x
 
--- none of these parcels is for this session
+-- No parcel is for session `number`.
 abbrev pub NoneFor : ℕ → List Parcel → Type 0
 NoneFor number [] = Unit {0}
 NoneFor number (x ∷ xs) = (nat_eq number x.number ≡ false) × NoneFor number xs
 
--- each session can get its parcel, and has one at most
+-- Each session can receive its parcel, and none has two.
 abbrev pub AllReady : Sessions → List Parcel → Type 0
 AllReady s [] = Unit {0}
 AllReady s (x ∷ xs) = IsReady s x × NoneFor x.number xs × AllReady s xs
 
--- one session got its parcel
+-- The sessions after one of them receives its parcel.
 pub record Turn (config : Config) (place : ℕ) (x : Parcel) (old new : Sessions) : Type 0 where
   pub sessions : (n : ℕ) → kept_in new n ≡ (if nat_eq x.number n then option_map (after (received config (published_at place x.event))) (kept_in old x.number) else kept_in old n)
   pub connects : (p : ℕ) → connect_at new.connects p ≡ filing_each place (answers_by (received config (published_at place x.event)) (kept_in old x.number)) (connect_at old.connects) p
   pub held : AreHeld new
   pub config_is : new.config ≡ old.config
 
--- one after another
+-- The parcels are delivered one after another.
 abbrev pub Turns : Config → ℕ → List Parcel → Sessions → Sessions → Type 0
 Turns config place [] old new = old ≡ new
 Turns config place (x ∷ xs) old new = (between : Sessions) × Turn config place x old between × Turns config place xs between new

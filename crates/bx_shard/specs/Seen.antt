@@ -1,14 +1,14 @@
--- The program's shard, as a state.
+-- The program's shard as a state of the definitions.
 use Rattle.std.specs.Prelude.{ℕ}
 use Rattle.std.specs.Arc.{arc_value}
 use Rattle.bx_shard.specs.declared.shard.Shard.{Shard}
 use Rattle.bx_entry.specs.Placings.{Setup}
 use Rattle.bx_shard.specs.States.{State}
 
--- the configuration with the placing by which sessions stand in shards
+-- The configuration, with the number of shards and the placing of sessions.
 abbrev pub setup_in : {P : Type 0} → (P → ℕ → ℕ → ℕ) → Shard P → Setup
 setup_in place_of s = record { config = s.sessions.config; shards = s.shards; placing = place_of (arc_value s.placing) }
 
--- the state of the shard
+-- The state of a shard.
 abbrev pub state : {P : Type 0} → (P → ℕ → ℕ → ℕ) → Shard P → State
 state place_of s = record { setup = setup_in place_of s; index = s.index; place = s.place; shut = s.is_shut; sessions = s.sessions }

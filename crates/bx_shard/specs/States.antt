@@ -1,4 +1,4 @@
--- A shard as the program holds it, and what one entry does to it.
+-- The state of the program's shard, and how one entry changes it.
 use Rattle.std.specs.Prelude.{ℕ, ◌⊎◌, ◌+◌, ◌==◌, ◌&&◌, ◌≡◌, ◌≢◌, ◌≤◌, Bool, true, false, List, if◌then◌else◌, nat_eq, option_map, Option, Some, None, is_some, is_none, Contains}
 use Rattle.std.specs.{List.list_any, Option.option_and_then, Option.option_or}
 use Rattle.bx_advice.specs.declared.config.Config.{Config}
@@ -17,7 +17,7 @@ use Rattle.bx_shard.specs.Sessions.{AreTied, kept_in}
 use Rattle.bx_entry.specs.Placings.{Setup}
 use Rattle.bx_shard.specs.Shards.{stands_in}
 
--- The configuration with the placing, which shard it is, how many entries it has applied, whether it was shut, and its sessions.
+-- A shard: its setup, index, number of applied entries, whether it is shut, and its sessions.
 pub record State : Type 0 where
   pub setup : Setup
   pub index : ℕ
@@ -25,80 +25,81 @@ pub record State : Type 0 where
   pub shut : Bool
   pub sessions : Sessions
 
--- what became of the connect at a place of the list, if the shard knows of it
+-- The state of the connect at a place of the list, if the shard knows it.
 abbrev pub connect_in : State → ℕ → Option ConnectState
 connect_in s place = connect_at s.sessions.connects place
 
--- what is kept of a session of the shard, by its number
+-- What is kept of a session of the shard, by its number.
 abbrev pub session_in : State → ℕ → Option Kept
 session_in s number = kept_in s.sessions number
 
--- ---- what an entry does to a session
+-- ---- Sessions
 
--- the session that an entry of this kind opens, if it stands here, before it is opened
+-- Session `n` before it is opened, if an entry of this kind opens it in the shard.
 abbrev pub opening : Bool → EntryKind → ℕ → Option Kept
 opening stands (Opened m ack) n = if (m == n) && stands then Some (kept (unopened m)) else None
 opening stands _ n = None
 
--- a session that is live
+-- The session, if it is live.
 abbrev pub if_live : Kept → Option Kept
 if_live k = if is_live k.stage then Some k else None
 
--- what an entry makes of the session of this number, or of the one that it opens; what is closed stays no longer
+-- Session `n` after the entry, which may open it; a closed session is dropped.
 abbrev pub session_after : Config → Bool → Entry → ℕ → Option Kept → Option Kept
 session_after config stands e n o = option_and_then (λ k. if_live (kept_step config k e)) (option_or o (opening stands e.kind n))
 
--- ---- what an entry does to the connects
+-- ---- Connects
 
--- nothing is known any longer of a connect that one of these sessions holds
+-- A connect becomes unknown if one of these sessions holds it.
 abbrev pub let_go : List ℕ → Option ConnectState → Option ConnectState
 let_go numbers None = None
 let_go numbers (Some (Held session deadline waker)) = if list_any (λ m. m == session) numbers then None else Some (Held session deadline waker)
 let_go numbers (Some (Filed session place answer)) = Some (Filed session place answer)
 
--- The connects with the one that the entry is, where its session is here; it is held at first. A session that a tick closes holds none (in a list
--- it never does, since a session is due no sooner than its hold ends).
+-- The connects, with the entry's own one held if its session is here. A tick drops those held by
+-- the sessions that it closes; in a list there are none, since no session is due before its hold
+-- ends.
 abbrev pub begun : (ℕ → Option Kept) → (ℕ → Option ConnectState) → Entry → EntryKind → ℕ → Option ConnectState
 begun sessions connects e (Connect m client id acked hold) p = if is_some (sessions m) then holding m (pending e.place client id e.moment hold) connects p else connects p
 begun sessions connects e (Tick numbers) p = let_go numbers (connects p)
 begun sessions connects e _ p = connects p
 
--- the entry gives this answer to a connect, or to a rider, of this session
+-- The entry gives this answer to a connect or rider of session `number`.
 abbrev pub IsGiven : Config → (ℕ → Option Kept) → Entry → ℕ → Answered → Type 0
 IsGiven config sessions e number a = Contains (answers_by (λ s. step config s e) (sessions number)) a
 
--- the answers that each session gives are filed at this place, and all other connects are as they were
+-- Each answer is filed at `place`, and all other connects are unchanged.
 pub record Files (place : ℕ) (Given : ℕ → Answered → Type 0) (old new : ℕ → Option ConnectState) : Type 0 where
   pub given : (n : ℕ) (a : Answered) → Given n a → new a.place ≡ Some (Filed n place a.answer)
   pub kept : (p : ℕ) → ((n : ℕ) (a : Answered) → Given n a → a.place ≢ p) → new p ≡ old p
 
--- the session whose rider it is
+-- The session of a rider, if any.
 abbrev pub riding : Option Rider → Option ℕ
 riding rides = option_map (λ (r : Rider). r.session) rides
 
--- the session of which an entry of this kind is a connect, if it is one
+-- The session of which an entry of this kind is a connect, if any.
 abbrev pub connecting : EntryKind → Option ℕ
 connecting (Connect m client id acked hold) = Some m
 connecting _ = None
 
--- the entry is the connect or the rider at this place, of this one of the sessions
+-- The entry is the connect or rider at `p` of session `m`, which is in the shard.
 pub record Connects (sessions : ℕ → Option Kept) (e : Entry) (p m : ℕ) : Type 0 where
   pub place : e.place ≡ p
   pub session : (connecting e.kind ≡ Some m) ⊎ (riding (rider_of e.kind e.rides) ≡ Some m)
   pub here : is_some (sessions m) ≡ true
 
--- a connect that is known has the session that it had, or is the entry itself
+-- A known connect keeps its session, unless it is the entry itself.
 abbrev pub KeepsSessions : (ℕ → Option Kept) → Entry → (ℕ → Option ConnectState) → (ℕ → Option ConnectState) → Type 0
 KeepsSessions sessions e old new = (p m : ℕ) → session_at (new p) ≡ Some m → (session_at (old p) ≡ Some m) ⊎ Connects sessions e p m
 
--- whether an entry of this kind opens a session that stands in the shard
+-- Whether an entry of this kind opens a session in the shard.
 abbrev pub opens_in : Setup → ℕ → EntryKind → Bool
 opens_in setup index (Opened m ack) = stands_in setup index m
 opens_in setup index _ = false
 
--- ---- one entry
+-- ---- One entry
 
--- the shard after one more entry
+-- The shard after one more entry.
 pub record Applied (old : State) (e : Entry) (new : State) : Type 0 where
   pub place : new.place ≡ e.place + 1
   pub setup : new.setup ≡ old.setup
@@ -108,7 +109,7 @@ pub record Applied (old : State) (e : Entry) (new : State) : Type 0 where
   pub connects : Files e.place (IsGiven old.setup.config (session_in old) e) (begun (session_in old) (connect_in old) e e.kind) (connect_in new)
   pub known : KeepsSessions (session_in old) e (connect_in old) (connect_in new)
 
--- nothing changed that can be seen
+-- Nothing has changed that can be observed.
 pub record IsAsBefore (old new : State) : Type 0 where
   pub place : new.place ≡ old.place
   pub setup : new.setup ≡ old.setup
@@ -117,16 +118,16 @@ pub record IsAsBefore (old new : State) : Type 0 where
   pub sessions : (n : ℕ) → session_in new n ≡ session_in old n
   pub connects : (p : ℕ) → connect_in new p ≡ connect_in old p
 
--- ---- what holds of every shard
+-- ---- Invariants
 
--- a connect is held exactly where its session holds it, and nothing is known of the entries that aren't applied yet
+-- The tree and the holds agree with the sessions, and no connect at `s.place` or later is known.
 pub record IsSound (s : State) : Type 0 where
   pub tied : AreTied s.sessions
   pub fresh : (p : ℕ) → s.place ≤ p → connect_in s p ≡ None
 
--- ---- the other calls
+-- ---- Other calls
 
--- the shard after a waker was brought for the connect at this place
+-- The shard after a waker is offered for the connect at `connect`.
 pub record Watched (connect : ℕ) (waker : Waker) (old new : State) : Type 0 where
   pub place : new.place ≡ old.place
   pub setup : new.setup ≡ old.setup
@@ -135,7 +136,7 @@ pub record Watched (connect : ℕ) (waker : Waker) (old new : State) : Type 0 wh
   pub sessions : (n : ℕ) → session_in new n ≡ session_in old n
   pub connects : (p : ℕ) → connect_in new p ≡ (if nat_eq connect p then with_waker old.shut waker (connect_in old connect) else connect_in old p)
 
--- the shard without the answers that were filed below this place
+-- The shard without the answers that were given below place `before`.
 pub record Swept (before : ℕ) (old new : State) : Type 0 where
   pub place : new.place ≡ old.place
   pub setup : new.setup ≡ old.setup
@@ -144,7 +145,7 @@ pub record Swept (before : ℕ) (old new : State) : Type 0 where
   pub sessions : (n : ℕ) → session_in new n ≡ session_in old n
   pub connects : (p : ℕ) → connect_in new p ≡ unswept before (connect_in old p)
 
--- the shard after it was shut
+-- The shard after it is shut, without wakers.
 pub record WasShut (old new : State) : Type 0 where
   pub place : new.place ≡ old.place
   pub setup : new.setup ≡ old.setup
@@ -153,7 +154,7 @@ pub record WasShut (old new : State) : Type 0 where
   pub sessions : (n : ℕ) → session_in new n ≡ session_in old n
   pub connects : (p : ℕ) → connect_in new p ≡ option_map unwatched (connect_in old p)
 
--- whether an entry of this kind is applied without taking memory, where it is no rider
+-- Whether an entry of this kind is applied without allocating, unless it is a rider.
 abbrev pub takes_none_by : EntryKind → Bool
 takes_none_by (Unsubscribe m patterns) = true
 takes_none_by (Disconnect m) = true
@@ -161,6 +162,6 @@ takes_none_by Refused = true
 takes_none_by (Tick numbers) = true
 takes_none_by _ = false
 
--- whether an entry is
+-- Whether an entry is applied without allocating.
 abbrev pub takes_no_memory : Entry → Bool
 takes_no_memory e = is_none (rider_of e.kind e.rides) && takes_none_by e.kind

@@ -1,4 +1,4 @@
--- The words of this crate's definitions, for those who import several.
+-- Names of this crate's definitions, for files that import several.
 pub use Rattle.bx_shard.specs.Effects.{filing_each, forgetting, held_in, holding}
 pub use Rattle.bx_shard.specs.Following.{Followed, alone, completed_by, given_up, rider_in, rides_of, unridden}
 pub use Rattle.bx_shard.specs.Holdings.{IsReached, NumbersAscend, OpenedIsFresh, SessionsReached}

@@ -1,4 +1,4 @@
-//! Each entry, as the sessions of a shard follow it.
+//! How the sessions of a shard apply an entry.
 ghost use Rattle.std.specs.Prelude.{◌≡◌, ◌≤◌, ◌<◌, ℕ, true, None, OnOk, OnErr, IsOk};
 ghost use Rattle.bx_connects.specs.Connects.{connect_at};
 ghost use Rattle.bx_connects.specs.Waking.{AreWoken};
@@ -13,9 +13,10 @@ use bx_session::PendingConnect;
 use std::alloc::{AllocError, Global};
 
 impl Sessions {
-    /// Does what an entry says; `stands` tells whether a session that it opens stands here. A rider is answered behind the
-    /// rest. The wakers beside connects that are answered are to be woken. Where memory is refused nothing changes that can be
-    /// seen, and so no waker more is to be woken.
+    /// Applies an entry, and answers its rider last.
+    ///
+    /// `stands`: whether a session that the entry opens belongs to this shard. Moves the wakers of
+    /// connects that it answers or forgets to `wakers`. On error, nothing visible has changed.
     pub(crate) fn follow(
         &mut self,
         alloc: Global,
@@ -48,7 +49,7 @@ impl Sessions {
         Ok(())
     }
 
-    // Does what an entry says, but for its rider.
+    // Applies an entry, except its rider.
     fn follow_alone(
         &mut self,
         alloc: Global,

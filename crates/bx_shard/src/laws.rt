@@ -1,84 +1,90 @@
-//! Laws of what a shard holds, for every configuration, every placing and every list.
+//! Laws of shards, for every configuration, placing and list.
+//!
+//! A shard matches the definition if it holds what `shard_at` of `specs/Shards.antt` gives. Laws on
+//! calls and entries assume that it did so before.
 ghost use Rattle.bx_shard.specs.Refining.{FiledIsGiven, RefinesAtFirst, RefinesBeside, RefinesBesideSwept, RefinesLonger, RefinesOnwards, RefinesShut, RefinesStill, RefinesSwept, RefinesTaken, RefinesWatched};
 ghost use Rattle.bx_shard.specs.Holdings.{SessionsReached, NumbersAscend, OpenedIsFresh};
 ghost use Rattle.bx_shard.specs.Steps.{ShardsFile, ShardsStep};
 
-/// The live sessions of a shard after one more entry come of those before it and of that entry alone.
+/// Proves that a shard's sessions after an entry depend only on those before and on the entry.
 pub fn shards_step()
     ensures { ShardsStep }
 {}
 
-/// An answer that wasn't taken is filed after one more entry where it was before, or where a live session of the shard gives it.
+/// Proves which answers are filed after an entry.
+///
+/// An answer that was not taken is filed if it was before, or if a live session of the shard gives
+/// it at the entry.
 pub fn shards_file()
     ensures { ShardsFile }
 {}
 
-/// Every session that a shard holds is live, and its calls can be made at the place that comes next.
+/// Proves that a shard's sessions are live, and have at most one batch for each applied entry.
 pub fn sessions_are_reached()
     ensures { SessionsReached }
 {}
 
-/// The sessions of a shard stand in the order of their numbers, each number once.
+/// Proves that a shard's sessions are in ascending order of number, without duplicates.
 pub fn sessions_ascend()
     ensures { NumbersAscend }
 {}
 
-/// A session is opened under a number above those of all sessions that any shard holds then.
+/// Proves that a new session's number exceeds those of all sessions then in any shard.
 pub fn opened_is_fresh()
     ensures { OpenedIsFresh }
 {}
 
-/// A shard that has applied nothing holds what the definition's shard holds at first.
+/// Proves that a shard that has applied no entry matches the definition.
 pub fn refines_at_first()
     ensures { RefinesAtFirst }
 {}
 
-/// A call that left a shard as it was leaves what it holds.
+/// Proves that a shard still matches the definition after a call that changes nothing.
 pub fn refines_still()
     ensures { RefinesStill }
 {}
 
-/// What a shard holds, it holds over every longer list.
+/// Proves that a shard that matches the definition still does when the list grows.
 pub fn refines_longer()
     ensures { RefinesLonger }
 {}
 
-/// A shard that has applied an entry of the list holds what the definition's shard holds after it.
+/// Proves that a shard matches the definition after it applies the list's next entry.
 pub fn refines_onwards()
     ensures { RefinesOnwards }
 {}
 
-/// A shard from which an answer was taken holds what the definition's shard holds then.
+/// Proves that a shard matches the definition after an answer was taken from it.
 pub fn refines_taken()
     ensures { RefinesTaken }
 {}
 
-/// A shard holds the same after an answer was taken from another.
+/// Proves that a shard matches the definition after an answer was taken from another one.
 pub fn refines_beside()
     ensures { RefinesBeside }
 {}
 
-/// A shard to which a waker was brought holds what it held.
+/// Proves that a shard matches the definition after a call of `watch`.
 pub fn refines_watched()
     ensures { RefinesWatched }
 {}
 
-/// A shard that was shut holds what it held.
+/// Proves that a shard matches the definition after it was shut.
 pub fn refines_shut()
     ensures { RefinesShut }
 {}
 
-/// A shard from which a sweep dropped answers holds what the definition's shard holds where they were taken.
+/// Proves that a shard matches the definition after a sweep, whose answers count as taken.
 pub fn refines_swept()
     ensures { RefinesSwept }
 {}
 
-/// A shard holds the same after a sweep dropped answers from another.
+/// Proves that a shard matches the definition after another one was swept.
 pub fn refines_beside_swept()
     ensures { RefinesBesideSwept }
 {}
 
-/// What a shard has filed for a connect or a rider is what one thread gives it over the entries that the shard has applied.
+/// Proves that a filed answer is what one thread gives over the entries that the shard applied.
 pub fn filed_is_given()
     ensures { FiledIsGiven }
 {}

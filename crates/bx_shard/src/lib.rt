@@ -1,4 +1,4 @@
-//! Many sessions, entry by entry: their patterns, their held connects and the answers that are filed for them.
+//! Shards: sessions with their patterns, connects and answers, advanced entry by entry.
 #![tactic(auto)]
 
 mod follow;

@@ -1,4 +1,4 @@
-//! Subscriptions and unsubscriptions of the sessions of a shard, and events of theirs.
+//! Subscriptions, unsubscriptions and deliveries of a shard's sessions.
 ghost use Rattle.std.specs.Prelude.{◌≡◌, ℕ, nat_eq, option_map, if◌then◌else◌, OnOk, OnErr, IfSome, false};
 ghost use Rattle.bx_entry.specs.Keeping.{Kept, after};
 ghost use Rattle.bx_entry.specs.Sessions.{received, subscribed, unsubscribed};
@@ -17,7 +17,9 @@ use bx_session::Delivery;
 use std::alloc::{AllocError, Global};
 
 impl Sessions {
-    /// A subscription of a session to these patterns.
+    /// Adds `patterns` to session `number`, if it is here and has not overflowed.
+    ///
+    /// If the session overflows, removes all its patterns. On error, no session has changed.
     pub(crate) fn subscribe(
         &mut self,
         alloc: Global,
@@ -46,7 +48,7 @@ impl Sessions {
         Ok(())
     }
 
-    /// An unsubscription of a session from these patterns.
+    /// Removes `patterns` from session `number`, if it is here.
     pub(crate) fn unsubscribe(&mut self, number: u64, patterns: &[Pattern])
         requires counted { AreCounted self.old }
         ensures sessions { (n : ℕ) → kept_in self.new n
@@ -63,8 +65,10 @@ impl Sessions {
         session.unsubscribe(patterns, gone);
     }
 
-    /// What is in a parcel for a session that is here and that has not overflowed. Where the session overflows, its patterns
-    /// are in force no longer. The waker beside a connect that is answered is to be woken.
+    /// Delivers a parcel to its session, which must not have overflowed.
+    ///
+    /// If the session overflows, removes all its patterns. Moves the waker of an answered connect
+    /// to `wakers`.
     #[tactic(auto, using(crate::proofs::Receiving::received_patterns, crate::proofs::Receiving::received_hold))]
     pub(crate) fn receive(&mut self, place: u64, parcel: Parcel, wakers: &mut Wakers)
         requires here { IfSome (kept_in self.old parcel.number) (λ (k : Kept). (k.overflow ≡ false) × Countable k) }

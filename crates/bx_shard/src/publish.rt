@@ -1,4 +1,4 @@
-//! A publish, as the sessions of a shard get it.
+//! How the sessions of a shard receive a publish.
 ghost use Rattle.std.specs.Prelude.{◌≡◌, ◌≢◌, ◌↔◌, Some, option_map, ℕ, IsTrue, Contains, OnOk, OnErr, IfOk};
 ghost use Rattle.std.specs.List.{All};
 ghost use Rattle.std.specs.List.Sorted.{IsStrictlyIncreasing};
@@ -19,7 +19,7 @@ use bx_message::SharedEvent;
 use bx_names::is_broadcast;
 use std::alloc::{AllocError, Global};
 
-/// An event for one session, with a further handle of it where the session wants two.
+/// An event for one session, and a clone if the session will both send and keep it.
 #[derive(Drop)]
 pub(crate) struct Parcel {
     pub(crate) number: u64,
@@ -28,8 +28,9 @@ pub(crate) struct Parcel {
 }
 
 impl Sessions {
-    /// The sessions that have a pattern which matches the event's channel, ascending. An event of a service channel is one
-    /// of no session.
+    /// Returns the sessions with a pattern that matches the event's channel, in ascending order.
+    ///
+    /// The list is empty if that is not a broadcast channel.
     pub(crate) fn receivers(
         &self,
         alloc: Global,
@@ -47,7 +48,7 @@ impl Sessions {
         Ok(found.numbers)
     }
 
-    // Makes room for one event of each of these sessions, and a parcel for each.
+    // Reserves room for the event in each session of `numbers`, and creates their parcels.
     fn pack(
         &mut self,
         alloc: Global,
@@ -74,7 +75,7 @@ impl Sessions {
         Ok(parcels)
     }
 
-    // Hands out the parcels in order. The wakers beside connects that are answered are to be woken.
+    // Delivers the parcels in order. Moves the wakers of answered connects to `wakers`.
     fn hand_out(&mut self, place: u64, parcels: Vec<Parcel>, wakers: &mut Wakers)
         requires ready { AllReady self.old parcels.items }
         requires tied { AreHeld self.old }
@@ -88,8 +89,9 @@ impl Sessions {
         }
     }
 
-    /// A publish at this place of the list: each session that has a pattern which matches its channel gets the event, or
-    /// none does, where memory is refused. The wakers beside connects that are answered are to be woken.
+    /// Delivers the event published at `place` to each session with a pattern that matches.
+    ///
+    /// Moves the wakers of answered connects to `wakers`. On error, no session receives the event.
     pub(crate) fn publish(
         &mut self,
         alloc: Global,

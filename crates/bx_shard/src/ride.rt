@@ -1,4 +1,4 @@
-//! Riders, as the sessions of a shard serve them.
+//! How the sessions of a shard answer riders.
 ghost use Rattle.std.specs.Prelude.{◌≡◌, ◌≤◌, ℕ, nat_eq, None, Some, OnOk, OnErr, IfOk, IfSome, option_map, if◌then◌else◌};
 ghost use Rattle.std.specs.Option.{option_copied};
 ghost use Rattle.bx_connects.specs.Connects.{connect_at};
@@ -16,7 +16,7 @@ use bx_session::RideRoom;
 use std::alloc::{AllocError, Global};
 
 impl Sessions {
-    /// The rider that an entry is, where its session is here.
+    /// Returns the entry's rider, if its session is here.
     pub(crate) fn rider_here<'e>(&self, entry: &'e Entry) -> Option<&'e Rider>
         ensures { option_copied result ≡ rider_in (kept_in self.now) entry.now }
     {
@@ -28,8 +28,9 @@ impl Sessions {
         }
     }
 
-    /// Files the answer to a rider at this place, of a session that is here, as yet without events, and makes room for
-    /// them.
+    /// Files the answer to a rider at `place`, without events, and reserves room for them.
+    ///
+    /// No connect or answer may be known at `place`. On error, nothing visible has changed.
     pub(crate) fn prepare_ride(
         &mut self,
         alloc: Global,
@@ -52,7 +53,7 @@ impl Sessions {
         Ok(room)
     }
 
-    // Room for the events that a session gives a rider, if it is here.
+    // Reserves room for the events that a session, if it is here, sends with a rider's reply.
     fn ride_room(&self, alloc: Global, number: u64) -> Result<RideRoom, AllocError>
         ensures { IfOk result (λ room. IfSome (kept_in self.now number) (λ (k : Kept). ride_most self.now.config k ≤ room)) }
     {
@@ -62,7 +63,7 @@ impl Sessions {
         }
     }
 
-    /// Completes the answer to a rider at this place by the events of its session, which are forgotten with that.
+    /// Moves the events that a session sends with a rider's reply into the answer for `place`.
     pub(crate) fn ride(&mut self, place: u64, number: u64, room: RideRoom)
         requires room { IfSome (kept_in self.old number) (λ (k : Kept). ride_portion self.old.config (resumed k) ≤ room) }
         ensures sessions { (n : ℕ) → kept_in self.new n
@@ -80,7 +81,7 @@ impl Sessions {
     }
 }
 
-// The rider of an entry: only a subscription, an unsubscription or a publish is one.
+// Returns the entry's rider. Only a subscription, an unsubscription or a publish has one.
 fn rider_of(entry: &Entry) -> Option<&Rider>
     ensures { option_copied result ≡ rides_of entry.now }
 {
@@ -92,7 +93,7 @@ fn rider_of(entry: &Entry) -> Option<&Rider>
     }
 }
 
-// The same reply once more, which shares its texts.
+// Clones a reply. Both share its texts.
 fn copy_of(reply: &Reply) -> Result<Reply, AllocError>
     ensures { IfOk result (λ copy. copy ≡ reply.now) }
 {

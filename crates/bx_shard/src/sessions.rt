@@ -1,4 +1,4 @@
-//! The sessions that stand in a shard.
+//! The sessions of one shard.
 ghost use Rattle.std.specs.Prelude.{◌≡◌, ◌<◌, ◌-◌, ℕ, nat_eq, Some, None, [], ◌∷◌, length, option_map, is_some, if◌then◌else◌, OnOk, OnErr, IfOk, IfSome, true, false, Option, not, ◌&&◌, ◌||◌, ◌++◌, option_to_list};
 ghost use Rattle.std.specs.Map.{keys_of};
 ghost use Rattle.std.specs.Option.{option_or};
@@ -23,9 +23,7 @@ use bx_tree::Tree;
 use indexmap::IndexMap;
 use std::alloc::{AllocError, Global};
 
-/// The sessions that stand in a shard, with their patterns and their connects.
-///
-/// Contracts see them by their numbers, and connects by their places.
+/// The sessions of one shard, with their patterns and connects.
 #[derive(Drop)]
 pub struct Sessions {
     pub(crate) config: Config,
@@ -35,7 +33,7 @@ pub struct Sessions {
 }
 
 impl Sessions {
-    /// No session.
+    /// Creates an empty collection of sessions.
     pub fn new(alloc: Global, config: Config) -> Sessions
         ensures config { result.config ≡ config }
         ensures sessions { (n : ℕ) → kept_in result n ≡ None }
@@ -50,14 +48,16 @@ impl Sessions {
         }
     }
 
-    /// Whether the session is here.
+    /// Returns `true` if session `number` is here.
     pub(crate) fn has(&self, number: u64) -> bool
         ensures { result ≡ is_some (kept_in self.now number) }
     {
         self.by_number.contains_key(&number)
     }
 
-    /// Opens a session that is not here.
+    /// Opens session `number`, which must not be here.
+    ///
+    /// `ack`: whether it acknowledges batches. On error, no session has changed.
     pub(crate) fn open(&mut self, alloc: Global, number: u64, ack: bool) -> Result<(), AllocError>
         ensures sessions { OnOk result ((n : ℕ) → kept_in self.new n
             ≡ (if nat_eq number n then Some (after (λ s. begun ack s s.stage) (kept (unopened number))) else kept_in self.old n)) }
@@ -71,7 +71,10 @@ impl Sessions {
         Ok(())
     }
 
-    /// A connect of a session. Nothing was known of that connect. The waker beside a connect that is answered by it is to be woken.
+    /// Answers or holds `connect`, if session `number` is here.
+    ///
+    /// No connect or answer may be known at its place. Moves the waker of an answered connect to
+    /// `wakers`. On error, nothing visible has changed.
     pub(crate) fn connect(
         &mut self,
         alloc: Global,
@@ -116,7 +119,7 @@ impl Sessions {
         }
     }
 
-    /// Makes room for one event of a session, and gives a further handle of it where the session wants two.
+    /// Reserves room for an event in a session, and clones it if it will be both sent and kept.
     pub(crate) fn reserve(
         &mut self,
         number: u64,
@@ -135,7 +138,10 @@ impl Sessions {
         session.further(event)
     }
 
-    /// Ends the hold of a session where it ends at this moment or ended before. The waker beside its connect is to be woken.
+    /// Answers the connect held by session `number`, if its hold has ended by `moment`.
+    ///
+    /// `place`: that of the tick. `moment`: milliseconds since the server started. Moves the
+    /// connect's waker to `wakers`.
     pub(crate) fn tick(&mut self, place: u64, moment: u64, number: u64, wakers: &mut Wakers)
         ensures sessions { (n : ℕ) → kept_in self.new n
             ≡ (if nat_eq number n then option_map (after (expired self.old.config place moment)) (kept_in self.old number) else kept_in self.old n) }
@@ -158,8 +164,9 @@ impl Sessions {
         }
     }
 
-    /// Closes a session that a tick ends. A connect that it still held is known no longer, and the waker beside that is to be
-    /// woken.
+    /// Closes session `number` for a tick.
+    ///
+    /// Forgets a connect that it still held, and moves its waker to `wakers`.
     pub(crate) fn close(&mut self, number: u64, wakers: &mut Wakers)
         ensures sessions { (n : ℕ) → kept_in self.new n ≡ (if nat_eq number n then None else kept_in self.old n) }
         ensures patterns { (n : ℕ) → patterns_in self.new n ≡ (if nat_eq number n then [] else patterns_in self.old n) }
@@ -179,7 +186,9 @@ impl Sessions {
         }
     }
 
-    /// Closes a session, whose held connect is answered as one that left. The waker beside that is to be woken.
+    /// Closes session `number` for a disconnect, and answers its held connect.
+    ///
+    /// `place`: that of the disconnect. Moves the connect's waker to `wakers`.
     pub(crate) fn disconnect(&mut self, place: u64, number: u64, wakers: &mut Wakers)
         ensures sessions { (n : ℕ) → kept_in self.new n ≡ (if nat_eq number n then None else kept_in self.old n) }
         ensures patterns { (n : ℕ) → patterns_in self.new n ≡ (if nat_eq number n then [] else patterns_in self.old n) }
@@ -198,30 +207,34 @@ impl Sessions {
         self.connects.file_if(place, answered, wakers);
     }
 
-    /// The configuration.
+    /// Returns the configuration.
     pub fn config(&self) -> Config
         ensures { result ≡ self.now.config }
     {
         self.config
     }
 
-    /// The connects of these sessions.
+    /// Returns the connects of these sessions.
     pub fn connects(&self) -> &Connects
         ensures { result.now ≡ self.now.connects }
     {
         &self.connects
     }
 
-    /// The numbers of the sessions that are here.
+    /// Returns the numbers of these sessions.
     pub fn numbers(&self) -> &[u64]
         ensures { result.now ≡ keys_of self.now.by_number.entries }
     {
         self.by_number.keys().as_slice()
     }
 
-    /// Makes room for a session and puts the patterns in force that it has among other sessions, unless one of this
-    /// number is here. The room is a session to which nothing came, until `settle` puts the session itself there.
-    /// Where memory is refused the room may be there, without patterns.
+    /// Reserves session `number` and copies its patterns from `from`, unless it is here.
+    ///
+    /// An empty session takes its place until [`settle`](Self::settle) is called.
+    ///
+    /// # Errors
+    ///
+    /// `AllocError` if memory runs out. The empty session may then be here, without patterns.
     pub fn lend(&mut self, alloc: Global, number: u64, from: &Sessions) -> Result<(), AllocError>
         requires clean { AreClean self.old }
         ensures sessions { OnOk result ((n : ℕ) → is_some (kept_in self.new n) ≡ (nat_eq number n || is_some (kept_in self.old n))) }
@@ -239,9 +252,13 @@ impl Sessions {
         self.tree.copy(alloc, &from.tree, number)
     }
 
-    /// Makes room for a connect as if this session held it until the deadline, in milliseconds, unless one of this
-    /// place is known. Without a deadline no tick ends the hold. An error means that memory was refused; the connects
-    /// are as before then.
+    /// Reserves a connect that `session` holds at `place`, unless one is known there.
+    ///
+    /// `deadline`: milliseconds since the server started. Without one, no tick ends the hold.
+    ///
+    /// # Errors
+    ///
+    /// `AllocError` if memory runs out; no connect has changed.
     pub fn lend_connect(
         &mut self,
         place: u64,
@@ -256,7 +273,9 @@ impl Sessions {
         self.connects.lend(place, session, deadline)
     }
 
-    /// Puts a session in the place that was made for one of this number.
+    /// Replaces session `number`, if it is here, with `session`.
+    ///
+    /// [`lend`](Self::lend) reserves it.
     pub fn settle(&mut self, number: u64, session: Session)
         ensures sessions { (n : ℕ) → kept_in self.new n
             ≡ (if nat_eq number n then option_map (λ _. session.kept) (kept_in self.old number) else kept_in self.old n) }
@@ -267,7 +286,9 @@ impl Sessions {
         }
     }
 
-    /// Files an answer that the entry at this place gave, under a connect that is known. A waker beside that is to be woken.
+    /// Files an answer given by the entry at `place`, if its connect is known.
+    ///
+    /// Moves the connect's waker to `wakers`.
     pub fn file(&mut self, place: u64, answered: Answered, wakers: &mut Wakers)
         ensures connects { (p : ℕ) → connect_at self.new.connects p
             ≡ (if nat_eq answered.place p then filed_as place answered.answer (connect_at self.old.connects p)

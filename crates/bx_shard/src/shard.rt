@@ -1,4 +1,4 @@
-//! One shard: the sessions that are placed in it, entry by entry.
+//! One shard: the sessions placed in it, advanced entry by entry.
 ghost use Rattle.std.specs.Prelude.{◌≡◌, ◌≤◌, ℕ, true, None};
 ghost use Rattle.bx_connects.specs.Connects.{connect_at};
 ghost use Rattle.bx_shard.specs.Props.{holds_props};
@@ -15,18 +15,17 @@ use indexmap::IndexMap;
 use std::alloc::{AllocError, Global};
 use std::sync::Arc;
 
-/// One shard of the server: the live sessions that are placed in it, their patterns and held connects, and the answers
-/// that it has filed and that nobody took. It applies the entries of the list one after another; what another shard does
-/// never matters to it.
+/// One shard of the server.
 ///
-/// Contracts see its state by the numbers of sessions and the places of connects.
+/// Has the live sessions placed in it, their patterns and held connects, and the filed answers that
+/// are not taken yet. It applies the entries of the list in order, whatever other shards do.
 #[derive(Drop)]
 pub struct Shard<P> {
     pub(crate) placing: Arc<P>,
     pub(crate) index: usize,
-    // Among how many shards sessions are placed.
+    // Number of shards among which sessions are placed.
     pub(crate) shards: usize,
-    // How many entries it has applied.
+    // Number of applied entries.
     pub(crate) place: u64,
     pub(crate) is_shut: bool,
     pub(crate) sessions: Sessions,
@@ -50,7 +49,9 @@ impl<P: Placing> Shard<P> {
     ghost use Rattle.bx_shard.specs.States.{Applied, IsAsBefore, IsSound, Swept, Watched, WasShut, connect_in, opens_in, session_in, takes_no_memory};
     ghost use Rattle.bx_shard.specs.Seen.{setup_in, state};
 
-    /// The shard of this index, counted from 0, in which no session stands and which has applied nothing.
+    /// Creates shard `index`, without sessions, before the first entry.
+    ///
+    /// `index`: counted from 0.
     pub fn new(alloc: Global, index: usize, config: Config, placing: Arc<P>) -> Shard<P>
         ensures config { result.sessions.config ≡ config }
         ensures placing { arc_value result.placing ≡ arc_value placing }
@@ -71,14 +72,14 @@ impl<P: Placing> Shard<P> {
         }
     }
 
-    /// Which shard it is, counted from 0.
+    /// Returns the shard's index, counted from 0.
     pub fn index(&self) -> usize
         ensures { result ≡ self.now.index }
     {
         self.index
     }
 
-    /// How many entries the shard has applied: the place of the next.
+    /// Returns how many entries the shard has applied: the place of the next one.
     pub fn place(&self) -> u64
         ensures place { result ≡ self.now.place }
         ensures sound { IsSound (state P.place_of self.now) }
@@ -86,13 +87,18 @@ impl<P: Placing> Shard<P> {
         self.place
     }
 
-    /// Applies the next entry of the list, which has at most 2^62. Where memory is refused the shard is as before,
-    /// however many sessions the entry reaches. An unsubscription, a disconnect, a refused message and a tick are never
-    /// refused for memory, unless it is a rider: all that they may take is room in the list of wakers, which wakes at once
-    /// where it has none.
+    /// Applies `entry`, the next entry of the list.
     ///
-    /// The wakers beside connects that are answered are put into the list, each once, and no others: whoever applies entries
-    /// drops the list, which wakes them, once it has let go of the lock that lies round the shard. Where memory is refused none is.
+    /// `entry.place` must be [`place`](Self::place), and less than 2^62. Disconnects, refused
+    /// messages, ticks and unsubscriptions that are not riders never fail.
+    ///
+    /// Moves the wakers of connects that it answers or forgets to `wakers`. Drop that list after
+    /// the shard is unlocked, to wake their tasks. If memory runs out for the list, a task is woken
+    /// at once.
+    ///
+    /// # Errors
+    ///
+    /// `AllocError` if memory runs out; nothing has changed.
     pub fn apply(
         &mut self,
         alloc: Global,
@@ -113,7 +119,7 @@ impl<P: Placing> Shard<P> {
         Ok(())
     }
 
-    // Whether an entry of this kind opens a session that stands in this shard.
+    // Returns `true` if `kind` opens a session that is placed in this shard.
     fn opens_here(&self, kind: &EntryKind) -> bool
         ensures { result ≡ opens_in (setup_in P.place_of self.now) self.now.index kind.now }
     {
@@ -125,7 +131,9 @@ impl<P: Placing> Shard<P> {
         }
     }
 
-    /// The answer that is filed under a ticket, which is taken with that: it is given once.
+    /// Removes and returns the answer filed under `ticket`.
+    ///
+    /// Returns `None` if there is none, or if `ticket` names another shard.
     pub fn take(&mut self, ticket: Ticket) -> Option<Answer>
         ensures answer { result ≡ (if nat_eq ticket.shard self.old.index
             then filed_answer (connect_in (state P.place_of self.old) ticket.place) else None) }
@@ -140,8 +148,9 @@ impl<P: Placing> Shard<P> {
         self.sessions.connects.take(ticket.place)
     }
 
-    /// Some answer that is filed, with the place of the message that it answers; it is taken with that. Which one is left open, and it
-    /// costs the same however many are filed.
+    /// Removes and returns a filed answer, or `None` if there is none.
+    ///
+    /// Which one is unspecified. The cost does not depend on how many are filed.
     pub fn take_any(&mut self) -> Option<Filing>
         ensures filed { IfSome result (λ filing. (session : ℕ)
             × (connect_in (state P.place_of self.old) filing.connect ≡ Some (Filed session filing.place filing.answer))) }
@@ -154,9 +163,11 @@ impl<P: Placing> Shard<P> {
         self.sessions.connects.take_any()
     }
 
-    /// Leaves a waker beside a held connect, to be woken once it is answered, or says why not and gives it back: the
-    /// answer is filed, or no connect of this shard is held under the ticket, or the shard was shut. An older waker of
-    /// the ticket is given back where the new one is stored.
+    /// Registers `waker` with a held connect, and returns the waker that it replaces.
+    ///
+    /// Returns `waker` itself if the answer is filed (`Ready`), no connect of this shard is held
+    /// under `ticket` (`Unknown`), or the shard was shut (`Shut`). Otherwise `waker` is woken once
+    /// the connect is answered.
     pub fn watch(&mut self, ticket: Ticket, waker: Waker) -> Watch
         ensures watch { nat_eq ticket.shard self.old.index ≡ true
             → result ≡ watched self.old.is_shut waker (connect_in (state P.place_of self.old) ticket.place) }
@@ -174,7 +185,7 @@ impl<P: Placing> Shard<P> {
             .watch(ticket.place, waker, self.is_shut)
     }
 
-    /// Drops the answers that were filed by entries below this place and that nobody took, and says how many they were.
+    /// Drops the answers filed by entries before place `before`, and returns how many.
     pub fn sweep(&mut self, before: u64) -> usize
         ensures swept { Swept before (state P.place_of self.old) (state P.place_of self.new) }
         ensures count { result ≡ count_filed_below before self.old.sessions.connects }
@@ -183,8 +194,9 @@ impl<P: Placing> Shard<P> {
         self.sessions.connects.sweep(before)
     }
 
-    /// Stores no waker from here on, and drops those that lie beside held connects, which wakes them. What is filed can still be
-    /// taken.
+    /// Drops all wakers, which wakes their tasks, and stores no more from now on.
+    ///
+    /// Filed answers can still be taken.
     pub fn shut(&mut self)
         ensures shut { WasShut (state P.place_of self.old) (state P.place_of self.new) }
         ensures sound { IsSound (state P.place_of self.new) }
@@ -193,8 +205,11 @@ impl<P: Placing> Shard<P> {
         self.sessions.connects.unwatch_all();
     }
 
-    /// The shard of this index that has applied so many entries and has these sessions, which are such as one has then,
-    /// with their connects: among so many shards, by this placing.
+    /// Creates shard `index` of `shards` from `sessions`, after `place` entries.
+    ///
+    /// `index`: counted from 0. `shards`: 1 to 64. `sessions` must be consistent with their
+    /// patterns and connects. None may have formed more than `place` batches, and no connect at or
+    /// after `place` may be known.
     pub fn resume(
         placing: Arc<P>,
         index: usize,
@@ -221,21 +236,23 @@ impl<P: Placing> Shard<P> {
         }
     }
 
-    /// Its sessions, with their patterns and their connects.
+    /// Returns the shard's sessions, with their patterns and connects.
     pub fn sessions(&self) -> &Sessions
         ensures { result.now ≡ self.now.sessions }
     {
         &self.sessions
     }
 
-    /// Whether it was shut.
+    /// Returns `true` if the shard was shut.
     pub fn is_shut(&self) -> bool
         ensures { result ≡ self.now.is_shut }
     {
         self.is_shut
     }
 
-    /// All that another shard can take over from it: its sessions by their numbers, and its connects.
+    /// Converts the shard into its sessions, by number, and its connects.
+    ///
+    /// Another shard can take them over.
     pub fn into_parts(self) -> (IndexMap<u64, Session>, Connects)
     where
         P: Drop,

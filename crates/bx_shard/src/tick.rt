@@ -1,4 +1,4 @@
-//! A tick, as the sessions of a shard get it.
+//! How the sessions of a shard apply a tick.
 ghost use Rattle.std.specs.Prelude.{◌≡◌, ◌≢◌, ◌==◌, ℕ, Some, None, option_map, if◌then◌else◌, Contains};
 ghost use Rattle.std.specs.List.{list_any};
 ghost use Rattle.bx_entry.specs.Keeping.{after};
@@ -15,8 +15,10 @@ use crate::sessions::Sessions;
 use bx_connects::Wakers;
 
 impl Sessions {
-    /// Ends each hold that ends at this moment or ended before, as a tick at this place of the list does. It costs the
-    /// holds that end, not the sessions that are here. The wakers beside their connects are to be woken.
+    /// Ends each hold whose deadline is at or before `moment`, for the tick at `place`.
+    ///
+    /// `moment`: milliseconds since the server started. Moves the wakers of the answered connects
+    /// to `wakers`. The cost depends on how many holds end, not on how many sessions there are.
     pub(crate) fn end_holds(&mut self, place: u64, moment: u64, wakers: &mut Wakers)
         requires held { AreHeld self.old }
         ensures sessions { (n : ℕ) → kept_in self.new n ≡ option_map (after (expired self.old.config place moment)) (kept_in self.old n) }
@@ -35,7 +37,9 @@ impl Sessions {
         }
     }
 
-    /// Closes these sessions. The wakers beside connects that they still held are to be woken.
+    /// Closes each session of `numbers`.
+    ///
+    /// Moves the wakers of connects that they still held to `wakers`.
     pub(crate) fn close_all(&mut self, numbers: &[u64], wakers: &mut Wakers)
         requires held { AreHeld self.old }
         ensures sessions { (n : ℕ) → kept_in self.new n

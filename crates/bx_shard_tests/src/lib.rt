@@ -1,4 +1,6 @@
-//! Tests of the crates `bx_shard` and `bx_workers`, in a crate of their own: the gate proves a crate once more where it has tests.
+//! Tests of `bx_shard` and `bx_workers`.
+//!
+//! A separate crate, because `.ci/run` proves a crate with tests twice.
 #![tactic(auto)]
 
 #[cfg(test)]

@@ -1,4 +1,4 @@
-//! One shard by what whoever waits for its answers sees: which wakers are woken and when, and which answers are there.
+//! Tests of one shard: which wakers are woken and when, and which answers are there.
 use bx_advice::{Config, Outcome};
 use bx_entry::{ByRemainder, Entry, EntryKind, Rider, Ticket};
 use bx_message::{
@@ -17,7 +17,7 @@ use std::test::Fail;
 // More entries than any test has.
 const MOST_ENTRIES: u64 = 100;
 
-/// What an entry of the list says.
+/// An entry of the list.
 #[derive(Clone, Copy, Debug)]
 pub enum Deed {
     Open(u64),
@@ -25,7 +25,7 @@ pub enum Deed {
     Connect(u64),
     /// A channel; the data is 7.
     Publish(&'static str),
-    /// The same, with a rider of this session.
+    /// A publish with a rider of this session.
     Ride(u64, &'static str),
 }
 
@@ -37,7 +37,7 @@ const HELD: [Deed; 4] = [
     Deed::Connect(1),
 ];
 
-// What answers the connect, by an event at place 4.
+// The answer to the connect, by an event at place 4.
 const ANSWER: &str =
     r#"{"channel":"/a/b","data":7}{"advice":{"interval":0,"reconnect":"retry","timeout":30000},"channel":"/meta/connect","clientId":"000000000000000000000000000000000000000000000001","successful":true}"#;
 
@@ -51,7 +51,7 @@ const BOTH_HELD: [Deed; 6] = [
     Deed::Connect(2),
 ];
 
-// An event for each of them, at places 6 and 7, and a further connect of the first at place 8.
+// An event for each of them, at places 6 and 7, and another connect of the first at place 8.
 const ANSWERS: [Deed; 3] = [
     Deed::Publish("/a/b"),
     Deed::Publish("/b/c"),
@@ -65,7 +65,7 @@ fn subscribe(alloc: Global, session: u64, pattern: &str) -> Result<EntryKind, Fa
     Ok(EntryKind::Subscribe { session, patterns })
 }
 
-// The client id is 32 zeros and the session's number in 16 hexadecimal digits.
+// Creates a connect. The client id is the session's number in 48 hexadecimal digits.
 fn connect(alloc: Global, session: u64) -> Result<EntryKind, AllocError> {
     Ok(EntryKind::Connect {
         session,
@@ -86,7 +86,7 @@ fn publish(alloc: Global, channel: &str) -> Result<EntryKind, Fail> {
     Ok(EntryKind::Publish(SharedEvent::new(alloc, event, name)?))
 }
 
-/// The kind of the entry.
+/// Returns the entry's kind.
 pub fn kind(alloc: Global, deed: Deed) -> Result<EntryKind, Fail> {
     match deed {
         Deed::Open(session) => Ok(EntryKind::Opened {
@@ -99,7 +99,7 @@ pub fn kind(alloc: Global, deed: Deed) -> Result<EntryKind, Fail> {
     }
 }
 
-// The rider of the entry.
+// Returns the entry's rider.
 fn rides(alloc: Global, deed: Deed) -> Result<Option<Rider>, AllocError> {
     let Deed::Ride(session, channel) = deed else {
         return Ok(None);
@@ -117,7 +117,7 @@ fn rides(alloc: Global, deed: Deed) -> Result<Option<Rider>, AllocError> {
     Ok(Some(Rider { session, reply }))
 }
 
-// Applies entries that say this, and gives the wakers of those whose connects are answered by it.
+// Applies `deeds`, and returns the wakers of the connects that they answer.
 fn apply(alloc: Global, shard: &mut Shard<ByRemainder>, deeds: &[Deed]) -> Result<Wakers, Fail> {
     let mut wakers = Wakers::new(alloc);
     for deed in deeds {
@@ -137,7 +137,7 @@ fn apply(alloc: Global, shard: &mut Shard<ByRemainder>, deeds: &[Deed]) -> Resul
     Ok(wakers)
 }
 
-// The only shard, after entries that say this.
+// Creates the only shard, and applies `deeds`.
 fn shard(alloc: Global, deeds: &[Deed]) -> Result<Shard<ByRemainder>, Fail> {
     let config = Config::new(1, 30_000, 0, 10_000).ok_or("no configuration")?;
     let placing = Arc::new(alloc, ByRemainder)?;
@@ -146,12 +146,12 @@ fn shard(alloc: Global, deeds: &[Deed]) -> Result<Shard<ByRemainder>, Fail> {
     Ok(shard)
 }
 
-// The ticket of the connect at this place.
+// Returns the ticket of the connect at `place`.
 fn ticket(place: u64) -> Ticket {
     Ticket { place, shard: 0 }
 }
 
-// A waker of this task.
+// Creates a waker of `task`.
 fn waker(task: &MockTask) -> Result<Waker, Fail> {
     let mut slot = None;
     let source = Source::new();
@@ -161,14 +161,14 @@ fn waker(task: &MockTask) -> Result<Waker, Fail> {
     Ok(slot.ok_or("no waker")?)
 }
 
-// Whether the task was woken since this was asked, or a waker of it was made.
+// Returns `true` if `task` was woken since the last call, or since a waker of it was made.
 fn was_woken(task: &MockTask) -> bool {
     let woken = task.is_woken();
     task.enter(|_cx| ());
     woken
 }
 
-// Has this task wait for the connect at this place.
+// Lets `task` wait for the connect at `place`.
 fn watch(shard: &mut Shard<ByRemainder>, place: u64, task: &MockTask) -> Result<Watch, Fail> {
     Ok(shard.watch(ticket(place), waker(task)?))
 }
@@ -185,7 +185,7 @@ fn check_stored<R: Abort>(
     Ok(())
 }
 
-// These tasks are woken where these wakers are dropped, and not before.
+// Checks that dropping `wakers` wakes `tasks`, and that none is woken before.
 fn check_woken<R: Abort>(rt: &R, wakers: Wakers, tasks: &[&MockTask]) {
     assert_eq!(rt; wakers.len(), tasks.len());
     for task in tasks {
@@ -197,7 +197,7 @@ fn check_woken<R: Abort>(rt: &R, wakers: Wakers, tasks: &[&MockTask]) {
     }
 }
 
-// The answer to the connect at this place, which is taken: the texts of its events and of its reply.
+// Takes the answer to the connect at `place`: the texts of its events and of its reply.
 fn taken(
     alloc: Global,
     shard: &mut Shard<ByRemainder>,
@@ -214,8 +214,8 @@ fn taken(
     Ok(Some(text))
 }
 
-// While the connect at place 3 is held, no answer is given, and a waker is stored; once it is answered, that waker is given
-// to be woken, once, and the answer is given once.
+// Checks that the connect at place 3 has no answer while it is held, and that its waker is stored.
+// Once answered, the waker and the answer are each returned once.
 fn check_answered<R: Abort>(
     rt: &R,
     alloc: Global,
@@ -236,7 +236,7 @@ fn check_answered<R: Abort>(
     Ok(())
 }
 
-// A session that is subscribed, an event that waits for it, and at place 3 a rider of it that publishes another one.
+// A subscribed session, an event that waits for it, and at place 3 a publish with its rider.
 const RIDDEN: [Deed; 4] = [
     Deed::Open(1),
     Deed::Subscribe(1, "/a/*"),
@@ -244,11 +244,11 @@ const RIDDEN: [Deed; 4] = [
     Deed::Ride(1, "/a/c"),
 ];
 
-// What answers the rider.
+// The answer to the rider.
 const RIDE: &str =
     r#"{"channel":"/a/b","data":7}{"channel":"/a/c","data":7}{"channel":"/a/c","successful":true}"#;
 
-// A rider is given what waits and what it publishes itself, once; a connect at place 4 then finds nothing, and waits.
+// Checks that a rider gets, once, the waiting event and its own. A connect at place 4 then waits.
 fn check_ridden<R: Abort>(
     rt: &R,
     alloc: Global,
@@ -263,6 +263,7 @@ fn check_ridden<R: Abort>(
     check_stored(rt, shard, 4, task)
 }
 
+// A rider gets the waiting events.
 #[test]
 fn a_rider_is_given_what_waits(rt: HostRuntime) -> Result<(), Fail> {
     let alloc = rt.alloc();
@@ -270,6 +271,7 @@ fn a_rider_is_given_what_waits(rt: HostRuntime) -> Result<(), Fail> {
     check_ridden(&rt, alloc, &mut shard(alloc, &RIDDEN)?, &task)
 }
 
+// An answer wakes the task that waits for it.
 #[test]
 fn an_answer_wakes_who_waits_for_it(rt: HostRuntime) -> Result<(), Fail> {
     let alloc = rt.alloc();
@@ -277,7 +279,7 @@ fn an_answer_wakes_who_waits_for_it(rt: HostRuntime) -> Result<(), Fail> {
     check_answered(&rt, alloc, &mut shard(alloc, &HELD)?, &task)
 }
 
-// Two connects are answered before the wakers are dropped: both tasks are woken there, and neither before.
+// Checks that two answered connects wake both tasks when the wakers are dropped, and not before.
 fn check_both<R: Abort>(
     rt: &R,
     alloc: Global,
@@ -292,6 +294,7 @@ fn check_both<R: Abort>(
     Ok(())
 }
 
+// Several answers wake all tasks that wait for them.
 #[test]
 fn several_answers_wake_all_who_wait(rt: HostRuntime) -> Result<(), Fail> {
     let alloc = rt.alloc();
@@ -299,8 +302,8 @@ fn several_answers_wake_all_who_wait(rt: HostRuntime) -> Result<(), Fail> {
     check_both(&rt, alloc, &mut shard(alloc, &BOTH_HELD)?, &first, &second)
 }
 
-// A waker of one task, and then one of another, are left for the same connect: the first one comes back, and its task is woken
-// where that is dropped; the other task is woken by the answer.
+// Checks that a second waker for a connect replaces the first. Dropping the first wakes its task;
+// the answer wakes only the other task.
 fn check_replaced<R: Abort>(
     rt: &R,
     alloc: Global,
@@ -324,6 +327,7 @@ fn check_replaced<R: Abort>(
     Ok(())
 }
 
+// A newer waker replaces an older one.
 #[test]
 fn a_newer_waker_replaces_an_older_one(rt: HostRuntime) -> Result<(), Fail> {
     let alloc = rt.alloc();
@@ -331,8 +335,8 @@ fn a_newer_waker_replaces_an_older_one(rt: HostRuntime) -> Result<(), Fail> {
     check_replaced(&rt, alloc, &mut shard(alloc, &HELD)?, &older, &newer)
 }
 
-// Two wakers are stored. Both are woken as the shard is shut, none is stored from then on, and later answers wake nobody
-// and can be taken.
+// Checks that shutting the shard wakes both stored wakers, and that it stores none from then on.
+// Later answers wake no task and can be taken.
 fn check_shut<R: Abort>(
     rt: &R,
     alloc: Global,
@@ -360,6 +364,7 @@ fn check_shut<R: Abort>(
     Ok(())
 }
 
+// Shutting a shard wakes all waiting tasks.
 #[test]
 fn a_shard_that_is_shut_wakes_all(rt: HostRuntime) -> Result<(), Fail> {
     let alloc = rt.alloc();
@@ -367,14 +372,14 @@ fn a_shard_that_is_shut_wakes_all(rt: HostRuntime) -> Result<(), Fail> {
     check_shut(&rt, alloc, &mut shard(alloc, &BOTH_HELD)?, &first, &second)
 }
 
-// Sweeps below each of these places in turn drop so many answers.
+// Sweeps below each place in `sweeps`, and checks the number of answers dropped.
 fn check_sweeps<R: Abort>(rt: &R, shard: &mut Shard<ByRemainder>, sweeps: &[(u64, usize)]) {
     for (before, dropped) in sweeps {
         assert_eq!(rt; shard.sweep(*before), *dropped, "below {before}");
     }
 }
 
-// An answer that no sweep reached, and a connect that is held, are still there.
+// Checks that sweeps keep an answer filed later, and a held connect.
 fn check_kept<R: Abort>(
     rt: &R,
     shard: &mut Shard<ByRemainder>,
@@ -387,6 +392,7 @@ fn check_kept<R: Abort>(
     check_stored(rt, shard, 8, task)
 }
 
+// A sweep drops only answers filed below its place.
 #[test]
 fn a_sweep_drops_what_was_filed_before(rt: HostRuntime) -> Result<(), Fail> {
     let alloc = rt.alloc();
@@ -396,6 +402,7 @@ fn a_sweep_drops_what_was_filed_before(rt: HostRuntime) -> Result<(), Fail> {
     check_kept(&rt, &mut filed, &task)
 }
 
+// A sweep counts the answers that it drops.
 #[test]
 fn a_sweep_counts_what_it_drops(rt: HostRuntime) -> Result<(), Fail> {
     let alloc = rt.alloc();
@@ -408,7 +415,8 @@ fn a_sweep_counts_what_it_drops(rt: HostRuntime) -> Result<(), Fail> {
     Ok(())
 }
 
-// No connect of this shard: another shard's ticket, the place of another entry, and a place that the list has not reached.
+// Checks tickets without a connect in this shard: one of another shard, one of another entry, and
+// one past the list's end.
 fn check_unknown<R: Abort>(
     rt: &R,
     shard: &mut Shard<ByRemainder>,
@@ -428,6 +436,7 @@ fn check_unknown<R: Abort>(
     Ok(())
 }
 
+// No waker is stored for a ticket without a connect.
 #[test]
 fn only_a_connect_of_the_shard_is_waited_for(rt: HostRuntime) -> Result<(), Fail> {
     let alloc = rt.alloc();

@@ -1,4 +1,4 @@
-//! Shards that workers bring up to the end of four entries.
+//! Tests of workers that advance shards to the end of four entries.
 ghost use Rattle.std.specs.Prelude.{◌≡◌, length, IfOk};
 ghost use Rattle.bx_entry.specs.Placings.{all_first};
 ghost use Rattle.bx_shard_tests.specs.Numbered.{AreFresh, AreNumbered};
@@ -15,13 +15,13 @@ use std::sync::atomic::{AtomicBool, AtomicU64, Ordering};
 use std::test::Fail;
 use std::thread::Threads;
 
-// The place of the connect in the list.
+// The place of the connect.
 const CONNECT: u64 = 2;
 
-// How often a worker that is held looks whether it may go on.
+// How often a held worker checks whether it may go on.
 const LOOKS: u32 = 10_000_000;
 
-// Adds an entry of this kind as the next.
+// Appends an entry of `kind`.
 fn add(entries: &mut Vec<Entry>, kind: EntryKind) -> Result<(), AllocError>
     requires { AreNumbered entries.old.items }
     ensures { AreNumbered entries.new.items }
@@ -36,7 +36,7 @@ fn add(entries: &mut Vec<Entry>, kind: EntryKind) -> Result<(), AllocError>
     Ok(())
 }
 
-// A handshake of session 1, its subscription and connect, and a publish that answers the connect.
+// Creates a handshake of session 1, its subscription and connect, and a publish that answers it.
 fn entries(alloc: Global) -> Result<Vec<Entry>, Fail>
     ensures { IfOk result (λ es. AreNumbered es.items) }
 {
@@ -48,7 +48,7 @@ fn entries(alloc: Global) -> Result<Vec<Entry>, Fail>
     Ok(entries)
 }
 
-// So many shards that have applied nothing.
+// Creates `count` shards that have applied no entries.
 fn shards<P: Placing + Drop>(
     alloc: Global,
     placing: &Arc<P>,
@@ -64,7 +64,7 @@ fn shards<P: Placing + Drop>(
     Ok(shards)
 }
 
-// So many shards with this placing that had applied nothing, as these workers left them, and how many stayed behind.
+// Creates `count` shards, advances them, and returns them with how many stayed behind.
 fn brought_up_by<R: Threads + Sync, G: Gate + Sync, P: Placing + Drop + Send + Sync>(
     rt: &R,
     alloc: Global,
@@ -80,7 +80,7 @@ fn brought_up_by<R: Threads + Sync, G: Gate + Sync, P: Placing + Drop + Send + S
     Ok((shards, behind))
 }
 
-// The same with sessions in turn.
+// The same, with sessions placed by remainder.
 fn brought_up<R: Threads + Sync, G: Gate + Sync>(
     rt: &R,
     alloc: Global,
@@ -92,6 +92,7 @@ fn brought_up<R: Threads + Sync, G: Gate + Sync>(
     brought_up_by(rt, alloc, &placing, gate, workers, count)
 }
 
+// Every shard reaches the end, with several numbers of workers and shards.
 #[test]
 fn all_are_brought_up(rt: HostRuntime) -> Result<(), Fail> {
     let alloc = rt.alloc();
@@ -112,7 +113,7 @@ fn all_are_brought_up(rt: HostRuntime) -> Result<(), Fail> {
     Ok(())
 }
 
-// Holds one worker before its work until another has done its own.
+// A gate that holds one worker before its work until another is done.
 #[derive(Drop)]
 struct Holding {
     held: usize,
@@ -141,8 +142,8 @@ impl Gate for Holding {
     }
 }
 
-// No clause says that workers are threads: where all the work is done by the thread that calls `bring_up`, one after
-// another, worker 0 gives up here or worker 1 does.
+// Shows that workers run concurrently, which no clause states. If the thread that calls `bring_up`
+// did all work in turn, worker 0 or worker 1 would give up.
 #[test]
 fn workers_run_beside_one_another(rt: HostRuntime) -> Result<(), Fail> {
     let alloc = rt.alloc();
@@ -159,7 +160,7 @@ fn workers_run_beside_one_another(rt: HostRuntime) -> Result<(), Fail> {
     Ok(())
 }
 
-// Counts the calls of a gate, and adds up 10 to the power of each worker, so that each worker has a digit.
+// A gate that adds 10 to the power of the worker's number at each call: a digit for each worker.
 #[derive(Drop)]
 struct Counting {
     before: AtomicU64,
@@ -185,8 +186,8 @@ impl Gate for Counting {
     }
 }
 
-// No clause says which workers there are: those that have a part of the shards, which are as many in each part but the
-// last. Each passes the gate once.
+// Shows that each worker with a part of the shards passes the gate once, which no clause states.
+// All parts but the last have the same size.
 #[test]
 fn each_worker_passes_the_gate_once(rt: HostRuntime) -> Result<(), Fail> {
     let alloc = rt.alloc();
@@ -211,7 +212,8 @@ fn each_worker_passes_the_gate_once(rt: HostRuntime) -> Result<(), Fail> {
     Ok(())
 }
 
-// Places each session in the first shard, and counts how often it is asked: once for each handshake that a shard applies.
+// A placing of all sessions in the first shard. It counts its calls, one for each handshake that a
+// shard applies.
 #[derive(Drop)]
 struct Asked {
     times: AtomicU64,
@@ -228,7 +230,7 @@ impl Placing for Asked {
     }
 }
 
-// Notes how often the placing was asked before the work, and behind it.
+// A gate that notes how often the placing was called before the work, and after it.
 #[derive(Drop)]
 struct Looking {
     placing: Arc<Asked>,
@@ -248,7 +250,7 @@ impl Gate for Looking {
     }
 }
 
-// How often the placing was asked when a worker passed the gate before its work, and behind it.
+// Returns how often the placing was called before a worker's work, and after it.
 fn asked_at_the_gate<R: Threads + Sync>(rt: &R, alloc: Global) -> Result<(u64, u64), Fail> {
     let times = AtomicU64::new(0);
     let placing = Arc::new(alloc, Asked { times })?;
@@ -264,6 +266,7 @@ fn asked_at_the_gate<R: Threads + Sync>(rt: &R, alloc: Global) -> Result<(u64, u
     ))
 }
 
+// A worker passes the gate before its work and after it.
 #[test]
 fn the_gate_is_passed_before_the_work_and_behind_it(rt: HostRuntime) -> Result<(), Fail> {
     assert_eq!(rt; asked_at_the_gate(&rt, rt.alloc())?, (0, 1));

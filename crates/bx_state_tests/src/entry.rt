@@ -1,4 +1,4 @@
-//! Requests of several documents, and where sessions are placed.
+//! Tests of requests with several documents, of the readers' listener, and of placings.
 use crate::same::same;
 use bx_cut::Bodies;
 use bx_entry::{
@@ -10,7 +10,7 @@ use std::alloc::{AllocError, Global};
 use std::process::Abort;
 use std::test::Fail;
 
-// A request of these documents.
+// Creates a request's bodies from `documents`.
 fn bodies(alloc: Global, documents: &[&str]) -> Result<Bodies, AllocError> {
     let mut texts = Vec::new(alloc);
     for document in documents {
@@ -19,7 +19,7 @@ fn bodies(alloc: Global, documents: &[&str]) -> Result<Bodies, AllocError> {
     Ok(Bodies::Decoded(texts))
 }
 
-// The channels of messages, each followed by a space.
+// Writes the channels of `messages`, each followed by a space.
 fn channels(alloc: Global, messages: &[Message]) -> Result<String, AllocError> {
     let mut found = String::new(alloc);
     for message in messages {
@@ -29,10 +29,10 @@ fn channels(alloc: Global, messages: &[Message]) -> Result<String, AllocError> {
     Ok(found)
 }
 
-// What a request comes to.
+// The result of reading a request.
 #[derive(Clone, Copy, Debug, PartialEq, Eq)]
 enum Found {
-    // So many messages.
+    // The number of messages.
     Messages(usize),
     Fault(BodyError),
 }
@@ -50,7 +50,7 @@ fn read(alloc: Global, documents: &[&str]) -> Result<Found, Fail> {
     found_in(&read_messages(alloc, &bodies(alloc, documents)?))
 }
 
-// The same where the request came by this door.
+// Reads a request that came by `door`.
 fn read_at(alloc: Global, door: Door, documents: &[&str]) -> Result<Found, Fail> {
     let arrival = Arrival {
         moment: 0,
@@ -61,6 +61,7 @@ fn read_at(alloc: Global, door: Door, documents: &[&str]) -> Result<Found, Fail>
     found_in(&arrival.read(alloc))
 }
 
+// Messages keep their order over all documents.
 #[test]
 fn messages_come_in_order(rt: HostRuntime) -> Result<(), Fail> {
     let documents = [
@@ -85,6 +86,7 @@ const FAULTS: [(&str, &str, BodyError); 4] = [
     ),
 ];
 
+// `NotJson` in any document comes before `NotObject`, and that before `NoChannel`.
 #[test]
 fn faults_are_ordered_over_all_documents(rt: HostRuntime) -> Result<(), Fail> {
     for (first, second, fault) in &FAULTS {
@@ -94,7 +96,7 @@ fn faults_are_ordered_over_all_documents(rt: HostRuntime) -> Result<(), Fail> {
     Ok(())
 }
 
-// An array of so many messages.
+// Writes an array of `count` messages.
 fn array_of(alloc: Global, count: usize) -> Result<String, Fail> {
     let mut text = String::from_str(alloc, "[")?;
     for i in 0..count {
@@ -107,7 +109,7 @@ fn array_of(alloc: Global, count: usize) -> Result<String, Fail> {
     Ok(text)
 }
 
-// What so many messages in one document and so many in another come to.
+// Reads a request of two documents, of `first` and `second` messages.
 fn found_in_two(alloc: Global, first: usize, second: usize) -> Result<Found, Fail> {
     let first = array_of(alloc, first)?;
     let second = array_of(alloc, second)?;
@@ -120,6 +122,7 @@ const COUNTS: [(usize, usize, Found); 3] = [
     (257, 0, Found::Fault(BodyError::TooMany)),
 ];
 
+// The limit of messages counts all documents.
 #[test]
 fn messages_are_counted_over_all_documents(rt: HostRuntime) -> Result<(), Fail> {
     for (first, second, wanted) in &COUNTS {
@@ -131,7 +134,7 @@ fn messages_are_counted_over_all_documents(rt: HostRuntime) -> Result<(), Fail> 
 
 const FORBIDDEN: Found = Found::Fault(BodyError::Forbidden);
 
-// Channels, as JSON has them, and what a request of one message to such a one comes to by the readers' door.
+// Channels in JSON, each with the result of a request to it on the readers' listener.
 const CHANNELS: [(&str, Found); 28] = [
     ("/meta/handshake", Found::Messages(1)),
     ("/meta/connect", Found::Messages(1)),
@@ -163,6 +166,7 @@ const CHANNELS: [(&str, Found); 28] = [
     ("a", FORBIDDEN),
 ];
 
+// The readers' listener takes only messages to meta and service channels.
 #[test]
 fn readers_are_let_in_by_channels(rt: HostRuntime) -> Result<(), Fail> {
     let alloc = rt.alloc();
@@ -176,8 +180,8 @@ fn readers_are_let_in_by_channels(rt: HostRuntime) -> Result<(), Fail> {
     Ok(())
 }
 
-// Two documents, and what their request comes to by the publishers' door and by the readers'. A fault of the documents
-// comes first.
+// Two documents, with the result of their request on the publishers' and on the readers' listener.
+// Faults of the documents come first.
 const REQUESTS: [(&str, &str, Found, Found); 18] = [
     ("[]", "[]", Found::Messages(0), Found::Messages(0)),
     (CONNECT, "[]", Found::Messages(1), Found::Messages(1)),
@@ -211,10 +215,11 @@ const SERVICE: &str = "[{\"channel\":\"/service/a\"}]";
 
 const PUBLISH: &str = "{\"channel\":\"/a\"}";
 
-// A message to a channel without a letter.
+// A message to the empty channel.
 const NO_NAME: &str = "[{\"channel\":\"\"}]";
 
-// Three messages, of which the first one is to a broadcast channel, and the same of the others.
+// Three messages, the first of them to a broadcast channel. In the next two constants it is the
+// second and the third.
 const FIRST: &str =
     "[{\"channel\":\"/a\"},{\"channel\":\"/meta/connect\"},{\"channel\":\"/service/a\"}]";
 
@@ -224,6 +229,7 @@ const MIDDLE: &str =
 const LAST: &str =
     "[{\"channel\":\"/meta/connect\"},{\"channel\":\"/service/a\"},{\"channel\":\"/a\"}]";
 
+// The readers' listener refuses a request with any other message.
 #[test]
 fn readers_publish_nothing(rt: HostRuntime) -> Result<(), Fail> {
     for (first, second, at_publishers, at_readers) in &REQUESTS {
@@ -235,9 +241,10 @@ fn readers_publish_nothing(rt: HostRuntime) -> Result<(), Fail> {
     Ok(())
 }
 
-// Publishes, as many as a request may have, and one more.
+// As many publishes as a request may have, and one more, with the results.
 const PUBLISHES: [(usize, Found); 2] = [(256, FORBIDDEN), (257, Found::Fault(BodyError::TooMany))];
 
+// The limit of messages is checked before the listener.
 #[test]
 fn too_many_come_before_the_door(rt: HostRuntime) -> Result<(), Fail> {
     for (count, wanted) in &PUBLISHES {
@@ -254,6 +261,7 @@ fn check_place<P: Placing>(rt: &impl Abort, placing: &P, places: &[(u64, usize)]
     }
 }
 
+// Shows the shards that each placing chooses.
 #[test]
 fn places_by_rule(rt: HostRuntime) -> Result<(), Fail> {
     check_place(&rt, &ByRemainder, &[(1, 1), (2, 0)]);

@@ -1,5 +1,6 @@
-//! Tests of the crates that keep what requests have changed, in a crate of their own: the gate proves a crate once more where it has
-//! tests.
+//! Tests of requests, the registry, sessions, windows and the pattern tree.
+//!
+//! A separate crate, because `.ci/run` proves a crate with tests twice.
 #![tactic(auto)]
 
 #[cfg(test)]

@@ -1,4 +1,4 @@
-//! Plans by what they say of entries and answers.
+//! Tests of the registry: its plans, and what commits change.
 ghost use Rattle.bx_registry.specs.Standings.{LeadsTo};
 
 use crate::same::same;
@@ -10,7 +10,7 @@ use std::alloc::{AllocError, Global};
 use std::process::Abort;
 use std::test::Fail;
 
-/// A message to a channel with this client id, and nothing else.
+/// Creates a message to `channel` with client id `client` and no other members.
 pub fn message(alloc: Global, channel: &str, client: TextMember) -> Result<Message, AllocError> {
     Ok(Message {
         channel: Text::new(alloc, channel)?,
@@ -28,7 +28,7 @@ pub fn message(alloc: Global, channel: &str, client: TextMember) -> Result<Messa
     })
 }
 
-/// A handshake.
+/// Creates a handshake.
 pub fn hello(alloc: Global) -> Result<Message, AllocError> {
     let mut hello = message(alloc, "/meta/handshake", TextMember::Absent)?;
     hello.version = TextMember::Text(Text::new(alloc, "1.0")?);
@@ -36,11 +36,11 @@ pub fn hello(alloc: Global) -> Result<Message, AllocError> {
     Ok(hello)
 }
 
-// What is answered to the first handshake of a server.
+// The reply to a server's first handshake.
 const OPENED: &[u8] =
     br#"{"advice":{"interval":0,"reconnect":"retry","timeout":30000},"channel":"/meta/handshake","clientId":"000000000000000000000000000000000000000000000001","successful":true,"supportedConnectionTypes":["long-polling","callback-polling"],"version":"1.0"}"#;
 
-/// A server that takes so many sessions, of which the shard of each tells the number.
+/// Returns a configuration for at most `sessions` sessions, in 64 shards.
 pub fn config(sessions: usize) -> Config {
     Config {
         shards: 64,
@@ -60,7 +60,7 @@ pub fn config(sessions: usize) -> Config {
     }
 }
 
-// How the first message is answered; a connect that waits has no case.
+// Returns the outcome of the first message, or `None` if it waits.
 fn case_of(plan: &Plan) -> Option<Outcome> {
     match plan.slots.as_slice().first() {
         Some(Slot::Ready(reply)) => Some(reply.outcome),
@@ -68,7 +68,7 @@ fn case_of(plan: &Plan) -> Option<Outcome> {
     }
 }
 
-// The reply to the first message, as a client gets it; nothing where it waits.
+// Returns the text of the first message's reply, or an empty one if the message waits.
 fn first_reply(alloc: Global, plan: &Plan) -> Result<Vec<u8>, AllocError> {
     match plan.slots.as_slice().first() {
         Some(Slot::Ready(reply)) => reply_text(alloc, reply),
@@ -76,7 +76,7 @@ fn first_reply(alloc: Global, plan: &Plan) -> Result<Vec<u8>, AllocError> {
     }
 }
 
-/// Commits what was planned at this registry.
+/// Commits `plan`, made for `registry`.
 pub fn commit(registry: &mut Registry, plan: Plan)
     requires { LeadsTo registry.old plan.change plan.elements }
 {
@@ -88,7 +88,7 @@ pub fn commit(registry: &mut Registry, plan: Plan)
     registry.commit(change, &elements);
 }
 
-// Plans and commits a handshake, and says how it is answered.
+// Plans and commits a handshake, and returns its outcome.
 fn open(
     alloc: Global,
     registry: &mut Registry,
@@ -101,7 +101,7 @@ fn open(
     Ok(outcome)
 }
 
-// Plans and commits a tick, and answers the numbers of the sessions that it closes.
+// Plans and commits a tick, and returns the numbers of the sessions that it closes.
 fn tick(alloc: Global, registry: &mut Registry, moment: u64) -> Result<Sequence<u64>, AdmitFault> {
     let Plan {
         batch,
@@ -120,7 +120,7 @@ fn tick(alloc: Global, registry: &mut Registry, moment: u64) -> Result<Sequence<
     }
 }
 
-// The plan of a first handshake.
+// Checks the plan of the first handshake.
 fn check_plan(rt: &impl Abort, alloc: Global, plan: &Plan) -> Result<(), Fail> {
     same(rt, plan.batch.first, 0, "place");
     same(rt, plan.batch.entries.len(), 1, "entries");
@@ -135,7 +135,7 @@ fn plan_of_first(alloc: Global, registry: &mut Registry) -> Result<Plan, AdmitFa
     registry.plan(alloc, &ByRemainder, 0, 0, messages.as_slice())
 }
 
-// A plan that is not committed.
+// Checks that a plan changes nothing until it is committed.
 fn check_unchanged(rt: &impl Abort, alloc: Global, registry: &mut Registry) -> Result<(), Fail> {
     check_plan(rt, alloc, &plan_of_first(alloc, registry)?)?;
     same(rt, registry.entries(), 0, "entries");
@@ -143,7 +143,7 @@ fn check_unchanged(rt: &impl Abort, alloc: Global, registry: &mut Registry) -> R
     Ok(())
 }
 
-// A tick at this moment closes the sessions with these numbers.
+// Checks that a tick at `moment` closes the sessions `wanted`.
 fn check_tick(
     rt: &impl Abort,
     alloc: Global,
@@ -169,12 +169,12 @@ fn check_closed(rt: &impl Abort, alloc: Global, registry: &mut Registry) -> Resu
     Ok(())
 }
 
-// Why a request without messages is refused at this moment, if it is.
+// Returns why a request without messages is refused at `moment`, if it is.
 fn fault_at(alloc: Global, registry: &mut Registry, moment: u64) -> Option<AdmitFault> {
     registry.plan(alloc, &ByRemainder, moment, 0, &[]).err()
 }
 
-// Where the entry of a tick at this moment would stand.
+// Returns the place that a tick at `moment` would get.
 fn place_of_tick(alloc: Global, registry: &mut Registry, moment: u64) -> Result<u64, AdmitFault> {
     match &registry.plan_tick(alloc, moment) {
         Ok(plan) => Ok(plan.batch.first),
@@ -213,24 +213,28 @@ fn check_room(rt: &impl Abort, alloc: Global, registry: &mut Registry) -> Result
     Ok(())
 }
 
+// A plan changes nothing until it is committed.
 #[test]
 fn a_plan_changes_nothing(rt: HostRuntime) -> Result<(), Fail> {
     let alloc = rt.alloc();
     check_unchanged(&rt, alloc, &mut Registry::new(alloc, config(2))?)
 }
 
+// A handshake opens a session, and a tick closes it.
 #[test]
 fn a_session_is_opened_and_closed(rt: HostRuntime) -> Result<(), Fail> {
     let alloc = rt.alloc();
     check_closed(&rt, alloc, &mut Registry::new(alloc, config(2))?)
 }
 
+// Moments after the greatest are refused.
 #[test]
 fn moments_have_an_end(rt: HostRuntime) -> Result<(), Fail> {
     let alloc = rt.alloc();
     check_moments(&rt, alloc, &mut Registry::new(alloc, config(1))?)
 }
 
+// The standard limit of sessions is exact.
 #[test]
 fn there_is_room_for_the_standard_limit(rt: HostRuntime) -> Result<(), Fail> {
     let alloc = rt.alloc();

@@ -1,4 +1,4 @@
-//! Which message of a request is a rider, and how each of them is answered.
+//! Tests of riders: which message of a request is one, and how messages are answered.
 use crate::registry::{commit, config, hello, message};
 use crate::same::same;
 use bx_advice::Options;
@@ -9,12 +9,12 @@ use std::alloc::{AllocError, Global};
 use std::process::Abort;
 use std::test::Fail;
 
-// A message of the session with this number. Sessions 1 and 2 are live, and so is session 3, which acknowledges.
+// A message, with its session's number. Sessions 1 to 3 are live, and 3 acknowledges.
 #[derive(Clone, Copy, Debug)]
 enum Sent {
-    // A handshake, which is of no session yet.
+    // A handshake, which has no session yet.
     Hello,
-    // A publish of no session.
+    // A sessionless publish.
     Anonymous,
     Connect(u64),
     Subscribe(u64),
@@ -23,7 +23,8 @@ enum Sent {
     Disconnect(u64),
 }
 
-// Requests with how their messages are answered, and the riders among them. The first message of a request has the place 3.
+// Requests, each with how its messages are answered and with its riders. The first entry of a
+// request is at place 3.
 const REQUESTS: [(&[Sent], &str); 18] = [
     (&[Sent::Publish(1)], "waits 3/1; 3 rides 1 /a;"),
     (
@@ -60,7 +61,7 @@ const REQUESTS: [(&[Sent], &str); 18] = [
     (&[], ""),
 ];
 
-// The client id of the session with this number, of one digit, as a handshake with the nonce 0 gives it.
+// Returns the client id of `session`, from 1 to 9, as opened with nonce 0.
 fn client(alloc: Global, session: u64) -> Result<TextMember, AllocError> {
     let id = format!(in alloc; "00000000000000000000000000000000000000000000000{session}")?;
     Ok(TextMember::Text(Text::new(alloc, id.as_str())?))
@@ -72,7 +73,7 @@ fn publish(alloc: Global, client: TextMember) -> Result<Message, AllocError> {
     Ok(publish)
 }
 
-// A subscription or an unsubscription.
+// Creates a message that subscribes or unsubscribes, depending on `channel`.
 fn subscription(alloc: Global, channel: &str, session: u64) -> Result<Message, AllocError> {
     let mut subscription = message(alloc, channel, client(alloc, session)?)?;
     subscription.texts.push(Text::new(alloc, "/a/*")?)?;
@@ -100,7 +101,7 @@ fn to_messages(alloc: Global, sent: &[Sent]) -> Result<Vec<Message>, AllocError>
     Ok(messages)
 }
 
-// Opens a session that acknowledges or does not.
+// Opens a session whose handshake has `ack`.
 fn open(alloc: Global, registry: &mut Registry, ack: AckMember) -> Result<(), Fail> {
     let mut message = hello(alloc)?;
     message.ack = ack;
@@ -109,7 +110,7 @@ fn open(alloc: Global, registry: &mut Registry, ack: AckMember) -> Result<(), Fa
     Ok(())
 }
 
-// A server with sessions 1 to 3, of which the last acknowledges.
+// Creates a registry with sessions 1 to 3, of which the last acknowledges.
 fn registry(alloc: Global, options: Options) -> Result<Registry, Fail> {
     let mut registry = Registry::new(alloc, config(9).with(options))?;
     open(alloc, &mut registry, AckMember::NoAck)?;
@@ -118,7 +119,7 @@ fn registry(alloc: Global, options: Options) -> Result<Registry, Fail> {
     Ok(registry)
 }
 
-// The shard tells the number of the session.
+// Writes how a message is answered. The shard of a ticket equals its session's number.
 fn push_slot(alloc: Global, slot: &Slot, text: &mut String) -> Result<(), AllocError> {
     match slot {
         Slot::Ready(_) => text.push_str("ready; "),
@@ -128,7 +129,7 @@ fn push_slot(alloc: Global, slot: &Slot, text: &mut String) -> Result<(), AllocE
     }
 }
 
-// Writes the rider that an entry is, if it is one, with the channel of its reply.
+// Writes the rider of `entry`, if any, with the channel of its reply.
 fn push_rider(alloc: Global, entry: &Entry, text: &mut String) -> Result<(), AllocError> {
     if let Some(rider) = &entry.rides {
         let place = entry.place;
@@ -140,7 +141,7 @@ fn push_rider(alloc: Global, entry: &Entry, text: &mut String) -> Result<(), All
     Ok(())
 }
 
-// How the messages are answered, and the riders among them.
+// Writes how the messages of `plan` are answered, and then its riders.
 fn told(alloc: Global, plan: &Plan) -> Result<String, AllocError> {
     let mut text = String::new(alloc);
     for slot in plan.slots.as_slice() {
@@ -152,7 +153,7 @@ fn told(alloc: Global, plan: &Plan) -> Result<String, AllocError> {
     Ok(text)
 }
 
-// What a request of these messages comes to, as text.
+// Plans a request of `sent`, and writes the plan.
 fn told_of(alloc: Global, registry: &mut Registry, sent: &[Sent]) -> Result<String, Fail> {
     let messages = to_messages(alloc, sent)?;
     let plan = registry.plan(alloc, &ByRemainder, 0, 0, messages.as_slice())?;
@@ -171,6 +172,7 @@ fn check_request(
     Ok(())
 }
 
+// Shows which messages are riders.
 #[test]
 fn the_last_message_of_one_session_rides(rt: HostRuntime) -> Result<(), Fail> {
     let alloc = rt.alloc();
@@ -185,6 +187,7 @@ fn the_last_message_of_one_session_rides(rt: HostRuntime) -> Result<(), Fail> {
     Ok(())
 }
 
+// There are no riders unless `ride` is set.
 #[test]
 fn no_message_rides_unless_it_is_asked_for(rt: HostRuntime) -> Result<(), Fail> {
     let alloc = rt.alloc();

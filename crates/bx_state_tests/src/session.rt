@@ -1,4 +1,4 @@
-//! One session by what its client sees.
+//! Tests of one session, by the answers that its client gets.
 ghost use Rattle.std.specs.Prelude.{◌≡◌, IfOk, false};
 ghost use Rattle.bx_tree.specs.Patterns.{patterns_of};
 
@@ -12,14 +12,14 @@ use std::alloc::{AllocError, Global};
 use std::process::Abort;
 use std::test::Fail;
 
-// No test forms more batches.
+// More batches than any test forms.
 const MANY: u64 = 1_000_000;
 
 #[derive(Clone, Copy, Debug)]
 enum Step {
-    // Events with consecutive numbers as their data: the first number, and how many.
+    // Events with consecutive numbers as data: the first number, and how many events.
     Publish(u64, u64),
-    // The number that a connect acknowledges, its moment and its hold.
+    // The batch number that a connect acknowledges, its moment and its hold.
     Connect(Option<u64>, u64, u64),
     Tick(u64),
     Close,
@@ -29,13 +29,13 @@ fn config() -> Result<Config, Fail> {
     Ok(Config::new(1, 30_000, 0, 10_000).ok_or("no configuration")?)
 }
 
-// The number as JSON.
+// Writes `number` as JSON.
 fn json(alloc: Global, number: u64) -> Result<RawJson, AllocError> {
     let text = format!(in alloc; "{number}")?;
     RawJson::new(alloc, text.as_str())
 }
 
-/// An event with this number as its data.
+/// Creates an event with `number` as its data.
 pub fn event(alloc: Global, number: u64) -> Result<SharedEvent, Fail> {
     let name = ChannelName::read(alloc, "/a/b")?;
     let channel = Text::new(alloc, "/a/b")?;
@@ -48,7 +48,7 @@ pub fn event(alloc: Global, number: u64) -> Result<SharedEvent, Fail> {
     Ok(SharedEvent::new(alloc, event, name)?)
 }
 
-// The numbers of the events of an answer.
+// Returns the numbers in the events of an answer.
 fn numbers(alloc: Global, answered: &Answered) -> Result<Vec<u64>, Fail> {
     let mut numbers = Vec::new(alloc);
     for event in answered.answer.events.as_slice() {
@@ -58,7 +58,7 @@ fn numbers(alloc: Global, answered: &Answered) -> Result<Vec<u64>, Fail> {
     Ok(numbers)
 }
 
-// Writes an answer as its place, its outcome, its `ack` and its events.
+// Writes an answer: its place, its outcome, its `ack` and its events.
 fn push_text(alloc: Global, answered: &Answered, text: &mut String) -> Result<(), Fail> {
     let outcome = match answered.answer.reply.outcome {
         Outcome::Connected => "ok",
@@ -81,7 +81,7 @@ fn push_ack(alloc: Global, ack: AckReply, text: &mut String) -> Result<(), Alloc
     }
 }
 
-/// Writes how many numbers there are, and the first and the last of them.
+/// Writes the length of `numbers`, and the first and the last of them.
 pub fn push_numbers(alloc: Global, numbers: &[u64], text: &mut String) -> Result<(), AllocError> {
     let count = numbers.len();
     match numbers {
@@ -116,7 +116,7 @@ fn push_delivery(answers: &mut Vec<Answered>, delivery: Delivery) -> Result<(), 
     }
 }
 
-// A connect at this place, moment and hold.
+// Creates a connect with this place, moment and hold.
 fn pending(
     alloc: Global,
     (place, moment, hold): (u64, u64, u64),
@@ -158,7 +158,7 @@ fn publish(
     push_delivery(answers, session.deliver(config, place, event, further))
 }
 
-// So many events with consecutive numbers.
+// Publishes `count` events with consecutive numbers, from `first` on.
 fn publish_all(
     alloc: Global,
     config: &Config,
@@ -195,7 +195,7 @@ fn apply(
     }
 }
 
-// What a step at this place is answered.
+// Applies `step` at `place`, and returns the answers.
 fn answers_to(
     alloc: Global,
     session: &mut Session,
@@ -208,7 +208,7 @@ fn answers_to(
     Ok(answers)
 }
 
-// Answers as text.
+// Writes `answers`.
 fn text_of(alloc: Global, answers: &[Answered]) -> Result<String, Fail> {
     let mut text = String::new(alloc);
     for answered in answers {
@@ -217,12 +217,12 @@ fn text_of(alloc: Global, answers: &[Answered]) -> Result<String, Fail> {
     Ok(text)
 }
 
-// What a step at this place is answered, as text.
+// Applies `step` at `place`, and writes the answers.
 fn told(alloc: Global, session: &mut Session, place: u64, step: Step) -> Result<String, Fail> {
     text_of(alloc, &answers_to(alloc, session, place, step)?)
 }
 
-// A step at this place is answered by this text.
+// Checks the answers to `step` at `place`.
 fn check_told(
     rt: &impl Abort,
     alloc: Global,
@@ -236,7 +236,7 @@ fn check_told(
     Ok(())
 }
 
-// What a session says of itself.
+// A property of a session and its expected value.
 #[derive(Clone, Copy, Debug)]
 enum Says {
     Number(u64),
@@ -256,7 +256,7 @@ fn check_says(rt: &impl Abort, session: &Session, says: Says) {
     }
 }
 
-// Applies the steps at places from 0 on, compares what each is answered, and then what the session says of itself.
+// Applies `steps` at places from 0 on, and checks each step's answers. Then checks `says`.
 fn run_in(
     rt: &impl Abort,
     alloc: Global,
@@ -275,7 +275,7 @@ fn run_in(
     Ok(())
 }
 
-// The same with session 7, which acknowledges or does not.
+// Runs `steps` in session 7, which acknowledges if `ack`.
 fn run(
     rt: &impl Abort,
     alloc: Global,
@@ -306,6 +306,7 @@ const BATCHES: [(Step, &str); 14] = [
     (Step::Connect(Some(5), 0, 9), "13 ok ack 6 44: 262..305;"),
 ];
 
+// Batches are sent again until they are acknowledged.
 #[test]
 fn batches_are_given_until_they_are_acknowledged(rt: HostRuntime) -> Result<(), Fail> {
     let says = [Says::Number(7), Says::LastBatch(6)];
@@ -322,6 +323,7 @@ const PLAIN: [(Step, &str); 7] = [
     (Step::Connect(None, 0, 0), "6 ok plain 0: none;"),
 ];
 
+// A plain session drops the events that it sends.
 #[test]
 fn plain_sessions_forget_what_they_give(rt: HostRuntime) -> Result<(), Fail> {
     run(&rt, rt.alloc(), false, &PLAIN, &[])
@@ -342,6 +344,7 @@ const HOLDS: [(Step, &str); 9] = [
     (Step::Connect(None, 3_000, 500), ""),
 ];
 
+// A hold ends by a tick, by another connect or by a disconnect.
 #[test]
 fn holds_end(rt: HostRuntime) -> Result<(), Fail> {
     run(&rt, rt.alloc(), true, &HOLDS, &[Says::Held(true)])
@@ -364,13 +367,14 @@ const OVERFLOW: [(Step, &str); 8] = [
     ),
 ];
 
+// An overflow drops all events, and later connects fail.
 #[test]
 fn overflows_drop_the_events(rt: HostRuntime) -> Result<(), Fail> {
     let says = [Says::Overflowed(true), Says::Patterns(0)];
     run(&rt, rt.alloc(), true, &OVERFLOW, &says)
 }
 
-// Patterns with consecutive numbers in their texts.
+// Creates `count` patterns with consecutive numbers, from `first` on.
 fn patterns(alloc: Global, first: u64, count: u64) -> Result<Vec<Pattern>, Fail> {
     let mut patterns = Vec::new(alloc);
     for i in 0..count {
@@ -384,7 +388,8 @@ fn pattern(alloc: Global, number: u64) -> Result<Pattern, Fail> {
     Ok(Pattern::read(alloc, text.as_str())?)
 }
 
-// A subscription to so many patterns from this number on, and whether the session overflows by it. The tree has what is in force.
+// Subscribes to `count` patterns from `first` on, and returns `true` if the session has overflowed.
+// `tree` has the active patterns.
 fn subscribe(
     alloc: Global,
     session: &mut Session,
@@ -404,7 +409,7 @@ fn subscribe(
     Ok(session.subscribe(&config, patterns.as_slice(), fresh))
 }
 
-// An unsubscription.
+// Unsubscribes from `patterns`.
 fn unsubscribe(session: &mut Session, tree: &mut Tree, patterns: &[Pattern])
     requires tied { patterns_of tree.old 7 ≡ session.old.kept.patterns }
     ensures tied { patterns_of tree.new 7 ≡ session.new.kept.patterns }
@@ -413,7 +418,7 @@ fn unsubscribe(session: &mut Session, tree: &mut Tree, patterns: &[Pattern])
     session.unsubscribe(patterns, gone);
 }
 
-// As many patterns are in force as may be, one goes and another comes.
+// Subscribes to as many patterns as are allowed, and replaces one of them.
 fn reach_the_limit(
     rt: &impl Abort,
     alloc: Global,
@@ -437,7 +442,7 @@ fn reach_the_limit(
     Ok(())
 }
 
-// There is one pattern more than may be.
+// Subscribes to one pattern more than is allowed, which makes the session overflow.
 fn pass_the_limit(
     rt: &impl Abort,
     alloc: Global,
@@ -454,7 +459,7 @@ fn pass_the_limit(
     Ok(())
 }
 
-// A connect is held while its session overflows by patterns.
+// Checks that a held connect stays held when patterns make the session overflow.
 fn check_limit(rt: &impl Abort, alloc: Global, session: &mut Session) -> Result<(), Fail> {
     check_told(rt, alloc, session, 3, Step::Connect(None, 0, 9), "")?;
     if session.patterns() != 0 {
@@ -466,13 +471,14 @@ fn check_limit(rt: &impl Abort, alloc: Global, session: &mut Session) -> Result<
     check_told(rt, alloc, session, 6, Step::Connect(None, 9, 9), refused)
 }
 
+// Too many patterns leave a connect held.
 #[test]
 fn patterns_past_their_limit_leave_a_connect_held(rt: HostRuntime) -> Result<(), Fail> {
     let alloc = rt.alloc();
     check_limit(&rt, alloc, &mut Session::open(alloc, 7, true))
 }
 
-// The reply to a connect that a disconnect ended.
+// Checks the reply to a connect that a disconnect ended.
 fn check_reply(rt: &impl Abort, reply: &Reply) -> Result<(), Fail> {
     same(rt, reply.channel.as_str(), "/meta/connect", "channel");
     match (&reply.client, &reply.id, reply.advice) {
@@ -494,14 +500,15 @@ fn check_closed(rt: &impl Abort, alloc: Global, session: &mut Session) -> Result
     }
 }
 
+// The reply to a connect has the connect's client id and id.
 #[test]
 fn replies_repeat_what_the_connect_had(rt: HostRuntime) -> Result<(), Fail> {
     let alloc = rt.alloc();
     check_closed(&rt, alloc, &mut Session::open(alloc, 7, true))
 }
 
-// What a client knows of an acknowledging session: which event it is to get next, the first of those that
-// it hasn't acknowledged, and the number and length of the last batch that it got.
+// An acknowledging session as its client sees it: the next event to publish, the first event not
+// acknowledged, and the number and length of the last batch.
 #[derive(Drop)]
 struct Seen {
     published: u64,
@@ -510,7 +517,7 @@ struct Seen {
     out: u64,
 }
 
-// The events are consecutive from this one on; says which would be next.
+// Checks that `events` are consecutive from `first` on, and returns the number after the last.
 fn follow(rt: &impl Abort, events: &[u64], first: u64, place: u64) -> u64 {
     let mut next = first;
     for event in events {
@@ -521,7 +528,7 @@ fn follow(rt: &impl Abort, events: &[u64], first: u64, place: u64) -> u64 {
 }
 
 impl Seen {
-    // The client acknowledges this number: all that it was given, or nothing.
+    // Acknowledges batch `acked`: all events of the last batch, or none.
     fn acknowledges(&mut self, acked: Option<u64>) {
         if let Some(number) = acked
             && number >= self.number
@@ -531,8 +538,8 @@ impl Seen {
         }
     }
 
-    // An answer has the first of the events that are not acknowledged, in order, and the outstanding batch
-    // again where there is one.
+    // Checks that an answer with a batch number has the first events not acknowledged, in order. An
+    // outstanding batch must come again.
     fn gets(&mut self, rt: &impl Abort, alloc: Global, answered: &Answered) -> Result<(), Fail> {
         if let AckReply::AckNumber(number) = answered.answer.reply.ack {
             let events = numbers(alloc, answered)?;
@@ -542,7 +549,7 @@ impl Seen {
         Ok(())
     }
 
-    // The batch of this number ends before this event.
+    // Checks batch `number`, which ends before event `next`.
     fn gets_batch(&mut self, rt: &impl Abort, number: u64, next: u64, place: u64) {
         let count = next.saturating_sub(self.done);
         same(rt, next <= self.published, true, place);
@@ -558,8 +565,9 @@ impl Seen {
     }
 }
 
-// The step that a random number chooses: half of them publish, and a connect acknowledges nothing, too
-// little, what it was given, or the greatest number.
+// Returns the step that `random` chooses. While fewer than 900 events are unacknowledged, half of
+// the steps publish. A connect acknowledges no batch, the last one, the one before it or the
+// greatest number.
 fn step_of(random: u64, seen: &Seen, place: u64) -> Step {
     let acked = match random / 16 % 4 {
         0 => None,
@@ -576,7 +584,7 @@ fn step_of(random: u64, seen: &Seen, place: u64) -> Step {
     }
 }
 
-// A step at this place, as the client sees it.
+// Applies `step` at `place`, and checks the answers as the client sees them.
 fn see(
     rt: &impl Abort,
     alloc: Global,
@@ -605,7 +613,7 @@ fn see_all(
     Ok(())
 }
 
-// 10,000 random steps.
+// Applies and checks 10,000 random steps.
 fn see_steps(
     rt: &impl Abort,
     alloc: Global,
@@ -623,6 +631,7 @@ fn see_steps(
     Ok(())
 }
 
+// Each event is acknowledged once, in order.
 #[test]
 fn each_event_comes_once_and_in_order(rt: HostRuntime) -> Result<(), Fail> {
     let alloc = rt.alloc();

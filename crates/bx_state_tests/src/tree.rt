@@ -1,4 +1,4 @@
-//! Patterns put in force, found and taken out of force, alone and in crowds.
+//! Tests of the pattern tree: patterns added, found and removed, a few and thousands of them.
 ghost use Rattle.std.specs.Prelude.{◌<◌};
 
 use crate::same::same;
@@ -8,7 +8,7 @@ use std::alloc::{AllocError, Global};
 use std::process::Abort;
 use std::test::Fail;
 
-// The patterns with these texts.
+// Reads patterns from `texts`.
 fn read_all(alloc: Global, texts: &[&str]) -> Result<Vec<Pattern>, Fail> {
     let mut patterns = Vec::new(alloc);
     for text in texts {
@@ -17,7 +17,7 @@ fn read_all(alloc: Global, texts: &[&str]) -> Result<Vec<Pattern>, Fail> {
     Ok(patterns)
 }
 
-// The texts of the patterns, each with a blank behind it.
+// Writes `patterns`, each followed by a space.
 fn texts_of(alloc: Global, patterns: &[Pattern]) -> Result<String, AllocError> {
     let mut all = String::new(alloc);
     for pattern in patterns {
@@ -27,13 +27,13 @@ fn texts_of(alloc: Global, patterns: &[Pattern]) -> Result<String, AllocError> {
     Ok(all)
 }
 
-// Whether the patterns of a number have these texts, each with a blank behind it.
+// Returns `true` if the patterns of `number` are `texts`, each followed by a space.
 fn has_texts(alloc: Global, tree: &Tree, number: u64, texts: &str) -> Result<bool, AllocError> {
     let patterns = tree.patterns(alloc, number)?;
     Ok(texts_of(alloc, &patterns)?.as_str() == texts)
 }
 
-// Puts `/a/*` and `/a/**` in force for 1, and `/a/b` for 2.
+// Adds `/a/*` and `/a/**` for 1, and `/a/b` for 2.
 fn plant(alloc: Global, tree: &mut Tree) -> Result<(), Fail> {
     for (text, number) in [("/a/*", 1), ("/a/**", 1), ("/a/b", 2)] {
         tree.add(alloc, &Pattern::read(alloc, text)?, number)?;
@@ -41,7 +41,7 @@ fn plant(alloc: Global, tree: &mut Tree) -> Result<(), Fail> {
     Ok(())
 }
 
-// Names below `/a` and beside it, with the numbers that are found for them and the most lists that are reached.
+// Names under `/a` and elsewhere, with the numbers found for them and the most lists visited.
 const FINDS: [(&str, &[u64], usize); 7] = [
     ("/a/b", &[1, 2], 9),
     ("/a/c", &[1], 9),
@@ -52,7 +52,7 @@ const FINDS: [(&str, &[u64], usize); 7] = [
     ("/ab/b", &[], 9),
 ];
 
-// These numbers are found for a name, in no more lists than that.
+// Checks that a search for `name` finds `numbers` and visits at most `most` lists.
 fn assert_find(
     rt: &impl Abort,
     alloc: Global,
@@ -75,7 +75,7 @@ fn assert_finds(rt: &impl Abort, alloc: Global, tree: &Tree) -> Result<(), Fail>
     Ok(())
 }
 
-// Takes a pattern out, and says whether it was there, where `has` and `remove` agree on that.
+// Removes a pattern, and returns `true` if it was there. Fails if `has` and `remove` disagree.
 fn remove(alloc: Global, tree: &mut Tree, text: &str, number: u64) -> Result<bool, Fail> {
     let pattern = Pattern::read(alloc, text)?;
     let is_there = tree.has(&pattern, number);
@@ -86,7 +86,8 @@ fn remove(alloc: Global, tree: &mut Tree, text: &str, number: u64) -> Result<boo
     }
 }
 
-// Patterns that are taken out, whether they are there, which of 1 are left then, and for whom `/a/b` is found.
+// Patterns to remove and whether they are there; the patterns then left for 1, and the numbers
+// found for `/a/b`.
 const REMOVES: [(&str, u64, bool, &str, &[u64]); 4] = [
     ("/a/**", 2, false, "/a/* /a/** ", &[1, 2]),
     ("/a/*", 1, true, "/a/** ", &[1, 2]),
@@ -94,7 +95,7 @@ const REMOVES: [(&str, u64, bool, &str, &[u64]); 4] = [
     ("/a/**", 1, true, "", &[2]),
 ];
 
-// Takes patterns out one by one, and checks which of 1 are left and who is found.
+// Removes patterns one by one, and checks what `REMOVES` expects.
 fn assert_removes(rt: &impl Abort, alloc: Global, tree: &mut Tree) -> Result<(), Fail> {
     for (text, number, is_there, left, found) in &REMOVES {
         let was_there = remove(alloc, tree, *text, *number)?;
@@ -105,7 +106,7 @@ fn assert_removes(rt: &impl Abort, alloc: Global, tree: &mut Tree) -> Result<(),
     Ok(())
 }
 
-// Adds a pattern for a number, which has one pattern then. Says whether it was added.
+// Adds `pattern` for `number`, which then has one pattern. Returns `true` if it was added.
 fn add(alloc: Global, tree: &mut Tree, pattern: &Pattern, number: u64) -> Result<bool, Fail> {
     let is_added = tree.add(alloc, pattern, number)?;
     if tree.count(number) == 1 {
@@ -115,7 +116,7 @@ fn add(alloc: Global, tree: &mut Tree, pattern: &Pattern, number: u64) -> Result
     }
 }
 
-// Adds a pattern for those who have it and for one who has it not.
+// Adds a pattern for 2, which has it, and twice for 1, which does not.
 fn assert_adds(rt: &impl Abort, alloc: Global, tree: &mut Tree) -> Result<(), Fail> {
     let pattern = Pattern::read(alloc, "/a/b")?;
     same(rt, add(alloc, tree, &pattern, 2)?, false, "2");
@@ -131,19 +132,20 @@ fn assert_one_by_one(rt: &impl Abort, alloc: Global, tree: &mut Tree) -> Result<
     assert_adds(rt, alloc, tree)
 }
 
+// Single patterns are added, found and removed.
 #[test]
 fn patterns_come_and_go_one_by_one(rt: HostRuntime) -> Result<(), Fail> {
     let mut tree = Tree::new(rt.alloc());
     assert_one_by_one(&rt, rt.alloc(), &mut tree)
 }
 
-// Several patterns, one of them twice and one that 1 has already.
+// Patterns to add: one occurs twice, and 1 has one already.
 const COMING: [&str; 4] = ["/b", "/a/*", "/b", "/c/*"];
 
-// Several patterns, one of them named twice and one that is not there.
+// Patterns to remove: one occurs twice, and one is not there.
 const GOING: [&str; 4] = ["/c/*", "/d", "/b", "/c/*"];
 
-// The patterns of a number have these texts, each with a blank behind it.
+// Checks that the patterns of `number` are `texts`, each followed by a space.
 fn assert_texts(
     rt: &impl Abort,
     alloc: Global,
@@ -170,7 +172,7 @@ fn assert_several_come(
     assert_texts(rt, alloc, tree, 3, "/b /a/* /c/* ")
 }
 
-// They go, and then all of a number.
+// Removes `going` from 1, and then all patterns of 3.
 fn assert_several_go(
     rt: &impl Abort,
     alloc: Global,
@@ -191,13 +193,14 @@ fn assert_at_once(rt: &impl Abort, alloc: Global, tree: &mut Tree) -> Result<(),
     assert_finds(rt, alloc, tree)
 }
 
+// Several patterns are added and removed at once.
 #[test]
 fn several_come_and_go_at_once(rt: HostRuntime) -> Result<(), Fail> {
     let mut tree = Tree::new(rt.alloc());
     assert_at_once(&rt, rt.alloc(), &mut tree)
 }
 
-// Gives each of 10,000 sessions a pattern of its own.
+// Gives each of 10,000 sessions its own pattern.
 fn crowd(alloc: Global, tree: &mut Tree) -> Result<(), Fail> {
     for number in 10..10_010 {
         let text = format!(in alloc; "/x{number}")?;
@@ -206,7 +209,7 @@ fn crowd(alloc: Global, tree: &mut Tree) -> Result<(), Fail> {
     Ok(())
 }
 
-// Few lists are reached for a name of 32 segments.
+// Checks that a search for a name of 32 segments visits few lists.
 fn assert_finds_deep(rt: &impl Abort, alloc: Global, tree: &Tree) -> Result<(), Fail> {
     let name = "/a".repeat(alloc, 32)?;
     assert_find(rt, alloc, tree, name.as_str(), &[1], 99)
@@ -219,13 +222,14 @@ fn assert_few_visited(rt: &impl Abort, alloc: Global, tree: &mut Tree) -> Result
     assert_finds_deep(rt, alloc, tree)
 }
 
+// Finds visit few lists among thousands of patterns.
 #[test]
 fn visits_few_lists(rt: HostRuntime) -> Result<(), Fail> {
     let mut tree = Tree::new(rt.alloc());
     assert_few_visited(&rt, rt.alloc(), &mut tree)
 }
 
-// A linear congruence: its next number, below a bound.
+// Advances a linear congruential generator, and returns a number below `bound`.
 fn draw(state: &mut u64, bound: u64) -> u64
     requires { 0 < bound }
     ensures { result < bound }
@@ -236,7 +240,7 @@ fn draw(state: &mut u64, bound: u64) -> u64
     (*state >> 33) % bound
 }
 
-// A path of one to four segments of two letters, and one of the endings.
+// Draws a path of one to four segments, each `a` or `b`, with one of `endings` or none.
 fn drawn_text(alloc: Global, state: &mut u64, endings: &[&str]) -> Result<String, AllocError> {
     let mut text = String::new(alloc);
     for _ in 0..1 + draw(state, 4) {
@@ -249,7 +253,7 @@ fn drawn_text(alloc: Global, state: &mut u64, endings: &[&str]) -> Result<String
 
 const SESSIONS: u64 = 6;
 
-// The numbers that have a pattern which matches, from a plain list of pairs.
+// Returns the numbers that have a matching pattern in `pairs`, ascending.
 fn plain_find(
     alloc: Global,
     pairs: &[(u64, Pattern)],
@@ -267,7 +271,7 @@ fn plain_find(
     Ok(numbers)
 }
 
-// A plain list of pairs beside the tree.
+// A tree and a plain list of the same patterns.
 #[derive(Drop)]
 struct Both {
     tree: Tree,
@@ -286,7 +290,7 @@ impl Both {
         self.pairs.retain(|pair| pair.0 != number);
     }
 
-    // Takes a pattern out, and says whether the tree says of it what the list does.
+    // Removes a pattern, and returns `true` if tree and list agree on whether it was there.
     fn remove(&mut self, number: u64, pattern: &Pattern) -> bool {
         let is_listed = self.is_listed(number, pattern);
         let is_removed = self.tree.remove(pattern, number);
@@ -295,7 +299,7 @@ impl Both {
         is_removed == is_listed
     }
 
-    // Adds a pattern, and says whether the tree says of it what the list does.
+    // Adds a pattern, and returns `true` if tree and list agree on whether it was new.
     fn add(&mut self, alloc: Global, number: u64, pattern: Pattern) -> Result<bool, Fail> {
         let is_listed = self.is_listed(number, &pattern);
         let is_added = self.tree.add(alloc, &pattern, number)?;
@@ -306,13 +310,13 @@ impl Both {
     }
 }
 
-// A drawn pattern.
+// Draws a pattern.
 fn drawn_pattern(alloc: Global, state: &mut u64) -> Result<Pattern, Fail> {
     let text = drawn_text(alloc, state, &["/*", "/**"])?;
     Ok(Pattern::read(alloc, text.as_str())?)
 }
 
-// Does one drawn thing to both, and says whether the tree's answer is the list's.
+// Draws a change, applies it to both, and returns `true` if their results agree.
 fn change(alloc: Global, state: &mut u64, both: &mut Both) -> Result<bool, Fail> {
     let number = draw(state, SESSIONS);
     let pattern = drawn_pattern(alloc, state)?;
@@ -327,20 +331,20 @@ fn change(alloc: Global, state: &mut u64, both: &mut Both) -> Result<bool, Fail>
     }
 }
 
-// Whether both find the same for a name.
+// Returns `true` if both find the same for `name`, the tree in at most 15 lists.
 fn agrees_on(alloc: Global, both: &Both, name: &ChannelName) -> Result<bool, Fail> {
     let expected = plain_find(alloc, both.pairs.as_slice(), name)?;
     let found = both.tree.nodes().find(alloc, name)?;
     Ok(found.numbers.as_slice() == expected.as_slice() && found.visited <= 15)
 }
 
-// Whether both find the same for a drawn name.
+// Returns `true` if both find the same for a drawn name.
 fn agrees(alloc: Global, state: &mut u64, both: &Both) -> Result<bool, Fail> {
     let text = drawn_text(alloc, state, &[])?;
     agrees_on(alloc, both, &ChannelName::read(alloc, text.as_str())?)
 }
 
-// Tree and list agree all along 2,000 drawn steps.
+// Checks that tree and list agree after each of 2,000 drawn changes.
 fn assert_agree(rt: &impl Abort, alloc: Global, both: &mut Both) -> Result<(), Fail> {
     let mut state = 20_260_101;
     for step in 0..2_000 {
@@ -350,6 +354,7 @@ fn assert_agree(rt: &impl Abort, alloc: Global, both: &mut Both) -> Result<(), F
     Ok(())
 }
 
+// The tree finds what a plain list finds.
 #[test]
 fn agrees_with_a_plain_list(rt: HostRuntime) -> Result<(), Fail> {
     let mut both = Both {

@@ -1,4 +1,4 @@
-//! A window by what a connect sees of it.
+//! Tests of a window, by what a connect sees of it.
 ghost use Rattle.std.specs.Prelude.{◌≡◌};
 
 use crate::same::same;
@@ -9,25 +9,25 @@ use std::alloc::Global;
 use std::process::Abort;
 use std::test::Fail;
 
-// How many events there may be.
+// The limit of events in these tests.
 const LIMIT: usize = 1_024;
 
-// No test forms more batches.
+// More batches than any test forms.
 const MANY: u64 = 1_000_000;
 
 #[derive(Clone, Copy, Debug)]
 enum Move {
-    // Events with consecutive numbers as their data: the first number, and how many.
+    // Events with consecutive numbers as data: the first number, and how many events.
     Push(u64, u64),
-    // No further one is taken.
+    // Checks that the window is full.
     Full,
-    // So many at the most are the next batch, where none is outstanding.
+    // Forms the next batch of at most this many events, unless one is outstanding.
     Give(usize),
     Acknowledge(u64),
     Clear,
 }
 
-// How many events there are, the number of the last batch, how many are outstanding, and the first and the last of them.
+// Writes the number of events, the last batch's number, and the outstanding events.
 fn text_of(alloc: Global, window: &Window) -> Result<String, Fail> {
     let given = window.given();
     let mut numbers = Vec::new(alloc);
@@ -80,7 +80,7 @@ fn apply(rt: &impl Abort, alloc: Global, window: &mut Window, step: Move) -> Res
     Ok(())
 }
 
-// Makes these moves, and compares the window behind each.
+// Makes `moves`, and checks the window after each.
 fn run(
     rt: &impl Abort,
     alloc: Global,
@@ -107,6 +107,7 @@ const BATCHES: [(Move, &str); 10] = [
     (Move::Give(256), "0, batch 2 of 0: none;"),
 ];
 
+// A batch is sent again until it is acknowledged.
 #[test]
 fn a_batch_is_given_until_it_is_acknowledged(rt: HostRuntime) -> Result<(), Fail> {
     let alloc = rt.alloc();
@@ -120,13 +121,14 @@ const FULL: [(Move, &str); 4] = [
     (Move::Acknowledge(1), "768, batch 1 of 0: none;"),
 ];
 
+// A window at its limit is full.
 #[test]
 fn a_full_window_takes_no_more(rt: HostRuntime) -> Result<(), Fail> {
     let alloc = rt.alloc();
     run(&rt, alloc, &mut Window::new(alloc), &FULL)
 }
 
-// As many events as a configuration may allow, and one more.
+// Adds as many events as a configuration may allow, after which the window is full.
 fn check_most(rt: &impl Abort, alloc: Global, window: &mut Window) -> Result<(), Fail> {
     let most = MAX_EVENTS as usize;
     let next = event(alloc, 1)?;
@@ -139,6 +141,7 @@ fn check_most(rt: &impl Abort, alloc: Global, window: &mut Window) -> Result<(),
     Ok(())
 }
 
+// The greatest limit of events is exact.
 #[test]
 fn a_window_takes_as_many_events_as_its_limit(rt: HostRuntime) -> Result<(), Fail> {
     let alloc = rt.alloc();
@@ -154,6 +157,7 @@ const CLEARED: [(Move, &str); 6] = [
     (Move::Give(256), "1, batch 2 of 1: 4;"),
 ];
 
+// A cleared window goes on from its last batch's number.
 #[test]
 fn a_cleared_window_keeps_its_number(rt: HostRuntime) -> Result<(), Fail> {
     let alloc = rt.alloc();
@@ -171,13 +175,15 @@ fn check_forget(rt: &impl Abort, alloc: Global, window: &mut Window) -> Result<(
     Ok(())
 }
 
+// Events sent without a batch are dropped.
 #[test]
 fn events_without_batches_are_forgotten(rt: HostRuntime) -> Result<(), Fail> {
     let alloc = rt.alloc();
     check_forget(&rt, alloc, &mut Window::new(alloc))
 }
 
-// What a connect would be given that acknowledges this number: how many events for good, and how many of at the most so many.
+// Checks what a connect that acknowledges `number` would get: `done` events are dropped, and
+// `portions` are the sizes of its batch for limits of 9 and 1.
 fn check_ahead(rt: &impl Abort, window: &Window, number: u64, done: usize, portions: [usize; 2]) {
     same(rt, window.acknowledged(number), done, number);
     let done = window.acknowledged(number);
@@ -186,7 +192,7 @@ fn check_ahead(rt: &impl Abort, window: &Window, number: u64, done: usize, porti
     }
 }
 
-// Of five events three are the next batch. They are given again until their number comes, and the other two afterwards.
+// Checks a batch of three of five events: it is given until acknowledged, then the other two.
 fn look_ahead(rt: &impl Abort, alloc: Global, window: &mut Window) -> Result<(), Fail> {
     check_ahead(rt, window, 0, 0, [0, 0]);
     apply(rt, alloc, window, Move::Push(1, 5))?;
@@ -200,13 +206,14 @@ fn look_ahead(rt: &impl Abort, alloc: Global, window: &mut Window) -> Result<(),
     Ok(())
 }
 
+// A window predicts what a connect gets.
 #[test]
 fn a_look_ahead_says_what_a_connect_is_given(rt: HostRuntime) -> Result<(), Fail> {
     let alloc = rt.alloc();
     look_ahead(&rt, alloc, &mut Window::new(alloc))
 }
 
-// {"channel":"/a/b","data":7}, the text of each event whose number has one digit, has 27 bytes.
+// The text of each event has 27 bytes, for example `{"channel":"/a/b","data":7}`.
 fn check_bytes(rt: &impl Abort, alloc: Global, window: &mut Window) -> Result<(), Fail>
     requires { window.old.contents.out ≡ 0 }
 {
@@ -254,6 +261,7 @@ fn check_bytes(rt: &impl Abort, alloc: Global, window: &mut Window) -> Result<()
     Ok(())
 }
 
+// An event's bytes count until the event is dropped.
 #[test]
 fn bytes_count_until_their_event_is_given_for_good(rt: HostRuntime) -> Result<(), Fail> {
     let alloc = rt.alloc();

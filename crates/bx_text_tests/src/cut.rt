@@ -1,4 +1,4 @@
-//! Bodies cut into messages, and what is found in them.
+//! Tests of cutting bodies into messages, and of looking up members and texts.
 use crate::same::same;
 use bx_cut::{
     Bodies, CutError, Document, MAX_MESSAGES, elements_of, member_of, plain_text_of, spells,
@@ -8,17 +8,17 @@ use std::alloc::{AllocError, Global};
 use std::process::Abort;
 use std::test::Fail;
 
-// How many messages a body has, or why it has none.
+// Returns the number of messages in `body`.
 fn count_of(alloc: Global, body: &[u8]) -> Result<usize, CutError> {
     Ok(Document::read(alloc, body)?.pieces().len())
 }
 
-// The body has so many messages, or none for this reason.
+// Checks the number of messages in `body`, or the error.
 fn check(rt: &impl Abort, alloc: Global, body: &str, wanted: Result<usize, CutError>) {
     same(rt, count_of(alloc, body.as_bytes()), wanted, body);
 }
 
-// The pieces of a body have these texts.
+// Checks the texts of the pieces of `body`.
 fn check_pieces(
     rt: &impl Abort,
     alloc: Global,
@@ -34,6 +34,7 @@ fn check_pieces(
     Ok(())
 }
 
+// Shows the pieces that documents are cut into.
 #[test]
 fn documents_have_their_pieces(rt: HostRuntime) -> Result<(), Fail> {
     let table: [(&str, &[&str]); 8] = [
@@ -61,7 +62,7 @@ fn documents_have_their_pieces(rt: HostRuntime) -> Result<(), Fail> {
     Ok(())
 }
 
-// The member of this name of a body's only message, by the piece and by its text.
+// Checks the member `name` of the only message, by its piece and by its text.
 fn check_member(
     rt: &impl Abort,
     alloc: Global,
@@ -79,6 +80,7 @@ fn check_member(
     Ok(())
 }
 
+// The last member of a name counts.
 #[test]
 fn members_are_the_last_of_their_name(rt: HostRuntime) -> Result<(), Fail> {
     let table: [(&str, &str, Option<&str>); 16] = [
@@ -109,6 +111,7 @@ fn members_are_the_last_of_their_name(rt: HostRuntime) -> Result<(), Fail> {
     Ok(())
 }
 
+// Shows the error for each kind of bad body.
 #[test]
 fn faults_are_told_in_order(rt: HostRuntime) -> Result<(), Fail> {
     let table: [(&[u8], CutError); 30] = [
@@ -149,6 +152,7 @@ fn faults_are_told_in_order(rt: HostRuntime) -> Result<(), Fail> {
     Ok(())
 }
 
+// No proper front of a document is a document.
 #[test]
 fn no_front_of_a_document_is_one(rt: HostRuntime) {
     let body = br#"[{"a\u0062":[1.5e-3,true,"\ud83d\ude00\\"]},{"c":null}]"#;
@@ -159,7 +163,7 @@ fn no_front_of_a_document_is_one(rt: HostRuntime) {
     same(&rt, count_of(rt.alloc(), body), Ok(2), body.len());
 }
 
-// `count` times `part`, with commas, between `front` and `back`.
+// Writes `front`, `count` times `part`, and `back`.
 fn repeated(
     alloc: Global,
     front: &str,
@@ -175,7 +179,7 @@ fn repeated(
     Ok(text)
 }
 
-// The body of a front, so many parts and a back has so many messages, or none for this reason.
+// Checks a body of a front, `count` parts and a back.
 fn check_repeated(
     rt: &impl Abort,
     alloc: Global,
@@ -188,6 +192,7 @@ fn check_repeated(
     Ok(())
 }
 
+// The limits of messages and nesting are exact.
 #[test]
 fn limits_are_exact(rt: HostRuntime) -> Result<(), Fail> {
     same(&rt, MAX_MESSAGES, 256, "the limit");
@@ -213,7 +218,7 @@ fn limits_are_exact(rt: HostRuntime) -> Result<(), Fail> {
     Ok(())
 }
 
-// How long the member `a` of a body's only message is.
+// Returns the length of the member `a` of the only message.
 fn length_of_a(alloc: Global, body: &str) -> Result<usize, Fail> {
     let document = Document::read(alloc, body.as_bytes())?;
     match document.pieces() {
@@ -222,6 +227,7 @@ fn length_of_a(alloc: Global, body: &str) -> Result<usize, Fail> {
     }
 }
 
+// Bodies are checked up to their last byte.
 #[test]
 fn bodies_are_read_to_their_end(rt: HostRuntime) {
     let broken: [&str; 21] = [
@@ -252,6 +258,7 @@ fn bodies_are_read_to_their_end(rt: HostRuntime) {
     }
 }
 
+// A message must be an object.
 #[test]
 fn only_objects_are_messages(rt: HostRuntime) {
     for body in [
@@ -269,7 +276,7 @@ fn only_objects_are_messages(rt: HostRuntime) {
     }
 }
 
-// The body in which the number stands at this place has so many messages, or none for this reason.
+// Checks a body with `number` between `front` and `back`.
 fn check_number(
     rt: &impl Abort,
     alloc: Global,
@@ -280,6 +287,7 @@ fn check_number(
     check_repeated(rt, alloc, (front, number, back), 1, wanted)
 }
 
+// Numbers in the range of a 64-bit float are read.
 #[test]
 fn numbers_in_range_are_read(rt: HostRuntime) -> Result<(), Fail> {
     for number in [
@@ -311,6 +319,7 @@ fn numbers_in_range_are_read(rt: HostRuntime) -> Result<(), Fail> {
     Ok(())
 }
 
+// Numbers too large for a 64-bit float are refused.
 #[test]
 fn numbers_too_large_for_a_float_are_no_json(rt: HostRuntime) -> Result<(), Fail> {
     for number in [
@@ -340,7 +349,7 @@ fn numbers_too_large_for_a_float_are_no_json(rt: HostRuntime) -> Result<(), Fail
     Ok(())
 }
 
-// The body of a front, `depth` times `open`, `inside`, as many times `close`, and a back.
+// Checks a body with `inside` nested `depth` deep, between `front` and `back`.
 fn check_nested(
     rt: &impl Abort,
     alloc: Global,
@@ -353,6 +362,7 @@ fn check_nested(
     check_repeated(rt, alloc, (front, open, end.as_str()), depth, wanted)
 }
 
+// Values may nest 127 deep.
 #[test]
 fn values_nest_127_deep(rt: HostRuntime) -> Result<(), Fail> {
     let arrays = ("[", "", "]");
@@ -372,6 +382,7 @@ fn values_nest_127_deep(rt: HostRuntime) -> Result<(), Fail> {
     Ok(())
 }
 
+// Only messages count toward the limit, and other errors come before `TooMany`.
 #[test]
 fn only_messages_are_counted(rt: HostRuntime) -> Result<(), Fail> {
     for (parts, count, wanted) in [
@@ -398,6 +409,7 @@ fn check_elements(rt: &impl Abort, array: &str, wanted: &[&str]) {
     }
 }
 
+// Shows how elements and members are found in nested values.
 #[test]
 fn nested_values_are_cut_too(rt: HostRuntime) {
     check_elements(
@@ -414,6 +426,7 @@ fn nested_values_are_cut_too(rt: HostRuntime) {
     }
 }
 
+// Lookups do not fail on malformed text.
 #[test]
 fn no_text_is_too_odd_to_cut(rt: HostRuntime) {
     for odd in [
@@ -440,7 +453,7 @@ fn no_text_is_too_odd_to_cut(rt: HostRuntime) {
     }
 }
 
-// The string that a value writes, where it writes one.
+// Checks the string that `value` spells, if it is one.
 fn check_text(
     rt: &impl Abort,
     alloc: Global,
@@ -452,6 +465,7 @@ fn check_text(
     Ok(())
 }
 
+// Shows how escapes in strings are read.
 #[test]
 fn strings_are_unescaped(rt: HostRuntime) -> Result<(), Fail> {
     let table: [(&str, &str); 7] = [
@@ -475,6 +489,7 @@ fn strings_are_unescaped(rt: HostRuntime) -> Result<(), Fail> {
     Ok(())
 }
 
+// Shows which strings need no unescaping.
 #[test]
 fn strings_without_escapes_stand_as_they_are(rt: HostRuntime) {
     let table: [(&str, Option<&str>); 7] = [
@@ -509,6 +524,7 @@ fn decoded(alloc: Global, texts: &[&str]) -> Result<Bodies, AllocError> {
     Ok(Bodies::Decoded(all))
 }
 
+// Shows the number of bodies and each body by its index.
 #[test]
 fn bodies_are_counted_from_zero(rt: HostRuntime) -> Result<(), Fail> {
     let whole = Bodies::Whole(b"[]".to_vec(rt.alloc())?);

@@ -1,5 +1,6 @@
-//! Tests of the crates that read and write the texts of messages, in a crate of their own: the gate proves a crate once more where it has
-//! tests.
+//! Tests of the crates that read and write the texts of messages.
+//!
+//! A separate crate, because `.ci/run` proves a crate with tests twice.
 #![tactic(auto)]
 
 #[cfg(test)]

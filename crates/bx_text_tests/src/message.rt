@@ -1,4 +1,4 @@
-//! Messages as they are read, and replies, events and responses down to their bytes.
+//! Tests of reading messages, and of writing replies, events and responses.
 use crate::same::same;
 use bx_advice::{Config, Error, Outcome};
 use bx_cut::{Document, Piece};
@@ -22,7 +22,7 @@ fn json(alloc: Global, json: Option<&str>) -> Result<Option<RawJson>, AllocError
     }
 }
 
-// A message with these members and no others.
+// Creates a message with these members and no others.
 fn message(
     alloc: Global,
     channel: &str,
@@ -48,7 +48,7 @@ fn message(
     })
 }
 
-// The text of the reply to a message.
+// Writes the reply to `message`.
 fn replied(
     alloc: Global,
     message: &Message,
@@ -61,7 +61,7 @@ fn replied(
     Ok(reply_text(alloc, &reply)?)
 }
 
-// The reply to a message with this channel and id, and a subscription, has this text.
+// Checks the reply to a message with this channel and id, and with a subscription.
 fn check_reply(
     rt: &impl Abort,
     alloc: Global,
@@ -87,6 +87,7 @@ fn check_replied(
     Ok(())
 }
 
+// Shows the members of each kind of reply.
 #[test]
 fn replies_have_their_members(rt: HostRuntime) -> Result<(), Fail> {
     let alloc = rt.alloc();
@@ -156,6 +157,7 @@ fn replies_have_their_members(rt: HostRuntime) -> Result<(), Fail> {
     Ok(())
 }
 
+// The reply to a refused handshake has no client id.
 #[test]
 fn a_refused_handshake_has_no_client(rt: HostRuntime) -> Result<(), Fail> {
     let alloc = rt.alloc();
@@ -199,6 +201,7 @@ fn check_event(
     Ok(())
 }
 
+// An event has its publish's channel, data and id.
 #[test]
 fn events_are_their_publishes(rt: HostRuntime) -> Result<(), Fail> {
     let alloc = rt.alloc();
@@ -230,7 +233,7 @@ fn check_body(rt: &impl Abort, alloc: Global, items: &[Item], wanted: &str) -> R
     Ok(())
 }
 
-// An event twice, and the reply to a connect.
+// Creates items: an event twice, and the reply to a connect.
 fn items(alloc: Global) -> Result<Vec<Item>, Fail> {
     let mut items = Vec::new(alloc);
     add_events(alloc, &mut items)?;
@@ -263,6 +266,7 @@ fn connected(alloc: Global) -> Result<Item, Fail> {
     Ok(Item::ReplyItem(reply))
 }
 
+// A response is an array of its items.
 #[test]
 fn a_body_is_the_array_of_its_items(rt: HostRuntime) -> Result<(), Fail> {
     let alloc = rt.alloc();
@@ -272,6 +276,7 @@ fn a_body_is_the_array_of_its_items(rt: HostRuntime) -> Result<(), Fail> {
     check_body(&rt, alloc, items(alloc)?.as_slice(), wanted)
 }
 
+// A message's kind depends on its whole channel.
 #[test]
 fn columns_go_by_the_whole_channel(rt: HostRuntime) {
     for (channel, message_kind) in [
@@ -328,7 +333,7 @@ fn add_ack(alloc: Global, out: &mut String, ack: AckMember) -> Result<(), AllocE
     }
 }
 
-// The fields that a message has behind its channel, in the order of the record.
+// Writes all fields but the channel, in the order in which `Message` declares them.
 fn add_fields(alloc: Global, out: &mut String, m: &Message) -> Result<(), AllocError> {
     add_json(out, "id", &m.id)?;
     add_text(out, "client", &m.client)?;
@@ -354,13 +359,13 @@ fn shown(alloc: Global, m: &Message) -> Result<String, AllocError> {
     Ok(out)
 }
 
-// The message with the channel `/a` and these members behind it has these fields.
+// Checks the fields of a message with channel `/a` followed by `members`.
 fn check_members(rt: &impl Abort, alloc: Global, members: &str, wanted: &str) -> Result<(), Fail> {
     let body = format!(in alloc; r#"{{"channel":"/a"{members}}}"#)?;
     check_only(rt, alloc, body.as_str(), Some(wanted))
 }
 
-// A body's only message has these fields, or no channel.
+// Checks the fields of the only message in `body`, or that it has no channel.
 fn check_only(
     rt: &impl Abort,
     alloc: Global,
@@ -403,7 +408,7 @@ fn check_fields(
     Ok(())
 }
 
-// Members and the fields that a message has by them.
+// Members and the fields that they result in.
 const MEMBERS: [(&str, &str); 52] = [
     ("", "/a"),
     (r#","channel":"/b""#, "/b"),
@@ -483,6 +488,7 @@ const MEMBERS: [(&str, &str); 52] = [
     (r#","advice":{"timeout":5},"advice":5"#, "/a"),
 ];
 
+// Shows the fields that each member results in.
 #[test]
 fn members_are_the_fields(rt: HostRuntime) -> Result<(), Fail> {
     for (members, wanted) in MEMBERS {
@@ -491,6 +497,7 @@ fn members_are_the_fields(rt: HostRuntime) -> Result<(), Fail> {
     Ok(())
 }
 
+// A message is refused unless its `channel` is a string.
 #[test]
 fn a_message_has_a_channel(rt: HostRuntime) -> Result<(), Fail> {
     let alloc = rt.alloc();

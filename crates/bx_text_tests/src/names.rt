@@ -1,4 +1,4 @@
-//! Names and patterns at their edges, and which match.
+//! Tests of names and patterns at their limits, and of which match.
 use crate::same::same;
 use bx_names::{
     ChannelKind, ChannelName, MAX_NAME_BYTES, MAX_NAME_SEGMENTS, NameError, Pattern, Tail, kind_of,
@@ -8,7 +8,7 @@ use std::alloc::{AllocError, Global};
 use std::process::Abort;
 use std::test::Fail;
 
-// A text of `count` times `part`, behind `start`.
+// Writes `start` followed by `count` times `part`.
 fn repeated(alloc: Global, start: &str, part: &str, count: usize) -> Result<String, AllocError> {
     let mut text = String::from_str(alloc, start)?;
     for _ in 0..count {
@@ -17,13 +17,13 @@ fn repeated(alloc: Global, start: &str, part: &str, count: usize) -> Result<Stri
     Ok(text)
 }
 
-// The text is a name, or has this fault.
+// Checks that `text` is a name, or has `fault`.
 fn check_name(rt: &impl Abort, alloc: Global, text: &str, fault: Option<NameError>) {
     same(rt, name_fault(text), fault, text);
     same(rt, ChannelName::read(alloc, text).err(), fault, text);
 }
 
-// The text of so many parts behind a start is a name, or has this fault.
+// Checks a name of `start` followed by `count` times `part`.
 fn check_repeated(
     rt: &impl Abort,
     alloc: Global,
@@ -36,6 +36,7 @@ fn check_repeated(
     Ok(())
 }
 
+// Shows which texts are channel names, and the fault of the others.
 #[test]
 fn names(rt: HostRuntime) -> Result<(), Fail> {
     let table = [
@@ -82,7 +83,7 @@ fn names(rt: HostRuntime) -> Result<(), Fail> {
     Ok(())
 }
 
-// The text is a pattern, with so many segments and this tail.
+// Checks that `text` is a pattern with `own` segments and `tail`.
 fn check_pattern(
     rt: &impl Abort,
     alloc: Global,
@@ -97,19 +98,20 @@ fn check_pattern(
     Ok(())
 }
 
-// The text has this fault as a pattern.
+// Checks that `text` is not a pattern, by `fault`.
 fn check_refused(rt: &impl Abort, alloc: Global, text: &str, fault: NameError) {
     same(rt, pattern_fault(text), Some(fault), text);
     same(rt, Pattern::read(alloc, text).err(), Some(fault), text);
 }
 
-// What is wrong with 31 segments and this one more.
+// Returns the fault of a pattern of 31 segments followed by `end`.
 fn fault_behind(alloc: Global, end: &str) -> Result<Option<NameError>, AllocError> {
     let mut text = repeated(alloc, "", "/a", 31)?;
     text.push_str(end)?;
     Ok(pattern_fault(text.as_str()))
 }
 
+// Shows which texts are patterns, and the fault of the others.
 #[test]
 fn patterns(rt: HostRuntime) -> Result<(), Fail> {
     let read = [
@@ -143,13 +145,14 @@ fn patterns(rt: HostRuntime) -> Result<(), Fail> {
     Ok(())
 }
 
-// Whether the pattern of this text matches the name of that one.
+// Returns `true` if `pattern` matches `name`.
 fn is_match(alloc: Global, pattern: &str, name: &str) -> Result<bool, NameError> {
     let name = ChannelName::read(alloc, name)?;
     let pattern = Pattern::read(alloc, pattern)?;
     Ok(matches(&pattern, &name))
 }
 
+// Shows which patterns match which names.
 #[test]
 fn matching(rt: HostRuntime) -> Result<(), Fail> {
     let table = [
@@ -175,6 +178,7 @@ fn matching(rt: HostRuntime) -> Result<(), Fail> {
     Ok(())
 }
 
+// Shows the kind of each channel.
 #[test]
 fn kinds(rt: HostRuntime) -> Result<(), Fail> {
     let table = [
@@ -196,7 +200,7 @@ fn kinds(rt: HostRuntime) -> Result<(), Fail> {
     Ok(())
 }
 
-// The segments, one behind another.
+// Joins the segments of `name`.
 fn joined(alloc: Global, name: &ChannelName) -> Result<String, AllocError> {
     let mut joined = String::new(alloc);
     for segment in name.segments() {
@@ -226,6 +230,7 @@ fn check_pattern_parts(rt: &impl Abort, alloc: Global, pattern: &Pattern) -> Res
     Ok(())
 }
 
+// Shows the parts of names and patterns, and that copies are equal.
 #[test]
 fn parts(rt: HostRuntime) -> Result<(), Fail> {
     let name = ChannelName::read(rt.alloc(), "/a/bc/d")?.clone()?;
@@ -234,6 +239,7 @@ fn parts(rt: HostRuntime) -> Result<(), Fail> {
     check_pattern_parts(&rt, rt.alloc(), &pattern)
 }
 
+// Shows the text of a fault.
 #[test]
 fn faults_have_texts(rt: HostRuntime) -> Result<(), Fail> {
     let refused = ChannelName::read(rt.alloc(), "/a*").err();

@@ -1,8 +1,9 @@
-//! What is found beside what is wanted. A test that compares by these is proved sooner than one that compares in place.
+//! Comparison of a found value with the expected one.
 use std::fmt::Debug;
 use std::process::Abort;
 
-/// Ends the test where the two are unlike.
+/// Aborts the test unless `found` equals `wanted`. `at` is printed if not.
+// Prover: a test that calls this is proved faster than one that compares in place.
 pub fn same<T: PartialEq + Debug + Copy, A: Debug + Copy>(
     rt: &impl Abort,
     found: T,

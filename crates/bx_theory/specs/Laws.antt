@@ -1,4 +1,4 @@
--- Laws over the definitions, each for every list.
+-- Laws of sessions and their answers, each for every list.
 use Rattle.std.specs.Prelude.{ℕ, ◌⊎◌, ◌+◌, ◌≡◌, ◌≤◌, ◌<◌, true, false, is_some, List, [], ◌∷◌, ◌++◌, length, take, drop, fold, flat_map, if◌then◌else◌, Option, Some, None, ⊤}
 use Rattle.std.specs.List.{AllByRecursion}
 use Rattle.bx_advice.specs.declared.config.Config.{Config}
@@ -8,14 +8,15 @@ use Rattle.bx_entry.specs.declared.entry.{Entry.Entry, Rider.Rider}
 use Rattle.bx_entry.specs.declared.entry.EntryKind.TheVariants.{Connect}
 use Rattle.bx_entry.specs.Sessions.{Session, Publication, Filed, Unopened, step, session, rider_of}
 
--- ---- counts
+-- ---- Counts
 
--- what was given for good stays given for good
+-- The number of events that are never sent again does not fall.
 abbrev pub DoneNeverFalls : Type 0
 DoneNeverFalls = (config : Config) (number : ℕ) (xs ys : List Entry) → (session config number xs).done ≤ (session config number (xs ++ ys)).done
 
--- What holds of a session at any time: the queue has the events behind those that are given for good, or none after an overflow, when no pattern is in
--- force either; the outstanding batch is its front; the counts never pass each other, a batch is no longer than its limit, a plain session has none, and while a connect is held nothing waits.
+-- What always holds of a session. Its queue has the events after the first `done`, or none after an
+-- overflow, which also drops all patterns. The outstanding batch is the queue's front, within its
+-- limit. A plain session has no batch. While a connect is held, no event waits.
 pub record InStep (config : Config) (s : Session) : Type 0 where
   pub queue : s.queue ≡ (if s.overflow then [] else drop s.done s.events)
   pub emptied : s.overflow ≡ true → s.patterns ≡ []
@@ -26,24 +27,24 @@ pub record InStep (config : Config) (s : Session) : Type 0 where
   pub fresh : s.stage ≡ Unopened → s.ack ≡ false
   pub idle : is_some s.held ≡ true → (length s.events ≤ s.done) × (s.out ≡ 0)
 
--- whatever entries come
+-- A session's queue, batch and counts always agree.
 abbrev pub CountsAgree : Type 0
 CountsAgree = (config : Config) (number : ℕ) (es : List Entry) → 0 < config.limits.batch → InStep config (session config number es)
 
--- ---- answers stay
+-- ---- Answers stay
 
--- an answer is the same over every list that begins with the elements up to the place at which it was given
+-- An answer depends only on the elements up to the place where it is given.
 abbrev pub AnswersStay : Type 0
 AnswersStay = (config : Config) (list other : List Listed) (place : ℕ) (a : PlacedAnswer) → 0 < config.limits.batch →
     answer config list place ≡ Some a → take (a.place + 1) other ≡ take (a.place + 1) list → answer config other place ≡ Some a
 
--- ---- events in answers
+-- ---- Events in answers
 
--- P holds of each answer
+-- `P` holds for each answer.
 abbrev pub Each : (Filed → Type 0) → List Filed → Type 0
 Each P fs = AllByRecursion P fs
 
--- the publications are so many of the events from some index on, which is at least `low` where they are any
+-- `given` is `count` of the events from index `from`, which is at least `low` unless `count` is 0.
 pub record Slice (events : List Publication) (low : ℕ) (given : List Publication) : Type 0 where
   pub from : ℕ
   pub count : ℕ
@@ -51,96 +52,97 @@ pub record Slice (events : List Publication) (low : ℕ) (given : List Publicati
   pub within : from + count ≤ length events
   pub is : given ≡ take count (drop from events)
 
--- Answers at or after an entry have only events that weren't done before it; in an acknowledging session only events that aren't done after it.
--- So what was acknowledged, or given by a plain session, is never given again.
+-- The answers that `t` adds to those of `s`, before an entry, have no event done in `s`. If the
+-- session acknowledges, they have none done in `u`, after the entry.
 pub record GivesFrom (config : Config) (s u t : Session) : Type 0 where
   pub filed : List Filed
   pub answers : t.answers ≡ s.answers ++ filed
   pub slices : Each (λ f. Slice t.events (if u.ack then u.done else s.done) f.publications) filed
 
--- so it is at every entry of every run
+-- An event that is acknowledged, or sent by a plain session, is never sent again.
 abbrev pub NeverGivenAgain : Type 0
 NeverGivenAgain = (config : Config) (number : ℕ) (xs : List Entry) (e : Entry) (ys : List Entry) → 0 < config.limits.batch →
     GivesFrom config (session config number xs) (step config (session config number xs) e) (fold (step config) (step config (session config number xs) e) ys)
 
--- P holds of each publication
+-- `P` holds for each publication.
 abbrev pub EachOf : (Publication → Type 0) → List Publication → Type 0
 EachOf P ps = AllByRecursion P ps
 
--- each of the first stands at an earlier place than each of the second
+-- Each of `ps` has an earlier place than each of `qs`.
 abbrev pub AllBelow : List Publication → List Publication → Type 0
 AllBelow ps qs = EachOf (λ p. EachOf (λ q. p.place < q.place) qs) ps
 
--- entries at consecutive places
+-- Entries at consecutive places from `n`.
 abbrev pub PlacesFrom : ℕ → List Entry → Type 0
 PlacesFrom n [] = ⊤
 PlacesFrom n (e ∷ es) = (e.place ≡ n) × PlacesFrom (n + 1) es
 
--- the same by the places of the events: an answer at or after an entry has only events of later places than those that were done
+-- The answers that `t` adds to those of `s` have only events of later places than the done ones.
 pub record GivesLater (s u t : Session) : Type 0 where
   pub filed : List Filed
   pub answers : t.answers ≡ s.answers ++ filed
   pub apart : Each (λ f. AllBelow (take (if u.ack then u.done else s.done) t.events) f.publications) filed
 
--- so it is at every entry of every run over a list's entries
+-- Over a list's entries, an answer's events have later places than the events done before it.
 abbrev pub NoEventTwice : Type 0
 NoEventTwice = (config : Config) (number : ℕ) (xs : List Entry) (e : Entry) (ys : List Entry) → 0 < config.limits.batch → PlacesFrom 0 (xs ++ e ∷ ys) →
     GivesLater (session config number xs) (step config (session config number xs) e) (fold (step config) (step config (session config number xs) e) ys)
 
--- the entries of a list stand at consecutive places
+-- The entries of a list are at consecutive places.
 abbrev pub EntriesInOrder : Type 0
 EntriesInOrder = (config : Config) (list : List Listed) → PlacesFrom 0 (entries config list)
 
--- the events of a plain session's answers, to connects and to riders, one answer after another, are its first `done` events, each once
+-- The events of the answers, in order.
 abbrev pub given_in : List Filed → List Publication
 given_in answers = flat_map (λ (f : Filed). f.publications) answers
 
--- so what was given by a plain session, in whatever pieces, is the front of its events
+-- A plain session's answers, to connects and riders, have its first `done` events, each once, in
+-- order.
 abbrev pub GivenOnce : Type 0
 GivenOnce = (config : Config) (number : ℕ) (es : List Entry) → 0 < config.limits.batch →
     (session config number es).ack ≡ false → given_in (session config number es).answers ≡ take (session config number es).done (session config number es).events
 
--- ---- riders
+-- ---- Riders
 
--- where the configuration has none, no entry of any list has one
+-- Without `--ride`, no entry has a rider.
 abbrev pub NoRidersUnasked : Type 0
 NoRidersUnasked = (config : Config) (list : List Listed) → config.ride ≡ false → AllByRecursion (λ (e : Entry). e.rides ≡ None) (entries config list)
 
--- a rider, if there is one, is of a session that does not acknowledge
+-- The session of a rider, if there is one, does not acknowledge.
 abbrev pub RidesPlain : Config → List Entry → Option Rider → Type 0
 RidesPlain config es None = ⊤
 RidesPlain config es (Some rider) = (session config rider.session es).ack ≡ false
 
--- so is each rider of a list
+-- No rider's session acknowledges.
 abbrev pub RidersArePlain : Type 0
 RidersArePlain = (config : Config) (list : List Listed) → AllByRecursion (λ (e : Entry). RidesPlain config (entries config list) e.rides) (entries config list)
 
--- ---- a repeated acknowledgement
+-- ---- Repeated batches
 
--- the number acknowledges nothing new
+-- A missing number, or one below `num`, acknowledges nothing new.
 abbrev pub Repeats : ℕ → Option ℕ → Type 0
 Repeats num None = ⊤
 Repeats num (Some n) = n < num
 
--- the last answer that the session gave
+-- The session's last answer.
 abbrev pub LastAnswer : Session → Filed → Type 0
 LastAnswer s f = (rest : List Filed) × (s.answers ≡ rest ++ f ∷ [])
 
--- nothing but the answer to the rider of an entry, which is one of the session of this number and gets no events
+-- `answers` is one answer without events, to the entry's rider, which is of session `number`.
 pub record EmptyRide (place : ℕ) (rides : Option Rider) (number : ℕ) (answers : List Filed) : Type 0 where
   pub rider : Rider
   pub is : rides ≡ Some rider
   pub session : rider.session ≡ number
   pub alone : answers ≡ record { connect = place; place = place; publications = []; reply = rider.reply } ∷ []
 
--- The last answer that the session gave, or the last but one: then the last is an answer without events to the rider of the entry.
+-- The session's last answer, or the last before an answer without events to the entry's rider.
 pub record LastGiven (place : ℕ) (rides : Option Rider) (s : Session) (f : Filed) : Type 0 where
   pub rest : List Filed
   pub behind : List Filed
   pub answers : s.answers ≡ rest ++ f ∷ behind
   pub last : (behind ≡ []) ⊎ EmptyRide place rides s.number behind
 
--- the answer of the entry that formed the batch, and the one that gives it again
+-- The answer that first sends a batch, and the one that sends it again.
 pub record SameBatch (former : Entry) (forming : Session) (now : ℕ) (after : Session) : Type 0 where
   pub first : Filed
   pub again : Filed
@@ -152,7 +154,7 @@ pub record SameBatch (former : Entry) (forming : Session) (now : ℕ) (after : S
   pub number : first.reply.ack ≡ AckNumber forming.num
   pub same_number : again.reply.ack ≡ AckNumber forming.num
 
--- The entry that formed the outstanding batch, and that a later connect is answered with it again.
+-- Some entry formed the outstanding batch, and the later connect `e` is answered with it again.
 pub record Repetition (config : Config) (number : ℕ) (es : List Entry) (e : Entry) : Type 0 where
   pub before : List Entry
   pub forming : Entry
@@ -162,8 +164,8 @@ pub record Repetition (config : Config) (number : ℕ) (es : List Entry) (e : En
   pub current : (step config (session config number before) forming).num ≡ (session config number es).num
   pub same : SameBatch forming (step config (session config number before) forming) e.place (step config (session config number es) e)
 
--- While a batch is outstanding, a connect that acknowledges nothing new is answered at once, with that batch's number and the very events
--- of the answer that formed it.
+-- While a batch is outstanding, a connect that acknowledges nothing new gets it again at once, with
+-- the same number and events.
 abbrev pub BatchRepeats : Type 0
 BatchRepeats = (config : Config) (number : ℕ) (es : List Entry) (e : Entry) (client : List ℕ) (id : Option (List ℕ)) (acked : Option ℕ) (hold : ℕ) → 0 < config.limits.batch →
     0 < (session config number es).out → (session config number es).overflow ≡ false →

@@ -1,28 +1,28 @@
--- What a replay has printed where it has taken in the first lines of a script, what one more line prints, and what comes at the end.
+-- What a replay prints for a script's first lines, for one more line, and at the end.
 use Rattle.std.specs.Prelude.{ℕ, ◌+◌, ◌<◌, ◌≡◌, Bool, true, false, List, [], ◌∷◌, ◌++◌, length, map, flat_map, slice_get, codes, decimal, ⊤}
 use Rattle.std.specs.List.{list_all}
 use Rattle.bx_advice.specs.declared.config.Config.{Config}
 use Rattle.bx_entry.specs.Words.{ReadInput, Out, wholes, outs, held}
 use Rattle.bx_script.specs.Replay.{Dialect, Line, Bad, Rejected, Accepted, Resharded, Announced, Noted, Numbered, Script, inputs_from, line_of, line_text, line_with, nonce_at, out_by, printed_from, printed, held_text, with_nonces}
 
--- the inputs among a script's first lines
+-- The inputs among a script's first lines.
 abbrev pub inputs_in : List Line → List ReadInput
 inputs_in ls = map (λ (n : Numbered). n.input) (inputs_from 1 ls)
 
--- what these lines print
+-- What these lines print, without the held lines at the end.
 abbrev pub printed_so_far : Config → List Line → List ℕ
 printed_so_far config ls = printed_from (wholes config (inputs_in ls)) (inputs_from 1 ls) 1 0 ls
 
--- the outs that an input adds; a line that is no input adds none
+-- If the line is an input, it adds the outs `more`.
 abbrev pub AddsOuts : Config → List ReadInput → Line → List Out → Type 0
 AddsOuts config inputs (Accepted callback input) more = outs config (inputs ++ input ∷ []) ≡ outs config inputs ++ more
 AddsOuts config inputs _ more = ⊤
 
--- what outs print, where the inputs that they belong to are numbered by their lines
+-- What outs print, if their inputs are numbered by their lines.
 abbrev pub outs_text : List Numbered → List Out → List ℕ
 outs_text numbered os = flat_map (λ (o : Out). out_by o (slice_get numbered o.input)) os
 
--- what the line of this number prints, where its input adds these outs
+-- What line `number` prints, if its input adds the outs `more`.
 abbrev pub line_prints : ℕ → List Numbered → Line → List Out → List ℕ
 line_prints number numbered Bad more = line_text number (codes "bad")
 line_prints number numbered (Rejected status) more = line_text number (decimal status)
@@ -31,34 +31,34 @@ line_prints number numbered (Resharded shards) more = []
 line_prints number numbered (Announced nonce) more = []
 line_prints number numbered Noted more = []
 
--- One more line's input stands behind those before it;
+-- The next line's input, if any, comes after the earlier ones.
 abbrev pub InputsGoOn : Type 0
 InputsGoOn = (ls : List Line) (l : Line) → inputs_from 1 (ls ++ l ∷ []) ≡ inputs_from 1 ls ++ inputs_from (length ls + 1) (l ∷ [])
 
--- what it prints stands behind what was printed;
+-- What the next line prints comes after what was printed.
 abbrev pub LinesGoOn : Type 0
 LinesGoOn = (config : Config) (ls : List Line) (l : Line) (more : List Out) → 0 < config.limits.batch → AddsOuts config (inputs_in ls) l more →
     printed_so_far config (ls ++ l ∷ []) ≡ printed_so_far config ls ++ line_prints (length ls + 1) (inputs_from 1 (ls ++ l ∷ [])) l more
 
--- and the lines that are held stand behind all that the lines print.
+-- The held lines come after all that the lines print.
 abbrev pub HeldComeLast : Type 0
 HeldComeLast = (config : Config) (ls : List Line) →
     printed config (inputs_from 1 ls) ls ≡ printed_so_far config ls ++ flat_map (λ index. held_text (slice_get (inputs_from 1 ls) index)) (held config (inputs_in ls))
 
--- whether a line is none that says a nonce
+-- Whether a line announces no nonce.
 abbrev pub says_no_nonce : Line → Bool
 says_no_nonce (Announced nonce) = false
 says_no_nonce _ = true
 
--- One more line's request has the nonce that waits behind the lines before it, which keep theirs;
+-- The next line's request gets the waiting nonce. Earlier lines keep theirs.
 abbrev pub NoncesGoOn : Type 0
 NoncesGoOn = (ls : List Line) (l : Line) → with_nonces 0 (ls ++ l ∷ []) ≡ with_nonces 0 ls ++ line_with (nonce_at ls) l ∷ []
 
--- where no line says a nonce, all lines are as they are read;
+-- If no line announces a nonce, lines stay as they are read.
 abbrev pub NoncesStay : Type 0
 NoncesStay = (dialect : Dialect) (texts : List (List ℕ)) → list_all says_no_nonce (map (line_of dialect) texts) ≡ true →
     with_nonces 0 (map (line_of dialect) texts) ≡ map (line_of dialect) texts
 
--- and no line of a script says one.
+-- No line of a script announces a nonce.
 abbrev pub ScriptsSayNone : Type 0
 ScriptsSayNone = (text : List ℕ) → says_no_nonce (line_of Script text) ≡ true

@@ -1,4 +1,4 @@
--- Which messages are riders, said of whole requests, and what a rider is given.
+-- Which messages of a request are riders, and what a rider gets.
 use Rattle.std.specs.Prelude.{ℕ, ◌-◌, min, ◌≡◌, ◌&&◌, ◌↔◌, not, Bool, true, false, List, [], ◌∷◌, ◌++◌, length, take, drop, flat_map, option_map, Option, Some, None}
 use Rattle.std.specs.List.{AllByRecursion}
 use Rattle.bx_advice.specs.declared.config.Config.{Config}
@@ -9,26 +9,27 @@ use Rattle.bx_entry.specs.declared.entry.EntryKind.TheVariants.{Subscribe, Unsub
 use Rattle.bx_entry.specs.Sessions.{Session, Publication, Live, session, step, step_by, rider_of}
 use Rattle.bx_theory.specs.Readings.{is_from, opens_by}
 
--- ---- which messages are riders
+-- ---- Which messages are riders
 
--- what is found of these elements of a list, behind those before them
+-- The results for the elements `these`, which come between `before` and `behind`.
 abbrev pub found_behind : Config → List Listed → List Listed → List Listed → List Judged
 found_behind config before these behind = take (length these) (drop (length before) (registry config (before ++ (these ++ behind))).judged)
 
--- whether what is found is an accepted message of this session, and not the handshake that opens it
+-- Whether a result is for an accepted message of the session, except its handshake.
 abbrev pub is_own : ℕ → Judged → Bool
 is_own number j = is_from number j.sender && not (opens_by number j.entry.kind)
 
--- whether an entry of this kind may have a rider: a subscription, an unsubscription or a publish
+-- Whether an entry of this kind may have a rider: a subscription, an unsubscription or a publish.
 abbrev pub may_have_rider : EntryKind → Bool
 may_have_rider (Subscribe n ps) = true
 may_have_rider (Unsubscribe n ps) = true
 may_have_rider (Publish e) = true
 may_have_rider _ = false
 
--- What makes a message a rider of this session, where these stand before it in its request and those behind it: the configuration says so, the session
--- does not acknowledge, it is the last of its request, each of the request is an accepted one of the session and no handshake, and it is a
--- subscription, an unsubscription or a publish.
+-- What makes a message a rider of session `number`. `--ride` is set, and the session does not
+-- acknowledge. The message ends a request of accepted messages of the session, without its
+-- handshake. It is a subscription, an unsubscription or a publish. `before` and `behind` are the
+-- request's other results.
 pub record IsRiderOf (number : ℕ) (config : Config) (es : List Entry) (before : List Judged) (j : Judged) (behind : List Judged) : Type 0 where
   pub asked : config.ride ≡ true
   pub plain : (session config number es).ack ≡ false
@@ -36,32 +37,32 @@ pub record IsRiderOf (number : ℕ) (config : Config) (es : List Entry) (before 
   pub own : AllByRecursion (λ (i : Judged). is_own number i ≡ true) (before ++ j ∷ behind)
   pub kind : may_have_rider j.entry.kind ≡ true
 
--- the session of a rider, if there is one
+-- The session of a rider, if any.
 abbrev pub rider_session : Option Rider → Option ℕ
 rider_session rides = option_map (λ (rider : Rider). rider.session) rides
 
--- Whatever inputs come before a request, and whatever behind it, a message of it is a rider of a session exactly where all that holds.
+-- A message is a rider exactly under these conditions, whatever comes before and after its request.
 abbrev pub RiderReading : Type 0
 RiderReading = (config : Config) (inputs : List ReadInput) (moment nonce : ℕ) (ms : List Message) (more : List Listed)
     (before : List Judged) (j : Judged) (behind : List Judged) (number : ℕ) →
     found_behind config (flat_map added_by inputs) (added_by (Request moment nonce ms)) more ≡ before ++ j ∷ behind →
     (rider_session j.entry.rides ≡ Some number) ↔ IsRiderOf number config (entries config (flat_map added_by inputs ++ (added_by (Request moment nonce ms) ++ more))) before j behind
 
--- So nothing rides in a request with a message that is refused or of no session.
+-- A request with a refused or sessionless message has no rider.
 abbrev pub NothingRidesBeside : Type 0
 NothingRidesBeside = (config : Config) (inputs : List ReadInput) (moment nonce : ℕ) (ms : List Message) (more : List Listed)
     (before : List Judged) (other : Judged) (behind first : List Judged) (j : Judged) (rest : List Judged) →
     found_behind config (flat_map added_by inputs) (added_by (Request moment nonce ms)) more ≡ before ++ other ∷ behind → other.sender ≡ None →
     found_behind config (flat_map added_by inputs) (added_by (Request moment nonce ms)) more ≡ first ++ j ∷ rest → j.entry.rides ≡ None
 
--- No other entry of any list has a rider: no tick, no refused message, and no handshake, connect or disconnect.
+-- Ticks, refused messages, handshakes, connects and disconnects have no rider.
 abbrev pub OthersNeverRide : Type 0
 OthersNeverRide = (config : Config) (list : List Listed) → AllByRecursion (λ (e : Entry). may_have_rider e.kind ≡ false → e.rides ≡ None) (entries config list)
 
--- ---- what a rider is given
+-- ---- What a rider gets
 
--- As many of the events that wait in s as a batch may have, the first of them, are in the one answer that t has more than s, which is the rider's; the
--- others wait on.
+-- The rider's answer is the only new one in `t`. It has the first events that wait in `s`, at most
+-- `most`; the others wait on.
 pub record GivesRider (most place : ℕ) (rider : Rider) (s t : Session) : Type 0 where
   pub given : List Publication
   pub answers : t.answers ≡ s.answers ++ record { connect = place; place = place; publications = given; reply = rider.reply } ∷ []
@@ -69,7 +70,7 @@ pub record GivesRider (most place : ℕ) (rider : Rider) (s t : Session) : Type 
   pub count : length given ≡ min most (length s.queue)
   pub left : length t.queue ≡ length s.queue - most
 
--- So a live session that does not acknowledge answers its rider, behind what the rider's entry does to the session by itself.
+-- A live session that does not acknowledge answers its rider, after the entry's own effect.
 abbrev pub RiderGiven : Type 0
 RiderGiven = (config : Config) (s : Session) (e : Entry) (rider : Rider) → rider_of e.kind e.rides ≡ Some rider → rider.session ≡ s.number → s.stage ≡ Live → s.ack ≡ false →
     GivesRider config.limits.batch e.place rider (step_by config e.place e.moment s e.kind) (step config s e)

@@ -1,4 +1,4 @@
-//! A wake that does not end before the locks of all shards were free.
+//! Test of wakes and shards' locks.
 ghost use Rattle.std.specs.Prelude.{◌≡◌};
 ghost use Rattle.bx_entry.specs.Placings.{by_remainder};
 
@@ -22,17 +22,17 @@ use std::thread;
 use std::thread::{Threads, join};
 use std::time::{Clock, Duration};
 
-// How often the thread that lets the wake end looks whether it may, a millisecond apart.
+// How often a thread looks at a flag before it gives up, one millisecond apart.
 const LOOKS: u32 = 10_000;
 
-// A counter of the system's. To write to one that is full waits until somebody reads it.
+// An event counter of the system. A write to a full one blocks until it is read.
 #[derive(Drop)]
 struct Counter {
     fd: i32,
 }
 
 impl Counter {
-    // A new one, with the descriptor that owns it.
+    // Creates a counter, and the descriptor that owns it.
     fn new() -> Option<(Counter, OwnedFd)> {
         let fd = eventfd(0, EFD_CLOEXEC);
         if fd < 0 {
@@ -42,32 +42,37 @@ impl Counter {
         Some((Counter { fd }, owned))
     }
 
-    // Makes it full, where it counts one.
+    // Fills a counter whose value is 1.
     fn fill(&self) -> bool {
         libc::write(self.fd, &(u64::MAX - 2).to_ne_bytes()) == 8
     }
 
+    // Reads the counter, which lets a blocked write continue.
     fn empty(&self) -> bool {
         let mut count = [0; 8];
         libc::read(self.fd, &mut count) == 8
     }
 }
 
-// The call that answers the connect, and so wakes the task: a publish, or a question for the answer, once the shard goes on that was paused
-// while the publish came.
+// The call that answers the connect and so wakes the task.
+//
+// `Question` is a poll, in a shard that was paused during the publish.
 #[derive(Clone, Copy, Debug, PartialEq, Eq)]
 enum Waking {
     Publish,
     Question,
 }
 
-// What the threads tell each other: that shards are brought up by the call that wakes; that shard 1 is about to be; that the locks of all
-// shards were free behind that; and that the call has ended.
+// Flags between the threads.
 #[derive(Drop)]
 struct Flags {
+    // The waking call begins.
     is_armed: AtomicBool,
+    // That call is about to advance shard 1.
     stands: AtomicBool,
+    // Every shard's lock was free after that.
     swept: AtomicBool,
+    // That call has ended.
     ended: AtomicBool,
 }
 
@@ -82,7 +87,7 @@ impl Flags {
     }
 }
 
-// Tells when the lock of shard 1 is held for that call.
+// A gate that reports when the waking call holds the lock of shard 1.
 #[derive(Drop)]
 struct Telling {
     flags: Arc<Flags, Global>,
@@ -127,7 +132,7 @@ fn wakes<J: Naming, P: Placing, G: Gate + Drop, H: Wait + Drop, R: Wait>(
     answered
 }
 
-// Takes the locks of all shards, which the call has to let go of before.
+// Takes every shard's lock, which blocks until the waking call has released it.
 fn sweeps<J: Naming, P: Placing, G: Gate + Drop, H: Wait + Drop, R: Wait + Clock>(
     rt: &R,
     hub: &Hub<J, P, G, H>,
@@ -139,17 +144,18 @@ fn sweeps<J: Naming, P: Placing, G: Gate + Drop, H: Wait + Drop, R: Wait + Clock
     stood
 }
 
-// What came of a wake that waited.
+// What happened to a wake that was blocked.
 #[derive(Clone, Copy, Debug, PartialEq, Eq)]
 struct Told {
-    // The locks of all shards were free meanwhile.
+    // Every shard's lock was free meanwhile.
     was_free: bool,
-    // The call had ended before.
+    // The waking call had ended, although its wake was blocked.
     had_ended: bool,
+    // The wake was allowed to continue.
     let_go: bool,
 }
 
-// Lets the wake end once the locks were free, and in any case some time later.
+// Lets the wake continue once the locks were free, or after `LOOKS` milliseconds.
 fn lets_go<R: Clock>(rt: &R, flags: &Flags, counter: &Counter) -> Told {
     let was_free = wait_for(rt, &flags.swept);
     thread::sleep(rt, Duration::from_millis(20));
@@ -204,7 +210,7 @@ fn beside<
     same(rt, told, wanted, waking);
 }
 
-// Leaves a waker of the task beside the connect. The task counts as asleep until the call has woken it.
+// Registers a waker of `task`, makes its wake block, and runs `beside` while the task sleeps.
 fn rings<
     J: Naming + Send + Sync,
     P: Placing + Send + Sync,
@@ -318,6 +324,7 @@ fn frees<R: Threads + Wait + Clock + Abort + Sync>(
     )
 }
 
+// Shows that a publish and a poll release every shard's lock before they wake a task.
 #[test]
 fn wakes_wait_for_no_shard(rt: HostRuntime) -> Result<(), Fail> {
     for waking in [Waking::Publish, Waking::Question] {

@@ -1,4 +1,4 @@
-//! Eight threads that publish, tick, receive and sweep over four shards, past the batches that the window has room for.
+//! Test of eight threads over four shards.
 ghost use Rattle.std.specs.Prelude.{◌≡◌};
 ghost use Rattle.bx_entry.specs.Placings.{by_remainder};
 
@@ -15,13 +15,13 @@ use std::sync::{Arc, Wait};
 use std::test::*;
 use std::thread::{Threads, join};
 
-// Each of two threads lets the clock tick so often: together with the other posts more than the window's 4,096 batches.
+// Ticks of each of two threads. With the other requests they exceed the window's 4,096 batches.
 const TICKS: usize = 2_000;
 
-// Each of three threads publishes so many events, fewer in all than a session's queue has room for.
+// Events of each of three threads, together fewer than a session may queue.
 const EVENTS: usize = 250;
 
-// Each of two threads asks so often for what waits for its session.
+// Connects of each of two threads.
 const CONNECTS: usize = 100;
 
 const SUBSCRIPTIONS: [&str; 2] = [
@@ -40,7 +40,7 @@ const ASKS: [&str; 2] = [
 enum Job {
     Publish,
     Tick,
-    // For the first session, or the second.
+    // The index of the session, 0 or 1.
     Receive(usize),
     Sweep,
 }
@@ -69,7 +69,7 @@ fn ticks<J: Naming, P: Placing, G: Gate + Drop, H: Wait + Drop, R: Wait>(
     Some(0)
 }
 
-// The number of events that one connect is given.
+// Returns how many events one connect gets.
 fn asks<J: Naming, P: Placing, G: Gate + Drop, H: Wait + Drop, R: Wait>(
     rt: &R,
     alloc: Global,
@@ -81,7 +81,7 @@ fn asks<J: Naming, P: Placing, G: Gate + Drop, H: Wait + Drop, R: Wait>(
     poll(rt, alloc, hub, pass, ticket?).ok()?.checked_sub(1)
 }
 
-// The number of events that a session is given by several connects.
+// Returns how many events a session gets by `CONNECTS` connects.
 fn receives<J: Naming, P: Placing, G: Gate + Drop, H: Wait + Drop, R: Wait>(
     rt: &R,
     alloc: Global,
@@ -96,7 +96,7 @@ fn receives<J: Naming, P: Placing, G: Gate + Drop, H: Wait + Drop, R: Wait>(
     Some(count)
 }
 
-// A sweep that drops nothing, many times.
+// Sweeps repeatedly, and returns the number of answers dropped: 0.
 fn sweeps<J: Naming, P: Placing, G: Gate + Drop, H: Wait + Drop, R: Wait>(
     rt: &R,
     hub: &Hub<J, P, G, H>,
@@ -158,7 +158,7 @@ fn four<
     a?.checked_add(b?)
 }
 
-// How many events the two sessions are given while eight threads are at work.
+// Runs eight threads, and returns how many events the two sessions get meanwhile.
 fn eight<
     J: Naming + Send + Sync,
     P: Placing + Send + Sync,
@@ -186,7 +186,7 @@ fn eight<
     a?.checked_add(b?)
 }
 
-// Opens two sessions, and subscribes them.
+// Opens and subscribes two sessions.
 fn opens<J: Naming, P: Placing, G: Gate + Drop, H: Wait + Drop, R: Wait>(
     rt: &R,
     alloc: Global,
@@ -199,7 +199,7 @@ fn opens<J: Naming, P: Placing, G: Gate + Drop, H: Wait + Drop, R: Wait>(
     Some(())
 }
 
-// How many events two sessions are given in all: what still waits behind the eight threads is fetched by more connects.
+// Returns how many events both sessions get, with the rest fetched after the threads end.
 fn given<
     J: Naming + Send + Sync,
     P: Placing + Send + Sync,
@@ -228,11 +228,12 @@ fn crowd<J: Naming + Send + Sync, R: Threads + Wait + Abort + Sync>(
     let hub = Hub::<J, ByRemainder, OpenGate, &R>::new(
         alloc, rt, opened, config, placing, OpenGate,
     )?;
-    // Three threads published events, each of which both sessions got once.
+    // Two sessions get the events of three publishing threads.
     same(rt, given(rt, alloc, &hub), Some(2 * 3 * EVENTS), "given");
     Ok(())
 }
 
+// Shows that sessions get as many events as were published while eight threads run.
 #[test]
 fn eight_threads(rt: HostRuntime) -> Result<(), Fail> {
     let alloc = rt.alloc();

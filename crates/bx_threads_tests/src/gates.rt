@@ -1,4 +1,4 @@
-//! Each shard has a lock of its own.
+//! Test of the locks of shards and admission.
 ghost use Rattle.std.specs.Prelude.{◌≡◌};
 ghost use Rattle.bx_entry.specs.Placings.{by_remainder};
 
@@ -17,29 +17,34 @@ use std::sync::{Arc, Wait};
 use std::test::*;
 use std::thread::{Threads, join};
 
-// How often a post that is held looks whether it may go on.
+// How often a thread looks at a flag before it gives up.
 const LOOKS: u32 = 10_000_000;
 
-// What the gate and the test tell each other: that shard 0 is to be held, that somebody stands there, that he may go on, and
-// that he waited in vain.
+// Flags between the gate and the test.
 #[derive(Drop)]
 struct Flags {
+    // The gate stops callers in shard 0.
     is_held: AtomicBool,
+    // A caller has stopped there.
     stands: AtomicBool,
+    // It may continue.
     is_free: AtomicBool,
+    // It gave up waiting for that.
     gave_up: AtomicBool,
 }
 
-// What a caller is told while another one stands in shard 0: whether a tick is refused for its moment alone, how much of the
-// list the caller has seen by that, and what it is given for the connect in shard 1.
+// What a second caller finds while the first is stopped in shard 0.
 #[derive(Clone, Copy, Debug, PartialEq, Eq)]
 struct Told {
+    // Whether a tick is refused for its moment alone.
     is_bad_moment: bool,
+    // How many entries the caller has seen after that.
     seen: u64,
+    // What it finds for the connect in shard 1.
     found: Found,
 }
 
-// Holds whoever brings shard 0 up until it is free, where that is asked for.
+// A gate that stops callers in shard 0, if asked to, until they may continue.
 #[derive(Drop)]
 struct Holding {
     flags: Arc<Flags, Global>,
@@ -63,8 +68,9 @@ impl Gate for Holding {
     fn after(&self, _shard: usize) {}
 }
 
-// Waits until the other caller stands in shard 0. The admission is free then, and what the other one publishes is there; so is
-// shard 1, which this call brings up. Then it frees shard 0.
+// Ticks and polls while the publish is stopped in shard 0, and then lets it continue.
+//
+// Admission must be free, and its list must have the publish. Shard 1 must be free too.
 fn takes<J: Naming, P: Placing, H: Wait + Drop, R: Wait>(
     rt: &R,
     alloc: Global,
@@ -93,7 +99,7 @@ fn takes<J: Naming, P: Placing, H: Wait + Drop, R: Wait>(
     }
 }
 
-// A publish, which is held in shard 0 while it has that shard's lock.
+// Publishes, and is stopped under the lock of shard 0.
 fn posts<J: Naming, P: Placing, H: Wait + Drop, R: Wait>(
     rt: &R,
     alloc: Global,
@@ -103,7 +109,9 @@ fn posts<J: Naming, P: Placing, H: Wait + Drop, R: Wait>(
     post(rt, alloc, hub, &mut pass, PUBLISH).is_ok()
 }
 
-// With one lock round all shards, or round admission and shard 0, the publish waits in vain.
+// Runs both callers and checks what they find.
+//
+// If one lock covered all shards, or admission and shard 0, the publish would wait in vain.
 fn beside<
     J: Naming + Send + Sync,
     P: Placing + Send + Sync,
@@ -146,7 +154,7 @@ fn beside<
     Ok(())
 }
 
-// Opens two sessions, and gives the ticket of the first one's connect, which is held.
+// Opens two sessions, and returns the ticket of the first one's held connect.
 fn opens<J: Naming, P: Placing, G: Gate + Drop, H: Wait + Drop, R: Wait>(
     rt: &R,
     alloc: Global,
@@ -186,6 +194,7 @@ fn held<J: Naming + Send + Sync, R: Threads + Wait + Abort + Sync>(
     stands(rt, alloc, &hub, flags)
 }
 
+// Shows that a call stopped in shard 0 delays neither admission nor a poll in shard 1.
 #[test]
 fn shards_have_locks_of_their_own(rt: HostRuntime) -> Result<(), Fail> {
     let alloc = rt.alloc();

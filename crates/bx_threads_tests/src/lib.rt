@@ -1,4 +1,6 @@
-//! Tests of `bx_hub` by several threads, in a crate of their own: the gate proves a crate once more where it has tests.
+//! Tests of `bx_hub` from several threads.
+//!
+//! A separate crate, because `.ci/run` proves a crate with tests twice.
 #![tactic(auto)]
 
 #[cfg(test)]

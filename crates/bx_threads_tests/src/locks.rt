@@ -1,4 +1,4 @@
-//! Who waits for admission holds no shard's lock, and the gate is passed before entries and behind them.
+//! Test of waits for admission, and of gates.
 ghost use Rattle.std.specs.Prelude.{◌≡◌};
 ghost use Rattle.bx_entry.specs.Placings.{by_remainder, by_remainder-below};
 
@@ -18,17 +18,17 @@ use std::thread;
 use std::thread::{Threads, join};
 use std::time::{Clock, Duration};
 
-// How often whoever is held looks whether it may go on, a millisecond apart.
+// How often a thread looks at a flag before it gives up, one millisecond apart.
 const LOOKS: u32 = 10_000;
 
-// How often the locks of all shards are taken while the post has admission's, a millisecond apart: so long has the other call to come to
-// where it would wait for admission.
+// How often all shards' locks are taken, one millisecond apart, while the post has admission's.
+// In that time the other call reaches the point where it would wait for admission.
 const SWEEPS: u32 = 200;
 
-// So many pings are posted ahead of a post, so that it reaches place 64 and lets the window go of what was passed.
+// Number of pings before `Call::Post`, which then makes the list 64 long and trims the window.
 const AHEAD: u32 = 62;
 
-// The call that is held in shard 1.
+// The call that is stopped in shard 1.
 #[derive(Clone, Copy, Debug)]
 enum Call {
     Tick,
@@ -36,20 +36,25 @@ enum Call {
     Question,
 }
 
-// What the three threads tell each other: that the call is to be held in shard 1, and the post where it places a session; that they
-// stand there; that the post may go on; and that somebody waited in vain. And how often a session's shard was asked for, all in all
-// and when the gate was passed last before entries, and behind how many of them it was asked for in between.
+// Flags and counters that three threads share.
 #[derive(Drop)]
 struct Flags<C: Clock + Drop> {
     clock: C,
+    // The call is to stop in shard 1, the post where it places a session.
     holds_call: AtomicBool,
     holds_post: AtomicBool,
+    // They have stopped there.
     call_stands: AtomicBool,
     post_stands: AtomicBool,
+    // The post may continue.
     is_free: AtomicBool,
+    // A thread gave up waiting.
     gave_up: AtomicBool,
+    // How often the placing was used.
     asked: AtomicU64,
+    // The same count at the gate's last call before an advance.
     before: AtomicU64,
+    // Number of advances during which the placing was used.
     between: AtomicU64,
 }
 
@@ -69,6 +74,7 @@ impl<C: Clock + Drop> Flags<C> {
         }
     }
 
+    // Waits until `flag` is set. Gives up after `LOOKS` milliseconds, and records that.
     fn wait_for(&self, flag: &AtomicBool) {
         for _ in 0..LOOKS {
             if flag.load(Ordering::SeqCst) {
@@ -80,7 +86,7 @@ impl<C: Clock + Drop> Flags<C> {
     }
 }
 
-// Holds two threads, each where it is to stand.
+// A gate and placing that stop one thread each.
 #[derive(Drop)]
 struct Holding<C: Clock + Drop> {
     flags: Arc<Flags<C>, Global>,
@@ -94,8 +100,9 @@ impl<C: Clock + Drop> Holding<C> {
     }
 }
 
-// Holds the call behind the entries of shard 1, until the post has admission's lock. All that a tick or a post does
-// from then on is to look where the shards stand, and to let the window go of what they have passed; a question has
+// Stops the call after the entries of shard 1, until the post has admission's lock.
+//
+// After that, a tick or post only reads the shards' places and trims the window. A poll has
 // nothing left to do.
 impl<C: Clock + Drop> Gate for Holding<C> {
     fn before(&self, _shard: usize) {
@@ -114,7 +121,7 @@ impl<C: Clock + Drop> Gate for Holding<C> {
     }
 }
 
-// Holds the post where its connect is placed, which is under admission's lock.
+// Stops the post where it places its connect, under admission's lock.
 impl<C: Clock + Drop> Placing for Holding<C> {
     ghost place_of = { λ _ number shards. by_remainder number shards };
 
@@ -130,6 +137,7 @@ impl<C: Clock + Drop> Placing for Holding<C> {
     }
 }
 
+// Makes the call that is stopped in shard 1, and returns `true` if it succeeds.
 fn calls<J: Naming, P: Placing, G: Gate + Drop, H: Wait + Drop, C: Clock + Drop, R: Wait>(
     rt: &R,
     alloc: Global,
@@ -156,7 +164,7 @@ fn calls<J: Naming, P: Placing, G: Gate + Drop, H: Wait + Drop, C: Clock + Drop,
     }
 }
 
-// A connect, which is held while it has admission's lock.
+// Posts a connect, which is stopped under admission's lock.
 fn posts<J: Naming, P: Placing, G: Gate + Drop, H: Wait + Drop, C: Clock + Drop, R: Wait>(
     rt: &R,
     alloc: Global,
@@ -168,7 +176,7 @@ fn posts<J: Naming, P: Placing, G: Gate + Drop, H: Wait + Drop, C: Clock + Drop,
     post(rt, alloc, hub, &mut hub.pass(), CONNECT).is_ok()
 }
 
-// Takes the locks of all shards while the post has admission's and the other call has been let go on.
+// Takes every shard's lock while the post has admission's and the other call may continue.
 fn sweeps<J: Naming, P: Placing, G: Gate + Drop, H: Wait + Drop, C: Clock + Drop, R: Wait>(
     rt: &R,
     hub: &Hub<J, P, G, H>,
@@ -199,7 +207,10 @@ fn posts_and_sweeps<
     )
 }
 
-// Where the call waited for admission with a shard's lock, the sweeps would stand still, and the post would wait for them in vain.
+// Runs the three threads and checks that none waited in vain.
+//
+// If the call waited for admission with a shard's lock, the sweeps would block, and the post would
+// wait for them in vain.
 fn beside<
     J: Naming + Send + Sync,
     P: Placing + Send + Sync,
@@ -229,7 +240,7 @@ fn stands<
     R: Threads + Wait + Abort + Sync,
 >(rt: &R, alloc: Global, hub: &Hub<J, P, G, H>, flags: &Flags<C>, call: Call) -> Result<(), Fail> {
     post(rt, alloc, hub, &mut hub.pass(), HANDSHAKE)?;
-    // Each shard asks whether the new session is its own, once it applies that.
+    // Each shard places the new session when it applies its handshake.
     let between = flags.between.load(Ordering::SeqCst);
     same(rt, between, 2, "between the gates");
     beside(rt, alloc, hub, flags, call);
@@ -270,6 +281,7 @@ fn holds<C: Clock + Drop + Send + Sync, R: Threads + Wait + Abort + Sync>(
     ordered::<Brand, _, _>(rt, alloc, Opened::new(), config, placing, gate, flags, call)
 }
 
+// Shows that calls wait for admission without a shard's lock, and that gates surround advances.
 #[test]
 fn calls_wait_without_a_shard(rt: HostRuntime) -> Result<(), Fail> {
     for call in [Call::Tick, Call::Post, Call::Question] {

@@ -1,4 +1,4 @@
-//! A thread that sleeps until its connect is answered, round after round.
+//! Test of a thread that sleeps until its connect is answered.
 ghost use Rattle.std.specs.Prelude.{◌≡◌};
 ghost use Rattle.bx_entry.specs.Placings.{by_remainder};
 
@@ -19,36 +19,38 @@ use std::thread;
 use std::thread::{Threads, join};
 use std::time::{Clock, Duration, Instant};
 
-// In each round one connect is answered by one publish. So many are more batches than the window has room for.
+// Number of rounds. Each has a connect and a publish, so that their batches overfill the window.
 const ROUNDS: u64 = 10_000;
 
-// Behind so many seconds no round is begun, for a machine that is busy.
+// Seconds after which no round begins, for busy machines.
 const SECONDS: u64 = 5;
 
-// How often the thread that publishes looks whether it may: at first at once, and then a millisecond apart.
+// How often the publishing thread looks for its turn.
+//
+// It looks again at once for the first `QUICK_LOOKS` times, and later after a millisecond.
 const LOOKS: u32 = 11_000;
 
 const QUICK_LOOKS: u32 = 1_000;
 
-// The second session publishes the number of the round.
+// A publish of the round's number by the second session.
 const PUBLISH: [&str; 2] = [
     r#"[{"channel":"/a/b","clientId":"000000000000000000000000000000000000000000000002","data":"#,
     "}]",
 ];
 
-// What the first session's connect is answered then.
+// The response to the first session's connect in that round.
 const ANSWER: [&str; 2] = [
     r#"[{"channel":"/a/b","data":"#,
     r#"},{"advice":{"interval":0,"reconnect":"retry","timeout":30000},"channel":"/meta/connect","clientId":"000000000000000000000000000000000000000000000001","successful":true}]"#,
 ];
 
-// The number of a round between these two texts.
+// Formats `round` between two texts.
 fn text_of(alloc: Global, around: [&str; 2], round: u64) -> Result<String, AllocError> {
     let [head, tail] = around;
     format!(in alloc; "{head}{round}{tail}")
 }
 
-// The task that waits, and the round whose event it is to be given.
+// The waiting task, and the round whose event may be published.
 #[derive(Drop)]
 struct Turns {
     task: Queue,
@@ -57,7 +59,9 @@ struct Turns {
 }
 
 impl Turns {
-    // Sleeps until the task is woken, and leaves a waker for the next time. False once nobody will wake it.
+    // Sleeps until the task is woken, and stores a new waker in `slot`.
+    //
+    // Returns `false` if the task was shut down.
     fn sleep<R: Wait>(&self, rt: &R, slot: &mut Option<Waker>) -> bool {
         match self.task.next(rt) {
             Some(mut cx) => {
@@ -69,7 +73,7 @@ impl Turns {
         }
     }
 
-    // What the thread that publishes is to do, once it is told.
+    // Waits for the turn of `round`, and returns what the publishing thread does next.
     fn next<R: Clock>(&self, rt: &R, round: u64) -> Next {
         for look in 0..LOOKS {
             let told = self.round.load(Ordering::SeqCst);
@@ -89,19 +93,19 @@ impl Turns {
     }
 }
 
-// In place of a round: there is no further one.
+// In place of a round: no more rounds follow.
 const OVER: u64 = u64::MAX;
 
-// What the thread that publishes is to do.
+// What the publishing thread does next.
 #[derive(Clone, Copy, Debug, PartialEq, Eq)]
 enum Next {
     Publish,
     Over,
-    // The next round does not come.
+    // The round did not begin in time.
     Late,
 }
 
-// Whether a further round is begun.
+// Returns `true` if another round may begin.
 fn has_time<R: Clock>(rt: &R, start: Instant) -> bool {
     match start.elapsed(rt) {
         Ok(elapsed) => elapsed.as_secs() < SECONDS,
@@ -109,8 +113,7 @@ fn has_time<R: Clock>(rt: &R, start: Instant) -> bool {
     }
 }
 
-// What became of the rounds: how many were begun and ended, how many wakers were left beside connects, and how many times the task was
-// woken from its sleep.
+// Counts of rounds begun and ended, of wakers left with the hub, and of wakes from sleep.
 #[derive(Clone, Copy, Debug, PartialEq, Eq)]
 struct Told {
     begun: u64,
@@ -157,7 +160,7 @@ fn wait<J: Naming, P: Placing, G: Gate + Drop, H: Wait + Drop, R: Wait>(
     }
 }
 
-// The connect of a round is given the event of that round: at once, or where its waker comes back or was woken.
+// Checks that the connect gets `wanted`, at once or after `wait`.
 fn answered<J: Naming, P: Placing, G: Gate + Drop, H: Wait + Drop, R: Wait>(
     rt: &R,
     alloc: Global,
@@ -181,7 +184,7 @@ fn answered<J: Naming, P: Placing, G: Gate + Drop, H: Wait + Drop, R: Wait>(
     }
 }
 
-// A connect of the first session. Every other time its event may be published before.
+// Posts a connect of the first session. In even rounds the event may be published before it.
 fn connects<J: Naming, P: Placing, G: Gate + Drop, H: Wait + Drop, R: Wait>(
     rt: &R,
     alloc: Global,
@@ -198,7 +201,7 @@ fn connects<J: Naming, P: Placing, G: Gate + Drop, H: Wait + Drop, R: Wait>(
     ticket
 }
 
-// A round: the connect is given the event of that round.
+// Plays a round: its connect gets its event.
 fn plays<J: Naming, P: Placing, G: Gate + Drop, H: Wait + Drop, R: Wait>(
     rt: &R,
     alloc: Global,
@@ -215,7 +218,7 @@ fn plays<J: Naming, P: Placing, G: Gate + Drop, H: Wait + Drop, R: Wait>(
     answered(rt, alloc, hub, pass, ticket, wanted, turns, slot, told)
 }
 
-// What became of the rounds, up to one that failed.
+// Plays rounds until one fails or time is up, and returns the counts.
 fn waits<J: Naming, P: Placing, G: Gate + Drop, H: Wait + Drop, R: Wait + Clock>(
     rt: &R,
     alloc: Global,
@@ -245,8 +248,9 @@ fn waits<J: Naming, P: Placing, G: Gate + Drop, H: Wait + Drop, R: Wait + Clock>
     told
 }
 
-// Publishes an event in each round, and says how many it published; none where it was refused or the next round did not come. Whoever
-// waits is then told that nobody will wake it.
+// Publishes an event in each round, and returns how many.
+//
+// Returns `None` if a publish is refused or a round does not begin in time.
 fn publishes<J: Naming, P: Placing, G: Gate + Drop, H: Wait + Drop, R: Wait + Clock>(
     rt: &R,
     alloc: Global,
@@ -276,7 +280,7 @@ fn publish<J: Naming, P: Placing, G: Gate + Drop, H: Wait + Drop, R: Wait>(
     Some(())
 }
 
-// As `publishes`; from then on nobody wakes the task.
+// Runs `publishes`. If that fails, shuts the task down so that it does not sleep on.
 fn publishes_all<J: Naming, P: Placing, G: Gate + Drop, H: Wait + Drop, R: Wait + Clock>(
     rt: &R,
     alloc: Global,
@@ -290,7 +294,7 @@ fn publishes_all<J: Naming, P: Placing, G: Gate + Drop, H: Wait + Drop, R: Wait 
     published
 }
 
-// The first session is subscribed, and the second one publishes.
+// Opens two sessions and subscribes the first.
 fn opens<J: Naming, P: Placing, G: Gate + Drop, H: Wait + Drop, R: Wait>(
     rt: &R,
     alloc: Global,
@@ -321,7 +325,7 @@ fn rounds<
     Ok(())
 }
 
-// Each round that was begun ended with its event, and each waker that was left woke the task once.
+// Checks that each round ended with its event, and that each waker woke the task once.
 fn check<R: Abort>(rt: &R, told: Told, published: Option<u64>) {
     let wanted = Told {
         ended: told.begun,
@@ -351,6 +355,7 @@ fn play<J: Naming + Send + Sync, R: Threads + Wait + Clock + Abort + Sync>(
     rounds(rt, alloc, &hub, turns)
 }
 
+// Shows that each waker left with a held connect wakes its task once.
 #[test]
 fn each_waker_wakes_once(rt: HostRuntime) -> Result<(), Fail> {
     let alloc = rt.alloc();

@@ -1,4 +1,4 @@
-//! Two threads with a pass each.
+//! Test of two threads, each with its own pass.
 ghost use Rattle.std.specs.Prelude.{◌≡◌};
 ghost use Rattle.bx_entry.specs.Placings.{by_remainder};
 
@@ -18,7 +18,7 @@ use std::thread::{Threads, join};
 // More ticks than the window has batches.
 const TICKS: usize = 5_000;
 
-// Lets the clock tick, and publishes nothing, so that what is found later is the other thread's event.
+// Ticks and publishes nothing, so that any event found later is the other thread's.
 fn ticks<J: Naming, P: Placing, G: Gate + Drop, H: Wait + Drop, R: Wait>(
     rt: &R,
     alloc: Global,
@@ -31,7 +31,7 @@ fn ticks<J: Naming, P: Placing, G: Gate + Drop, H: Wait + Drop, R: Wait>(
     Some(pass)
 }
 
-// Publishes an event, and tells what was seen then.
+// Publishes an event, and returns the pass that has seen it.
 fn tells<J: Naming, P: Placing, G: Gate + Drop, H: Wait + Drop, R: Wait>(
     rt: &R,
     alloc: Global,
@@ -42,8 +42,9 @@ fn tells<J: Naming, P: Placing, G: Gate + Drop, H: Wait + Drop, R: Wait>(
     Some(pass)
 }
 
-// One thread publishes while the clock ticks in the other, which then learns what the first has seen: the held connect is
-// answered once, with that event.
+// Publishes in one thread and ticks in the other, which then learns the first one's pass.
+//
+// The held connect must then be answered once, with that event.
 fn meet<
     J: Naming + Send + Sync,
     P: Placing + Send + Sync,
@@ -66,7 +67,7 @@ fn meet<
     }
 }
 
-// The connect is answered once, with the event that was published and its own reply.
+// Checks that the connect is answered once, with the event and its reply.
 fn answered<J: Naming, P: Placing, G: Gate + Drop, H: Wait + Drop, R: Wait + Abort>(
     rt: &R,
     alloc: Global,
@@ -81,7 +82,7 @@ fn answered<J: Naming, P: Placing, G: Gate + Drop, H: Wait + Drop, R: Wait + Abo
     Ok(())
 }
 
-// The ticket of a connect that is held, and has no answer.
+// Returns the ticket of a held connect, after checking that it has no answer.
 fn waits<J: Naming, P: Placing, G: Gate + Drop, H: Wait + Drop, R: Wait + Abort>(
     rt: &R,
     alloc: Global,
@@ -123,6 +124,7 @@ fn two<J: Naming + Send + Sync, R: Threads + Wait + Abort + Sync>(
     meet_once(rt, alloc, &hub)
 }
 
+// Shows that a pass extended by another thread's finds that thread's event, once.
 #[test]
 fn two_threads(rt: HostRuntime) -> Result<(), Fail> {
     let alloc = rt.alloc();

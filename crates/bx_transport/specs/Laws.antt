@@ -1,9 +1,9 @@
--- What is written for a script reads as what is written for others.
+-- A response in a script reads the same as any other.
 use Rattle.std.specs.Prelude.{◌≡◌, ℕ, List, Some}
 use Rattle.serde_json.specs.Data.{Data}
 use Rattle.serde_json.specs.Read.{read}
 use Rattle.bx_message.specs.Texts.{script_safe}
 
--- a JSON text in which the two separators are written as escapes is the same value
+-- A JSON text keeps its value if U+2028 and U+2029 are escaped in it.
 abbrev pub ScriptsReadTheSame : Type 0
 ScriptsReadTheSame = (text : List ℕ) (d : Data) → read text ≡ Some d → read (script_safe text) ≡ Some d

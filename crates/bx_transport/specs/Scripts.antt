@@ -1,9 +1,9 @@
--- What is written as an escape in a script.
+-- Characters that are escaped in a script.
 use Rattle.std.specs.Prelude.{ℕ, List, nat_eq, codes, if◌then◌else◌, Option, Some, None}
 use Rattle.std.specs.List.{starts_with}
 use Rattle.bx_message.specs.Texts.{line_separator, paragraph_separator}
 
--- the escape for the character that a text begins with, where it is one of the two that scripts take for the end of a line
+-- The escape of a text's first character, if it is U+2028 or U+2029, which end lines in scripts.
 abbrev pub escape_at : List ℕ → Option (List ℕ)
 escape_at text =
     if starts_with nat_eq text line_separator then Some (codes "\\u2028")

@@ -1,10 +1,10 @@
--- The statuses of what is not taken.
+-- The statuses of transport errors.
 use Rattle.bx_message.specs.declared.status.Status.{Status}
 use Rattle.bx_message.specs.declared.status.Status.TheVariants.{BadRequest, TooLarge, Unavailable}
 use Rattle.bx_transport.specs.declared.error.TransportError.{TransportError}
 use Rattle.bx_transport.specs.declared.error.TransportError.TheVariants as transports
 
--- of a body or a query that carries no documents
+-- The status of a response to a body or a query that is refused.
 abbrev pub transport_status : TransportError → Status
 transport_status transports.TooLarge = TooLarge
 transport_status transports.BadName = BadRequest

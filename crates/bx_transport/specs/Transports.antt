@@ -1,31 +1,33 @@
--- How the body of a POST and the query of a GET are taken.
+-- How the body of a POST and the query of a GET are read.
 use Rattle.std.specs.Prelude.{ℕ, List, [], ◌∷◌, length, nat_lt, codes, if◌then◌else◌, Option, Result, Ok, Err}
 use Rattle.bx_advice.specs.declared.config.TheConstants.{BODY_LIMIT}
 use Rattle.bx_transport.specs.declared.error.TransportError.{TransportError}
 use Rattle.bx_transport.specs.declared.error.TransportError.TheVariants.{TooLarge, BadName, NoMessage}
 use Rattle.bx_transport.specs.Forms.{is_form, values_of, callback_of, is_callback}
 
--- the documents, unless there is none
+-- The documents, or an error if there are none.
 abbrev pub some_documents : List (List ℕ) → Result (List (List ℕ)) TransportError
 some_documents [] = Err NoMessage
 some_documents (d ∷ ds) = Ok (d ∷ ds)
 
--- the documents of a form or a query
+-- The documents of a form or a query.
 abbrev pub documents_of : List ℕ → Result (List (List ℕ)) TransportError
 documents_of form = some_documents (values_of (codes "message") form)
 
--- A body is refused where it is too large. A form has its documents in its parameters, any other body is one document.
+-- A body fails if it is too large. A form has its documents in its parameters; any other body is
+-- one document.
 abbrev pub post_taken : Option (List ℕ) → List ℕ → Result (List (List ℕ)) TransportError
 post_taken content_type body =
     if nat_lt BODY_LIMIT (length body) then Err TooLarge
     else (if is_form content_type then documents_of body else Ok (body ∷ []))
 
--- the documents of a query with the name of the callback that asks for them
+-- The documents of a query, with the name of the callback that asks for them.
 abbrev pub with_callback : List ℕ → Result (List (List ℕ)) TransportError → Result (List ℕ × List (List ℕ)) TransportError
 with_callback name (Ok documents) = Ok (name, documents)
 with_callback name (Err error) = Err error
 
--- a query is refused where it is too large, then where its callback is no name, then where it has no document
+-- A query fails if it is too large, then if its callback's name is invalid, then if it has no
+-- document.
 abbrev pub get_taken : List ℕ → Result (List ℕ × List (List ℕ)) TransportError
 get_taken query =
     if nat_lt BODY_LIMIT (length query) then Err TooLarge

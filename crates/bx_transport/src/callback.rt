@@ -3,13 +3,13 @@ ghost use Rattle.std.specs.Prelude.{◌≡◌};
 ghost use Rattle.std.specs.List.{list_all};
 ghost use Rattle.bx_transport.specs.Forms.{is_callback, is_callback_byte};
 
-// The name of the callback where a query has none. (This server's choice.)
+// Name of the callback if a query has none. Policy of this server.
 pub(crate) const DEFAULT_CALLBACK: &str = "jsonpcallback";
 
-// The longest name of a callback, in characters. (This server's choice.)
+// Greatest length of a callback's name, in bytes. Policy of this server.
 const CALLBACK_LIMIT: usize = 256;
 
-// Whether a text is the name of a callback: what it says is written into a script as it is.
+// Returns `true` if `name` is a valid callback name, which is written into a script unescaped.
 pub(crate) fn is_callback(name: &str) -> bool
     ensures { result ≡ is_callback name.now }
 {

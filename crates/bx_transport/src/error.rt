@@ -1,3 +1,4 @@
+//! Errors of reading a body or a query.
 ghost use Rattle.std.specs.Prelude.{◌≡◌};
 ghost use Rattle.bx_transport.specs.Statuses.{transport_status};
 ghost use Rattle.bx_transport.specs.declared.error.TransportError.TheVariants.{Memory};
@@ -7,21 +8,26 @@ use std::alloc::{AllocError, AllocFailed};
 use std::error::Error;
 use std::fmt;
 
-/// Why a body or a query is not taken. Of several faults the first named here is told.
+/// Why a body or a query is rejected.
+///
+/// If several variants apply, the first is reported, except that memory may run out at any step
+/// after `TooLarge`.
 #[derive(Clone, Copy, Debug, PartialEq, Eq)]
 pub enum TransportError {
     /// It has more than [`bx_advice::BODY_LIMIT`] bytes.
     TooLarge,
-    /// The callback of a GET is no name of a script's function as this server takes them.
+    /// The callback of a GET is not a valid name.
     BadName,
     /// A form or a query has no parameter `message`.
     NoMessage,
-    /// An allocation was refused.
+    /// Memory ran out.
     Memory,
 }
 
 impl TransportError {
-    /// The status of a request whose body or query is not taken for this. (This server's choice.)
+    /// Returns the HTTP status of a rejected request.
+    ///
+    /// Policy of this server.
     pub fn status(self) -> Status
         ensures { result ≡ transport_status self }
     {

@@ -8,10 +8,10 @@ use form_urlencoded::{decode, raw_pairs};
 use std::alloc::{AllocError, Global};
 use std::borrow::CowStr;
 
-// (HTML, the media type of a form.)
+// Media type of a form in HTML.
 const FORM_TYPE: &[u8] = b"application/x-www-form-urlencoded";
 
-// Whether the body of a request with this content type is a form.
+// Returns `true` if a body with this content type is a form.
 pub(crate) fn is_form(content_type: Option<&[u8]>) -> bool
     ensures { result ≡ is_form (option_map (λ t. t.now) content_type.entry) }
 {
@@ -21,14 +21,14 @@ pub(crate) fn is_form(content_type: Option<&[u8]>) -> bool
     }
 }
 
-// What stands in front of any parameters, without the blanks round it.
+// Returns the media type before any parameters, trimmed.
 fn media_type(content_type: &[u8]) -> &[u8]
     ensures { result.now ≡ media_type_of content_type.now }
 {
     before_parameters(content_type).trim_ascii()
 }
 
-// What stands in front of the first semicolon.
+// Returns what is before the first semicolon.
 fn before_parameters(content_type: &[u8]) -> &[u8]
     ensures { result.now ≡ before_first is_semicolon content_type.now }
 {
@@ -38,14 +38,14 @@ fn before_parameters(content_type: &[u8]) -> &[u8]
     }
 }
 
-// The index of the first semicolon.
+// Returns the index of the first semicolon.
 fn semicolon_in(content_type: &[u8]) -> Option<usize>
     ensures { result ≡ position is_semicolon content_type.now }
 {
     content_type.iter().position(|byte| *byte == b';')
 }
 
-// What a form or a query has for the server.
+// The parameters of a form or a query that the server knows.
 #[derive(Drop)]
 pub(crate) struct Parameters {
     // The values of `message`, in order.
@@ -54,8 +54,9 @@ pub(crate) struct Parameters {
     pub(crate) callback: Option<String>,
 }
 
-// The parameters of a form or a query that the server knows. (Bayeux 1.0, long-polling and
-// callback-polling.)
+// Parses the known parameters of a form or a query.
+//
+// Bayeux 1.0, long-polling and callback-polling.
 pub(crate) fn read_parameters(alloc: Global, form: &[u8]) -> Result<Parameters, AllocError>
     ensures documents { IfOk result (λ p. map string_bytes p.documents.items
         ≡ values_of (codes "message") form.now) }
@@ -95,7 +96,7 @@ fn add_parameter(
     Ok(())
 }
 
-// The text that an encoded name or value stands for.
+// Decodes a name or a value.
 fn read_text(alloc: Global, encoded: &[u8]) -> Result<CowStr<'_>, AllocError>
     ensures { IfOk result (λ text. cow_str_bytes text ≡ text_of encoded.now) }
 {

@@ -1,4 +1,4 @@
-//! What a POST's body and a GET's query hand on, and how a response is written as the call of a script's function.
+//! Documents from a POST's body or a GET's query, and responses as calls of a script's function.
 #![tactic(auto)]
 
 mod callback;

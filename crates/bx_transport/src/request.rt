@@ -1,4 +1,4 @@
-//! What a request carries.
+//! The documents of a request.
 ghost use Rattle.std.specs.Prelude.{◌≡◌, ◌≢◌, IfOk, IfErr, Ok, Err, option_map, string_bytes};
 ghost use Rattle.bx_cut.specs.Bodies.{texts_of};
 ghost use Rattle.bx_transport.specs.Transports.{post_taken, get_taken};
@@ -10,10 +10,21 @@ use bx_advice::BODY_LIMIT;
 use bx_cut::Bodies;
 use std::alloc::Global;
 
-/// The documents of a POST: those of a form, in the parameters `message`, where the media type before any
-/// parameters is `application/x-www-form-urlencoded` in whatever case; else the body itself is one. It answers
-/// `TooLarge`, or `NoMessage` where a form has none. (Bayeux 1.0, long-polling; the media types are this
-/// server's choice.)
+/// Returns the documents of a POST.
+///
+/// For the media type `application/x-www-form-urlencoded`, these are the values of the form's
+/// parameters `message`. Otherwise the body is the only document. Case and the media type's own
+/// parameters do not matter.
+///
+/// Bayeux 1.0, long-polling. The media types are a policy of this server.
+///
+/// # Errors
+///
+/// The first of these that applies:
+///
+/// - `TooLarge`: `body` is longer than [`bx_advice::BODY_LIMIT`].
+/// - `Memory`: memory ran out.
+/// - `NoMessage`: a form has no parameter `message`.
 pub fn read_post(
     alloc: Global,
     content_type: Option<&[u8]>,
@@ -37,11 +48,22 @@ pub fn read_post(
     Ok(Bodies::Decoded(documents))
 }
 
-/// The name of the callback and the documents of a GET's query: the last parameter `jsonp`, or
-/// `jsonpcallback` where there is none, and the parameters `message`, in order. It answers `TooLarge`,
-/// else `BadName` where the name has not 1 to 256 characters or one that is no ASCII letter, no digit and
-/// none of `_ $ . - [ ]`, else `NoMessage`. (Bayeux 1.0, callback-polling; which names are taken is this
-/// server's choice.)
+/// Returns the callback's name and the documents of a GET.
+///
+/// The name is the last value of `jsonp`, or `jsonpcallback` if there is none. The documents are
+/// the values of `message`, in order.
+///
+/// Bayeux 1.0, callback-polling. Which names are valid is a policy of this server.
+///
+/// # Errors
+///
+/// The first of these that applies:
+///
+/// - `TooLarge`: `query` is longer than [`bx_advice::BODY_LIMIT`].
+/// - `Memory`: memory ran out.
+/// - `BadName`: the name does not have 1 to 256 characters, each an ASCII letter or digit, or one
+///   of `_ $ . - [ ]`.
+/// - `NoMessage`: there is no parameter `message`.
 pub fn read_get(alloc: Global, query: &[u8]) -> Result<(String, Bodies), TransportError>
     ensures ok { IfOk result (λ taken. get_taken query.now ≡ Ok (string_bytes taken.0, texts_of taken.1)) }
     ensures fault { IfErr result (λ e. e ≢ TransportError.Memory → get_taken query.now ≡ Err e) }

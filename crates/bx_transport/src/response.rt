@@ -1,4 +1,4 @@
-//! How the response to a GET is written; that to a POST is the text of its items.
+//! The response to a GET. The response to a POST is just the text of its items.
 ghost use Rattle.std.specs.Prelude.{◌≡◌, ◌<◌, ◌++◌, length, IfOk, OnOk, MatchOption, option_map, ⊤, ◌≤◌};
 ghost use Rattle.bx_message.specs.Texts.{callback_text, script_safe};
 ghost use Rattle.bx_transport.specs.Scripts.{escape_at};
@@ -11,9 +11,15 @@ const LINE_SEPARATOR: &[u8] = b"\xe2\x80\xa8";
 
 const PARAGRAPH_SEPARATOR: &[u8] = b"\xe2\x80\xa9";
 
-/// The body of the response to a GET: the call of the function `name` with the array of these items,
-/// in which U+2028 and U+2029 are written as escapes, since scripts take them for the end of a line.
-/// An error means that memory was refused. (Bayeux 1.0, callback-polling.)
+/// Returns the response to a GET: a call of the function `name` with the array of `items`.
+///
+/// Escapes U+2028 and U+2029, which scripts take for line ends.
+///
+/// Bayeux 1.0, callback-polling.
+///
+/// # Errors
+///
+/// `AllocError` if memory runs out.
 pub fn callback_of(alloc: Global, name: &str, items: &[Item]) -> Result<Vec<u8>, AllocError>
     ensures { IfOk result (λ out. out.items ≡ callback_text name.now items.now) }
 {
@@ -27,7 +33,11 @@ pub fn callback_of(alloc: Global, name: &str, items: &[Item]) -> Result<Vec<u8>,
     Ok(out)
 }
 
-/// Adds a text as a script may hold it: U+2028 and U+2029 in it are written as escapes. An error means that memory was refused.
+/// Appends `text` as a script may contain it, with U+2028 and U+2029 escaped.
+///
+/// # Errors
+///
+/// `AllocError` if memory runs out. A first part may be appended.
 pub fn push_script_safe(out: &mut Vec<u8>, text: &[u8]) -> Result<(), AllocError>
     ensures { OnOk result (out.new.items ≡ out.old.items ++ script_safe text.now) }
 {
@@ -40,7 +50,7 @@ pub fn push_script_safe(out: &mut Vec<u8>, text: &[u8]) -> Result<(), AllocError
     out.extend_from_slice(rest)
 }
 
-// What stands before the first of the two separators, the escape for it, and what follows it.
+// Returns what is before the first separator, its escape, and what follows it.
 fn cut_at_separator(text: &[u8]) -> Option<(&[u8], &'static str, &[u8])>
     ensures value { MatchOption result (script_safe text.now ≡ text.now)
         (λ parts. script_safe text.now ≡ parts.0.now ++ (parts.1.now ++ script_safe parts.2.now)) }
@@ -54,7 +64,7 @@ fn cut_at_separator(text: &[u8]) -> Option<(&[u8], &'static str, &[u8])>
     None
 }
 
-// The escape for the separator that a text begins with.
+// Returns the escape for the separator that `text` begins with.
 fn escape_at(text: &[u8]) -> Option<&'static str>
     ensures value { option_map (λ escape. escape.now) result ≡ escape_at text.now }
     ensures long { MatchOption result ⊤ (λ _. 3 ≤ length text.now) }

@@ -1,4 +1,4 @@
--- The numbers that stand at a path, and those that stand there for a pattern.
+-- The numbers that are stored at a path, and those that are stored for a pattern.
 use Rattle.std.specs.Prelude.{◌≡◌, ◌≢◌, ℕ, Bool, false, is_some, List}
 use Rattle.std.specs.{Option.option_map_or, Ordering.nat_cmp, BTreeMap.BTreeMap, BTreeMap.get, BTreeMap.get_by_text}
 use Rattle.bx_names.specs.Words.{path_of, Glob, in_force}
@@ -8,32 +8,32 @@ use Rattle.bx_tree.specs.declared.nodes.{path_lists.PathLists.PathLists, Nodes.N
 use Rattle.bx_tree.specs.Whole.{AreWhole}
 use Rattle.bx_tree.specs.Patterns.{patterns_of}
 
--- whether the number is there, whatever its stamp
+-- Whether the map has the number, whatever its stamp.
 abbrev pub has_number : BTreeMap ℕ ℕ → ℕ → Bool
 has_number numbers number = is_some (get nat_cmp numbers number)
 
--- whether the number stands at the path
+-- Whether the number is stored at the path.
 abbrev pub stands_at : PathLists → List ℕ → ℕ → Bool
 stands_at lists path number = option_map_or (λ numbers. has_number numbers number) (get_by_text lists.by_path path) false
 
--- the lists of one kind of patterns
+-- The lists for patterns with this tail.
 abbrev pub lists_of : Nodes → Tail → PathLists
 lists_of nodes Exact = nodes.exact
 lists_of nodes One = nodes.one
 lists_of nodes Many = nodes.many
 
--- whether the number stands where the pattern has its place
+-- Whether the number is stored for the pattern.
 abbrev pub stands_for : Nodes → Glob → ℕ → Bool
 stands_for nodes pattern number = stands_at (lists_of nodes pattern.tail) (path_of pattern.segments) number
 
--- a number stands for exactly these patterns
+-- The number is stored for exactly these patterns.
 abbrev pub IsIndexAt : Nodes → ℕ → List Glob → Type 0
 IsIndexAt nodes number held = (pattern : Glob) → AreWhole pattern.segments → stands_for nodes pattern number ≡ in_force held pattern
 
--- the other numbers stand for what they stood for
+-- All other numbers are stored for the same patterns as before.
 abbrev pub KeepsOthers : ℕ → Nodes → Nodes → Type 0
 KeepsOthers number old new = (pattern : Glob) → AreWhole pattern.segments → (n : ℕ) → n ≢ number → stands_for new pattern n ≡ stands_for old pattern n
 
--- a number stands for a pattern exactly where the pattern is in force for it
+-- Each number is stored for exactly its own patterns.
 abbrev pub IsIndexOf : Nodes → List (ℕ × List Glob) → Type 0
 IsIndexOf nodes all = (pattern : Glob) → AreWhole pattern.segments → (number : ℕ) → stands_for nodes pattern number ≡ in_force (patterns_of all number) pattern

@@ -1,3 +1,4 @@
+//! The patterns of one session.
 ghost use Rattle.std.specs.Prelude.{◌≡◌, ◌<◌, ℕ, [], ◌∷◌, ◌++◌, Some, None, true, false, length, OnOk, OnErr, IfOk, IfSome};
 ghost use Rattle.std.specs.Ordering.{nat_cmp};
 ghost use Rattle.std.specs.BTreeMap.{get, keys};
@@ -10,10 +11,12 @@ use std::alloc::{AllocError, Global};
 use std::collections::BTreeMap;
 use std::marker::Model;
 
-/// The patterns of one session, each once, in the order in which they came.
+/// The patterns of one session, each once, in the order in which they were added.
 ///
-/// Each stands at a stamp, and stamps ascend. Whoever takes a pattern out tells its stamp, since nothing here leads from a
-/// pattern to its stamp but a look at each. No clause rests on a stamp.
+/// Each pattern has a stamp, and stamps ascend. A pattern is found by its stamp, or by comparing
+/// every pattern, so a wrong stamp costs only time.
+///
+/// Model: the patterns, in order.
 #[derive(Drop)]
 pub(crate) struct Arrivals {
     by_stamp: BTreeMap<u64, Pattern>,
@@ -33,7 +36,7 @@ impl Model for Arrivals {
 }
 
 impl Arrivals {
-    /// No pattern.
+    /// Creates an empty list.
     pub(crate) fn new(alloc: Global) -> Arrivals
         ensures { result ≡ [] }
     {
@@ -42,14 +45,14 @@ impl Arrivals {
         }
     }
 
-    /// How many patterns there are.
+    /// Returns how many patterns there are.
     pub(crate) fn len(&self) -> usize
         ensures { result ≡ length self.now }
     {
         self.by_stamp.len()
     }
 
-    /// A copy of the patterns, in the order in which they came.
+    /// Clones the patterns, in the order in which they were added.
     pub(crate) fn to_vec(&self, alloc: Global) -> Result<Vec<Pattern>, AllocError>
         ensures list { IfOk result (λ copy. copy.items ≡ self.now) }
         ensures once { AreOnce self.now }
@@ -61,7 +64,7 @@ impl Arrivals {
         Ok(copy)
     }
 
-    /// Adds a pattern that is not there behind the others, and gives its stamp. Nothing changes where memory is refused.
+    /// Appends a new pattern and returns its stamp. On error, nothing has changed.
     pub(crate) fn push(&mut self, pattern: Pattern) -> Result<u64, AllocError>
         requires { in_force self.old pattern ≡ false }
         ensures ok { OnOk result (self.new ≡ self.old ++ pattern ∷ []) }
@@ -72,7 +75,7 @@ impl Arrivals {
         Ok(stamp)
     }
 
-    /// Takes out the pattern that came last.
+    /// Removes and returns the pattern that was added last.
     pub(crate) fn pop(&mut self) -> Option<Pattern>
         ensures some { IfSome result (λ pattern. self.old ≡ self.new ++ pattern ∷ []) }
         ensures once { IfSome result (λ pattern. in_force self.new pattern ≡ false) }
@@ -84,7 +87,7 @@ impl Arrivals {
         Some(last.1)
     }
 
-    /// Takes a pattern out, at once where it stands at this stamp.
+    /// Removes `pattern`, without a search if `stamp` is its stamp.
     pub(crate) fn remove(&mut self, pattern: &Pattern, stamp: u64)
         ensures { self.new ≡ without_pattern self.old pattern.now }
     {
@@ -96,7 +99,7 @@ impl Arrivals {
     }
 }
 
-/// Whether a pattern stands at a stamp.
+/// Returns `true` if `pattern` has the stamp `stamp`.
 fn stands_at(by_stamp: &BTreeMap<u64, Pattern>, stamp: u64, pattern: &Pattern) -> bool
     ensures { result ≡ true → get nat_cmp by_stamp.now stamp ≡ Some pattern.now }
 {
@@ -106,7 +109,7 @@ fn stands_at(by_stamp: &BTreeMap<u64, Pattern>, stamp: u64, pattern: &Pattern) -
     }
 }
 
-/// A stamp behind all others. Where no number is left for it, that is as if memory were refused.
+/// Returns a stamp greater than all others, or an error if no number is left.
 fn stamp_behind(by_stamp: &BTreeMap<u64, Pattern>) -> Result<u64, AllocError>
     ensures { IfOk result (λ stamp. All (λ (k : ℕ). k < stamp) (keys by_stamp.now)) }
 {

@@ -1,4 +1,4 @@
-//! Changes of the patterns of one number, in its list and in the index at once.
+//! Changes to the patterns of one session, in its list and in the index.
 ghost use Rattle.std.specs.Prelude.{◌≡◌, ◌≢◌, ℕ, length, take, fold, OnOk, OnErr};
 ghost use Rattle.bx_names.specs.Globs.{Glob};
 ghost use Rattle.bx_names.specs.InForce.{with_pattern};
@@ -9,7 +9,7 @@ use crate::nodes::Nodes;
 use bx_names::Pattern;
 use std::alloc::{AllocError, Global};
 
-/// Puts a pattern in force for a number, if it is not. Nothing changes where memory is refused.
+/// Adds a pattern for `number`, unless it is active. On error, nothing has changed.
 fn put(
     alloc: Global,
     nodes: &mut Nodes,
@@ -34,7 +34,7 @@ fn put(
     Ok(())
 }
 
-/// Puts these patterns in force for a number, in order. Where memory is refused some of them are.
+/// Adds `patterns` for `number`, in order. On error, some of them may be added.
 fn put_each(
     alloc: Global,
     nodes: &mut Nodes,
@@ -54,7 +54,7 @@ fn put_each(
     Ok(())
 }
 
-/// Takes the patterns behind the first so many out of force for a number.
+/// Removes the patterns after the first `len` for `number`.
 pub(crate) fn shorten(nodes: &mut Nodes, arrivals: &mut Arrivals, len: usize, number: u64)
     requires { IsIndexAt nodes.old number arrivals.old }
     ensures index { IsIndexAt nodes.new number arrivals.new }
@@ -69,7 +69,7 @@ pub(crate) fn shorten(nodes: &mut Nodes, arrivals: &mut Arrivals, len: usize, nu
     }
 }
 
-/// Puts these patterns in force for a number, in order, or none of them where memory is refused.
+/// Adds `patterns` for `number`, in order. On error, nothing has changed.
 pub(crate) fn add_all(
     alloc: Global,
     nodes: &mut Nodes,

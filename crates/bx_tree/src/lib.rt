@@ -1,4 +1,4 @@
-//! Patterns by segment: which sessions have a pattern that matches a name.
+//! Active patterns, indexed by path: which sessions have a pattern that matches a name.
 #![tactic(auto)]
 
 mod arrivals;

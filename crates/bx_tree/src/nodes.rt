@@ -1,3 +1,4 @@
+//! The index of patterns by path.
 ghost use Rattle.std.specs.Prelude.{◌≡◌, ◌↔◌, ℕ, ◌+◌, ◌==◌, ◌&&◌, ◌||◌, not, false, ◌++◌, List, [], Contains, IsTrue, OnOk, OnErr, IfOk, fold, is_some, length};
 ghost use Rattle.std.specs.List.{list_any};
 ghost use Rattle.std.specs.List.Sorted.{IsStrictlyIncreasing};
@@ -17,10 +18,13 @@ pub use found::Found;
 use path_lists::PathLists;
 use std::alloc::{AllocError, Global};
 
-/// The three lists at each path: those of the patterns that are the path, those of the path and a `*`, and those of
-/// the path and a `**`. They know the numbers of sessions, and no session's patterns.
+/// The index of patterns: which sessions have each pattern.
 ///
-/// Beside each number they keep a stamp for whoever holds the pattern itself to find it by. No clause rests on it.
+/// The path of a pattern is its text without a last segment `*` or `**`. A path has up to three
+/// lists of sessions: for the pattern that is the path, for the path and `*`, and for the path and
+/// `**`. The index knows the numbers of sessions, but not the patterns of a session.
+///
+/// With each number the index keeps a stamp, by which the session's own list finds the pattern.
 #[derive(Drop)]
 pub struct Nodes {
     exact: PathLists,
@@ -29,7 +33,7 @@ pub struct Nodes {
 }
 
 impl Nodes {
-    /// No number for any pattern.
+    /// Creates an empty index.
     pub(crate) fn new(alloc: Global) -> Nodes
         ensures { (pattern : Glob) → (n : ℕ) → stands_for result pattern n ≡ false }
     {
@@ -40,7 +44,7 @@ impl Nodes {
         }
     }
 
-    /// Lets a number stand for a pattern. Nothing changes where memory is refused.
+    /// Adds session `number` to a pattern. On error, nothing visible has changed.
     pub(crate) fn add(
         &mut self,
         alloc: Global,
@@ -60,7 +64,7 @@ impl Nodes {
         }
     }
 
-    /// Whether a number stands for a pattern.
+    /// Returns `true` if session `number` has the pattern.
     pub(crate) fn has(&self, pattern: &Pattern, number: u64) -> bool
         ensures has { result ≡ stands_for self.now pattern.now number }
         ensures whole { AreWhole pattern.now.segments }
@@ -73,7 +77,7 @@ impl Nodes {
         }
     }
 
-    /// Lets a number stand for a pattern no longer, and gives its stamp where it stood for it.
+    /// Removes session `number` from a pattern, and returns its stamp if it had the pattern.
     pub(crate) fn remove(&mut self, pattern: &Pattern, number: u64) -> Option<u64>
         ensures gone { (other : Glob) → AreWhole other.segments → (n : ℕ)
             → stands_for self.new other n ≡ (stands_for self.old other n && not (same_glob other pattern.now && (n == number))) }
@@ -88,11 +92,14 @@ impl Nodes {
         }
     }
 
-    /// The numbers that have a pattern which matches the name, ascending, and how many lists were looked at to find
-    /// them: those of `**` above each segment of the name, that of `*` above the last, and that of the name itself. An
-    /// error means that memory was refused.
+    /// Finds the sessions with a pattern that matches `name`.
     ///
-    /// Contracts say so of all lists of sessions with their patterns that these lists are the index of.
+    /// Also counts the lists that it looks up: that of `**` before each segment of the name, that
+    /// of `*` before the last one, and that of the name itself.
+    ///
+    /// # Errors
+    ///
+    /// `AllocError` if memory runs out.
     pub fn find(&self, alloc: Global, name: &ChannelName) -> Result<Found, AllocError>
         ensures exact { (all : List (ℕ × List Glob)) → IsIndexOf self.now all → IfOk result (λ found. (n : ℕ)
             → (Contains found.numbers.items n ↔ IsTrue (any_matches (patterns_of all n) name.now))) }
@@ -102,7 +109,7 @@ impl Nodes {
         self.settled(alloc, name)
     }
 
-    /// What a walk along a name comes by, the numbers ascending, each once.
+    /// Walks along `name`, and returns the sessions in ascending order, each once.
     fn settled(&self, alloc: Global, name: &ChannelName) -> Result<Found, AllocError>
         ensures numbers { IfOk result (λ found. (n : ℕ) → is_among found.numbers.items n ≡ is_met self.now [] name.now n) }
         ensures ascending { IfOk result (λ found. IsStrictlyIncreasing found.numbers.items) }
@@ -114,8 +121,10 @@ impl Nodes {
         Ok(found)
     }
 
-    /// Walks along a name from the empty path, and collects the numbers that it comes by: above each segment it looks
-    /// at the list of `**`, above the last at that of `*` too, and below it at the list of the name itself.
+    /// Walks along `name` and collects the sessions that it finds.
+    ///
+    /// It looks up the list of `**` before each segment, that of `*` before the last one, and then
+    /// that of the name itself.
     fn walk(&self, alloc: Global, name: &ChannelName) -> Result<Found, AllocError>
         ensures numbers { IfOk result (λ found. (n : ℕ) → is_among found.numbers.items n ≡ is_met self.now [] name.now n) }
         ensures visited { IfOk result (λ found. found.visited ≡ length name.now + 2) }
@@ -126,7 +135,7 @@ impl Nodes {
             visited: 0,
         };
         let text = name.as_str();
-        // How many bytes of the name the path has.
+        // Length of the path, in bytes.
         let mut len = 0;
         let mut left = name.segment_count();
         for segment in name.segments() {

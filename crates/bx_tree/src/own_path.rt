@@ -1,10 +1,11 @@
+//! The path of a pattern.
 ghost use Rattle.std.specs.Prelude.{◌≡◌};
 ghost use Rattle.bx_names.specs.Segments.{path_of};
 ghost use Rattle.bx_tree.specs.Whole.{AreWhole};
 
 use bx_names::{Pattern, Tail};
 
-/// The text of the pattern's own segments, which is empty where there are none.
+/// Returns the pattern's text without a last segment `*` or `**`, which may be empty.
 pub(crate) fn own_path(pattern: &Pattern) -> &str
     ensures path { result.now ≡ path_of pattern.now.segments }
     ensures whole { AreWhole pattern.now.segments }

@@ -1,3 +1,4 @@
+//! The patterns of each session.
 ghost use Rattle.std.specs.Prelude.{◌≡◌, ◌≢◌, ℕ, [], fold, length, OnOk, OnErr, IfOk};
 ghost use Rattle.std.specs.Option.{unwrap_or};
 ghost use Rattle.bx_names.specs.InForce.{with_pattern, without_pattern};
@@ -13,7 +14,9 @@ use indexmap::IndexMap;
 use std::alloc::{AllocError, Global};
 use std::marker::Model;
 
-/// The patterns of each session, in the order in which they came. No list is empty.
+/// The patterns of each session, in the order in which they were added. No list is empty.
+///
+/// Model: the sessions that have patterns, each with its patterns.
 #[derive(Drop)]
 pub(crate) struct SessionPatterns {
     by_number: IndexMap<u64, Arrivals>,
@@ -29,7 +32,7 @@ impl Model for SessionPatterns {
 }
 
 impl SessionPatterns {
-    /// No session has a pattern.
+    /// Creates an empty map.
     pub(crate) fn new(alloc: Global) -> SessionPatterns
         ensures { result ≡ [] }
     {
@@ -38,7 +41,7 @@ impl SessionPatterns {
         }
     }
 
-    /// How many patterns a session has.
+    /// Returns how many patterns session `number` has.
     pub(crate) fn count(&self, number: u64) -> usize
         ensures { result ≡ length (patterns_of self.now number) }
     {
@@ -48,7 +51,7 @@ impl SessionPatterns {
         }
     }
 
-    /// A copy of the patterns of a session.
+    /// Clones the patterns of session `number`, in order.
     pub(crate) fn patterns(&self, alloc: Global, number: u64) -> Result<Vec<Pattern>, AllocError>
         ensures list { IfOk result (λ list. list.items ≡ patterns_of self.now number) }
         ensures once { AreOnce (patterns_of self.now number) }
@@ -59,8 +62,9 @@ impl SessionPatterns {
         }
     }
 
-    /// Puts these patterns behind the others of a session, in order, without those that are there, and keeps the index.
-    /// Nothing changes where memory is refused.
+    /// Appends the `patterns` that session `number` lacks, in order, and updates the index.
+    ///
+    /// On error, nothing has changed.
     pub(crate) fn add_all(
         &mut self,
         alloc: Global,
@@ -90,7 +94,7 @@ impl SessionPatterns {
         Ok(())
     }
 
-    /// Takes a pattern of a session out, which stands at this stamp.
+    /// Removes a pattern of session `number`, without a search if `stamp` is its stamp.
     pub(crate) fn remove(&mut self, number: u64, pattern: &Pattern, stamp: u64)
         ensures own { patterns_of self.new number ≡ without_pattern (patterns_of self.old number) pattern.now }
         ensures others { (n : ℕ) → n ≢ number → patterns_of self.new n ≡ patterns_of self.old n }
@@ -104,7 +108,7 @@ impl SessionPatterns {
         }
     }
 
-    /// Takes all patterns of a session out, and gives them.
+    /// Removes and returns all patterns of session `number`.
     pub(crate) fn remove_all(&mut self, number: u64) -> Option<Arrivals>
         ensures own { patterns_of self.new number ≡ [] }
         ensures others { (n : ℕ) → n ≢ number → patterns_of self.new n ≡ patterns_of self.old n }

@@ -1,3 +1,4 @@
+//! The active patterns of all sessions.
 ghost use Rattle.std.specs.Prelude.{◌≡◌, ◌≢◌, ℕ, ◌+◌, [], not, length, fold, OnOk, OnErr, IfOk};
 ghost use Rattle.bx_names.specs.InForce.{in_force, with_pattern, without_pattern};
 ghost use Rattle.bx_tree.specs.Lists.{IsIndexOf};
@@ -11,13 +12,15 @@ use std::alloc::{AllocError, Global};
 use std::marker::Model;
 use std::slice;
 
-/// Which patterns are in force for which session numbers.
+/// The active patterns of each session, with an index by path.
 ///
-/// It is kept flat: the numbers of a pattern stand at the path of its own segments, one map for each kind of
-/// pattern, and a find asks once at each beginning of the name (Bayeux 1.0, channel globbing). A list that became
-/// empty is given back.
+/// The index is flat: one map for each kind of pattern has the sessions at each path. A search
+/// looks up each prefix of the name. Empty lists are dropped.
 ///
-/// Contracts see the numbers that have patterns, each with its patterns in the order in which they came.
+/// Model: the sessions that have patterns, each with its patterns in the order in which they were
+/// added.
+///
+/// Bayeux 1.0, channel globbing.
 #[derive(Drop)]
 pub struct Tree {
     nodes: Nodes,
@@ -37,7 +40,7 @@ impl Model for Tree {
 }
 
 impl Tree {
-    /// A tree in which no number has a pattern.
+    /// Creates an empty tree.
     pub fn new(alloc: Global) -> Tree
         ensures { result ≡ [] }
     {
@@ -47,8 +50,11 @@ impl Tree {
         }
     }
 
-    /// Puts a pattern in force for a number, and says whether it was not so before. A pattern that is in force
-    /// already changes nothing. Where memory is refused all is as before.
+    /// Adds a pattern for session `number`, and returns `true` if it is new.
+    ///
+    /// # Errors
+    ///
+    /// `AllocError` if memory runs out; nothing has changed.
     pub fn add(&mut self, alloc: Global, pattern: &Pattern, number: u64) -> Result<bool, AllocError>
         ensures own { OnOk result (patterns_of self.new number ≡ with_pattern (patterns_of self.old number) pattern.now) }
         ensures others { OnOk result ((n : ℕ) → n ≢ number → patterns_of self.new n ≡ patterns_of self.old n) }
@@ -59,8 +65,11 @@ impl Tree {
         Ok(added == 1)
     }
 
-    /// Puts all these patterns in force for a number, in order, and says how many of them were not so before. Where
-    /// memory is refused all is as before.
+    /// Adds `patterns` for session `number`, in order, and returns how many are new.
+    ///
+    /// # Errors
+    ///
+    /// `AllocError` if memory runs out; nothing has changed.
     #[tactic(auto, using(crate::proofs::ChangeLemmas::no_fewer))]
     pub fn add_all(
         &mut self,
@@ -79,8 +88,13 @@ impl Tree {
         Ok(self.count(number) - before)
     }
 
-    /// Puts the patterns that are in force for a number in another tree in force for it here, where it has none, in
-    /// the same order. Where memory is refused all is as before.
+    /// Copies the patterns of session `number` from another tree, in the same order.
+    ///
+    /// The session must have no pattern here.
+    ///
+    /// # Errors
+    ///
+    /// `AllocError` if memory runs out; nothing has changed.
     pub fn copy(&mut self, alloc: Global, from: &Tree, number: u64) -> Result<(), AllocError>
         requires none { patterns_of self.old number ≡ [] }
         ensures own { OnOk result (patterns_of self.new number ≡ patterns_of from.now number) }
@@ -92,15 +106,14 @@ impl Tree {
         Ok(())
     }
 
-    /// Whether the pattern is in force for the number.
+    /// Returns `true` if the pattern is active for session `number`.
     pub fn has(&self, pattern: &Pattern, number: u64) -> bool
         ensures { result ≡ in_force (patterns_of self.now number) pattern.now }
     {
         self.nodes.has(pattern, number)
     }
 
-    /// Takes a pattern out of force for a number, and says whether it was in force. A pattern that was not changes
-    /// nothing.
+    /// Removes a pattern of session `number`, and returns `true` if it was active.
     pub fn remove(&mut self, pattern: &Pattern, number: u64) -> bool
         ensures own { patterns_of self.new number ≡ without_pattern (patterns_of self.old number) pattern.now }
         ensures others { (n : ℕ) → n ≢ number → patterns_of self.new n ≡ patterns_of self.old n }
@@ -113,7 +126,7 @@ impl Tree {
         true
     }
 
-    /// Takes each of these patterns out of force for a number, and says how many of the number's patterns that were.
+    /// Removes `patterns` of session `number`, and returns how many of them were active.
     #[tactic(auto, using(crate::proofs::OnceLemmas::taken_out))]
     pub fn remove_each(&mut self, patterns: &[Pattern], number: u64) -> usize
         ensures own { patterns_of self.new number ≡ fold without_pattern (patterns_of self.old number) patterns.now }
@@ -127,7 +140,7 @@ impl Tree {
         before - self.count(number)
     }
 
-    /// Takes all patterns of a number out of force, as where its session closes, and says how many there were.
+    /// Removes all patterns of session `number`, and returns how many it had.
     pub fn remove_all(&mut self, number: u64) -> usize
         ensures own { patterns_of self.new number ≡ [] }
         ensures others { (n : ℕ) → n ≢ number → patterns_of self.new n ≡ patterns_of self.old n }
@@ -141,21 +154,25 @@ impl Tree {
         count
     }
 
-    /// How many patterns of a number are in force.
+    /// Returns how many patterns session `number` has.
     pub fn count(&self, number: u64) -> usize
         ensures { result ≡ length (patterns_of self.now number) }
     {
         self.sessions.count(number)
     }
 
-    /// A copy of the patterns of a number, in the order in which they came. An error means that memory was refused.
+    /// Clones the patterns of session `number`, in the order in which they were added.
+    ///
+    /// # Errors
+    ///
+    /// `AllocError` if memory runs out.
     pub fn patterns(&self, alloc: Global, number: u64) -> Result<Vec<Pattern>, AllocError>
         ensures { IfOk result (λ list. list.items ≡ patterns_of self.now number) }
     {
         self.sessions.patterns(alloc, number)
     }
 
-    /// What a find looks at: the lists at each path, and no session's own patterns.
+    /// Returns the index, which finds sessions by the name of a channel.
     pub fn nodes(&self) -> &Nodes
         ensures { IsIndexOf result.now self.now }
     {

@@ -1,4 +1,4 @@
--- What a change makes of the log that a ring shows.
+-- What a change does to the log that a ring shows.
 use Rattle.std.specs.Prelude.{List}
 use Rattle.bx_window.specs.declared.law.Naming as Naming
 use Rattle.bx_window.specs.declared.{law.LogStep.LogStep, published.RingChange.RingChange}
@@ -6,11 +6,11 @@ use Rattle.bx_window.specs.declared.published.RingChange.TheVariants.{Add, Trim}
 use Rattle.bx_window.specs.Steps.{next_of}
 
 module _ {J : Type 0} {g : Naming.Ghosts J} where
-  -- the log that a change ends
+  -- The log up to and including the change.
   abbrev pub front_of : RingChange J g → List LogStep
   front_of (Add published) = published.front
   front_of (Trim trimmed) = trimmed.front
 
-  -- the log that is shown after the change
+  -- The log that is shown after the change.
   abbrev pub after : List LogStep → RingChange J g → List LogStep
   after log change = next_of log (front_of change)

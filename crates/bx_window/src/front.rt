@@ -1,4 +1,4 @@
-//! How much of the log was seen, and the writer's end of it.
+//! Fronts of the window's log, and the writer's end of the log.
 ghost use Rattle.std.specs.Prelude.{◌≡◌, ◌+◌, ◌<◌, ◌≤◌, ◌^◌, ◌++◌, ◌∷◌, ◌⊎◌, ◌↔◌, ◌==◌, [], length, IsTrue, IfSome};
 ghost use mathlib.Core.List.{IsPrefix};
 ghost use Rattle.bx_advice.specs.Limits.{greatest_length};
@@ -12,7 +12,7 @@ use bx_history::History;
 use logbook::{Offer, Pen, Seen, Start, Word};
 use std::marker::{Model, PhantomData};
 
-/// A window that was opened: its log is empty, and no call has picked it as its window yet.
+/// A new window, with an empty log, that no call has used yet.
 pub struct Opened {
     head: Word<Logged, u64, Law>,
     seen: Seen<Logged, u64, Law>,
@@ -21,7 +21,9 @@ pub struct Opened {
 }
 
 impl Opened {
-    /// A window that no other value names. It takes no memory.
+    /// Creates a window that differs from all others.
+    ///
+    /// Does not allocate.
     pub fn new() -> Opened {
         let (seen, mut first, _second) = Seen::open(Start::alone(), 0, 0);
         Opened {
@@ -30,7 +32,7 @@ impl Opened {
         }
     }
 
-    // The writer's end, of a log without steps. `None` where the log was begun before, as nothing does that.
+    // Begins the log. Returns `None` if it had begun, which does not happen.
     pub(crate) fn begun<J: Naming>(self) -> Option<Book<J>>
         requires { self.seen.book ≡ J.book }
         ensures { IfSome result (λ b. b ≡ []) }
@@ -64,7 +66,7 @@ impl Opened {
     }
 }
 
-// A cell is added; its pen may write it, until a step brings it home.
+// Adds a cell, and returns its pen, which may write it until a step brings it home.
 fn spare(head: &Word<Logged, u64, Law>, seen: &Seen<Logged, u64, Law>) -> Pen
     requires { head.now ≡ head_of seen.now.book }
     ensures book { result.book ≡ seen.now.book }
@@ -78,8 +80,11 @@ fn spare(head: &Word<Logged, u64, Law>, seen: &Seen<Logged, u64, Law>) -> Pen
     pen
 }
 
-/// The writer's end of the log: the word that stands for it, and the pen without which no step is added. So its front is the
-/// whole log. Contracts see it as the steps.
+/// The writer's end of the log.
+///
+/// It has the only pen that can add a step, so its front is the whole log.
+///
+/// Model: the steps.
 #[derive(Drop)]
 pub struct Book<J: Naming> {
     head: Word<Logged, u64, Law>,
@@ -107,7 +112,7 @@ impl<J: Naming> Model for Book<J> {
 }
 
 impl<J: Naming> Book<J> {
-    // All that was added.
+    // Returns the whole log.
     pub(crate) fn front(&self) -> Front<J>
         ensures { result ≡ self.now }
     {
@@ -120,7 +125,7 @@ impl<J: Naming> Book<J> {
         }
     }
 
-    // All that was added. Another front is a beginning of it: without the pen nothing is added to the log.
+    // Returns the whole log, of which `other` is a prefix, since only the pen can add steps.
     pub(crate) fn beyond(&mut self, other: &Front<J>) -> Front<J>
         ensures same { self.new ≡ self.old }
         ensures whole { result ≡ self.old }
@@ -136,7 +141,7 @@ impl<J: Naming> Book<J> {
         self.front()
     }
 
-    // Adds a step behind all others, after which the list and the window are these.
+    // Appends a step. The list then has `len` elements, and the window begins at `begin`.
     fn step(
         &mut self,
         elements: &Listing,
@@ -173,7 +178,7 @@ impl<J: Naming> Book<J> {
         self.seen = seen;
     }
 
-    // Adds so many elements, which come of these inputs.
+    // Appends `count` elements, which result from `inputs`.
     pub(crate) fn add(&mut self, elements: &Listing, inputs: &History<Input>, count: u64)
         requires room { length self.old < 2 ^ 62 }
         requires count { length elements.now ≡ count }
@@ -184,7 +189,7 @@ impl<J: Naming> Book<J> {
         self.step(elements, inputs, 0, front.len() + count, front.begin());
     }
 
-    // Drops so many batches, after which the window begins at `begin`.
+    // Drops the `count` oldest batches. The window then begins at `begin`.
     pub(crate) fn trim(&mut self, count: u64, begin: u64)
         requires room { length self.old < 2 ^ 62 }
         requires begin { begin ≡ begin_of (self.old ++ trimming count ∷ []) }
@@ -195,8 +200,12 @@ impl<J: Naming> Book<J> {
     }
 }
 
-/// A beginning of the window's log: how much of it was seen. Contracts see it as its steps. Of two fronts of one window the
-/// shorter begins the longer, whatever was trimmed between.
+/// A prefix of the window's log that a caller has seen.
+///
+/// Of two fronts of one window, the shorter is a prefix of the longer, whatever was trimmed in
+/// between.
+///
+/// Model: its steps.
 #[derive(Drop)]
 pub struct Front<J: Naming> {
     steps: u64,
@@ -221,7 +230,7 @@ impl<J: Naming> Model for Front<J> {
 }
 
 impl<J: Naming> Front<J> {
-    /// The place where its list ends, which is the number of the list's elements.
+    /// Returns the length of its list.
     pub fn len(&self) -> u64
         ensures end { result ≡ length (list_of self.now) }
         ensures bounded { result ≤ greatest_length }
@@ -229,21 +238,25 @@ impl<J: Naming> Front<J> {
         self.len
     }
 
-    /// The place where its window begins: of the oldest batch that is kept, or the end of the list where none is.
+    /// Returns the place where its window begins.
+    ///
+    /// This is the first place of the oldest batch, or the list's end if there is no batch.
     pub fn begin(&self) -> u64
         ensures { result ≡ begin_of self.now }
     {
         self.begin
     }
 
-    /// How many publishes and trims it has.
+    /// Returns its number of publishes and trims.
     pub fn steps(&self) -> u64
         ensures { result ≡ length self.now }
     {
         self.steps
     }
 
-    /// The same once more. It takes no memory, so it cannot fail.
+    /// Returns a copy.
+    ///
+    /// Does not allocate.
     pub fn again(&self) -> Front<J>
         ensures { result ≡ self.now }
     {
@@ -256,7 +269,7 @@ impl<J: Naming> Front<J> {
         }
     }
 
-    /// The longer of two fronts, which the shorter begins.
+    /// Returns the longer of two fronts, of which the shorter is a prefix.
     pub fn longer(&self, other: &Front<J>) -> Front<J>
         ensures one { (result ≡ self.now) ⊎ (result ≡ other.now) }
         ensures this { IsPrefix self.now result }
@@ -271,7 +284,7 @@ impl<J: Naming> Front<J> {
         }
     }
 
-    /// Whether the other is a beginning of it, as exactly those are that have no more steps.
+    /// Returns `true` if `other` has no more steps than `self`, and so is a prefix of it.
     pub fn covers(&self, other: &Front<J>) -> bool
         ensures begins { IsTrue result → IsPrefix other.now self.now }
         ensures steps { IsTrue result ↔ length other.now ≤ length self.now }
@@ -281,7 +294,7 @@ impl<J: Naming> Front<J> {
         other.steps <= self.steps
     }
 
-    // Whether it has the steps of the other and one more.
+    // Returns `true` if `self` has the steps of `other` and one more.
     #[tactic(auto, using(crate::proofs::Fronts::before_prefix))]
     pub(crate) fn follows(&self, other: &Front<J>) -> bool
         ensures next { IsTrue result → before self.now ≡ other.now }

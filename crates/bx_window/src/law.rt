@@ -1,29 +1,32 @@
-//! The log of the window's steps, which exists in proofs alone, and its rule.
+//! Ghost: the log of the window's steps, and its rule.
 use bx_entry::{Input, Listing};
 use bx_history::History;
 use logbook::{Gain, Pen, Plain, Play, Rule};
 use std::marker::Brand;
 
-/// What one publish does: it adds elements to the list, or drops batches at the front of the window. No value of it is
-/// made.
+/// Ghost: a step, which appends elements to the list or drops the window's oldest batches.
 pub struct LogStep {
-    /// What comes behind the list, in order.
+    /// The elements to append, in order.
     pub elements: Listing,
-    /// The requests and ticks that they come of, in order.
+    /// The requests and ticks that they result from, in order.
     pub inputs: History<Input>,
     /// How many of the window's oldest batches are dropped.
     pub dropped: u64,
 }
 
-/// A step as it stands in the log. No value of it is made.
+/// Ghost: an entry of the log.
 pub struct Logged {
-    /// The first step of a log adds nothing and drops nothing; it only opens the log.
+    /// The step, which only opens the log in the first entry.
     pub step: LogStep,
-    /// The key of the cell that the next step brings home, so that nobody but who has that cell's pen can add that step.
+    /// The key of the cell that the next step brings home.
+    ///
+    /// Only the holder of the cell's pen can add that step.
     pub next: u64,
 }
 
-/// The rule of the log: its word is the number of entries, and the cell of each key but the last one was brought home.
+/// The rule of the log.
+///
+/// The log's word is its number of entries. The cell of each key except the last was brought home.
 pub struct Law;
 
 impl Rule<Logged, u64> for Law {
@@ -44,8 +47,7 @@ impl Rule<Logged, u64> for Law {
     ghost moves = { λ ask before after answer. Unit {0} };
 }
 
-/// Callers trade nothing: who makes a move of the log gives nothing up for it and gets nothing but what the move says.
-/// No value of it is made.
+/// Ghost: callers neither gain nor give up anything by a move, besides what the move states.
 pub struct NoGain;
 
 impl Gain<Logged, u64> for NoGain {
@@ -54,7 +56,7 @@ impl Gain<Logged, u64> for NoGain {
     ghost after = { λ names about answer. ftrue };
 }
 
-/// The move that adds a cell, for the pen of a later step. No value of it is made.
+/// Ghost: the move that adds a cell, for the pen of a later step.
 pub struct Spare;
 
 impl Play<Logged, u64> for Spare {
@@ -63,7 +65,7 @@ impl Play<Logged, u64> for Spare {
     ghost then = { Spares };
 }
 
-/// The move that adds the first entry of the log. No value of it is made.
+/// Ghost: the move that adds the first entry.
 pub struct Open;
 
 impl Play<Logged, u64> for Open {
@@ -72,7 +74,7 @@ impl Play<Logged, u64> for Open {
     ghost then = { Opens };
 }
 
-/// The move that adds a step to the log. No value of it is made.
+/// Ghost: the move that adds a step.
 pub struct Add;
 
 impl Play<Logged, u64> for Add {
@@ -81,7 +83,7 @@ impl Play<Logged, u64> for Add {
     ghost then = { Adds };
 }
 
-/// The move that adds nothing: it shows that all that was seen is no longer than was expected. No value of it is made.
+/// Ghost: the move that adds nothing, and shows that no more was seen than expected.
 pub struct Whole;
 
 impl Play<Logged, u64> for Whole {
@@ -90,16 +92,16 @@ impl Play<Logged, u64> for Whole {
     ghost then = { AreAll };
 }
 
-/// What is asked of the log: a step, and the pen of the step after it.
+/// A step to add, with the pen of the step after it.
 #[derive(Drop)]
 pub struct Asked<'a> {
-    /// What the step adds to the list, in order.
+    /// The elements to append to the list, in order.
     pub elements: &'a Listing,
-    /// The requests and ticks that they come of, in order.
+    /// The requests and ticks that they result from, in order.
     pub inputs: &'a History<Input>,
-    /// How many of the window's oldest batches it drops.
+    /// How many of the window's oldest batches to drop.
     pub dropped: u64,
-    /// The pen that the step after it is added by.
+    /// The pen for adding the step after it.
     pub next: &'a Pen,
 }
 
@@ -111,7 +113,7 @@ impl<'a> Plain<Asked<'a>, Logged, u64> for Add {
     ghost state = { λ a. None };
 }
 
-// No step is asked for where a cell is added.
+// Adding a cell asks for no step.
 impl Plain<u64, Logged, u64> for Spare {
     ghost use Rattle.std.specs.Prelude.{None, []};
 
@@ -120,20 +122,21 @@ impl Plain<u64, Logged, u64> for Spare {
     ghost state = { λ n. None };
 }
 
-/// Which window it is: the book of its steps, the configuration by which entries come of its list, and in which shard each
-/// session stands. Each call of a program picks them.
+/// The window that a call works on: its book, its configuration and its placing of sessions.
+///
+/// Each call picks them.
 pub trait Naming {
     ghost use Rattle.std.specs.Prelude.{ℕ};
     ghost use Rattle.logbook.specs.Pages.{Book};
     ghost use Rattle.bx_advice.specs.declared.config.Config.{Config};
 
-    /// The book of the window's steps.
+    /// Ghost: the book of the window's steps.
     ghost book: { Book };
 
-    /// The configuration by which entries come of its list.
+    /// Ghost: the configuration that determines the entries of the list.
     ghost config: { Config };
 
-    /// The shard of a session's number among so many shards.
+    /// Ghost: the shard of a session, by its number and the number of shards.
     ghost placing: { ℕ → ℕ → ℕ };
 }
 

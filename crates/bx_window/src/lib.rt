@@ -1,4 +1,4 @@
-//! One writer publishes batches of entries, and readers take them from a ring that they never wait for.
+//! The window: one writer publishes batches of entries, and readers take them without a lock.
 #![tactic(auto)]
 
 mod batch;

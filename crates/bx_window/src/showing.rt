@@ -1,4 +1,4 @@
-//! How readers are shown a change.
+//! Shows changes to readers.
 ghost use Rattle.std.specs.Prelude.{◌≡◌, [], List, None, IsTrue, IfNone, IfSome, IfOk};
 ghost use Rattle.left_right.specs.Handles.{published, pending};
 ghost use Rattle.bx_window.specs.declared.law.LogStep.{LogStep};
@@ -13,13 +13,15 @@ use left_right::WriteHandle;
 use std::alloc::AllocError;
 use std::sync::Wait;
 
-/// A change that readers are not shown yet, since the operation that shows it was refused. None is made but there.
+/// A change that readers do not see yet, because the operation that shows it was refused.
 #[derive(Drop)]
 pub(crate) struct Late<O: Drop> {
     change: O,
 }
 
-/// Shows readers a change. Where the operation is refused they see what they saw, and the change is late.
+/// Shows `change` to readers.
+///
+/// Returns it as late if the operation is refused. Readers then see what they saw before.
 pub(crate) fn show<J: Naming, R: Wait + Drop>(
     handle: &mut WriteHandle<Ring<J>, RingChange<J>, R>,
     change: RingChange<J>,
@@ -38,7 +40,7 @@ pub(crate) fn show<J: Naming, R: Wait + Drop>(
     }
 }
 
-/// Shows readers the change that is late, if one is. Says whether none is late then.
+/// Shows the late change, if any, and returns `true` unless it is refused again.
 pub(crate) fn catch_up<J: Naming, R: Wait + Drop>(
     handle: &mut WriteHandle<Ring<J>, RingChange<J>, R>,
     late: &mut Option<Late<RingChange<J>>>,
@@ -57,8 +59,10 @@ pub(crate) fn catch_up<J: Naming, R: Wait + Drop>(
     }
 }
 
-/// Makes room for the operations that stand in the log of `left_right` at once, which are two at most: the last one, until the next
-/// publish has brought it to the other ring, and the next one. So no change asks for memory when it is shown.
+/// Makes room in the log of `left_right`, so that showing a change never allocates.
+///
+/// The log has at most two operations: the last one, until the next publish applies it to the other
+/// ring, and the next one.
 pub(crate) fn make_room<J: Naming, R: Wait + Drop>(
     handle: &mut WriteHandle<Ring<J>, RingChange<J>, R>,
     front: &Front<J>,

@@ -1,4 +1,4 @@
-//! The writer of the window: it publishes batches, and drops those that lie below a place.
+//! The writer of the window, which publishes batches and trims them.
 ghost use Rattle.std.specs.Prelude.{◌≡◌, ◌+◌, ◌<◌, ◌≤◌, ◌^◌, ◌++◌, ◌∷◌, [], length, drop, slice_index_or, List, None, IsTrue, IfNone, IfSome, IfOk, IfErr, OnOk, OnErr};
 ghost use Rattle.left_right.specs.Handles.{published, pending};
 ghost use mathlib.Core.List.{IsPrefix};
@@ -27,20 +27,27 @@ use std::alloc::{AllocError, Global};
 use std::marker::Model;
 use std::sync::{Arc, Wait};
 
-/// How many batches the window has at most: a shard that stands still keeps no more of them. (This server's choice.)
+/// The maximum number of batches in the window.
+///
+/// A shard that does not advance keeps no more than these.
+///
+/// Policy of this server.
 pub const MAX_BATCHES: usize = 4096;
 
-/// Why a batch was not published.
+/// The reason why a batch was not published.
 #[derive(Clone, Copy, Debug, PartialEq, Eq)]
 pub enum PublishFault {
-    /// The window has `MAX_BATCHES` batches.
+    /// The window has [`MAX_BATCHES`] batches.
     Full,
-    /// No memory was left, or `left_right` refused the operation.
+    /// Memory ran out, or `left_right` refused an earlier change again.
     Memory,
 }
 
-/// The writer, over any value that is published and shows steps. Contracts see it as the steps of the log: what is published shows
-/// all of them, but for the change that is late.
+/// The writer of a published value `T` that shows the steps of a log.
+///
+/// Readers see all steps, except for a change that is late.
+///
+/// Model: the steps of the log.
 #[derive(Drop)]
 pub struct Writer<J: Naming, R: Wait + Drop, T: Absorb<O, State = [LogStep; 0]> + Drop, O: Drop> {
     handle: WriteHandle<T, O, R>,
@@ -64,11 +71,14 @@ impl<J: Naming, R: Wait + Drop, T: Absorb<O, State = [LogStep; 0]> + Drop, O: Dr
     ghost invariant = { λ w. (w.firsts.items ≡ firsts_of w.book) × (w.firsts.capacity ≡ 4096) × (pending w.handle ≡ []) × IsShown T.applied w.book w.late (T.state (published w.handle)) };
 }
 
-/// The writer of a window: the one value that publishes to it. Contracts see it as the steps of the log.
+/// The writer of a window, which is the only value that publishes to it.
 pub type LogWriter<J, R> = Writer<J, R, Ring<J>, RingChange<J>>;
 
-/// The writer and so many readers of an opened window, of an empty list. `Err` where no memory is left. (So too where another
-/// had begun the window's log, which nothing can do.)
+/// Creates the writer and `readers` readers of an opened window, with an empty list.
+///
+/// # Errors
+///
+/// `AllocError` if memory runs out.
 pub fn log_pair<J: Naming, R: Wait + Drop>(
     alloc: Global,
     rt: R,
@@ -104,7 +114,7 @@ pub fn log_pair<J: Naming, R: Wait + Drop>(
     Ok((writer, all))
 }
 
-// A ring without batches.
+// Creates a ring without batches.
 fn empty_ring<J: Naming>(alloc: Global, front: &Front<J>) -> Result<Ring<J>, AllocError>
     requires { front.now ≡ [] }
     ensures { IfOk result (λ r. r.front ≡ []) }
@@ -116,15 +126,18 @@ fn empty_ring<J: Naming>(alloc: Global, front: &Front<J>) -> Result<Ring<J>, All
 }
 
 impl<J: Naming, R: Wait + Drop> Writer<J, R, Ring<J>, RingChange<J>> {
-    /// All that was published, to tell a reader. It takes no memory, so it cannot fail.
+    /// Returns all that was published, for readers to learn.
+    ///
+    /// Does not allocate.
     pub fn tell(&self) -> Front<J>
         ensures { result ≡ self.now }
     {
         self.book.front()
     }
 
-    /// All that was published, of which any front of this window is a beginning: only the writer adds to the list. It takes no
-    /// memory, so it cannot fail.
+    /// Returns all that was published, of which `front` is a prefix.
+    ///
+    /// It is a prefix because only the writer adds to the list. Does not allocate.
     pub fn tell_beyond(&mut self, front: &Front<J>) -> Front<J>
         ensures same { self.new ≡ self.old }
         ensures whole { result ≡ self.old }
@@ -133,16 +146,29 @@ impl<J: Naming, R: Wait + Drop> Writer<J, R, Ring<J>, RingChange<J>> {
         self.book.beyond(front)
     }
 
-    /// How many batches the window has.
+    /// Returns how many batches the window has.
     pub fn batches(&self) -> usize
         ensures { result ≡ length (firsts_of self.now) }
     {
         self.firsts.len()
     }
 
-    /// Publishes a batch, which readers then find at its places. It waits for the readers that are inside the ring. Where it
-    /// is refused, the batch comes back: `Full` where the window has `MAX_BATCHES` batches, `Memory` where no memory is left.
-    /// The batch has entries, begins where the list ends, and they are those of its elements behind the list.
+    /// Publishes a batch, for readers to find at its places.
+    ///
+    /// The batch must have entries and begin at the end of the list. They must be the entries that
+    /// `bundle.elements` add to the list. If `left_right` refuses the change, readers do not see it
+    /// until a later call has shown it.
+    ///
+    /// # Errors
+    ///
+    /// `bundle`, with the first of these that applies; nothing is published:
+    ///
+    /// - `Full`: the window has [`MAX_BATCHES`] batches.
+    /// - `Memory`: `left_right` refuses an earlier change again, or memory ran out.
+    ///
+    /// # Blocking
+    ///
+    /// Waits for readers that still use the older copy of the ring.
     #[tactic(auto, using(crate::proofs::Places::stands_newest, crate::proofs::Places::many_elements, crate::proofs::Lists::firsts_of_adding, crate::proofs::Rooms::room_full, crate::proofs::Rings::newest_bundle, crate::proofs::Rings::ends_bundle))]
     pub fn publish(&mut self, alloc: Global, bundle: Bundle) -> Result<(), (Bundle, PublishFault)>
         requires continues { Continues J.config (list_of self.old) bundle }
@@ -170,9 +196,18 @@ impl<J: Naming, R: Wait + Drop> Writer<J, R, Ring<J>, RingChange<J>> {
         Ok(())
     }
 
-    /// Drops the batches that lie wholly below the place n, and no other: readers then find `Overrun` at their places. It
-    /// waits for the readers that are inside the ring. It takes no memory. `Err` where an earlier change is late and refused
-    /// again, and nothing changes then; a trim that drops nothing waits for nobody.
+    /// Drops the batches whose places are all below `n`.
+    ///
+    /// Readers then find `Overrun` at these places. If `left_right` refuses the change, they do not
+    /// until a later call has shown it. Does not allocate.
+    ///
+    /// # Errors
+    ///
+    /// `AllocError` if `left_right` refuses an earlier change again; nothing has changed.
+    ///
+    /// # Blocking
+    ///
+    /// Unless it drops nothing, waits for readers that still use the older copy of the ring.
     #[tactic(auto, using(crate::proofs::Lists::begin_of_trimming, crate::proofs::Lists::list_of_trimming, crate::proofs::Lists::inputs_of_trimming, crate::proofs::Lists::firsts_of_trimming, crate::proofs::Rings::trimmed))]
     pub fn trim(&mut self, n: u64) -> Result<(), AllocError>
         requires steps { length self.old < 2 ^ 62 }
@@ -199,7 +234,7 @@ impl<J: Naming, R: Wait + Drop> Writer<J, R, Ring<J>, RingChange<J>> {
     }
 }
 
-// The batch under a count of owners, with its elements and inputs. Where no memory is left, the bundle comes back.
+// Moves the batch into an `Arc`. Returns the bundle if memory runs out.
 fn shared(
     alloc: Global,
     bundle: Bundle,
@@ -222,7 +257,7 @@ fn shared(
     }
 }
 
-// The place at an index, or the end behind the last one.
+// Returns the place at `index`, or `end` after the last one.
 #[tactic(auto, using(crate::proofs::Firsts::found_or))]
 fn first_at(firsts: &HeapCircularBuffer<u64>, index: usize, end: u64) -> u64
     ensures { result ≡ slice_index_or firsts.now.items index end }
@@ -230,7 +265,7 @@ fn first_at(firsts: &HeapCircularBuffer<u64>, index: usize, end: u64) -> u64
     firsts.get(index).copied().unwrap_or(end)
 }
 
-// How many batches lie wholly below the place n.
+// Returns how many batches have only places below `n`.
 #[tactic(auto, using(crate::proofs::Firsts::below_on, crate::proofs::Firsts::below_off, crate::proofs::Firsts::below_none))]
 fn count_below(firsts: &HeapCircularBuffer<u64>, n: u64, end: u64) -> usize
     ensures { result ≡ below n end firsts.now.items }
@@ -244,7 +279,7 @@ fn count_below(firsts: &HeapCircularBuffer<u64>, n: u64, end: u64) -> usize
     len
 }
 
-// Puts one place behind the others.
+// Appends a place, for which there must be room.
 #[tactic(auto, using(crate::proofs::Firsts::kept_all))]
 fn put_last(firsts: &mut HeapCircularBuffer<u64>, first: u64)
     requires { length firsts.old.items < firsts.old.capacity }

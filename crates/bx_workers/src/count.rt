@@ -1,10 +1,12 @@
-//! How many workers there are.
+//! The number of workers.
 use std::marker::Model;
 
-/// The most workers that bring shards up.
+/// The greatest number of workers.
 pub const MAX_WORKERS: usize = 16;
 
-/// How many workers there are: 1 to [`MAX_WORKERS`]. Contracts see the number.
+/// A number of workers, from 1 to [`MAX_WORKERS`].
+///
+/// Model: the number.
 #[derive(Clone, Copy, Debug, PartialEq, Eq)]
 pub struct WorkerCount {
     count: usize,
@@ -25,7 +27,7 @@ impl Model for WorkerCount {
 impl WorkerCount {
     ghost use Rattle.std.specs.Prelude.{◌≡◌, ◌≤◌, ◌↔◌, IsSome, IfSome};
 
-    /// So many workers; none where they are not 1 to [`MAX_WORKERS`].
+    /// Creates a count, or returns `None` if `count` is not 1 to [`MAX_WORKERS`].
     pub fn new(count: usize) -> Option<WorkerCount>
         ensures valid { IsSome result ↔ ((1 ≤ count) × (count ≤ 16)) }
         ensures count { IfSome result (λ w. w ≡ count) }
@@ -36,14 +38,14 @@ impl WorkerCount {
         Some(WorkerCount { count })
     }
 
-    /// One worker: the thread that calls.
+    /// Creates a count of one worker: the calling thread.
     pub fn one() -> WorkerCount
         ensures { result ≡ 1 }
     {
         WorkerCount { count: 1 }
     }
 
-    /// The number.
+    /// Returns the number.
     pub fn get(self) -> usize
         ensures same { result ≡ self }
         ensures some { 1 ≤ result }

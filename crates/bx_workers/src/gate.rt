@@ -1,16 +1,18 @@
-//! What workers pass before and after their work.
+//! Calls before and after a worker's work.
 
-/// What a worker calls before and after it brings its shards up, with its number, counted from 0. A test may hold one
-/// worker there until another has gone on.
+/// Calls that a worker makes before and after it advances its shards.
+///
+/// `worker`: its number, counted from 0. A test can hold one worker there until another has gone
+/// on.
 pub trait Gate {
-    /// The worker is about to begin.
+    /// Runs before the worker begins.
     fn before(&self, worker: usize);
 
-    /// The worker is done.
+    /// Runs when the worker is done.
     fn after(&self, worker: usize);
 }
 
-/// A gate at which nobody waits.
+/// A gate that never waits.
 #[derive(Clone, Copy, Debug)]
 pub struct OpenGate;
 

@@ -1,4 +1,4 @@
-//! Many workers that bring shards up to the end of a list of entries, and what they make of it.
+//! Workers that advance many shards to the end of a list of entries.
 #![tactic(auto)]
 
 mod count;

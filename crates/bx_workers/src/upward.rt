@@ -1,4 +1,4 @@
-//! Shards that are brought up to the end of the entries, by many workers.
+//! Advancing shards to the end of a list of entries, by many workers.
 ghost use Rattle.std.specs.Prelude.{◌≡◌, ◌≤◌, ◌<◌, ◌-◌, drop, false, IfOk};
 ghost use Rattle.bx_advice.specs.Limits.{greatest_length};
 ghost use Rattle.bx_workers.specs.Upward.{AreConsecutive, AreWithin, BroughtUp, IsWithin, WentOn, count_behind, end_of, first_of, is_behind};
@@ -11,13 +11,15 @@ use std::alloc::{AllocError, Global};
 use std::thread;
 use std::thread::Threads;
 
-/// Brings each shard up to the end of these entries, which stand at consecutive places of the list: it applies those
-/// that it lacks, in order. Says how many shards stayed behind, each at an entry for which memory was refused; clauses
-/// say that the entry is of a kind that takes memory, and not that any was refused.
+/// Advances every shard to the end of `entries`, and returns how many do not reach it.
 ///
-/// Worker w, counted from 0, has the w-th run of `ceil(shards / workers)` neighbouring shards, and calls the gate with w
-/// before and after them; a worker without shards calls nothing. The runs are done one after another where no thread can
-/// be started.
+/// `entries` must have consecutive places. Each shard's next entry must be one of them, or the one
+/// after the last. A shard stops at the first entry for which memory runs out.
+///
+/// Worker `w`, counted from 0, advances the `w`-th run of `ceil(shards / workers)` neighboring
+/// shards, and calls `gate` before and after. A worker without shards does not call it. If no
+/// thread can be started, the runs are advanced one after another.
+// Prover: the contract says only that such an entry is of a kind that allocates.
 pub fn bring_up<R: Threads + Sync, G: Gate + Sync, P: Placing + Send + Sync>(
     rt: &R,
     alloc: Global,
@@ -53,7 +55,7 @@ pub fn bring_up<R: Threads + Sync, G: Gate + Sync, P: Placing + Send + Sync>(
         .count()
 }
 
-// Brings each of these shards up, one after another. The caller counts those that stayed behind.
+// Advances shards one after another. The caller counts those that do not reach the end.
 fn catch_up_each<P: Placing>(alloc: Global, shards: &mut [Shard<P>], entries: &[Entry])
     requires consecutive { AreConsecutive entries.now }
     requires end { end_of entries.now ≤ greatest_length }
@@ -65,8 +67,7 @@ fn catch_up_each<P: Placing>(alloc: Global, shards: &mut [Shard<P>], entries: &[
     }
 }
 
-// Applies those of the entries that the shard lacks, in order, up to the one that is refused memory. Who waits for what is
-// answered by that is woken at the end.
+// Applies the entries that the shard lacks, until memory runs out. Tasks are woken at the end.
 fn catch_up<P: Placing>(
     alloc: Global,
     shard: &mut Shard<P>,
@@ -85,7 +86,7 @@ fn catch_up<P: Placing>(
     Ok(())
 }
 
-// Those of the entries that the shard has not applied.
+// Returns the entries that the shard has not applied.
 fn lacking<'entries, P: Placing>(shard: &Shard<P>, entries: &'entries [Entry]) -> &'entries [Entry]
     requires { IsWithin entries.now shard.now }
     ensures { result.now ≡ drop (shard.now.place - first_of entries.now) entries.now }

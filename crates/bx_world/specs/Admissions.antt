@@ -1,4 +1,4 @@
--- The admission side of the world: the list, who is live, and the entries that some shard has not applied yet.
+-- Admission in the world: the list, and the entries that some shard has not applied yet.
 use Rattle.std.specs.Prelude.{ℕ, ◌≡◌, length, List, drop, ◌++◌, Result, Ok, Err, Some, None}
 use Rattle.bx_advice.specs.declared.config.Config.{Config}
 use Rattle.bx_entry.specs.Words.{ReadInput, added_by, refusal_of, Listed, entries}
@@ -8,19 +8,19 @@ use Rattle.bx_registry.specs.Slots.{admitted_slots}
 use Rattle.bx_entry.specs.declared.{entry.Admitted.Admitted, input.AdmitFault.AdmitFault}
 use Rattle.bx_entry.specs.declared.input.AdmitFault.TheVariants.{Refused, Memory}
 
--- the configuration, among how many shards sessions are placed, the list, and the place from which on its entries are kept
+-- The configuration, the number of shards, the list, and the place of the first kept entry.
 pub record Admitting : Type 0 where
   pub config : Config
   pub shards : ℕ
   pub list : List Listed
   pub first : ℕ
 
--- the entries that are kept
+-- The entries that are kept.
 abbrev pub entries_kept : Admitting → List Entry
 entries_kept a = drop a.first (entries a.config a.list)
 
--- What became of an input: it stands at the end of the list and its messages have these slots, or it is refused and nothing changed. Want of
--- memory changes nothing either.
+-- An admitted input is appended to the list, and its messages get their slots. If it is refused, or
+-- memory runs out, nothing changes.
 abbrev pub IsAdmission : (ℕ → ℕ → ℕ) → Admitting → ReadInput → Result Admitted AdmitFault → Admitting → Type 0
 IsAdmission placing old input (Ok a) new =
     (refusal_of (length old.list) input ≡ None)

@@ -1,5 +1,4 @@
--- What a server of many shards gives, in the words of the subject: for every schedule of admissions, applications and takings, from whatever
--- world it begins in, for every number of shards and every placing of sessions.
+-- What a sharded server guarantees for every schedule, first world, number of shards and placing.
 use Rattle.std.specs.Prelude.{if◌then◌else◌, ℕ, ◌+◌, ◌≡◌, ◌<◌, ◌≤◌, ◌⊎◌, ◌==◌, false, List, [], ◌∷◌, ◌++◌, length, take, drop, find, Option, Some, option_map, slice_get, ⊤}
 use Rattle.bx_advice.specs.declared.config.Config.{Config}
 use Rattle.bx_message.specs.declared.reply.Answer.{Answer}
@@ -16,88 +15,88 @@ use Rattle.bx_world.specs.declared.step.{Step.Step, StepOut.StepOut}
 use Rattle.bx_world.specs.declared.step.Step.TheVariants.{Admit, Apply, Take}
 use Rattle.bx_world.specs.declared.step.StepOut.TheVariants.{Admitted, Taken}
 
--- ---- replies that are given at once
+-- ---- Immediate replies
 
--- how the message at a place is answered, if the list goes so far
+-- How the message at `place` is answered, if the list has it.
 abbrev pub slot_at : Config → List Listed → ℕ → Option PlaceSlot
 slot_at config list place = option_map (λ (j : Judged). j.slot) (slice_get (registry config list).judged place)
 
--- a ticket of a connect or a rider: of its place, and of the shard in which its session stands
+-- A ticket for the connect or rider at `here` has that place and the shard of its session.
 pub record IsTicket (setup : Setup) (list : List Listed) (here : ℕ) (t : Ticket) : Type 0 where
   pub session : ℕ
   pub waits : slot_at setup.config list here ≡ Some (Waiting session)
   pub place : t.place ≡ here
   pub shard : t.shard ≡ setup.placing session setup.shards
 
--- a reply is the answer of the message at this place, and has no events; a ticket is that of the connect or the rider at this place
+-- A slot has the reply to the message at `place`, without events, or the ticket for its answer.
 abbrev pub IsSlot : Setup → List Listed → ℕ → Slot → Type 0
 IsSlot setup list place (answers.Ready reply) = answer setup.config list place ≡ Some (record { place = place; events = []; reply = reply })
 IsSlot setup list place (answers.Waiting ticket) = IsTicket setup list place ticket
 
--- so it is at this place and at each behind it
+-- The slots are those of `place` and the places after it.
 abbrev pub EachSlot : Setup → List Listed → ℕ → List Slot → Type 0
 EachSlot setup list place [] = ⊤
 EachSlot setup list place (slot ∷ slots) = IsSlot setup list place slot × EachSlot setup list (place + 1) slots
 
--- how many messages an input has that are answered
+-- How many messages of an input are answered.
 abbrev pub asked_by : ReadInput → ℕ
 asked_by (Request moment nonce messages) = length messages
 asked_by _ = 0
 
--- The messages of an admitted input stand in the list from its first place on, and each has its slot.
+-- The messages of an admitted input are in the list from `first` on, and each has its slot.
 pub record IsAdmitted (setup : Setup) (list : List Listed) (input : ReadInput) (first : ℕ) (slots : List Slot) : Type 0 where
   pub listed : take (length (added_by input)) (drop first list) ≡ added_by input
   pub many : length slots ≡ asked_by input
   pub each : EachSlot setup list first slots
 
--- what was admitted is answered so
+-- An input that was admitted is in the list, and its messages have their slots.
 abbrev pub RepliedBy : Setup → List Listed → Input → StepOut → Type 0
 RepliedBy setup list input (Admitted first slots) = IsAdmitted setup list (read_input input) first slots
 RepliedBy setup list input _ = ⊤
 
--- only an admission gives replies at once
+-- Only an admission gives slots, and it gives the right ones.
 abbrev pub Replied : Setup → List Listed → Step → StepOut → Type 0
 Replied setup list (Admit input) out = RepliedBy setup list input out
 Replied setup list (Apply shard) out = ⊤
 Replied setup list (Take ticket) out = ⊤
 
--- so it is at each step
+-- Each step that gives slots gives the right ones.
 abbrev pub EachReplied : Setup → List Listed → List Step → List StepOut → Type 0
 EachReplied setup list [] outs = ⊤
 EachReplied setup list (step ∷ steps) [] = ⊤
 EachReplied setup list (step ∷ steps) (out ∷ outs) = Replied setup list step out × EachReplied setup list steps outs
 
--- Whatever the steps, each reply that an admission gave at once is what one thread gives.
+-- Every immediate reply is what one thread gives, whatever the steps.
 abbrev pub RepliesAreAnswers : Type 0
 RepliesAreAnswers = (setup : Setup) (first : WorldState) (steps : List Step) (outs : List StepOut) (last : WorldState) → 0 < setup.config.limits.batch →
     Runs setup first steps outs last → EachReplied setup last.list steps outs
 
--- ---- what takings gave
+-- ---- Taken answers
 
--- this output gave this answer
+-- The output is this answer, taken.
 abbrev pub GaveIn : Answer → StepOut → Type 0
 GaveIn answer (Taken (Some a)) = a ≡ answer
 GaveIn answer _ = ⊥
 
--- only a taking gives one, to the connect or the rider at its ticket's place
+-- The step took this answer, that of the connect or rider at `place`.
 abbrev pub GaveBy : ℕ → Answer → Step → StepOut → Type 0
 GaveBy place answer (Take t) out = (t.place ≡ place) × GaveIn answer out
 GaveBy place answer _ out = ⊥
 
--- some taking of the schedule gave this answer to the connect or the rider at this place
+-- Some step of the schedule took this answer, that of the connect or rider at `place`.
 abbrev pub Gave : List Step → List StepOut → ℕ → Answer → Type 0
 Gave [] outs place answer = ⊥
 Gave (step ∷ steps) [] place answer = ⊥
 Gave (step ∷ steps) (out ∷ outs) place answer = GaveBy place answer step out ⊎ Gave steps outs place answer
 
--- the session of this number when the first n entries of the list are handled
+-- Session `number` after the first `n` entries of the list.
 abbrev pub session_before : Config → List Listed → ℕ → ℕ → Session
 session_before config list number n = session config number (take n (entries config list))
 
--- ---- a repeated acknowledgement
+-- ---- Repeated acknowledgements
 
--- An accepted connect of the session stands at this place, where a batch is outstanding and the session has not overflowed, and it
--- acknowledges nothing new.
+-- An accepted connect at `place` acknowledges nothing new while a batch is outstanding. The session
+-- has not overflowed.
 pub record AsksAgain (config : Config) (list : List Listed) (number place : ℕ) : Type 0 where
   pub entry : Entry
   pub client : List ℕ
@@ -110,8 +109,8 @@ pub record AsksAgain (config : Config) (list : List Listed) (number place : ℕ)
   pub overflow : (session_before config list number place).overflow ≡ false
   pub repeats : Repeats (session_before config list number place).num acked
 
--- The answer that formed the outstanding batch: the last one that the session gave behind the entry at which the number of its batches grew to the
--- one that is outstanding.
+-- The answer that formed the outstanding batch. It is the session's last answer after the entry
+-- that raised the batch number to this batch's.
 pub record FormedBy (config : Config) (list : List Listed) (number place : ℕ) (filed : Filed) : Type 0 where
   pub forming : ℕ
   pub earlier : forming < place
@@ -119,8 +118,9 @@ pub record FormedBy (config : Config) (list : List Listed) (number place : ℕ) 
   pub current : (session_before config list number (forming + 1)).num ≡ (session_before config list number place).num
   pub last : LastAnswer (session_before config list number (forming + 1)) filed
 
--- The connect is answered at once, with the outstanding batch and its number. An earlier connect of the session was given the answer that formed that
--- batch, with that number and the very same events. These are their answers over the list, and the answers that were taken are these.
+-- The connect is answered at once, with the outstanding batch and its number. An earlier connect of
+-- the session got the answer that formed the batch, with the same number and events. Taken answers
+-- have that number and those events too.
 pub record GivenAgain (config : Config) (list : List Listed) (steps : List Step) (outs : List StepOut) (number place : ℕ) : Type 0 where
   pub former : ℕ
   pub earlier : former < place
@@ -142,34 +142,34 @@ pub record GivenAgain (config : Config) (list : List Listed) (steps : List Step)
   pub numbered_again : (a : Answer) → Gave steps outs place a → a.reply.ack ≡ AckNumber (session_before config list number place).num
   pub same : (a b : Answer) → Gave steps outs former a → Gave steps outs place b → b.events ≡ a.events
 
--- Whatever the steps, a connect that acknowledges nothing new is given the outstanding batch again.
+-- A connect that acknowledges nothing new gets the outstanding batch again, whatever the steps.
 abbrev pub BatchesRepeat : Type 0
 BatchesRepeat = (setup : Setup) (first : WorldState) (steps : List Step) (outs : List StepOut) (last : WorldState) → 0 < setup.config.limits.batch →
     Runs setup first steps outs last → (number place : ℕ) → AsksAgain setup.config last.list number place → GivenAgain setup.config last.list steps outs number place
 
--- ---- never again
+-- ---- No event again
 
--- How many of the session's events were given for good at the entry at place n: what an acknowledging session has acknowledged with that entry
--- counts, what a plain session is given at it does not yet.
+-- How many events of the session are never sent again, as of the entry at place `n`. Events that
+-- this entry acknowledges count; those that a plain session sends at it do not yet.
 abbrev pub done_at : Config → List Listed → ℕ → ℕ → ℕ
 done_at config list number n =
     if (session_before config list number (n + 1)).ack then (session_before config list number (n + 1)).done else (session_before config list number n).done
 
--- The answer is the one that the session filed for this connect, and at no entry up to the place where it was given had any of its events, or
--- a later one, been given for good: each of them was published at a later place than all that had been.
+-- The answer is the one that the session filed for `connect`. Each of its events was published
+-- after every event that was already acknowledged or, in a plain session, sent.
 pub record GivenLater (config : Config) (list : List Listed) (number connect : ℕ) (a : Answer) : Type 0 where
   pub filed : Filed
   pub found : find (λ (f : Filed). f.connect == connect) (session config number (entries config list)).answers ≡ Some filed
   pub given : a ≡ record { events = events_of filed.publications; reply = filed.reply }
   pub later : (n : ℕ) → n ≤ filed.place → AllBelow (take (done_at config list number n) (session config number (entries config list)).events) filed.publications
 
--- Whatever the steps, no answer has an event that was acknowledged, or given by a plain session, before it.
+-- No answer has an event that was acknowledged, or sent by a plain session, before it.
 abbrev pub NoneGivenAgain : Type 0
 NoneGivenAgain = (setup : Setup) (first : WorldState) (steps : List Step) (outs : List StepOut) (last : WorldState) → 0 < setup.config.limits.batch →
     Runs setup first steps outs last → (number place : ℕ) (a : Answer) → slot_at setup.config last.list place ≡ Some (Waiting number) → Gave steps outs place a →
     GivenLater setup.config last.list number place a
 
--- Each event that the first answer gave was published at an earlier place than all those of the second, so no event stands in both.
+-- All events of the first answer were published earlier than those of the second.
 pub record GivenApart (config : Config) (list : List Listed) (number : ℕ) (connect later : ℕ) (a b : Answer) : Type 0 where
   pub filed : Filed
   pub next : Filed
@@ -179,37 +179,37 @@ pub record GivenApart (config : Config) (list : List Listed) (number : ℕ) (con
   pub given_next : b ≡ record { events = events_of next.publications; reply = next.reply }
   pub apart : AllBelow filed.publications next.publications
 
--- Whatever the steps, no event stands in two answers of a session that does not acknowledge.
+-- A plain session never sends an event in two answers, whatever the steps.
 abbrev pub PlainGivenOnce : Type 0
 PlainGivenOnce = (setup : Setup) (first : WorldState) (steps : List Step) (outs : List StepOut) (last : WorldState) → 0 < setup.config.limits.batch →
     Runs setup first steps outs last → (number place later : ℕ) (a b : Answer) → place < later → (session setup.config number (entries setup.config last.list)).ack ≡ false →
     slot_at setup.config last.list place ≡ Some (Waiting number) → slot_at setup.config last.list later ≡ Some (Waiting number) → Gave steps outs place a → Gave steps outs later b →
     GivenApart setup.config last.list number place later a b
 
--- ---- all of it
+-- ---- The theorem
 
--- what holds of a schedule, from the world that it begins in to the one that it ends in
+-- What holds of a schedule that runs from the world `first` to the world `last`.
 pub record AsOneThread (setup : Setup) (first : WorldState) (steps : List Step) (outs : List StepOut) (last : WorldState) : Type 0 where
-  -- the list has what was admitted, one message after another
+  -- The list grows by what was admitted, in order.
   pub list : last.list ≡ first.list ++ admitted_in steps outs
-  -- each taken answer is what one thread gives over it
+  -- Each taken answer is what one thread gives over the list.
   pub taken : EachTook setup.config last.list steps outs
-  -- so is each reply
+  -- Each immediate reply is what one thread gives over the list.
   pub replied : EachReplied setup last.list steps outs
-  -- no answer is given twice
+  -- No answer is taken twice.
   pub once : EachNew first.taken (taken_places steps outs)
-  -- a connect that repeats its acknowledgement is given the same batch
+  -- A connect that repeats its acknowledgement gets the same batch.
   pub again : (number place : ℕ) → AsksAgain setup.config last.list number place → GivenAgain setup.config last.list steps outs number place
-  -- how many of a session's events were given for good never falls
+  -- The number of a session's events that are never sent again does not fall.
   pub done : (number m n : ℕ) → m ≤ n → (session_before setup.config last.list number m).done ≤ (session_before setup.config last.list number n).done
-  -- what was acknowledged is never given again
+  -- Events that were acknowledged, or sent by a plain session, are never sent again.
   pub never : (number place : ℕ) (a : Answer) → slot_at setup.config last.list place ≡ Some (Waiting number) → Gave steps outs place a → GivenLater setup.config last.list number place a
-  -- no event stands in two answers of a session that does not acknowledge
+  -- A plain session never sends an event in two answers.
   pub apart : (number place later : ℕ) (a b : Answer) → place < later → (session setup.config number (entries setup.config last.list)).ack ≡ false →
       slot_at setup.config last.list place ≡ Some (Waiting number) → slot_at setup.config last.list later ≡ Some (Waiting number) → Gave steps outs place a → Gave steps outs later b →
       GivenApart setup.config last.list number place later a b
 
--- whatever the schedule, the number of shards and the placing
+-- A sharded server gives what one thread gives, for every schedule, number of shards and placing.
 abbrev pub Headline : Type 0
 Headline = (setup : Setup) (first : WorldState) (steps : List Step) (outs : List StepOut) (last : WorldState) → 0 < setup.config.limits.batch →
     Runs setup first steps outs last → AsOneThread setup first steps outs last

@@ -1,4 +1,4 @@
--- What the calls of the world answer, as outputs of steps.
+-- The results of the world's calls, as outputs of steps.
 use Rattle.std.specs.Prelude.{Result, Ok, Err}
 use Rattle.bx_entry.specs.declared.{entry.Admitted.Admitted, input.AdmitFault.AdmitFault}
 use Rattle.bx_entry.specs.declared.input.AdmitFault.TheVariants.{Refused, Memory}
@@ -6,13 +6,13 @@ use Rattle.bx_world.specs.declared.step.{Applied.Applied, StepOut.StepOut}
 use Rattle.bx_world.specs.declared.step.Applied.TheVariants as applications
 use Rattle.bx_world.specs.declared.step.StepOut.TheVariants as outs
 
--- what came of an admission
+-- The output of an admission.
 abbrev pub admission : Result Admitted AdmitFault → StepOut
 admission (Ok a) = outs.Admitted a.first a.slots
 admission (Err (Refused refusal)) = outs.NotAdmitted refusal
 admission (Err Memory) = outs.OutOfMemory
 
--- what came of an application
+-- The output of an application.
 abbrev pub application : Applied → StepOut
 application applications.Done = outs.Applied
 application applications.Level = outs.Level

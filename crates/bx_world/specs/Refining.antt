@@ -1,4 +1,4 @@
--- What the shards of the world hold.
+-- How the shards of the world agree with the definitions.
 use Rattle.std.specs.Prelude.{ℕ, ◌≡◌, ◌≤◌, ◌==◌, Bool, false, List, map, slice_get, Some, None}
 use Rattle.std.specs.List.{list_any}
 use Rattle.bx_entry.specs.Listing.{Listed}
@@ -9,35 +9,35 @@ use Rattle.bx_shard.specs.declared.shard.Shard.{Shard}
 use Rattle.bx_world.specs.declared.step.Applied.{Applied}
 use Rattle.bx_world.specs.declared.step.Applied.TheVariants.{Done, Level, Memory}
 
--- a shard holds what the definition's shard of this index holds, and has applied every entry below a place
+-- A shard agrees with the definitions' shard `k` and has applied every entry below `first`.
 pub record RefinesFrom {P : Type 0} (place_of : P → ℕ → ℕ → ℕ) (setup : Setup) (list : List Listed) (taken : List ℕ) (first k : ℕ) (s : Shard P) : Type 0 where
   pub holds : Refines setup list taken k s.place (state place_of s)
   pub past : first ≤ s.place
 
--- so does each shard
+-- Each shard agrees with the definitions and has applied every entry below `first`.
 abbrev pub EachRefines : {P : Type 0} → (P → ℕ → ℕ → ℕ) → Setup → List Listed → List ℕ → ℕ → List (Shard P) → Type 0
 EachRefines {P} place_of setup list taken first shards = (k : ℕ) → (s : Shard P) → slice_get shards k ≡ Some s → RefinesFrom place_of setup list taken first k s
 
--- each shard has applied every entry below a place
+-- Each shard has applied every entry below `first`.
 abbrev pub StandFrom : {P : Type 0} → ℕ → List (Shard P) → Type 0
 StandFrom {P} first shards = (k : ℕ) (s : Shard P) → slice_get shards k ≡ Some s → first ≤ s.place
 
--- and none from another place on
+-- No shard has applied an entry at `end` or later.
 abbrev pub StandWithin : {P : Type 0} → ℕ → List (Shard P) → Type 0
 StandWithin {P} end shards = (k : ℕ) (s : Shard P) → slice_get shards k ≡ Some s → s.place ≤ end
 
--- whether some shard has applied every entry below a place, and none from it on
+-- Whether some shard has applied exactly the entries below `place`.
 abbrev pub some_stands_at : {P : Type 0} → ℕ → List (Shard P) → Bool
 some_stands_at {P} place shards = list_any (λ n. n == place) (map (λ (s : Shard P). s.place) shards)
 
--- a shard after it applied its next entry of the list
+-- A shard after it applied its next entry of the list.
 pub record HasApplied {P : Type 0} (place_of : P → ℕ → ℕ → ℕ) (list : List Entry) (old new : Shard P) : Type 0 where
   pub entry : Entry
   pub next : slice_get list old.place ≡ Some entry
   pub applied : states.Applied (state place_of old) entry (state place_of new)
   pub sound : IsSound (state place_of new)
 
--- a shard for whose next entry, which may take some, there was no memory
+-- An unchanged shard: memory ran out for its next entry, which may need some.
 pub record HasStayed {P : Type 0} (place_of : P → ℕ → ℕ → ℕ) (list : List Entry) (old new : Shard P) : Type 0 where
   pub entry : Entry
   pub next : slice_get list old.place ≡ Some entry
@@ -45,7 +45,7 @@ pub record HasStayed {P : Type 0} (place_of : P → ℕ → ℕ → ℕ) (list :
   pub same : IsAsBefore (state place_of old) (state place_of new)
   pub sound : IsSound (state place_of new)
 
--- what came of a shard's next entry of the list, where there is one
+-- The result of applying a shard's next entry of the list, if there is one.
 abbrev pub IsApplication : {P : Type 0} → (P → ℕ → ℕ → ℕ) → List Entry → Shard P → Applied → Shard P → Type 0
 IsApplication place_of list old Done new = HasApplied place_of list old new
 IsApplication place_of list old Level new = (slice_get list old.place ≡ None) × (new ≡ old)

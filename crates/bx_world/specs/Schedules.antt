@@ -1,4 +1,4 @@
--- What holds of every schedule of admissions, applications and takings, whatever the placing and wherever memory was short.
+-- What holds of every schedule, whatever the placing and wherever memory ran out.
 use Rattle.std.specs.Prelude.{ℕ, ◌≡◌, ◌<◌, ◌==◌, false, List, [], ◌∷◌, ◌++◌, length, find, slice_get, slice_index, option_map, Some, ⊤}
 use Rattle.bx_advice.specs.declared.config.Config.{Config}
 use Rattle.bx_entry.specs.Words.{added_by, Listed, read_input, Judged, Waiting, registry, Filed, PlacedAnswer, answer, answer_of}
@@ -9,61 +9,60 @@ use Rattle.bx_world.specs.declared.step.{Step.Step, StepOut.StepOut}
 use Rattle.bx_world.specs.declared.step.Step.TheVariants.{Admit, Take}
 use Rattle.bx_world.specs.declared.step.StepOut.TheVariants.{Admitted, Taken}
 
--- ---- the list
+-- ---- The list
 
--- what an admitted input adds to the list
+-- What an input adds to the list, if it is admitted.
 abbrev pub added_as : Input → StepOut → List Listed
 added_as input (Admitted first slots) = added_by (read_input input)
 added_as input _ = []
 
--- only an admission adds to it
+-- What a step adds to the list.
 abbrev pub added_in : Step → StepOut → List Listed
 added_in (Admit input) out = added_as input out
 added_in _ out = []
 
--- what was admitted, one input after another
+-- What the steps add to the list, in order.
 abbrev pub admitted_in : List Step → List StepOut → List Listed
 admitted_in [] outs = []
 admitted_in (step ∷ steps) [] = []
 admitted_in (step ∷ steps) (out ∷ outs) = added_in step out ++ admitted_in steps outs
 
--- whatever the steps, the list has what was admitted, in order, and nothing else
+-- The list grows by exactly what was admitted, in order.
 abbrev pub ListIsAdmitted : Type 0
 ListIsAdmitted = (setup : Setup) (first : WorldState) (steps : List Step) (outs : List StepOut) (last : WorldState) → Runs setup first steps outs last →
     last.list ≡ first.list ++ admitted_in steps outs
 
--- ---- what is taken
+-- ---- Taken answers
 
--- an answer that was taken is the one that the message at the ticket's place has over this list
+-- A taken answer is the one that the message at the ticket's place has over this list.
 abbrev pub TookBy : Config → List Listed → Ticket → StepOut → Type 0
 TookBy config list t (Taken (Some a)) = option_map given_of (answer config list t.place) ≡ Some a
 TookBy config list t _ = ⊤
 
--- only a taking gives an answer
+-- If the step took an answer, it is the one over this list.
 abbrev pub Took : Config → List Listed → Step → StepOut → Type 0
 Took config list (Take t) out = TookBy config list t out
 Took config list _ out = ⊤
 
--- so it is at each step
+-- Each taken answer is the one over this list.
 abbrev pub EachTook : Config → List Listed → List Step → List StepOut → Type 0
 EachTook config list [] outs = ⊤
 EachTook config list (step ∷ steps) [] = ⊤
 EachTook config list (step ∷ steps) (out ∷ outs) = Took config list step out × EachTook config list steps outs
 
--- Whatever the steps and wherever they begin, each answer that was taken is what one thread gives, over the list at the schedule's end and so
--- over every longer one.
+-- Each taken answer is what one thread gives, over the last list and so over every longer one.
 abbrev pub TakesAreAnswers : Type 0
 TakesAreAnswers = (setup : Setup) (first : WorldState) (steps : List Step) (outs : List StepOut) (last : WorldState) → 0 < setup.config.limits.batch →
     Runs setup first steps outs last → EachTook setup.config last.list steps outs
 
--- an answer whose place a shard has passed is filed there, until it is taken
+-- Once a shard has passed the place of an answer, the answer is filed there until it is taken.
 abbrev pub AnswersAreFiled : Type 0
 AnswersAreFiled = (setup : Setup) (list : List Listed) (taken : List ℕ) (n place number : ℕ) (a : PlacedAnswer) → 0 < setup.config.limits.batch →
     option_map (λ (j : Judged). j.slot) (slice_get (registry setup.config list).judged place) ≡ Some (Waiting number) →
     answer setup.config list place ≡ Some a → a.place < n → is_taken taken place ≡ false →
     option_map answer_of (find (λ (f : Filed). f.connect == place) (shard_at setup list taken (setup.placing number setup.shards) n).filed) ≡ Some a
 
--- A taking gives the answer to a connect that the connect's shard has come past and that nobody took, whatever the want of memory.
+-- A taking yields a filed answer that nobody has taken, even if no memory is left.
 abbrev pub AnswersCanBeTaken : Type 0
 AnswersCanBeTaken = (setup : Setup) (w : WorldState) (t : Ticket) (number : ℕ) (a : PlacedAnswer) (out : StepOut) → 0 < setup.config.limits.batch →
     option_map (λ (j : Judged). j.slot) (slice_get (registry setup.config w.list).judged t.place) ≡ Some (Waiting number) →
@@ -71,37 +70,37 @@ AnswersCanBeTaken = (setup : Setup) (w : WorldState) (t : Ticket) (number : ℕ)
     answer setup.config w.list t.place ≡ Some a → a.place < slice_index w.applied t.shard → is_taken w.taken t.place ≡ false →
     IsOutput setup w (Take t) out → out ≡ Taken (Some (given_of a))
 
--- ---- none twice
+-- ---- No answer twice
 
--- the place of the answer that a step took, if it took one
+-- The place of the answer that an output has, if any.
 abbrev pub taken_as : ℕ → StepOut → List ℕ
 taken_as place (Taken (Some a)) = place ∷ []
 taken_as place _ = []
 
--- only a taking takes one
+-- The place of the answer that a step took, if any.
 abbrev pub taken_by : Step → StepOut → List ℕ
 taken_by (Take t) out = taken_as t.place out
 taken_by _ out = []
 
--- the places of the answers that were taken, in order
+-- The places of the taken answers, in order.
 abbrev pub taken_places : List Step → List StepOut → List ℕ
 taken_places [] outs = []
 taken_places (step ∷ steps) [] = []
 taken_places (step ∷ steps) (out ∷ outs) = taken_by step out ++ taken_places steps outs
 
--- each of the places stands neither among those before it nor among the first ones
+-- No place occurs twice or is in `seen`.
 abbrev pub EachNew : List ℕ → List ℕ → Type 0
 EachNew seen [] = ⊤
 EachNew seen (p ∷ ps) = (is_taken seen p ≡ false) × EachNew (seen ++ p ∷ []) ps
 
--- whatever the steps and wherever they begin, no answer is taken twice, nor one that was taken before
+-- No answer is taken twice, nor one that was taken before the schedule.
 abbrev pub NoneTakenTwice : Type 0
 NoneTakenTwice = (setup : Setup) (first : WorldState) (steps : List Step) (outs : List StepOut) (last : WorldState) → Runs setup first steps outs last →
     EachNew first.taken (taken_places steps outs)
 
--- ---- one schedule behind another
+-- ---- Consecutive schedules
 
--- a schedule may go on where another ended, and the two are one
+-- A schedule that begins where another ended forms one schedule with it.
 abbrev pub SchedulesCompose : Type 0
 SchedulesCompose = (setup : Setup) (first middle last : WorldState) (steps more : List Step) (outs given : List StepOut) →
     Runs setup first steps outs middle → Runs setup middle more given last → Runs setup first (steps ++ more) (outs ++ given) last

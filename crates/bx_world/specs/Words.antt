@@ -1,4 +1,4 @@
--- The words of this crate's definitions, for those who import several.
+-- Names of this crate's definitions, for files that import several.
 pub use Rattle.bx_world.specs.Admissions.{Admitting, IsAdmission, entries_kept}
 pub use Rattle.bx_world.specs.Backlogs.{kept_in}
 pub use Rattle.bx_world.specs.Headline.{AsksAgain, BatchesRepeat, EachReplied, EachSlot, Gave, GaveIn, GivenAgain, GivenLater, IsAdmitted, IsSlot, IsTicket, NoneGivenAgain, Replied, RepliedBy, RepliesAreAnswers, asked_by, slot_at}

@@ -1,4 +1,4 @@
--- The world of shards, step by step: admission, application and taking.
+-- A world of shards, step by step: admission, application and taking.
 use Rattle.std.specs.Prelude.{if◌then◌else◌, ℕ, find, ◌+◌, ◌==◌, ◌||◌, ◌&&◌, ◌≡◌, ◌⊎◌, not, Bool, true, false, List, [], ◌∷◌, ◌++◌, length, replicate, nat_lt, slice_get, slice_index, slice_set, Option, Some, None, option_map}
 use Rattle.bx_entry.specs.Words.{Listed, ReadInput, added_by, refusal_of, read_input, entries, Filed, PlacedAnswer, answer_of}
 use Rattle.bx_entry.specs.declared.{entry.Entry.Entry, entry.Ticket.Ticket, input.Refusal.Refusal}
@@ -8,71 +8,73 @@ use Rattle.bx_world.specs.declared.step.{Step.Step, StepOut.StepOut}
 use Rattle.bx_world.specs.declared.step.Step.TheVariants.{Admit, Apply, Take}
 use Rattle.bx_world.specs.declared.step.StepOut.TheVariants.{Admitted, NotAdmitted, Applied, Level, Taken, OutOfMemory}
 
--- ---- the world
+-- ---- The world
 
--- the list, how many entries each shard has applied, and the places of the connects whose answers were taken
+-- The list, how many entries each shard has applied, and the places of the taken answers.
 pub record WorldState : Type 0 where
   pub list : List Listed
   pub applied : List ℕ
   pub taken : List ℕ
 
--- an empty list, which every shard has applied
+-- A world with an empty list.
 abbrev pub new_world : Setup → WorldState
 new_world setup = record { list = []; applied = replicate setup.shards 0; taken = [] }
 
--- ---- what a step gives
+-- ---- Outputs
 
--- whether the shard has nothing to apply, or is no shard
+-- Whether a shard has nothing to apply, or does not exist.
 abbrev pub is_level : WorldState → ℕ → Bool
 is_level w shard = not (nat_lt shard (length w.applied)) || (slice_index w.applied shard == length w.list)
 
--- the answer that the ticket's shard has filed under it and that nobody took
+-- The answer that the ticket's shard has filed for it and that nobody has taken, if any.
 abbrev pub filed_under : Setup → WorldState → Ticket → Option PlacedAnswer
 filed_under setup w t =
     if nat_lt t.shard (length w.applied)
     then option_map answer_of (find (λ (f : Filed). f.connect == t.place) (shard_at setup w.list w.taken t.shard (slice_index w.applied t.shard)).filed)
     else None
 
--- an admission with its refusal, or without one
+-- The output of an admission, which may be refused.
 abbrev pub output_admit : Setup → WorldState → ReadInput → Option Refusal → StepOut
 output_admit setup w input None = Admitted (length w.list) (admitted_slots setup w.list (added_by input))
 output_admit setup w input (Some refusal) = NotAdmitted refusal
 
--- what a step gives where memory is there
+-- The output of a step if there is enough memory.
 abbrev pub output : Setup → WorldState → Step → StepOut
 output setup w (Admit input) = output_admit setup w (read_input input) (refusal_of (length w.list) (read_input input))
 output setup w (Apply shard) = if is_level w shard then Level else Applied
 output setup w (Take ticket) = Taken (option_map given_of (filed_under setup w ticket))
 
--- ---- one step after another
+-- ---- Steps
 
--- the world after a step that gave this
+-- The world after a step with this output.
 abbrev pub after : WorldState → Step → StepOut → WorldState
 after w (Admit input) (Admitted first slots) = record w { list = w.list ++ added_by (read_input input) }
 after w (Apply shard) Applied = record w { applied = slice_set w.applied shard (slice_index w.applied shard + 1) }
 after w (Take ticket) (Taken (Some answer)) = record w { taken = w.taken ++ ticket.place ∷ [] }
 after w step out = w
 
--- the entry that the shard applies next
+-- The entry that a shard applies next, if any.
 abbrev pub next_entry : Setup → WorldState → ℕ → Option Entry
 next_entry setup w shard = slice_get (entries setup.config w.list) (slice_index w.applied shard)
 
--- whether applying it may take memory; an unsubscription that is no rider, a disconnect, a refused message and a tick take none
+-- Whether applying an entry may allocate. An unsubscription that is no rider, a disconnect, a
+-- refused message and a tick do not.
 abbrev pub may_take_memory : Option Entry → Bool
 may_take_memory None = false
 may_take_memory (Some e) = not (takes_no_memory e)
 
--- want of memory may refuse an admission, and an application of an entry that may take some, and then changes nothing
+-- Whether memory may run out for a step. It may for admissions and for entries that may allocate;
+-- nothing changes then.
 abbrev pub may_refuse : Setup → WorldState → Step → Bool
 may_refuse setup w (Admit input) = true
 may_refuse setup w (Apply shard) = not (is_level w shard) && may_take_memory (next_entry setup w shard)
 may_refuse setup w (Take ticket) = false
 
--- what a step may give
+-- An output that the step may give.
 abbrev pub IsOutput : Setup → WorldState → Step → StepOut → Type 0
 IsOutput setup w step out = (out ≡ output setup w step) ⊎ ((may_refuse setup w step ≡ true) × (out ≡ OutOfMemory))
 
--- the outputs of a whole schedule, one for each step, and the world after it
+-- The schedule may give these outputs, one for each step, and ends in `last`.
 abbrev pub Runs : Setup → WorldState → List Step → List StepOut → WorldState → Type 0
 Runs setup w [] [] last = last ≡ w
 Runs setup w (step ∷ steps) (out ∷ outs) last = IsOutput setup w step out × Runs setup (after w step out) steps outs last

@@ -1,4 +1,4 @@
-//! The admission side of the world: who is live, and the list.
+//! The admission side of a world: the live sessions, and the list.
 ghost use Rattle.std.specs.Prelude.{ℕ, ◌≡◌, ◌≤◌, [], length, slice_get, option_map, max, IfErr, IfOk, IfSome, Err, ◌++◌};
 ghost use Rattle.bx_registry.specs.Standings.{LeadsTo};
 ghost use Rattle.bx_advice.specs.Limits.{greatest_length};
@@ -21,7 +21,10 @@ use std::alloc::{AllocError, Global};
 use std::marker::Model;
 use std::thread::Threads;
 
-/// Who is live, and the entries that some shard has not applied yet. Contracts see the list that they come of.
+/// The live sessions, and the entries that some shard has yet to apply.
+///
+/// Model: the configuration, the number of shards, the whole list, and the place from which entries
+/// are kept.
 #[derive(Drop)]
 pub(crate) struct Intake {
     registry: Registry,
@@ -46,7 +49,11 @@ impl Model for Intake {
 }
 
 impl Intake {
-    /// An empty list.
+    /// Creates an intake with an empty list.
+    ///
+    /// # Errors
+    ///
+    /// `AllocError` if memory runs out.
     pub(crate) fn new(alloc: Global, config: Config) -> Result<Intake, AllocError>
         ensures { IfOk result (λ a. a ≡ record { config = config; shards = config.shards; list = []; first = 0 }) }
     {
@@ -56,7 +63,11 @@ impl Intake {
         })
     }
 
-    /// Takes the messages of a request into the list.
+    /// Appends a request's messages to the list.
+    ///
+    /// # Errors
+    ///
+    /// As [`World::admit`](crate::World::admit).
     pub(crate) fn post<P: Placing>(
         &mut self,
         alloc: Global,
@@ -72,7 +83,11 @@ impl Intake {
         take_in(&mut self.registry, &mut self.backlog, plan)
     }
 
-    /// Takes a tick into the list.
+    /// Appends a tick to the list.
+    ///
+    /// # Errors
+    ///
+    /// As [`World::admit_tick`](crate::World::admit_tick).
     pub(crate) fn tick(&mut self, alloc: Global, moment: u64) -> Result<Admitted, AdmitFault>
         ensures admission { (placing : ℕ → ℕ → ℕ) → IsAdmission placing self.old (read_input (Tick moment)) result self.new }
         ensures refused { IfSome (refusal_of (length self.old.list) (read_input (Tick moment))) (λ refusal. result ≡ Err (Refused refusal)) }
@@ -81,21 +96,23 @@ impl Intake {
         take_in(&mut self.registry, &mut self.backlog, plan)
     }
 
-    /// How long the list is.
+    /// Returns the length of the list.
     pub(crate) fn entries(&self) -> u64
         ensures { result ≡ length self.now.list }
     {
         self.registry.entries()
     }
 
-    /// How many sessions are live.
+    /// Returns how many sessions are live.
     pub(crate) fn sessions(&self) -> usize
         ensures { result ≡ count_live (registry self.now.config self.now.list).sessions }
     {
         self.registry.sessions()
     }
 
-    /// The entry at a place from which on entries are kept; none at the end of the list.
+    /// Returns the entry at `place`, or `None` past the end of the list.
+    ///
+    /// `place` must not be before [`first`](Self::first).
     pub(crate) fn entry(&self, place: u64) -> Option<&Entry>
         requires { self.now.first ≤ place }
         ensures { option_map (λ e. e.now) result ≡ slice_get (entries self.now.config self.now.list) place }
@@ -103,14 +120,14 @@ impl Intake {
         self.backlog.get(place)
     }
 
-    /// From which place on entries are kept.
+    /// Returns the place from which entries are kept.
     pub(crate) fn first(&self) -> u64
         ensures { result ≡ self.now.first }
     {
         self.backlog.first()
     }
 
-    /// Drops the entries below this place.
+    /// Drops the entries before `place`, which is at most the length of the list.
     pub(crate) fn forget(&mut self, place: u64)
         requires { place ≤ length self.old.list }
         ensures { self.new ≡ record self.old { first = max self.old.first place } }
@@ -118,7 +135,7 @@ impl Intake {
         self.backlog.forget(place);
     }
 
-    /// Places the sessions among so many shards from here on.
+    /// Sets the number of shards among which sessions are placed.
     pub(crate) fn reshard(&mut self, shards: ShardCount)
         ensures shards { self.new ≡ record self.old { shards = shards } }
         ensures in_range { (1 ≤ self.new.shards) × (self.new.shards ≤ 64) }
@@ -126,7 +143,8 @@ impl Intake {
         self.registry.reshard(shards);
     }
 
-    /// Has so many workers bring the shards up to the end of the list. Says how many stayed behind.
+    /// Advances every shard to the end of the list, with `workers` workers, and returns how many
+    /// lag.
     pub(crate) fn bring_up<R: Threads + Sync, G: Gate + Sync, P: Placing + Send + Sync>(
         &mut self,
         rt: &R,
@@ -146,7 +164,8 @@ impl Intake {
     }
 }
 
-// Takes what was planned at this very registry into its list, and the entries into the backlog.
+// Commits `plan`, made from this very registry, and appends its entries to the backlog. If memory
+// runs out, nothing changes.
 fn take_in(
     registry: &mut Registry,
     backlog: &mut Backlog,

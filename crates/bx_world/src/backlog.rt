@@ -1,4 +1,4 @@
-//! The entries that some shard has not applied yet.
+//! The entries that some shard has yet to apply.
 ghost use Rattle.std.specs.Prelude.{◌≡◌, ◌≤◌, ◌+◌, ◌++◌, [], ◌∷◌, length, max, slice_get, option_map, OnOk};
 ghost use Rattle.bx_advice.specs.Limits.{greatest_length};
 ghost use Rattle.bx_workers.specs.Upward.{AreConsecutive, AreWithin, BroughtUp, count_behind, end_of};
@@ -14,12 +14,14 @@ use std::collections::VecDeque;
 use std::marker::Model;
 use std::thread::Threads;
 
-/// The entries of the list from some place on. Contracts see all entries of the list, from which place on they are
-/// kept, and for how many more there is room.
+/// The entries of the list from place `first` on.
+///
+/// Model: all entries of the list, the place from which they are kept, and how many more fit.
 #[derive(Drop)]
 pub(crate) struct Backlog {
     first: u64,
     kept: VecDeque<Entry>,
+    // Ghost: all entries of the list.
     all: History<Entry>,
 }
 
@@ -39,7 +41,7 @@ impl Model for Backlog {
 }
 
 impl Backlog {
-    /// No entry.
+    /// Creates an empty backlog.
     pub(crate) fn new(alloc: Global) -> Backlog
         ensures { result.contents ≡ empty }
     {
@@ -50,14 +52,16 @@ impl Backlog {
         }
     }
 
-    /// From which place on the entries are kept.
+    /// Returns the place from which entries are kept.
     pub(crate) fn first(&self) -> u64
         ensures { result ≡ self.now.contents.first }
     {
         self.first
     }
 
-    /// The entry at a place from which on entries are kept.
+    /// Returns the entry at `place`, or `None` past the end of the list.
+    ///
+    /// `place` must not be before [`first`](Self::first).
     pub(crate) fn get(&self, place: u64) -> Option<&Entry>
         requires { self.now.contents.first ≤ place }
         ensures { option_map (λ e. e.now) result ≡ slice_get self.now.contents.all place }
@@ -65,7 +69,11 @@ impl Backlog {
         self.kept.get((place - self.first) as usize)
     }
 
-    /// Makes room for so many more entries.
+    /// Reserves room for `count` more entries.
+    ///
+    /// # Errors
+    ///
+    /// `AllocError` if memory runs out; no entry has changed.
     pub(crate) fn reserve(&mut self, count: usize) -> Result<(), AllocError>
         ensures room { OnOk result (count ≤ self.new.spare) }
         ensures same { self.new.contents ≡ self.old.contents }
@@ -73,7 +81,7 @@ impl Backlog {
         self.kept.reserve(count)
     }
 
-    /// Adds an entry for which there is room.
+    /// Appends `entry`, for which there must be room.
     pub(crate) fn push(&mut self, entry: Entry)
         requires { 1 ≤ self.old.spare }
         ensures contents { self.new.contents ≡ record { all = self.old.contents.all ++ entry ∷ []; first = self.old.contents.first } }
@@ -83,7 +91,7 @@ impl Backlog {
         self.kept.push_back_reserved(entry);
     }
 
-    /// Adds entries for which there is room.
+    /// Appends `entries`, for which there must be room.
     pub(crate) fn append(&mut self, entries: Sequence<Entry>)
         requires { length entries ≤ self.old.spare }
         ensures { self.new.contents ≡ record { all = self.old.contents.all ++ entries; first = self.old.contents.first } }
@@ -93,7 +101,7 @@ impl Backlog {
         }
     }
 
-    /// Drops the entries below this place.
+    /// Drops the entries before `place`, which is at most the length of the list.
     pub(crate) fn forget(&mut self, place: u64)
         requires { place ≤ length self.old.contents.all }
         ensures { self.new.contents ≡ record { all = self.old.contents.all; first = max self.old.contents.first place } }
@@ -104,7 +112,8 @@ impl Backlog {
         }
     }
 
-    /// Has so many workers bring the shards up to the end of the entries that are kept. Says how many stayed behind.
+    /// Advances every shard to the end of the list, with `workers` workers, and returns how many
+    /// lag.
     pub(crate) fn bring_up<R: Threads + Sync, G: Gate + Sync, P: Placing + Send + Sync>(
         &mut self,
         rt: &R,

@@ -1,4 +1,4 @@
-//! The core for one thread: one list of requests and ticks, and shards that apply it in any interleaving.
+//! The server for one thread: a list of requests and ticks that shards apply in any interleaving.
 #![tactic(auto)]
 
 mod admission;

@@ -1,56 +1,58 @@
-//! The steps of the world, and what they give.
+//! The steps of a world, and their outputs.
 ghost use Rattle.std.specs.Prelude.{◌≡◌};
 ghost use Rattle.bx_world.specs.Outputs.{admission, application};
 
 use bx_entry::{AdmitFault, Admitted, Input, Refusal, Slot, Ticket};
 use bx_message::{Answer, Sequence};
 
-/// A step of the world. Any list of steps is a schedule.
+/// A step of a [`World`](crate::World).
+///
+/// Any list of steps is a schedule.
 #[derive(Drop)]
 pub enum Step {
-    /// A request or a tick is taken into the list.
+    /// Appends a request or a tick to the list.
     Admit(Input),
-    /// The shard of this index applies its next entry.
+    /// Applies the next entry to the shard with this index.
     Apply(usize),
-    /// The answer that is filed under this ticket is taken.
+    /// Takes the answer filed under this ticket.
     Take(Ticket),
 }
 
-/// What a step gives.
+/// The output of a step.
 #[derive(Drop)]
 pub enum StepOut {
-    /// A request or a tick was admitted.
+    /// The request or tick was admitted.
     Admitted {
-        /// The place of its first message.
+        /// The place of its first entry.
         first: u64,
-        /// For each message in order how it is answered; none for a tick.
+        /// How each message is answered, in order; empty for a tick.
         slots: Sequence<Slot>,
     },
-    /// A request or a tick is refused. Nothing changed.
+    /// The request or tick was refused; nothing has changed.
     NotAdmitted(Refusal),
     /// The shard has applied its next entry.
     Applied,
-    /// There is no shard of this index, or it has applied the whole list.
+    /// The shard does not exist, or has applied the whole list.
     Level,
-    /// The answer, where one was filed.
+    /// The answer, if one was filed.
     Taken(Option<Answer>),
-    /// Memory was refused. Nothing changed.
+    /// Memory ran out; nothing has changed.
     OutOfMemory,
 }
 
-/// What came of applying a shard's next entry.
+/// The result of applying a shard's next entry.
 #[derive(Clone, Copy, Debug, PartialEq, Eq)]
 pub enum Applied {
     /// The shard has applied it.
     Done,
-    /// There is no such shard, or it has applied the whole list.
+    /// The shard does not exist, or has applied the whole list.
     Level,
-    /// Memory was refused. The shard is as before.
+    /// Memory ran out; the shard is unchanged.
     Memory,
 }
 
 impl StepOut {
-    /// What came of an admission.
+    /// Converts the result of an admission.
     pub(crate) fn of_admission(admitted: Result<Admitted, AdmitFault>) -> StepOut
         ensures { result ≡ admission admitted }
     {
@@ -61,7 +63,7 @@ impl StepOut {
         }
     }
 
-    /// What came of an application.
+    /// Converts the result of applying an entry.
     pub(crate) fn of_application(applied: Applied) -> StepOut
         ensures { result ≡ application applied }
     {

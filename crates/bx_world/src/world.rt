@@ -1,4 +1,4 @@
-//! The whole core for one thread: the admission side and the shards.
+//! The server for one thread: admission and the shards.
 ghost use Rattle.std.specs.Prelude.{◌≡◌, ◌<◌, ◌≤◌, length, true};
 ghost use Rattle.std.specs.Arc.{arc_value};
 ghost use Rattle.bx_advice.specs.Limits.{greatest_length};
@@ -20,16 +20,19 @@ use std::alloc::{AllocError, Global};
 use std::sync::Arc;
 use std::thread::Threads;
 
-/// The server for one thread. Requests and ticks are taken into one list; each shard applies the list's entries one
-/// after another, at its own pace; and the answers that shards filed are taken.
+/// The server for one thread.
 ///
-/// Contracts see the list so far, how many of its entries each shard has applied, and which answers were taken. The
-/// program keeps the entries from the slowest shard's place on alone.
+/// Requests and ticks are appended to one list. Each shard applies the list's entries in order, at
+/// its own pace, and files answers, which can then be taken. Only entries that some shard has yet
+/// to apply are kept.
+///
+/// Model: the list, how many entries each shard has applied, and which answers were taken.
 #[derive(Drop)]
 pub struct World<P: Placing> {
     placing: Arc<P>,
     admission: Intake,
     shards: Vec<Shard<P>>,
+    // Ghost: the places of the connects and riders whose answers were taken.
     taken: History<u64>,
     ghost bounded: { length admission.list ≤ greatest_length },
     ghost some_shard: { 1 ≤ admission.shards },
@@ -55,7 +58,11 @@ impl<P: Placing> World<P> {
     ghost use Rattle.bx_world.specs.Seen.{RanUpTo, Steps, setup_of, world_of};
     ghost use Rattle.bx_world.specs.Worlds.{filed_under, new_world};
 
-    /// An empty list, no session, and the configuration's number of shards. An error means that memory was refused.
+    /// Creates a world with an empty list and `config.shards` shards.
+    ///
+    /// # Errors
+    ///
+    /// `AllocError` if memory runs out.
     pub fn new(alloc: Global, config: Config, placing: Arc<P>) -> Result<World<P>, AllocError>
     where
         P: Drop,
@@ -75,17 +82,33 @@ impl<P: Placing> World<P> {
         })
     }
 
-    /// Takes the messages of a request into the list, in order. It is refused, in this order, where its documents
-    /// cannot be read as messages, its moment, in milliseconds, is above the greatest that is taken, or the list would
-    /// become too long.
+    /// Appends a request to the list, and returns how its messages are answered.
+    ///
+    /// # Errors
+    ///
+    /// The first of these that applies; nothing has changed:
+    ///
+    /// - `Refused(Body(_))`: the documents are not messages, or the read-only listener forbids
+    ///   them.
+    /// - `Refused(BadMoment)`: the moment is too large.
+    /// - `Refused(Ended)`: the list would become too long.
+    /// - `Memory`: memory ran out, at any step.
     pub fn admit(&mut self, alloc: Global, arrival: &Arrival) -> Result<Admitted, AdmitFault>
         ensures { Steps self.old (Admit (Post arrival.now)) (admission result) self.new }
     {
         self.admission.post(alloc, &*self.placing, arrival)
     }
 
-    /// Takes a tick of the clock into the list; its moment is in milliseconds. It is refused, in this order, where the
-    /// moment is above the greatest that is taken or the list would become too long; it takes no memory then.
+    /// Appends a tick to the list.
+    ///
+    /// `moment`: milliseconds since the server started.
+    ///
+    /// # Errors
+    ///
+    /// The first of these that applies; nothing has changed:
+    ///
+    /// - `Refused(BadMoment)`, `Refused(Ended)`: as for [`admit`](Self::admit).
+    /// - `Memory`: memory ran out.
     pub fn admit_tick(&mut self, alloc: Global, moment: u64) -> Result<Admitted, AdmitFault>
         ensures step { Steps self.old (Admit (Tick moment)) (admission result) self.new }
         ensures refused { IfSome (refusal_of (length (world_of self.old).list) (read_input (Tick moment))) (λ refusal. result ≡ Err (Refused refusal)) }
@@ -93,8 +116,10 @@ impl<P: Placing> World<P> {
         self.admission.tick(alloc, moment)
     }
 
-    /// Applies the next entry of the list to the shard of this index, counted from 0. An unsubscription, a disconnect, a
-    /// refused message and a tick are never refused for memory.
+    /// Applies the next entry of the list to the shard with index `shard`.
+    ///
+    /// Memory cannot run out for a disconnect, a refused message, a tick, or an unsubscription that
+    /// is not a rider.
     pub fn apply(&mut self, alloc: Global, shard: usize) -> Applied
         ensures { Steps self.old (Apply shard) (application result) self.new }
     {
@@ -107,8 +132,10 @@ impl<P: Placing> World<P> {
         applied
     }
 
-    /// The answer that is filed under a ticket, which is taken with that: it is given once. A ticket from before the sessions
-    /// were redistributed finds nothing where its session went to another shard, though its answer may be filed there.
+    /// Takes the answer filed under `ticket`, if any.
+    ///
+    /// Each answer is returned once. After [`reshard`](Self::reshard), an older ticket finds no
+    /// answer if its session is now in another shard, even if the answer is filed there.
     pub fn take(&mut self, ticket: Ticket) -> Option<Answer>
         ensures { Steps self.old (Take ticket) (Taken result) self.new }
     {
@@ -117,8 +144,10 @@ impl<P: Placing> World<P> {
         Some(answer)
     }
 
-    /// Has so many workers bring every shard up to the end of the list. Says how many shards stayed behind, each for want
-    /// of memory.
+    /// Advances every shard to the end of the list, with `workers` workers, and returns how many
+    /// lag.
+    ///
+    /// A shard lags only if memory ran out.
     pub fn bring_up<R: Threads + Sync, G: Gate + Sync>(
         &mut self,
         rt: &R,
@@ -149,21 +178,21 @@ impl<P: Placing> World<P> {
         behind
     }
 
-    /// How many shards there are.
+    /// Returns the number of shards.
     pub fn shards(&self) -> usize
         ensures { result ≡ (setup_of self.now).shards }
     {
         self.shards.len()
     }
 
-    /// How long the list is.
+    /// Returns the length of the list.
     pub fn entries(&self) -> u64
         ensures { result ≡ length (world_of self.now).list }
     {
         self.admission.entries()
     }
 
-    /// How many entries of the list the shard that has applied the fewest lacks.
+    /// Returns how many entries the slowest shard has yet to apply.
     pub fn lacking(&self) -> u64
         ensures most { (k n : ℕ) → slice_get (world_of self.now).applied k ≡ Some n → length (world_of self.now).list ≤ n + result }
         ensures in_list { result ≤ length (world_of self.now).list }
@@ -174,7 +203,7 @@ impl<P: Placing> World<P> {
             .saturating_sub(self.admission.first())
     }
 
-    /// The entry at this place, which is kept until each shard has applied it; none at the end of the list.
+    /// Returns the entry at `place`, if it exists and some shard has yet to apply it.
     pub fn entry(&self, place: u64) -> Option<&Entry>
         ensures some { IfSome result (λ e. slice_get (entries (setup_of self.now).config (world_of self.now).list) place ≡ Some e.now) }
         ensures none { IfNone result ((length (world_of self.now).list ≤ place)
@@ -186,15 +215,16 @@ impl<P: Placing> World<P> {
         self.admission.entry(place)
     }
 
-    /// How many sessions are live.
+    /// Returns how many sessions are live.
     pub fn sessions(&self) -> usize
         ensures { result ≡ count_live (registry (setup_of self.now).config (world_of self.now).list).sessions }
     {
         self.admission.sessions()
     }
 
-    /// Some answer that the shard of this index has filed, which is taken with that; none where it has filed none, or
-    /// there is no such shard.
+    /// Takes any one answer that the shard with index `shard` has filed.
+    ///
+    /// Returns `None` if it has filed none, or does not exist.
     pub fn take_any(&mut self, shard: usize) -> Option<Filing>
         ensures some { IfSome result (λ f. Steps self.old (Take (record { place = f.connect; shard = shard })) (Taken (Some f.answer)) self.new) }
         ensures none { IfNone result (((place : ℕ) → filed_under (setup_of self.old) (world_of self.old) (record { place = place; shard = shard }) ≡ None)
@@ -205,9 +235,14 @@ impl<P: Placing> World<P> {
         Some(filing)
     }
 
-    /// Redistributes the sessions among so many shards, by this placing. Every shard has applied the whole list. The list and
-    /// what was taken stay, and what was filed goes with its session: tickets of old are not good any more. Where memory is
-    /// refused, the world comes back as it was.
+    /// Redistributes the sessions among `shards` shards, by `placing`.
+    ///
+    /// Every shard must have applied the whole list. The list stays, and so does what was taken.
+    /// Filed answers move with their sessions, so an older ticket may name the wrong shard.
+    ///
+    /// # Errors
+    ///
+    /// The unchanged world and an `AllocError` if memory runs out.
     pub fn reshard(
         self,
         alloc: Global,
@@ -253,8 +288,12 @@ impl<P: Placing> World<P> {
         }
     }
 
-    /// Makes these steps one after another, and adds what each gives behind the earlier outputs. Where there is no memory
-    /// for the output of a step, its index is the error; the steps before it are made then, and their outputs are added.
+    /// Makes `steps` in order, and appends the output of each to `outs`.
+    ///
+    /// # Errors
+    ///
+    /// The index of the first step that was not made, if there is no memory for its output. The
+    /// earlier steps were made, and their outputs appended.
     pub fn run_schedule(
         &mut self,
         alloc: Global,
@@ -273,7 +312,7 @@ impl<P: Placing> World<P> {
         Ok(())
     }
 
-    /// Makes a step.
+    /// Makes one step and returns its output.
     pub fn step(&mut self, alloc: Global, step: &Step) -> StepOut
         ensures { Steps self.old step.now result self.new }
     {
@@ -290,7 +329,8 @@ impl<P: Placing> World<P> {
     }
 }
 
-// Applies the next entry of the list to a shard, where the entries from its place on are kept. Nobody waits for its answers.
+// Applies the next entry to `shard`. The entries from its place on must be kept. No task waits for
+// its answers.
 fn apply_next<P: Placing>(alloc: Global, shard: &mut Shard<P>, admission: &Intake) -> Applied
     requires kept { admission.now.first ≤ shard.old.place }
     requires end { length admission.now.list ≤ greatest_length }
@@ -306,8 +346,8 @@ fn apply_next<P: Placing>(alloc: Global, shard: &mut Shard<P>, admission: &Intak
     }
 }
 
-// Drops the entries that each of these shards has applied. One of them stood at this place before; where that is behind
-// the first entry that is kept, another one keeps it still.
+// Drops the entries that all of `shards` have applied. `place` is where a shard was before it
+// advanced. If that is after the first kept entry, another shard still needs that entry.
 fn forget_applied<P: Placing>(admission: &mut Intake, shards: &[Shard<P>], place: u64)
     requires first { StandFrom admission.old.first shards.now }
     requires end { StandWithin (length admission.old.list) shards.now }
@@ -325,7 +365,7 @@ fn forget_applied<P: Placing>(admission: &mut Intake, shards: &[Shard<P>], place
     }
 }
 
-// The least of the places of these shards and of another place.
+// Returns the lowest of `other` and the places of `shards`.
 fn least_place<P: Placing>(shards: &[Shard<P>], other: u64) -> u64
     ensures other { result ≤ other }
     ensures shards { StandFrom result shards.now }

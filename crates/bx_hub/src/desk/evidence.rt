@@ -1,5 +1,6 @@
-//! What calls under a shard's lock say once it is let go. None of these values is made but by a look at the shard that
-//! it speaks of, or at another one that stood under its lock. What contracts alone see of them takes no bytes.
+//! Evidence of what calls did to a shard under its lock.
+//!
+//! It describes the shard, or reports that the lock guards another one. Ghost parts take no memory.
 ghost use Rattle.std.specs.Prelude.{◌≡◌, ◌≢◌, ◌≤◌, ◌<◌, length, drop, is_some, Some, None, IfSome, IfNone};
 ghost use mathlib.Core.List.{IsPrefix};
 ghost use Rattle.bx_hub.specs.Faults.{IsAt, IsStopped, IsStoppedIn};
@@ -17,7 +18,9 @@ use futures::task::Waker;
 use std::marker::{Model, PhantomData};
 use std::snapshot::Snapshot;
 
-/// Where a shard stands, and for contracts alone what its reader has seen. From then on it stands there or further.
+/// Evidence of a shard's position.
+///
+/// Ghost: its index, and what its reader has seen.
 #[derive(Drop)]
 pub(crate) struct Stood<J: Naming> {
     index: Snapshot<usize>,
@@ -26,7 +29,7 @@ pub(crate) struct Stood<J: Naming> {
 }
 
 impl<J: Naming> Stood<J> {
-    /// Where this shard stands.
+    /// Creates evidence of the position of `desk`.
     pub(crate) fn of<P: Placing>(desk: &Desk<J, P>) -> Stood<J>
         ensures index { result.index.value ≡ desk.now.shard.index }
         ensures place { result.place ≡ desk.now.shard.place }
@@ -39,7 +42,7 @@ impl<J: Naming> Stood<J> {
         }
     }
 
-    /// How many entries it had applied.
+    /// Returns how many entries the shard had applied.
     pub(crate) fn place(&self) -> u64
         ensures { result ≡ self.now.place }
     {
@@ -47,8 +50,11 @@ impl<J: Naming> Stood<J> {
     }
 }
 
-/// What came of bringing one shard up to a note: it learnt the note, and stands at its end or stays below it, stopped
-/// by what is told; and which wakers it put into the caller's list.
+/// The result of advancing a shard to a note.
+///
+/// The shard has learned the note. It has reached the note's end, or `stays` is the fault that
+/// stopped it. With `Misplaced`, the shard was not found. Ghost: the wakers added to the caller's
+/// list.
 #[derive(Drop)]
 pub(crate) struct Brought<J: Naming> {
     index: Snapshot<usize>,
@@ -58,7 +64,7 @@ pub(crate) struct Brought<J: Naming> {
 }
 
 impl<J: Naming> Brought<J> {
-    /// How this shard stands to the note, and which wakers it put into the caller's list.
+    /// Creates the result for `desk`, which has learned `note`.
     pub(super) fn of<P: Placing>(
         desk: &Desk<J, P>,
         note: &Front<J>,
@@ -84,7 +90,7 @@ impl<J: Naming> Brought<J> {
         }
     }
 
-    /// No shard of this index was found: another one stood under its lock. No waker was put anywhere.
+    /// Creates the result for shard `index` if its lock guards another shard, `desk`.
     pub(crate) fn misplaced<P: Placing>(
         desk: &Desk<J, P>,
         index: &usize,
@@ -106,7 +112,7 @@ impl<J: Naming> Brought<J> {
         }
     }
 
-    /// What stopped it, where it stays below the note.
+    /// Returns the fault, if the shard stopped before the note's end or was not found.
     pub(crate) fn stays(&self) -> Option<HubFault>
         ensures { result ≡ self.now.stays }
     {
@@ -114,8 +120,10 @@ impl<J: Naming> Brought<J> {
     }
 }
 
-/// Why no answer is told of under this ticket: its shard has filed none, and the fault holds of it; or another was found
-/// in its place.
+/// Evidence of why there is no answer under a ticket.
+///
+/// The ticket's shard has filed no answer, and the fault stopped it. With `Misplaced`, the shard
+/// was not found.
 #[derive(Drop)]
 pub struct Stopped<J: Naming> {
     ticket: Snapshot<Ticket>,
@@ -128,7 +136,7 @@ impl<J: Naming> Stopped<J> {
     ghost use Rattle.bx_shard.specs.Seen.{state};
     ghost use Rattle.bx_shard.specs.States.{connect_in};
 
-    /// This shard is stopped by this.
+    /// Creates evidence that `fault` stopped `desk`, which has filed no answer.
     pub(super) fn of<P: Placing>(desk: &Desk<J, P>, ticket: &Ticket, fault: HubFault) -> Stopped<J>
         requires own { ticket.now.shard ≡ desk.now.shard.index }
         requires stopped { IsStopped fault desk.now.shard.index desk.now.reader }
@@ -145,7 +153,7 @@ impl<J: Naming> Stopped<J> {
         }
     }
 
-    /// No shard of the ticket's index was found: another one stood under its lock.
+    /// Creates evidence that the lock of the ticket's shard guards another shard, `desk`.
     pub(crate) fn misplaced<P: Placing>(desk: &Desk<J, P>, ticket: &Ticket) -> Stopped<J>
         requires { desk.now.shard.index ≢ ticket.now.shard }
         ensures { (result.fault ≡ faults.Misplaced desk.now.shard.index) × (result.ticket.value ≡ ticket.now) }
@@ -159,7 +167,7 @@ impl<J: Naming> Stopped<J> {
         }
     }
 
-    /// Why none is told of.
+    /// Returns why there is no answer.
     pub fn fault(&self) -> HubFault
         ensures { result ≡ self.now.fault }
     {
@@ -167,8 +175,10 @@ impl<J: Naming> Stopped<J> {
     }
 }
 
-/// What a shard said of this waker, which was brought to it under this ticket: it lies beside the connect, or there is
-/// an answer, or no connect is known, or the shard was shut.
+/// Evidence of the result of registering a waker under a ticket.
+///
+/// The waker is registered, an answer is filed, no connect is known, or the shard is closed. If the
+/// shard was not found, the ticket is unknown too.
 #[derive(Drop)]
 pub struct Watching<J: Naming> {
     ticket: Snapshot<Ticket>,
@@ -183,7 +193,7 @@ impl<J: Naming> Watching<J> {
     ghost use Rattle.bx_shard.specs.Seen.{state};
     ghost use Rattle.bx_shard.specs.States.{connect_in};
 
-    // This was said of this waker.
+    // Creates evidence that `said` is the result for `waker`.
     fn new(ticket: &Ticket, waker: Snapshot<Waker>, said: &Watch) -> Watching<J>
         ensures { (result.ticket.value ≡ ticket.now) × (result.waker.value ≡ waker.value)
             × (result.said.value ≡ said.now) }
@@ -196,7 +206,7 @@ impl<J: Naming> Watching<J> {
         }
     }
 
-    /// This shard said so of this waker.
+    /// Creates evidence that `desk` returned `said` for `waker`.
     pub(super) fn of<P: Placing>(
         desk: &Desk<J, P>,
         ticket: &Ticket,
@@ -213,7 +223,7 @@ impl<J: Naming> Watching<J> {
         Watching::new(ticket, waker, said)
     }
 
-    /// It was said that the shard was shut, where no answer was filed.
+    /// Returns evidence that the shard is closed and filed no answer, for the result `Shut`.
     pub fn stopped(&self, ticket: &Ticket) -> Stopped<J>
         requires ticket { self.now.ticket.value ≡ ticket.now }
         requires shut { IsShut self.now.said.value }
@@ -226,7 +236,7 @@ impl<J: Naming> Watching<J> {
         }
     }
 
-    /// No shard of the ticket's index was found: another one stood under its lock, to which the ticket is unknown.
+    /// Creates evidence that another shard, `desk`, was found, to which `ticket` is unknown.
     pub(crate) fn misplaced<P: Placing>(
         desk: &Desk<J, P>,
         ticket: &Ticket,
@@ -243,20 +253,22 @@ impl<J: Naming> Watching<J> {
     }
 }
 
-/// What can be done to a shard besides bringing it up, asking it and waiting at it.
+/// A change to a shard, other than by entries, polls and wakers.
 #[derive(Clone, Copy)]
 pub enum Change {
-    /// It applies nothing more until it is resumed.
+    /// The shard applies nothing until it is resumed.
     Pause,
-    /// A paused one goes on.
+    /// The shard continues after a pause.
     Resume,
-    /// It is shut for good.
+    /// The shard is closed permanently.
     Shut,
-    /// The answers that entries below this place filed, and that nobody took, are dropped.
+    /// Answers filed by entries before place `before` and never taken are dropped.
     Sweep { before: u64 },
 }
 
-/// That this was done to the shard of this index, and how many answers it dropped with that.
+/// Evidence that a change was applied to a shard, with the number of answers that it dropped.
+///
+/// If the shard was not found, nothing was changed.
 #[derive(Drop)]
 pub struct Changed<J: Naming> {
     shard: Snapshot<usize>,
@@ -269,7 +281,7 @@ impl<J: Naming> Changed<J> {
     ghost use Rattle.bx_hub.specs.Changes.{IsAfter};
     ghost use Rattle.bx_shard.specs.Seen.{state};
 
-    /// This was done to this shard, which dropped so many answers.
+    /// Creates evidence that `change` was applied to `desk`, which dropped `dropped` answers.
     pub(super) fn of<P: Placing>(desk: &Desk<J, P>, change: Change, dropped: usize) -> Changed<J>
         requires { IsAfter change desk.now.activity (state P.place_of desk.now.shard) }
         ensures shard { result.shard.value ≡ desk.now.shard.index }
@@ -283,7 +295,7 @@ impl<J: Naming> Changed<J> {
         }
     }
 
-    /// No shard of this index was found: another one stood under its lock, and nothing was done to it.
+    /// Creates evidence that another shard, `desk`, was found, which is unchanged.
     pub(crate) fn misplaced<P: Placing>(
         desk: &Desk<J, P>,
         index: &usize,
@@ -302,7 +314,7 @@ impl<J: Naming> Changed<J> {
         }
     }
 
-    /// How many answers were dropped with it.
+    /// Returns how many answers the change dropped.
     pub(crate) fn dropped(&self) -> usize
         ensures { result ≡ self.now.dropped }
     {
@@ -310,7 +322,9 @@ impl<J: Naming> Changed<J> {
     }
 }
 
-/// Which wakers a call under a shard's lock put into its caller's list, for contracts alone.
+/// Evidence of which wakers a call under a shard's lock added to its caller's list.
+///
+/// Model: these wakers, in order.
 #[derive(Drop)]
 pub(crate) struct Woken {
     put: History<Waker>,
@@ -326,7 +340,7 @@ impl Model for Woken {
 }
 
 impl Woken {
-    /// Those that came into the list since it was this one.
+    /// Returns the wakers added to `wakers` since it was `before`.
     pub(super) fn since(before: History<Waker>, wakers: &Wakers) -> Woken
         ensures { result ≡ drop (length before) wakers.now }
     {
@@ -335,21 +349,21 @@ impl Woken {
     }
 }
 
-/// The list, for contracts alone.
+/// Returns the ghost list of `wakers`.
 pub(super) fn listed(wakers: &Wakers) -> History<Waker>
     ensures { result ≡ wakers.now }
 {
     History::of::<&Wakers, All>(&wakers)
 }
 
-// All of a list of wakers.
+// Ghost: all wakers of a list.
 struct All;
 
 impl<'a> Lists<&'a Wakers, Waker> for All {
     ghost listed = { λ w. w.now };
 }
 
-// What a list has after the other one's length.
+// Ghost: the wakers of the second list after the length of the first.
 struct Further;
 
 impl<'a> Lists<(&'a History<Waker>, &'a Wakers), Waker> for Further {

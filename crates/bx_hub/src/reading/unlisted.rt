@@ -1,4 +1,4 @@
-//! Why nothing was listed.
+//! Why a request or a tick was not listed.
 ghost use Rattle.std.specs.Prelude.{◌≡◌, None, true, false};
 ghost use Rattle.bx_hub.specs.Faults.{of_admission};
 ghost use Rattle.bx_hub.specs.declared.fault.PostFault.TheVariants as faults;
@@ -12,9 +12,10 @@ use std::fmt;
 use std::snapshot::Snapshot;
 use std::sync::Wait;
 
-/// Why nothing was listed. None is made but by a look at admission under its lock, or where documents are read, which
-/// comes before that. For contracts alone it tells whether the hub was closed then and, where the window is full, a
-/// shard that stood below its second batch when it was looked at.
+/// Evidence of why a request or a tick was not listed.
+///
+/// It is created from the locked admission, or earlier, if reading the request fails. Ghost:
+/// whether the hub was closed and, with `Behind` or `Overrun`, a shard that lagged.
 #[derive(Drop)]
 pub struct Unlisted<J: Naming> {
     fault: PostFault,
@@ -27,8 +28,10 @@ pub struct Unlisted<J: Naming> {
 impl<J: Naming> Unlisted<J> {
     ghost use Rattle.bx_hub.specs.Lags.{IsLagging};
 
-    /// This admission refused it. Where that is closed, the fault says so, and else it does not; where its window is
-    /// full, this shard stood below the second batch.
+    /// Creates evidence that `admission` refused with `fault`.
+    ///
+    /// `fault` is `Closed` exactly if admission is closed. `lag`: with `Behind`, a shard that had
+    /// not applied the oldest batch; with `Overrun`, the overrun shard.
     pub(crate) fn of<R: Wait + Drop>(
         admission: &Admission<J, R>,
         fault: PostFault,
@@ -46,7 +49,7 @@ impl<J: Naming> Unlisted<J> {
         }
     }
 
-    /// The messages of a request were not read.
+    /// Creates evidence that reading a request failed with `fault`.
     pub(super) fn unread(fault: AdmitFault) -> Unlisted<J>
         ensures { (result.fault ≡ of_admission fault) × (result.lag ≡ None) × (result.closed.value ≡ false) }
     {
@@ -57,7 +60,7 @@ impl<J: Naming> Unlisted<J> {
         }
     }
 
-    /// Why.
+    /// Returns the reason.
     pub fn fault(&self) -> PostFault
         ensures { result ≡ self.now.fault }
     {

@@ -1,3 +1,4 @@
+//! Tests of the lines of a record.
 use crate::{answer_text, config_text, request_text, tick_text};
 use bx_advice::{BODY_LIMIT, Config, Options};
 use bx_cut::Bodies;
@@ -5,7 +6,7 @@ use bx_entry::{Arrival, Door};
 use std::alloc::Global;
 use std::test::Fail;
 
-// The lines of a request with this body, in the moment 5 and with the nonce 2748.
+// Formats a request at moment 5 with nonce 2748.
 fn text_of(alloc: Global, bodies: Bodies) -> Result<Option<Vec<u8>>, Fail> {
     let arrival = Arrival {
         moment: 5,
@@ -21,7 +22,7 @@ fn whole(alloc: Global, body: &str) -> Result<Bodies, Fail> {
     Ok(Bodies::Whole(Vec::from_slice(alloc, body.as_bytes())?))
 }
 
-// Whether a request with this body has just these lines.
+// Returns `true` if the request has exactly `lines`.
 fn has_lines(alloc: Global, body: &str, lines: &str) -> Result<bool, Fail> {
     match text_of(alloc, whole(alloc, body)?)? {
         Some(text) => Ok(text.as_slice() == lines.as_bytes()),
@@ -127,7 +128,7 @@ fn answers_have_their_place_and_digest(rt: HostRuntime) -> Result<(), Fail> {
     Ok(())
 }
 
-// Whether this configuration has this line.
+// Returns `true` if the configuration has exactly `line`.
 fn has_line(alloc: Global, config: Option<Config>, line: &str) -> Result<bool, Fail> {
     match config {
         Some(config) => Ok(config_text(alloc, &config)?.as_slice() == line.as_bytes()),

@@ -1,4 +1,4 @@
-//! A file that fails at its k-th write.
+//! Tests of the writer, with a file that fails at the k-th write.
 ghost use Rattle.std.specs.Prelude.{◌≡◌, ◌==◌, [], codes, if◌then◌else◌};
 
 use crate::writer::SOON;
@@ -8,7 +8,7 @@ use std::io::Write;
 use std::sync::atomic::{AtomicBool, Ordering};
 use std::test::Fail;
 
-// How much of three lines there is: none, two, or all.
+// A text of three lines, up to 0, 2 or 3 of them.
 #[derive(Clone, Copy, Drop)]
 struct Stage {
     count: u8,
@@ -28,7 +28,7 @@ impl Extent for Stage {
     }
 }
 
-// Gives two lines and then one with a fault, and a note at each turn. So many bytes wait as are said.
+// A source of two lines, then one with a fault, and a note each time. `waiting` bytes wait.
 #[derive(Drop)]
 struct Lines<'a> {
     turn: usize,
@@ -77,7 +77,7 @@ impl<'a> Source for Lines<'a> {
     }
 }
 
-// Takes one byte a write, and so many writes.
+// A file that accepts one byte per write, `left` times.
 #[derive(Drop)]
 struct Failing {
     left: usize,
@@ -102,7 +102,7 @@ impl Write for Failing {
     }
 }
 
-// How it ended.
+// How writing ended.
 #[derive(Clone, Copy, Debug, PartialEq, Eq)]
 enum Ending {
     Told,
@@ -175,7 +175,7 @@ fn ends_as_it_is_told(rt: HostRuntime) -> Result<(), Fail> {
     Ok(())
 }
 
-// However few bytes wait, all is written at the end of a turn.
+// Bytes are written even if few wait.
 #[test]
 fn few_bytes_are_written_too(rt: HostRuntime) -> Result<(), Fail> {
     let (stopped, over) = (AtomicBool::new(false), AtomicBool::new(false));

@@ -1,4 +1,4 @@
-//! Two callers, of whom one learns what the other has seen.
+//! Two callers of a hub; one learns what the other has seen.
 use crate::hubs::Served;
 use crate::hubs::said::{Said, connect, poll, post, tick};
 use crate::requests::{HANDSHAKE, PUBLISH};
@@ -9,7 +9,7 @@ use bx_window::Naming;
 use std::alloc::Global;
 use std::sync::Wait;
 
-/// The one connects and the other publishes.
+/// Adds the lines of a connect, of another session's publish and of the answer.
 pub fn run<J: Naming, H: Wait + Drop, R: Wait>(
     rt: &R,
     alloc: Global,
@@ -21,7 +21,7 @@ pub fn run<J: Naming, H: Wait + Drop, R: Wait>(
     said.add_answer(alloc, answer)
 }
 
-// The one session connects with this pass, and the other publishes with its own: how the connect is answered.
+// Connects with `reader`, publishes with another pass, and returns the answer to the connect.
 fn answer<J: Naming, H: Wait + Drop, R: Wait>(
     rt: &R,
     alloc: Global,
@@ -39,7 +39,7 @@ fn answer<J: Naming, H: Wait + Drop, R: Wait>(
     poll(rt, alloc, hub, reader, ticket)?.ok_or(Unlike::Wrong("no answer"))
 }
 
-// Publishes, and has a tick come behind that.
+// Opens the second session, publishes its event, and posts a tick.
 fn publish<J: Naming, H: Wait + Drop, R: Wait>(
     rt: &R,
     alloc: Global,

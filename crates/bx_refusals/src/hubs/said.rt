@@ -1,4 +1,4 @@
-//! What is said of the calls of a hub. Each that is refused memory is made once more.
+//! Calls of a hub, each made once more if memory runs out, and the lines of their results.
 use crate::hubs::Served;
 use crate::requests::{CONNECT, HANDSHAKE, SUBSCRIBE, add_line, arrival, reply, text_of};
 use crate::unlike::Unlike;
@@ -9,7 +9,7 @@ use bx_window::Naming;
 use std::alloc::Global;
 use std::sync::Wait;
 
-/// A line for each message and tick, and how many shards were behind one of them, since they were refused memory.
+/// The lines so far, and how many shards have lagged for lack of memory.
 #[derive(Drop)]
 pub struct Said {
     text: String,
@@ -17,7 +17,7 @@ pub struct Said {
 }
 
 impl Said {
-    /// Nothing is said yet.
+    /// Creates a value with no lines.
     pub fn new(alloc: Global) -> Said {
         Said {
             text: String::new(alloc),
@@ -25,7 +25,7 @@ impl Said {
         }
     }
 
-    /// The lines.
+    /// Returns the lines.
     pub fn into_text(self) -> String {
         let Said { text, .. } = self;
         text
@@ -36,14 +36,14 @@ impl Said {
         add_line(&mut self.text, text_of(alloc, answer)?.as_str())
     }
 
-    // Adds a line of what stands at a place.
+    // Adds a line for what is at `place`.
     fn add(&mut self, alloc: Global, place: u64, what: &str) -> Result<(), Unlike> {
         let line = format!(in alloc; "{place} {what}")?;
         add_line(&mut self.text, line.as_str())
     }
 
-    // Whether a shard is behind a call. One call for memory is refused in all, so there is at most one in all; and nothing else stops
-    // a shard.
+    // Returns `true` if a shard lags after a call. Fails if one does so again, or not for lack of
+    // memory: only one allocation fails in a run.
     fn is_behind(&mut self, behind: Lagging) -> Result<bool, Unlike> {
         let memory = behind.memory;
         let by_memory = Lagging {
@@ -57,8 +57,8 @@ impl Said {
         Ok(memory == 1)
     }
 
-    // Adds a line for each message, the first of which stands at this place: its reply, or that it waits. Gives the ticket of the
-    // last one that waits.
+    // Adds a line for each message from place `first` on: its reply, or that it waits. Returns the
+    // last ticket.
     fn add_slots(
         &mut self,
         alloc: Global,
@@ -80,16 +80,16 @@ impl Said {
     }
 }
 
-/// What became of a post.
+/// The result of a post.
 #[derive(Clone, Copy, Debug)]
 pub struct PostEnd {
-    /// The ticket of its connect, if it has one.
+    /// The ticket of its connect, if any.
     pub ticket: Option<Ticket>,
-    /// Whether a shard stayed behind.
+    /// Whether a shard lagged after the post.
     pub is_behind: bool,
 }
 
-/// Posts a body. Its first message is to stand at this place.
+/// Posts `body`, whose first message must get `place`.
 pub fn post<J: Naming, H: Wait + Drop, R: Wait>(
     rt: &R,
     alloc: Global,
@@ -126,7 +126,9 @@ fn end_of<J: Naming>(
     Ok(PostEnd { ticket, is_behind })
 }
 
-/// The first session opens, subscribes and connects.
+/// Opens and subscribes the first session, and posts its connect.
+///
+/// Returns the connect's ticket, and whether a shard lagged after it.
 pub fn connect<J: Naming, H: Wait + Drop, R: Wait>(
     rt: &R,
     alloc: Global,
@@ -144,7 +146,7 @@ pub fn connect<J: Naming, H: Wait + Drop, R: Wait>(
     }
 }
 
-/// A tick of moment 0, at the sixth place.
+/// Posts a tick of moment 0, which must get place 5.
 pub fn tick<J: Naming, H: Wait + Drop, R: Wait>(
     rt: &R,
     alloc: Global,
@@ -177,7 +179,7 @@ fn end_of_tick<J: Naming>(
     said.add(alloc, ticked.place, "ticks")
 }
 
-/// Asks for an answer.
+/// Asks for the answer under `ticket`.
 pub fn poll<J: Naming, H: Wait + Drop, R: Wait>(
     rt: &R,
     alloc: Global,

@@ -1,4 +1,4 @@
-//! A task that waits for a connect in the only shard. So it shows whether the shard that a call says is behind is behind.
+//! A task that waits for a connect in the only shard, and so shows whether that shard really lags.
 use crate::hubs::Served;
 use crate::hubs::said::{Said, connect, post, tick};
 use crate::requests::{HANDSHAKE, PUBLISH};
@@ -14,7 +14,7 @@ use std::alloc::{AllocGlobal, Global};
 use std::random::RandomSource;
 use std::sync::{Arc, Wait};
 
-/// A session connects, and a task waits for the answer to that, until another session publishes.
+/// Connects a session, and has a task wait for the answer until another session publishes.
 pub fn run<'a, J, R>(
     rt: &'a R,
     alloc: Global,
@@ -34,7 +34,7 @@ where
     wait(rt, alloc, hub, &mut pass, ticket, &task, said)
 }
 
-// A waker of this task.
+// Returns a waker of `task`.
 fn waker(task: &MockTask) -> Result<Waker, Unlike> {
     let mut slot = None;
     let source = Source::new();
@@ -44,7 +44,7 @@ fn waker(task: &MockTask) -> Result<Waker, Unlike> {
     slot.ok_or(Unlike::Memory)
 }
 
-// Whether the shard holds the connect by now.
+// Returns `true` if the shard already holds the connect.
 fn is_there<J: Naming, H: Wait + Drop, R: Wait>(
     rt: &R,
     hub: &Served<J, H>,
@@ -59,7 +59,7 @@ fn is_there<J: Naming, H: Wait + Drop, R: Wait>(
     }
 }
 
-// Who waits under the ticket, and has seen what the pass has.
+// Returns a future of the answer under `ticket`. Fails if the pass ends before its place.
 fn waiting<J: Naming>(pass: &Pass<J>, ticket: Ticket) -> Result<PendingAnswer<J>, Unlike> {
     let pass = pass.again();
     if ticket.place >= pass.len() {
@@ -68,7 +68,7 @@ fn waiting<J: Naming>(pass: &Pass<J>, ticket: Ticket) -> Result<PendingAnswer<J>
     Ok(PendingAnswer::new(pass, ticket))
 }
 
-// What a poll of the task gives.
+// Polls `held` once.
 fn polled<J: Naming, H: Wait + Drop, R: Wait>(
     rt: &R,
     alloc: Global,
@@ -84,7 +84,7 @@ fn polled<J: Naming, H: Wait + Drop, R: Wait>(
     }
 }
 
-// What a poll gives that is to give nothing.
+// The result of a poll that should be pending.
 #[derive(Clone, Copy, Debug, PartialEq, Eq)]
 enum First {
     Pending,
@@ -92,6 +92,7 @@ enum First {
     Other,
 }
 
+// Polls `held`, which should be pending.
 fn look<J: Naming, H: Wait + Drop, R: Wait>(
     rt: &R,
     alloc: Global,
@@ -106,8 +107,8 @@ fn look<J: Naming, H: Wait + Drop, R: Wait>(
     }
 }
 
-// Whether the connect is behind its shard or not, it is held once memory is there: a task waits for it. Where memory is refused to its
-// poll, another one does.
+// Checks that the connect is held once memory is available, even if the shard lagged, and that the
+// task waits for it. If memory runs out in the poll, a new future is polled.
 fn wait<J: Naming, H: Wait + Drop, R: Wait>(
     rt: &R,
     alloc: Global,
@@ -129,7 +130,7 @@ fn wait<J: Naming, H: Wait + Drop, R: Wait>(
     answer(rt, alloc, hub, task, &mut held, said)
 }
 
-// The other session publishes, and the connect is answered, which takes no memory.
+// Checks that a publish answers the connect. The last poll allocates nothing, so it is not retried.
 fn answer<J: Naming, H: Wait + Drop, R: Wait>(
     rt: &R,
     alloc: Global,
@@ -145,7 +146,7 @@ fn answer<J: Naming, H: Wait + Drop, R: Wait>(
     }
 }
 
-// The task is woken by the publish, or by the tick behind it where the shard is behind the publish.
+// Checks that the publish wakes the task or, if the shard lags, the next tick does.
 fn publish<J: Naming, H: Wait + Drop, R: Wait>(
     rt: &R,
     alloc: Global,

@@ -1,4 +1,4 @@
-//! Requests by HTTP. In their texts `ID` stands for the id of the session that sends them.
+//! HTTP requests. `ID` in a text is replaced by the client id of its session.
 use crate::unlike::Unlike;
 use bytes::Bytes;
 use http::Request;
@@ -6,21 +6,21 @@ use http::header::CONTENT_TYPE;
 use http_body_util::Full;
 use std::alloc::{AllocError, Global};
 
-/// A body that is no document.
+/// A body that is not JSON.
 pub const BROKEN: &str = "[";
 
-/// A subscription to all channels of one segment below `/a`.
+/// A subscription to `/a/*`.
 pub const SUBSCRIBE: &str =
     r#"[{"channel":"/meta/subscribe","clientId":"ID","subscription":"/a/*"}]"#;
 
-/// A connect that acknowledges no batch, and is held where there is none.
+/// A connect that acknowledges no batch, held if it gets no events.
 pub const CONNECT: &str =
     r#"[{"channel":"/meta/connect","clientId":"ID","connectionType":"long-polling","ext":{"ack":0}}]"#;
 
 /// A publish of 7.
 pub const PUBLISH: &str = r#"[{"channel":"/a/b","clientId":"ID","data":7}]"#;
 
-/// The query of a connect that is answered at once, by a callback.
+/// A query with a connect that is never held, answered by a script.
 pub const QUERY_CONNECT: &str =
     r#"/cometd?jsonp=cb.x&message=[{%22channel%22:%22/meta/connect%22,%22clientId%22:%22ID%22,%22connectionType%22:%22callback-polling%22,%22advice%22:{%22timeout%22:0}}]"#;
 
@@ -33,7 +33,7 @@ pub enum Asked<'a> {
     Get(&'a str),
 }
 
-/// The request.
+/// Builds the request.
 pub fn request(alloc: Global, asked: Asked<'_>) -> Result<Request<Full<Bytes>>, Unlike> {
     let made = match asked {
         Asked::Post(text) => {
@@ -47,7 +47,7 @@ pub fn request(alloc: Global, asked: Asked<'_>) -> Result<Request<Full<Bytes>>, 
     made.map_err(|_| Unlike::Memory)
 }
 
-/// The text with the first place of a word replaced, if it has the word.
+/// Returns `text` with the first `word` replaced by `by`, or `text` if `word` is missing.
 pub fn replaced(alloc: Global, text: &str, word: &str, by: &str) -> Result<String, AllocError> {
     match text.split_once(word) {
         Some((front, back)) => format!(in alloc; "{front}{by}{back}"),

@@ -1,4 +1,4 @@
-//! A client that makes each exchange once more where memory was refused to it.
+//! A client that makes an exchange once more if memory runs out.
 ghost use Rattle.std.specs.Prelude.{IfOk};
 ghost use Rattle.futures.specs.Poll.{OnPending};
 
@@ -17,24 +17,24 @@ use http::Response;
 use hyper::service::Service;
 use std::alloc::Global;
 
-/// What an exchange gives.
+/// The output of an exchange.
 pub type Given = Result<Response<Pieces<Bytes>>, ServiceFault>;
 
-/// A service with the list of its hub, and the task that polls its exchanges.
+/// A service, its hub's list, and the task that polls the exchanges.
 #[derive(Drop)]
 pub struct Client<S: Drop, C: Drop> {
-    /// Where memory is taken.
+    /// The allocator.
     pub alloc: Global,
-    /// The service that it asks.
+    /// The service.
     pub service: BayeuxService<S>,
-    /// The list of the hub behind the service.
+    /// The list of the service's hub.
     pub list: List<C>,
-    /// The task that polls its exchanges.
+    /// The task that polls the exchanges.
     pub task: MockTask,
 }
 
 impl<S: Drop, C: Count + Drop> Client<S, C> {
-    /// Makes an exchange that does not wait, once more where memory was refused to it.
+    /// Makes an exchange that must not wait. Retries once if memory runs out.
     pub fn ask<I>(&mut self, asked: Asked<'_>, adds: Adds) -> Result<String, Unlike>
     where
         S: Backend<Items = I> + Drop,
@@ -49,7 +49,7 @@ impl<S: Drop, C: Count + Drop> Client<S, C> {
         line.ok_or(Unlike::Wrong("refused once more"))
     }
 
-    // Makes an exchange that does not wait. Says its response, or nothing where memory was refused to it.
+    // Makes an exchange that must not wait. Returns its response, or `None` if memory ran out.
     fn ask_once<I>(&self, asked: Asked<'_>) -> Result<Option<String>, Unlike>
     where
         S: Backend<Items = I> + Drop,
@@ -59,7 +59,7 @@ impl<S: Drop, C: Count + Drop> Client<S, C> {
         ended(self.poll(&mut exchange))
     }
 
-    /// Polls an exchange once. Says its response, if it does not wait, or nothing where memory was refused to it.
+    /// Polls an exchange once. If it is ready, returns its response, or `None` if memory ran out.
     pub fn poll<E: Future<Output = Given>>(
         &self,
         exchange: &mut E,
@@ -74,7 +74,7 @@ impl<S: Drop, C: Count + Drop> Client<S, C> {
     }
 }
 
-/// What an exchange that was polled gave, where it does not wait.
+/// Returns the result of a poll that must be ready.
 pub fn ended(polled: Result<Poll<Option<String>>, Unlike>) -> Result<Option<String>, Unlike> {
     match polled? {
         Poll::Ready(line) => Ok(line),
@@ -82,7 +82,7 @@ pub fn ended(polled: Result<Poll<Option<String>>, Unlike>) -> Result<Option<Stri
     }
 }
 
-// The status and the body of a response, or nothing where memory was refused to the exchange.
+// Returns the line of a response, or `None` if memory ran out for the exchange.
 fn line_of(alloc: Global, task: &MockTask, given: Given) -> Result<Option<String>, Unlike> {
     let Ok(response) = given else {
         return Ok(None);
@@ -99,7 +99,7 @@ fn line_of(alloc: Global, task: &MockTask, given: Given) -> Result<Option<String
     }
 }
 
-// A status, and the body if there is one.
+// Returns the status, followed by the body if there is one.
 fn line(alloc: Global, status: u16, body: Vec<u8>) -> Result<String, Unlike> {
     let body = string(body)?;
     if body.is_empty() {

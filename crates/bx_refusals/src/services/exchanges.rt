@@ -1,4 +1,4 @@
-//! The exchanges that the runs make with a service, and how each is answered.
+//! The exchanges of the part `service`.
 use crate::requests::{ACK_HANDSHAKE, HANDSHAKE, add_line};
 use crate::services::asked::{
     Asked, BROKEN, CONNECT, PUBLISH, QUERY_CONNECT, SUBSCRIBE, replaced, request,
@@ -13,18 +13,20 @@ use futures::task::Poll;
 use hyper::service::Service;
 use std::alloc::Global;
 
-// A session, and how it is called where answers are printed.
+// A session's client id, and its name in the printed lines.
 #[derive(Drop)]
 struct Session {
     id: String,
     name: &'static str,
 }
 
-/// A session that acknowledges is opened; a body is refused; a second session is opened; the first one subscribes, and its connect
-/// waits until the second one publishes; the second one connects by a query; and a third session is opened. Says how each is
-/// answered, with the sessions called by names.
+/// Makes all exchanges and returns a line for each, with names in place of client ids.
 ///
-/// The number of a session is that of the handshakes which the list took: one to which memory was refused before that takes none.
+/// An acknowledging session opens, a body is refused, and a second session opens. The first one
+/// subscribes, and its connect waits until the second one publishes. The second session connects by
+/// a query, and a third session opens.
+///
+/// A session's number counts the handshakes in the list. A handshake that fails earlier gets none.
 pub fn made<S, I, C>(client: &mut Client<S, C>) -> Result<String, Unlike>
 where
     S: Backend<Items = I> + Drop,
@@ -41,7 +43,7 @@ where
     Ok(text)
 }
 
-// Opens a session, which has the number that is next.
+// Opens a session, which gets the next number.
 fn open<S, I, C>(
     client: &mut Client<S, C>,
     handshake: &str,
@@ -62,7 +64,7 @@ where
     Ok(session)
 }
 
-// The first session subscribes, and its connect is answered by what the second one publishes. That one connects by a query.
+// Makes the exchanges of the first two sessions after their handshakes.
 fn talk<S, I, C>(
     client: &mut Client<S, C>,
     first: &Session,
@@ -87,7 +89,7 @@ where
     add_named(alloc, text, line.as_str(), second)
 }
 
-// A connect that waits until something is published. Where memory was refused to it before it waits, it is made once more.
+// Makes a connect that waits for a publish. Retries once if memory runs out before it waits.
 fn held<S, I, C>(
     client: &mut Client<S, C>,
     connect: &str,
@@ -105,8 +107,8 @@ where
     held_once(client, connect, publish, text)?.ok_or(Unlike::Wrong("refused once more"))
 }
 
-// A connect that waits until something is published. Says how it is answered, or nothing where memory was refused to it before it
-// waits.
+// Makes a connect that waits for a publish. Returns its response, or `None` if memory ran out
+// before it waited.
 fn held_once<S, I, C>(
     client: &mut Client<S, C>,
     connect: &str,
@@ -123,7 +125,7 @@ where
     wait(client, &mut exchange, connect, publish, text)
 }
 
-// Polls a connect that is to wait, publishes, and polls it again.
+// Polls a connect that must wait, publishes, and polls it again.
 fn wait<S, I, C, E>(
     client: &mut Client<S, C>,
     exchange: &mut E,
@@ -154,8 +156,8 @@ where
     }
 }
 
-// How a connect is answered that waited. Where memory was refused to its answer, a connect that acknowledges no more than it did is
-// given the same.
+// Returns the response to a connect that waited. If memory ran out for it, a repeated connect with
+// the same acknowledgement gets the same.
 fn answered<S, I, C>(
     client: &mut Client<S, C>,
     connect: &str,
@@ -175,7 +177,7 @@ where
     }
 }
 
-// Adds a line in which a session is called by its name.
+// Adds a line, with the session's name in place of its client id.
 fn add_named(
     alloc: Global,
     text: &mut String,

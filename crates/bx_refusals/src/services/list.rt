@@ -1,4 +1,4 @@
-//! The list of a hub, by how many entries it has.
+//! The number of entries in a hub's list.
 use crate::hubs::Served;
 use crate::requests::arrival;
 use crate::unlike::Unlike;
@@ -6,16 +6,16 @@ use bx_window::Naming;
 use std::alloc::Global;
 use std::sync::{Arc, Wait};
 
-/// Tells how many entries a list has.
+/// A list whose entries can be counted.
 pub trait Count {
-    /// The number of entries.
+    /// Returns the number of entries.
     fn entries(&self, alloc: Global) -> Result<u64, Unlike>;
 }
 
 /// The list of a hub.
 #[derive(Drop)]
 pub struct HubList<J: Naming, R: Wait + Drop> {
-    /// The leave to wait for a lock.
+    /// The handle that may wait for locks.
     pub rt: R,
     /// The hub.
     pub hub: Arc<Served<J, R>, Global>,
@@ -37,7 +37,7 @@ impl<J: Naming, R: Wait + Drop> Count for HubList<J, R> {
 /// What a request adds to the list.
 #[derive(Clone, Copy, Debug, PartialEq, Eq)]
 pub enum Adds {
-    /// Nothing: it is refused, or is for what was added before.
+    /// No entry: the request is refused, or its entry is already there.
     Nothing,
     /// One entry.
     Entry,
@@ -45,7 +45,7 @@ pub enum Adds {
     Session,
 }
 
-/// A list, with the number of entries that it is to have, and of sessions that these opened.
+/// A list, with the expected numbers of its entries and of the sessions they opened.
 #[derive(Drop)]
 pub struct List<C: Drop> {
     list: C,
@@ -54,7 +54,7 @@ pub struct List<C: Drop> {
 }
 
 impl<C: Count + Drop> List<C> {
-    /// A list that has no entry yet.
+    /// Creates a value for a list without entries.
     pub fn new(list: C) -> List<C> {
         List {
             list,
@@ -63,12 +63,12 @@ impl<C: Count + Drop> List<C> {
         }
     }
 
-    /// How many sessions were opened.
+    /// Returns how many sessions were opened.
     pub fn sessions(&self) -> u64 {
         self.sessions
     }
 
-    /// A request was taken.
+    /// Counts what a request added.
     pub fn add(&mut self, adds: Adds) {
         if adds != Adds::Nothing {
             self.entries = self.entries.saturating_add(1);
@@ -78,7 +78,7 @@ impl<C: Count + Drop> List<C> {
         }
     }
 
-    /// Memory was refused to a request: the list is as before, or it has what the request adds.
+    /// Checks that a failed request added nothing, or just what it should, and counts that.
     pub fn check(&mut self, alloc: Global, adds: Adds) -> Result<(), Unlike> {
         let entries = self.list.entries(alloc)?;
         if entries == self.entries {

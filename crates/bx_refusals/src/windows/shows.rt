@@ -1,10 +1,12 @@
-//! What a window shows to a reader.
+//! What a reader of a window finds.
 use crate::unlike::Unlike;
 use bx_window::{LogReader, Naming, Next};
 use std::alloc::Global;
 
-/// What a reader finds at each place up to the end of a list, and what it then has seen: how many steps, and where the window begins
-/// and ends. A batch is told by its first place and the place behind its last one.
+/// Returns what `reader` finds at each place from 0 to `end`, and what it has then seen.
+///
+/// It has seen a number of steps, and where the window begins and ends. A batch is given by its
+/// first place and the place after its last entry.
 pub fn shown<J: Naming>(
     alloc: Global,
     reader: &mut LogReader<J>,
@@ -20,7 +22,7 @@ pub fn shown<J: Naming>(
     Ok(format!(in alloc; "steps {steps}, from {begin} to {len}:{places}")?)
 }
 
-// What stands at a place.
+// Returns the text of what is at `place`: a batch, the end, or a dropped entry.
 fn found_at<J: Naming>(
     alloc: Global,
     reader: &mut LogReader<J>,
@@ -37,7 +39,7 @@ fn found_at<J: Naming>(
     }
 }
 
-// Looks at a place, once more where memory was refused: the reader has then seen no more than before.
+// Reads at `place`. Retries once if memory runs out and the reader has seen no more steps.
 fn next<J: Naming>(reader: &mut LogReader<J>, place: u64) -> Result<Next, Unlike> {
     let before = reader.note().steps();
     let next = match reader.next(place) {

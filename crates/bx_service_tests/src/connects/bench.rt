@@ -1,4 +1,4 @@
-//! A hub with two tasks, of which one or the other waits for a connect.
+//! A hub and two tasks that can wait for a held connect.
 use crate::bench::TestHub;
 use crate::texts::{CONNECT, HANDSHAKE, SUBSCRIBE};
 use bx_cut::Bodies;
@@ -14,7 +14,7 @@ use std::process::Abort;
 use std::sync::{Arc, Wait};
 use std::test::*;
 
-/// Where the answer to the connect of the first session is filed, which the bench opens.
+/// The ticket of the connect that [`Bench::hold`] posts.
 pub const TICKET: Ticket = Ticket { place: 2, shard: 1 };
 
 /// One of the two tasks.
@@ -24,17 +24,20 @@ pub enum Task {
     Second,
 }
 
-/// What a poll must give.
+/// What a poll must return.
 #[derive(Clone, Copy, Debug)]
 pub enum Want {
+    /// No answer yet.
     Pending,
-    /// An answer of these events and this reply, as an array.
+    /// An answer: its events, then its reply, as one array.
     Answer(&'static str),
+    /// No answer, and none will come.
     None,
+    /// This fault.
     Fault(HubFault),
 }
 
-// An answer's events and its reply as an array.
+// Returns an answer's events, followed by its reply, as one array.
 fn array_of(alloc: Global, answer: &Answer) -> Result<Vec<u8>, AllocError> {
     let mut text = b"[".to_vec(alloc)?;
     for event in answer.events.as_slice() {
@@ -46,7 +49,7 @@ fn array_of(alloc: Global, answer: &Answer) -> Result<Vec<u8>, AllocError> {
     Ok(text)
 }
 
-/// A poll gave what it must give.
+/// Checks that `poll` is what `want` describes.
 pub fn check_poll<A: Abort>(
     rt: &A,
     alloc: Global,
@@ -71,7 +74,7 @@ pub fn check_poll<A: Abort>(
     }
 }
 
-/// A hub, what its caller has seen, and two tasks that were not woken.
+/// A hub, a pass and two tasks, neither of them woken.
 #[derive(Drop)]
 pub struct Bench<J: Naming, H: Wait + Drop, R: Wait + Copy + Drop> {
     pub rt: R,
@@ -83,7 +86,7 @@ pub struct Bench<J: Naming, H: Wait + Drop, R: Wait + Copy + Drop> {
 }
 
 impl<J: Naming, H: Wait + Drop, R: Wait + Copy + Drop> Bench<J, H, R> {
-    /// One of its tasks.
+    /// Returns one of the tasks.
     pub fn task(&self, task: Task) -> &MockTask {
         match task {
             Task::First => &self.first,
@@ -91,7 +94,7 @@ impl<J: Naming, H: Wait + Drop, R: Wait + Copy + Drop> Bench<J, H, R> {
         }
     }
 
-    /// Posts a body at moment 0.
+    /// Posts `body` at moment 0.
     pub fn post(&mut self, body: &str) -> Result<(), Fail> {
         let arrival = Arrival {
             moment: 0,
@@ -113,7 +116,7 @@ impl<J: Naming, H: Wait + Drop, R: Wait + Copy + Drop> Bench<J, H, R> {
         Ok(())
     }
 
-    /// Lets the clock tick.
+    /// Posts a tick at `moment`, in milliseconds.
     pub fn tick(&mut self, moment: u64) -> Result<(), Fail> {
         self.hub
             .tick(&self.rt, self.alloc, &mut self.pass, moment)
@@ -121,7 +124,7 @@ impl<J: Naming, H: Wait + Drop, R: Wait + Copy + Drop> Bench<J, H, R> {
         Ok(())
     }
 
-    /// Who waits under a ticket, and has seen what the caller has.
+    /// Returns a future of the answer under `ticket`. Fails if the pass ends before its place.
     pub fn wait(&self, ticket: Ticket) -> Result<PendingAnswer<J>, Fail> {
         let pass = self.pass.again();
         if ticket.place >= pass.len() {
@@ -130,7 +133,7 @@ impl<J: Naming, H: Wait + Drop, R: Wait + Copy + Drop> Bench<J, H, R> {
         Ok(PendingAnswer::new(pass, ticket))
     }
 
-    /// What a poll by one of the tasks gives.
+    /// Polls `held` once, in `task`.
     pub fn poll(
         &self,
         task: Task,

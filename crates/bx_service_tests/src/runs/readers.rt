@@ -1,4 +1,4 @@
-//! What is asked at the readers' door.
+//! Runs with requests at the read-only listener.
 use crate::requests::{Ask, Content, FORM, POST, Want};
 use crate::runs::{Held, Run, Step};
 use crate::texts;
@@ -10,8 +10,10 @@ const BAD: Want = Want::Status(400);
 
 const PUBLISH: Step = Step::Post(texts::PUBLISH, texts::PUBLISHED);
 
-/// What readers may not send is refused as a whole, behind what cannot be read, and nothing of it is admitted: the
-/// session that is opened then is the first one.
+/// A request with a message forbidden to readers gets 403, and none of its messages is admitted.
+///
+/// Faults of its path, method, length or documents are reported first. The session opened last is
+/// the hub's first.
 pub const PUBLISH_NOTHING: Run = Run {
     first: &[
         Step::ReadText(texts::HANDSHAKE_AND_PUBLISH, FORBIDDEN),
@@ -93,7 +95,7 @@ pub const PUBLISH_NOTHING: Run = Run {
     ride: false,
 };
 
-/// Sessions are served at either door, at whichever they were opened, and publish to service channels.
+/// Both listeners serve all sessions. The read-only one takes publishes to service channels only.
 pub const HEAR: Run = Run {
     first: &[
         Step::Post(texts::HANDSHAKE, texts::HANDSHAKEN),
@@ -142,7 +144,7 @@ pub const HEAR: Run = Run {
     ride: false,
 };
 
-/// What waits for a session rides on no request that is refused.
+/// Waiting events do not ride with a refused request.
 pub const RIDE: Run = Run {
     first: &[
         Step::Post(texts::HANDSHAKE, texts::HANDSHAKEN),

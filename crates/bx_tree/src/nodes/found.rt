@@ -1,3 +1,4 @@
+//! The result of a search in the index.
 ghost use Rattle.std.specs.Prelude.{◌≡◌, ℕ, ◌+◌, ◌<◌, ◌^◌, ◌||◌, OnOk, IfOk, Contains, vec_len, ◌↔◌};
 ghost use Rattle.std.specs.List.Sorted.{IsStrictlyIncreasing};
 ghost use Rattle.bx_tree.specs.Lists.{stands_at};
@@ -6,17 +7,17 @@ ghost use Rattle.bx_tree.specs.Walks.{is_among};
 use super::path_lists::PathLists;
 use std::alloc::AllocError;
 
-/// What was found for a name.
+/// The sessions that were found for a channel name.
 #[derive(Debug, Drop)]
 pub struct Found {
-    /// The numbers of the sessions, ascending, each once.
+    /// The numbers of the sessions, in ascending order, each once.
     pub numbers: Vec<u64>,
-    /// How many lists were looked at.
+    /// How many lists were looked up.
     pub visited: usize,
 }
 
 impl Found {
-    /// Looks at the list at a path, counts that, and adds its numbers behind the others.
+    /// Looks up the list at `path`, counts that, and appends its numbers.
     pub(super) fn reach(&mut self, lists: &PathLists, path: &str) -> Result<(), AllocError>
         requires { self.old.visited + 1 < 2 ^ 64 }
         ensures numbers { OnOk result ((n : ℕ)
@@ -31,7 +32,9 @@ impl Found {
         Ok(())
     }
 
-    /// Puts the numbers in order, each once. They are a few rows that ascend, which a stable sort merges.
+    /// Sorts the numbers and removes duplicates.
+    ///
+    /// The numbers are a few ascending runs, which a stable sort merges.
     pub(super) fn settle(&mut self) -> Result<(), AllocError>
         ensures ascending { OnOk result (IsStrictlyIncreasing self.new.numbers.items) }
         ensures same { OnOk result ((n : ℕ) → is_among self.new.numbers.items n ≡ is_among self.old.numbers.items n) }

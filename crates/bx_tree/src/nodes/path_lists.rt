@@ -1,3 +1,4 @@
+//! Lists of sessions by path.
 ghost use Rattle.std.specs.Prelude.{◌≡◌, ℕ, true, List};
 ghost use Rattle.std.specs.BTreeMap.{get_by_text};
 ghost use Rattle.bx_tree.specs.Kept.{is_kept};
@@ -5,11 +6,10 @@ ghost use Rattle.bx_tree.specs.Kept.{is_kept};
 use std::alloc::{AllocError, Global};
 use std::collections::BTreeMap;
 
-/// The numbers that stand at each path of segments, as at `/a/b` or at the empty path, each with its stamp. No list is
-/// empty.
+/// The sessions at each path, with their stamps. No list is empty.
 ///
-/// The map is ordered, since clients choose the paths: whoever knows how a hash map spreads its keys can send paths
-/// that fall on one place of it.
+/// A path is, for example, `/a/b`, or empty. The map is ordered, because clients choose the paths:
+/// in a hash map, they could send paths that collide.
 #[derive(Drop)]
 pub(super) struct PathLists {
     by_path: BTreeMap<String, BTreeMap<u64, u64>>,
@@ -22,7 +22,7 @@ impl PathLists {
     ghost use Rattle.std.specs.BTreeMap.{get_by_text};
     ghost use Rattle.bx_tree.specs.Lists.{stands_at};
 
-    /// No number at any path.
+    /// Creates an empty map.
     pub(super) fn new(alloc: Global) -> PathLists
         ensures { (path : List ℕ) → (number : ℕ) → stands_at result path number ≡ false }
     {
@@ -31,7 +31,9 @@ impl PathLists {
         }
     }
 
-    /// The numbers at a path, in order. This alone reaches a list for a walk, and counts that it did.
+    /// Returns the sessions at `path`, if any, in ascending order, and adds 1 to `visited`.
+    ///
+    /// A walk looks up lists only by this function, so that each lookup is counted.
     pub(super) fn reach(&self, path: &str, visited: &mut usize) -> Option<&BTreeMap<u64, u64>>
         requires { visited.old + 1 < 2 ^ 64 }
         ensures list { option_copied result ≡ get_by_text self.now.by_path path.now }
@@ -41,7 +43,7 @@ impl PathLists {
         self.by_path.get(path)
     }
 
-    /// Whether a number stands at a path.
+    /// Returns `true` if session `number` is at `path`.
     pub(super) fn has(&self, path: &str, number: u64) -> bool
         ensures { result ≡ stands_at self.now path.now number }
     {
@@ -51,7 +53,7 @@ impl PathLists {
         }
     }
 
-    /// Puts a number with its stamp at a path. Nothing changes where memory is refused.
+    /// Adds session `number` with its stamp at `path`. On error, nothing visible has changed.
     pub(super) fn add(
         &mut self,
         alloc: Global,
@@ -74,8 +76,9 @@ impl PathLists {
         Ok(())
     }
 
-    /// Takes a number away from a path, if it is there, and the path's list where that leaves it empty. Gives the
-    /// number's stamp.
+    /// Removes session `number` from `path`, and returns its stamp if it was there.
+    ///
+    /// Drops the path's list if it is then empty.
     pub(super) fn remove(&mut self, path: &str, number: u64) -> Option<u64>
         ensures gone { (other : List ℕ) → (n : ℕ)
             → stands_at self.new other n ≡ (stands_at self.old other n && not (bytes_eq path.now other && (n == number))) }
