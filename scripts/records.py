@@ -1,7 +1,7 @@
-"""The lines of a record, and the program that answers them again.
+"""Reads the lines of a record, and runs the program that computes its answers again.
 
-A record is bytes, of which a newline alone ends a line. Its first line says how the server was run, and each other one what it took in
-or answered.
+A record is a file of bytes, in which only a newline ends a line. The first line is the server's configuration. Each other line
+is a request, a tick, the nonce of the next request, or the digest of an answer (a line A).
 """
 import contextlib
 import json
@@ -14,36 +14,41 @@ import urllib.parse
 from collections import namedtuple
 
 TOP = os.path.dirname(os.path.dirname(os.path.realpath(__file__)))
-# The program that replays: that of the repository, or where this is installed that of the path.
+# The program that replays: in the repository its proved build, in the package the one on the path.
 BUILT = f"{TOP}/crates/bayeux_replay/out/bayeux_replay"
 REPLAY = os.environ.get("REPLAY", BUILT if os.path.isdir(f"{TOP}/crates") else "bayeux_replay")
+# The first line of a record: the arguments of bayeux_replay.
 FIRST = re.compile(rb"(?:--bytes (?:-|[0-9]+) )?(?:--sessions [0-9]+ )?(?:--patterns [0-9]+ )?[0-9]+(?: [0-9]+){4}(?: (?:-|r|a|ra)(?: [0-9]+)?)?")
-# A tick, a request, a number of shards, a nonce; and the answer that a server gave.
+# A line with a moment: a tick (T), a request (P, F or G), a number of shards (S), or a nonce (N).
 LINE = re.compile(rb"([0-9]+) (?:(T)|([PFGSN]) (.*))", re.DOTALL)
+# A line A: the place of a request's first message, and the SHA-256 of the answer.
 ANSWER = re.compile(rb"A ([0-9]{1,20}) ([0-9A-Fa-f]{64})")
-# What the replay begins with where it says something of a line. Behind it there may be line ends that a client sent.
+# The beginning of what the replay prints for a line: its number and status. The text that follows
+# may contain line ends that a client sent.
 PRINTED = re.compile(rb"([0-9]+) ([0-9]{3}|held|bad)(?: |\Z)")
-# What may stand in front of an item of an array.
+# What may precede an item of a JSON array.
 BETWEEN = re.compile(r"[ \t\r\n,]*")
-# A line of no form: the replay prints that it is bad, and goes on as if it were not there.
+# A line that is not valid: the replay prints that it is bad, and otherwise ignores it.
 NO_LINE = b"-\n"
-# How much is read at once; how often one looks whether a file has grown, and how often who reads is given a moment while it grows, in seconds.
+# BLOCK: the bytes that are read at once. PAUSE: the seconds between two looks whether a file has
+# grown. MOMENT: the seconds after which `Source.followed` yields None while the file grows.
 BLOCK, PAUSE, MOMENT = 1 << 16, 0.1, 1.0
 
-# How long the thread that gives the replay parts may take to end once that has, in seconds.
+# The seconds to wait for the thread that feeds the replay after the replay was killed.
 PATIENCE = 5.0
 
-# A line of a record: a moment, one of the letters above, what stands behind it, and the place of its first message, or where it is a tick its own.
+# A line of a record. `moment`: in milliseconds. `kind`: one of the letters above. `text`: the rest
+# of the line. `place`: the place of its first message, or of the tick.
 Line = namedtuple("Line", "moment kind text place")
 DECODER = json.JSONDecoder(parse_int=str, parse_float=str, parse_constant=str)
 
 
 class Refused(Exception):
-    """The arguments cannot be followed."""
+    """The arguments are wrong. The text says why."""
 
 
 class Broken(Exception):
-    """The replay ended with an error, or was not given the whole record; with the status that says so."""
+    """The replay failed, or did not get the whole record. `status`: the exit status that reports this."""
 
     status = 1
 
@@ -56,7 +61,7 @@ class Unreadable(Broken):
 
 @contextlib.contextmanager
 def reading(path):
-    """Raises `Unreadable` where this file cannot be read."""
+    """Raises Unreadable, with `path`, in place of an OSError within the context."""
     try:
         yield
     except OSError as error:
@@ -64,7 +69,7 @@ def reading(path):
 
 
 def decoded(text):
-    """Returns the value of a JSON text; `ValueError` where it is none. Numbers are texts."""
+    """Returns the value of a JSON text, given as bytes. Numbers become texts. Raises ValueError if it is not valid, or too deep."""
     try:
         return json.loads(text.decode("utf-8", "replace"), parse_int=str, parse_float=str, parse_constant=str)
     except RecursionError as error:
@@ -72,7 +77,7 @@ def decoded(text):
 
 
 def documents_of(kind, text):
-    """Returns the documents of a request."""
+    """Returns the JSON documents of a request, as bytes. `kind`, `text`: those of its line."""
     if kind == b"P":
         return [text]
     pairs = urllib.parse.parse_qsl(text.decode("utf-8", "replace"), keep_blank_values=True, errors="replace")
@@ -80,7 +85,7 @@ def documents_of(kind, text):
 
 
 def messages_of(kind, text):
-    """Returns the messages of a request; none where its documents cannot be read."""
+    """Returns the messages of a request, or [] if one of its documents is not valid JSON. `kind`, `text`: those of its line."""
     found = []
     try:
         for document in documents_of(kind, text):
@@ -92,13 +97,16 @@ def messages_of(kind, text):
 
 
 def client_of(message):
-    """Returns the client id of a message or a reply; an empty one where it has none."""
+    """Returns the client id of a message or a reply, or "" if it has none."""
     found = message.get("clientId") if isinstance(message, dict) else None
     return found if isinstance(found, str) else ""
 
 
 def items_of(text):
-    """Returns the items of an array, each with its own text; `ValueError` where it is none, or one that is too deep."""
+    """Returns the items of a JSON array, given as bytes: pairs of the item's value and its own text.
+
+    Raises ValueError if it is no valid array, or too deep.
+    """
     text = text.decode("utf-8", "surrogateescape")
     if not text.startswith("["):
         raise ValueError("no array")
@@ -116,7 +124,7 @@ def items_of(text):
 
 
 def answer_of(line):
-    """Returns the place and the digest of an answer that a line notes; none where it notes none."""
+    """Returns the place and the digest of a line A, or None if the line is none."""
     found = ANSWER.fullmatch(line)
     if not found or int(found[1]) >= 1 << 64:
         return None
@@ -124,13 +132,14 @@ def answer_of(line):
 
 
 class Reader:
-    """Reads the lines of a record in their order."""
+    """Parses the lines of a record, which it must get in order, from the second on."""
 
     def __init__(self):
+        # The place of the next message or tick.
         self.place = 0
 
     def read(self, line):
-        """Returns what a line says; none where it is an answer, or no line of a record."""
+        """Returns a `Line` and its messages. Returns None and [] for a line A and for a line that is not valid."""
         found = LINE.fullmatch(line)
         if not found:
             return None, []
@@ -142,14 +151,15 @@ class Reader:
 
 
 def is_request(line):
-    """Returns whether a line that was read is a request."""
+    """Returns whether `line`, as `Reader.read` returned it, is a request."""
     return line is not None and line.kind in (b"P", b"F", b"G")
 
 
 class Source:
-    """A file of a record."""
+    """The file of a record."""
 
     def __init__(self, path):
+        """Opens the file at `path`. Raises Refused if it is no regular file, or cannot be opened."""
         self.path = path
         if not os.path.isfile(path):
             raise Refused(f"{path} is no file that can be read")
@@ -157,11 +167,11 @@ class Source:
             self.file = open(path, "rb", buffering=0)
         except OSError as error:
             raise Refused(f"{path} is no file that can be read: {error.strerror}") from error
-        # How many bytes the lines have that were read so far.
+        # The number of bytes of the whole lines that were read so far.
         self.read = 0
 
     def begin(self):
-        """Returns the first line."""
+        """Returns the first line. Raises Refused if it is not the first line of a record, Unreadable if reading fails."""
         first = b""
         while b"\n" not in first and len(first) < 200:
             data = self.block(200 - len(first))
@@ -175,17 +185,21 @@ class Source:
         return line
 
     def size(self):
-        """Returns how long the file is."""
+        """Returns the file's length in bytes. Raises Unreadable if that fails."""
         with reading(self.path):
             return os.fstat(self.file.fileno()).st_size
 
     def block(self, size):
-        """Returns what comes next in the file, at most so many bytes, and none at its end."""
+        """Reads and returns at most `size` bytes, or b"" at the end of the file. Raises Unreadable if that fails."""
         with reading(self.path):
             return self.file.read(size)
 
     def lines(self):
-        """Yields the number and the text of each line from the second on that has its end now."""
+        """Yields the number and the text of each further line that is whole when the call begins.
+
+        Begins after the last line that was read. The first line that it yields has number 2, as directly after `begin`.
+        Raises Unreadable if reading fails.
+        """
         number, rest, left = 1, [], self.size() - self.read
         self.file.seek(self.read)
         while left > 0 and (data := self.block(min(left, BLOCK))):
@@ -195,8 +209,11 @@ class Source:
                 yield number, text
 
     def followed(self, stop, idle):
-        """Yields them as the file grows, until it is to stop, or until it has not grown for so many seconds, where that is a number; none
-        where there is nothing more to read now, and each MOMENT while there is."""
+        """Yields the number and the text of each further line as the file grows, as `lines` does.
+
+        Ends when the event `stop` is set. Ends too when the file has not grown for `idle` seconds, unless `idle` is None.
+        Yields None each time it has reached the end of the file, and every MOMENT seconds while there is more to read.
+        """
         number, rest, grown = 1, [], time.monotonic()
         told = grown
         self.file.seek(self.read)
@@ -217,7 +234,7 @@ class Source:
             stop.wait(PAUSE)
 
     def cut(self, rest, data):
-        """Yields the lines that end in this data, which follows upon the rest, and leaves what follows upon them as the rest."""
+        """Yields the lines that end in `data`. `rest`: the pieces of an unfinished line before `data`, and afterwards the new one."""
         *ended, tail = data.split(b"\n")
         for text in ended:
             text = b"".join([*rest, text])
@@ -228,13 +245,16 @@ class Source:
 
 
 class Printed:
-    """What the replay prints, as it comes."""
+    """Parses the output of the replay as it arrives.
+
+    The text of an answer may contain line ends, so an answer is complete only when the next one begins or the output ends.
+    """
 
     def __init__(self):
         self.pieces, self.number, self.status, self.rows = [], None, None, []
 
     def add(self, data):
-        """Yields the number, the status and the text of all that is known to be whole with this data."""
+        """Yields the line number, the status and the text of each answer that is complete with `data`."""
         *ended, tail = data.split(b"\n")
         for row in ended:
             row = b"".join([*self.pieces, row])
@@ -248,28 +268,29 @@ class Printed:
         self.pieces.append(tail)
 
     def end(self):
-        """Yields what is whole, since something else follows upon it or nothing does."""
+        """Yields the pending answer, if there is one. To be called when the next one begins, or at the end of the output."""
         if self.number is not None:
             yield self.number, self.status, b"\n".join(self.rows)
         self.number = None
 
 
 class Replay:
-    """The running program, which was given the first line of a record."""
+    """A running replay, started with the first line of a record."""
 
     def __init__(self, first, output=subprocess.PIPE):
+        """Starts the program and writes the line `first` to it. Raises Refused if it cannot be started."""
         try:
-            # (A signal to stop is for who reads what it prints.)
+            # If this process reads the output, Ctrl-C must interrupt this process alone.
             self.process = subprocess.Popen([REPLAY, "--record", "-"], stdin=subprocess.PIPE, stdout=output, start_new_session=output is subprocess.PIPE)
         except OSError as error:
             raise Refused(f"{REPLAY} does not start: {error.strerror}") from error
         self.printed, self.feeder = Printed(), None
-        # Why it was not given all; whether it was ended before it was done.
+        # The exception due to which it did not get the whole record; whether `kill` ended it.
         self.failed, self.is_killed = None, False
         self.write(first + b"\n")
 
     def write(self, data):
-        """Gives it data; false where it takes none any more."""
+        """Writes `data` to its input, buffered, and returns True. Returns False if its input is closed."""
         try:
             self.process.stdin.write(data)
             return True
@@ -277,7 +298,10 @@ class Replay:
             return False
 
     def feed(self, parts):
-        """Gives it the parts in a thread, and then the end, also where there is an error; that is raised where it has ended. None is a moment to flush."""
+        """Starts a thread that writes `parts` to its input, and then closes it.
+
+        A part that is None means: flush. If `parts` raises an exception, the input is closed too, and `end` raises the exception.
+        """
 
         def run():
             try:
@@ -297,28 +321,28 @@ class Replay:
         self.feeder.start()
 
     def flush(self):
-        """Gives it all that waits."""
+        """Flushes its input. Does nothing if that is closed."""
         try:
             self.process.stdin.flush()
         except (BrokenPipeError, ValueError):
             pass
 
     def close(self):
-        """Gives it the end."""
+        """Closes its input."""
         try:
             self.process.stdin.close()
         except BrokenPipeError:
             pass
 
     def answers(self):
-        """Yields the number, the status and the text of all that it prints."""
+        """Yields the line number, the status and the text of each answer until the program has ended. Then raises as `end` does."""
         while data := self.process.stdout.read1(BLOCK):
             yield from self.printed.add(data)
         yield from self.printed.end()
         self.end()
 
     def end(self):
-        """Raises where it does not end well, or was not given all."""
+        """Waits until the program has ended. Raises Broken if its status is not 0, or if it did not get the whole record."""
         status = self.process.wait()
         if self.failed:
             raise self.failed
@@ -326,7 +350,7 @@ class Replay:
             raise Broken(f"the replay ended with status {status}")
 
     def kill(self):
-        """Ends it at once, and the thread that gives it parts."""
+        """Kills the program, and waits at most PATIENCE seconds for the thread that feeds it."""
         self.is_killed = True
         self.process.kill()
         self.process.wait()

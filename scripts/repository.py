@@ -1,4 +1,7 @@
-"""What crates.txt lists, the toolchain, what was made of which text, and runs of one command a crate in the order in which crates stand on one another."""
+"""The crates of this repository, the toolchain, checksums of what programs are built from, and runs of commands for each crate.
+
+A crate is below another if the other depends on it, directly or through further crates.
+"""
 import hashlib
 import os
 import shutil
@@ -7,17 +10,17 @@ import sys
 import time
 
 TOP = os.path.dirname(os.path.dirname(os.path.realpath(__file__)))
-# What `rt version` says of the toolchain that this repository is written for.
+# A part of the KIT-ID file of the toolchain that this repository is written for.
 LOGIC = "logic dac8208d650f15bf"
 PROCESSORS = len(os.sched_getaffinity(0))
-# How often a run looks at what is at work, in seconds.
+# How often a run looks at its processes, in seconds.
 PAUSE = 0.5
-# The memory in GB that a check is likely to take, and each further job of it.
+# The memory in GB that a check with one job is likely to need, and that each further job adds.
 CHECK, FURTHER_JOB = 3.0, 1.0
 
 
 def named():
-    """Returns all that each crate of this repository names, of this repository and of the toolchain."""
+    """Returns the dependencies of each crate in crates.txt, by its name: crates of this repository and of the toolchain."""
     found = {}
     with open(f"{TOP}/crates.txt", encoding="utf-8") as file:
         for line in file:
@@ -28,13 +31,13 @@ def named():
 
 
 def libraries():
-    """Returns the crates of this repository that each of its crates names."""
+    """Returns the dependencies of each crate in crates.txt, by its name, without the toolchain's crates."""
     found = named()
     return {name: [it for it in names if it in found] for name, names in found.items()}
 
 
 def reached(names, steps):
-    """Returns these crates and all that are reached from them by steps."""
+    """Returns the crates in `names` and all that can be reached from them. `steps`: the next crates of each crate."""
     found, left = [], list(names)
     while left:
         name = left.pop()
@@ -45,18 +48,18 @@ def reached(names, steps):
 
 
 def below(names):
-    """Returns these crates and all that they stand on."""
+    """Returns the crates in `names` and all crates that they depend on, directly or not."""
     return reached(names, libraries())
 
 
 def above(names):
-    """Returns these crates and all that stand on them."""
+    """Returns the crates in `names` and all crates that depend on them, directly or not."""
     lower = libraries()
     return reached(names, {it: [other for other in lower if it in lower[other]] for it in lower})
 
 
 def files_of(name):
-    """Returns the files that a crate's check reads."""
+    """Returns the paths of all files in the folders src, specs and proofs of crate `name`."""
     found = []
     for part in ("src", "specs", "proofs"):
         for at, _, files in os.walk(f"{TOP}/crates/{name}/{part}"):
@@ -65,7 +68,7 @@ def files_of(name):
 
 
 def toolchain():
-    """Returns the folder of the toolchain. Ends where its command rt is not on the path, or is of another version."""
+    """Returns the folder of the toolchain. Exits with a message if its command `rt` is not on the path or has another version."""
     found = shutil.which("rt")
     if not found:
         sys.exit("gadzilk: the toolchain's command rt is not on the path: README.md says what it is")
@@ -81,7 +84,10 @@ def toolchain():
 
 
 class Sums:
-    """Sums of all that crates are made from: their text, what they name, the crates below, the toolchain."""
+    """Checksums of everything that a crate is built from: its files, its dependencies, the crates below it, and the toolchain.
+
+    `kit`: the toolchain's folder. A sum is computed once, so a new object is needed to see later changes.
+    """
 
     def __init__(self, kit):
         self.named, self.found = named(), {}
@@ -89,7 +95,7 @@ class Sums:
             self.kit = text.read()
 
     def of(self, name):
-        """Returns the sum of a crate."""
+        """Returns the checksum of crate `name`, as hexadecimal digits."""
         if name not in self.found:
             made_of = hashlib.sha256(repr(self.named[name]).encode())
             for file in sorted(files_of(name)):
@@ -104,18 +110,19 @@ class Sums:
 
 
 def digest_of(file):
+    """Returns the SHA-256 of a file's content, as hexadecimal digits."""
     with open(file, "rb") as text:
         return hashlib.sha256(text.read()).hexdigest()
 
 
 def mark(program, made_of):
-    """Notes beside a program of which sum it was made."""
+    """Writes PROGRAM.made, which records the sum `made_of` and the digest of the program."""
     with open(f"{program}.made", "w", encoding="ascii") as text:
         text.write(f"{made_of} {digest_of(program)}")
 
 
 def is_made(program, made_of):
-    """Returns whether this program stands there, and was made of this sum."""
+    """Returns whether `program` exists and PROGRAM.made says that this very file was built from the sum `made_of`."""
     if not os.path.isfile(program) or not os.path.isfile(f"{program}.made"):
         return False
     with open(f"{program}.made", encoding="ascii") as text:
@@ -123,7 +130,7 @@ def is_made(program, made_of):
 
 
 def has_tests(name):
-    """Returns whether some file of the crate has a test."""
+    """Returns whether a file of crate `name` contains a test."""
     for file in files_of(name):
         with open(file, encoding="utf-8") as text:
             if "#[test]" in text.read():
@@ -132,11 +139,12 @@ def has_tests(name):
 
 
 def is_program(name):
+    """Returns whether crate `name` is a program: whether it has src/main.rt."""
     return os.path.isfile(f"{TOP}/crates/{name}/src/main.rt")
 
 
 def lines_of(name):
-    """Returns how many lines a crate's check reads."""
+    """Returns the number of lines of crate `name`, in the files of `files_of`."""
     count = 0
     for file in files_of(name):
         with open(file, "rb") as text:
@@ -145,12 +153,15 @@ def lines_of(name):
 
 
 def lines_below(name):
-    """Returns how many lines a crate has with all that it stands on."""
+    """Returns the number of lines of crate `name` and of all crates that it depends on."""
     return sum(map(lines_of, below([name])))
 
 
 def chains(names):
-    """Returns for each of these crates how many lines the longest chain among them has that goes up from it."""
+    """Returns for each crate in `names` the number of lines of the longest chain of dependents that begins with it.
+
+    A chain consists of crates in `names`, each of which depends directly on the one before.
+    """
     lower, longest = libraries(), {}
 
     def length(name):
@@ -165,26 +176,27 @@ def chains(names):
 
 
 def free_memory():
-    """Returns the free memory in GB."""
+    """Returns the available memory in GB."""
     with open("/proc/meminfo", encoding="ascii") as file:
         found = next(line.split()[1] for line in file if line.startswith("MemAvailable:"))
     return int(found) / 1_000_000
 
 
 class Line:
-    """What a run tells on standard error: to a terminal in one line that is written anew, else a line at a time."""
+    """Progress on standard error: on a terminal one line that is overwritten, otherwise line after line."""
 
     def __init__(self):
         self.is_terminal, self.shown = sys.stderr.isatty(), ""
 
     def clear(self):
+        """Clears the line on a terminal."""
         self.shown = ""
         if self.is_terminal:
             sys.stderr.write("\r\033[K")
             sys.stderr.flush()
 
     def show(self, text):
-        """Shows on a terminal what is at work."""
+        """Overwrites the line on a terminal with `text`, cut to its width. Does nothing if standard error is no terminal."""
         if self.is_terminal and text != self.shown:
             self.clear()
             self.shown = text
@@ -192,16 +204,19 @@ class Line:
             sys.stderr.flush()
 
     def tell(self, text):
-        """Says elsewhere what has come about."""
+        """Prints `text` on a line if standard error is no terminal."""
         if not self.is_terminal:
             print(text, file=sys.stderr, flush=True)
 
 
 class Work:
-    """One crate's commands, each begun when the one before it has ended well. What they say goes into a file in the crate's out/."""
+    """The commands of one crate. Each starts when the one before has succeeded. Their output goes to out/run.log of the crate."""
 
     def __init__(self, name, commands, jobs, is_first):
-        """Begins the first command, with so many jobs; crates that are not the first give way to it."""
+        """Starts the first command of crate `name`.
+
+        `jobs` replaces JOBS in the commands. Unless `is_first`, they run under `nice`, so that they give way to the first crate.
+        """
         self.name = name
         self.room = CHECK + FURTHER_JOB * (jobs - 1)
         first = [] if is_first else ["nice"]
@@ -214,7 +229,7 @@ class Work:
         self.go_on()
 
     def go_on(self):
-        """Begins the next command where there is one and nothing has failed, and returns whether some command is at work."""
+        """Starts the next command if there is one and none has failed, and returns whether it started one."""
         if self.status or not self.left:
             return False
         how = {"stdin": subprocess.DEVNULL, "stdout": self.log, "stderr": subprocess.STDOUT}
@@ -222,31 +237,36 @@ class Work:
         return True
 
     def is_at_work(self):
+        """Returns whether a command is running. Starts the next one if the last has ended."""
         if self.process.poll() is None:
             return True
         self.status = self.process.returncode
         return self.go_on()
 
     def said(self):
+        """Returns the output of all commands so far."""
         self.log.seek(0)
         return self.log.read().decode(errors="replace")
 
     def minutes(self):
+        """Returns the minutes since the first command started."""
         return (time.monotonic() - self.begin) / 60
 
 
 def kept_checks(names):
-    """Returns for each of these crates the call of `rt` that proves it over what is kept."""
+    """Returns for each crate in `names` the `rt` command that proves it. `rt` does not repeat proofs that it has kept."""
     verbs = {name: "check" if is_program(name) else "lib" for name in names}
     return {name: [["rt", verb, "--jobs", "JOBS"]] for name, verb in verbs.items()}
 
 
 def run(tasks, at_once=PROCESSORS):
-    """Runs each crate's commands once those of the crates below it have ended, and returns the crates where one failed.
+    """Runs the commands of each crate when those of the crates below it have ended. Returns the crates in which one failed.
 
-    Of the crates that are ready that with the longest chain above it goes first, and gets all processors that are left. At most
-    so many crates are at work at once: one where the commands are calls of `rt`, which wait for one another where they read the
-    same libraries. Nothing is begun any more once something has failed.
+    `tasks`: the commands of each crate, by its name. `at_once`: the greatest number of crates that run at the same time. Use 1
+    for `rt` commands: those that read the same libraries wait for one another.
+
+    Of the crates that are ready, the one with the longest chain of dependents starts first, with as many jobs as there are free
+    processors and memory for them. After a failure no further crate starts.
     """
     lower, chain = libraries(), chains(list(tasks))
     left = sorted(tasks, key=lambda it: -chain[it])

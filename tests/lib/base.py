@@ -1,4 +1,4 @@
-"""What the scripts of the tests share: where the repository is, what is wrong, the words of a script, how it ends, and what is waited for."""
+"""What the scripts of the tests share: paths, arguments, exit statuses, waiting, and ports."""
 import argparse
 import os
 import pathlib
@@ -10,31 +10,37 @@ import time
 
 TOP = pathlib.Path(__file__).resolve().parent.parent.parent
 PROGRAM = f"{TOP}/crates/bayeuxd/out/bayeuxd"
-# The status by which a script says that it cannot be tried.
+# The exit status of a script that cannot run on this machine.
 NOT_TRIED = 77
-# What takes away the line that a terminal shows.
+# Clears the current line of a terminal.
 CLEARED = "\r\x1b[K"
-# How long anything that must become so is waited for, in seconds.
+# How long `until` waits, in seconds.
 PATIENCE = 25
 
 
 class Wrong(Exception):
-    """Something is not as it must be."""
+    """A check failed. The message says what is wrong."""
 
 
 class Words(argparse.ArgumentParser):
-    """The words of a script, whose head says what it does, and may say how it is called."""
+    """An argument parser for a script. Its description is `head`, the docstring of the script.
+
+    If `head` has a line that begins with "usage: ", the parser adds no usage line of its own.
+    """
 
     def __init__(self, head):
         usage = argparse.SUPPRESS if "\nusage: " in head else None
         super().__init__(description=head, formatter_class=argparse.RawDescriptionHelpFormatter, usage=usage)
 
     def add_daemon(self):
-        """Takes the path of a daemon as a word."""
-        self.add_argument("program", nargs="?", default=PROGRAM, help="the daemon; by default what scripts/build made")
+        """Adds the optional argument `program`: the path of a daemon."""
+        self.add_argument("program", nargs="?", default=PROGRAM, help="test this bayeuxd (by default the one that scripts/build made)")
 
     def read(self):
-        """Returns the words, of which one names a daemon; ends the script as by a wrong word where it is not there."""
+        """Returns the parsed arguments.
+
+        Exits with status 2 if an argument is not valid, or if `program` is not an executable file.
+        """
         options = self.parse_args()
         if not os.access(options.program, os.X_OK):
             self.error(f"no program: {options.program}; scripts/build bayeuxd makes it")
@@ -42,14 +48,21 @@ class Words(argparse.ArgumentParser):
 
 
 def check_tried(name, *programs):
-    """Ends the script of this name where a program is not there, or the machine has no loopback."""
+    """Exits with status 77 if one of `programs` cannot be executed, or the machine has no loopback.
+
+    `name`: the path of the script, for the message.
+    """
     if not (all(os.access(it, os.X_OK) for it in programs) and has_loopback()):
         print(f"{name}: nothing is tried, since there is no program {' or '.join(programs)}, or no loopback", file=sys.stderr)
         sys.exit(NOT_TRIED)
 
 
 def finish(main):
-    """Ends the script with the status of main: with 130 where it is interrupted, and with 143 where it is terminated, once all is cleaned up."""
+    """Calls `main` and exits with the status that it returns.
+
+    The status is 130 after SIGINT and 143 after SIGTERM. Both raise an exception in `main`, so that
+    its `finally` blocks run.
+    """
     signal.signal(signal.SIGTERM, lambda *_: sys.exit(143))
     try:
         sys.exit(main())
@@ -58,18 +71,26 @@ def finish(main):
 
 
 def judged(name, look):
-    """Returns the status: 1 where what is looked at is wrong, which is told behind the script's name."""
+    """Calls `look` and returns a status: 0, or 1 if it raises `Wrong` or a subprocess times out.
+
+    Prints the error to standard error, after `name`, the path of the script.
+    """
     try:
         look()
         return 0
     except (Wrong, subprocess.TimeoutExpired) as wrong:
-        # (Where a line says how far it is, this takes its place.)
+        # Replace the line of progress, if there is one.
         print(f"{CLEARED if sys.stderr.isatty() else ''}{name}: {wrong}", file=sys.stderr)
         return 1
 
 
 def counted(name, what, found):
-    """Prints what is wrong of each thing that was found, and how many were right, behind the script's name; returns the status."""
+    """Prints the errors in `found` and how many of its items are right, and returns the status.
+
+    Each item of `found` is a list of lines, empty if nothing is wrong. The lines go to standard
+    error. The count goes to standard output, after `name`, the path of the script. `what`: a noun
+    for the items. The status is 1 if an item is not empty, otherwise 0.
+    """
     count = wrong = 0
     for said in found:
         count, wrong = count + 1, wrong + bool(said)
@@ -79,7 +100,10 @@ def counted(name, what, found):
 
 
 def until(what, is_so):
-    """Waits until it is so, and returns what it found; raises with these words where it does not become so."""
+    """Waits until `is_so()` returns a true value, and returns that value.
+
+    Raises `Wrong` after `PATIENCE` seconds. `what`: the condition in words, for the message.
+    """
     last = time.monotonic() + PATIENCE
     while True:
         found = is_so()
@@ -91,7 +115,7 @@ def until(what, is_so):
 
 
 def has_loopback():
-    """Returns whether this machine has a loopback."""
+    """Returns `True` if a connection to 127.0.0.1 can be made."""
     try:
         with socket.create_server(("127.0.0.1", 0)) as listener, socket.create_connection(listener.getsockname()):
             return True
@@ -100,20 +124,20 @@ def has_loopback():
 
 
 def free_port():
-    """Returns a port of loopback that nobody listens on."""
+    """Returns a port of 127.0.0.1 on which no process listens."""
     with socket.socket() as it:
         it.bind(("127.0.0.1", 0))
         return it.getsockname()[1]
 
 
 def can_connect(port):
-    """Returns whether somebody listens on a port of loopback."""
+    """Returns `True` if a process listens on `port` of 127.0.0.1."""
     with socket.socket() as it:
         return it.connect_ex(("127.0.0.1", port)) == 0
 
 
 def end(process):
-    """Ends a process that was started here."""
+    """Terminates `process`, and kills it if it is still running after 10 seconds."""
     if process.poll() is None:
         process.terminate()
         try:

@@ -1,4 +1,4 @@
-"""A daemon of one's own on loopback, one connection to it, and a line of progress on a terminal."""
+"""A daemon on a free port of loopback, a connection to it, and a line of progress."""
 import json
 import os
 import re
@@ -11,36 +11,46 @@ import time
 
 from base import CLEARED, Wrong, judged, until
 
-# For how long an answer is waited for before the daemon is said to hang, in seconds.
+# How long a connection waits for the daemon before a check fails, in seconds.
 PATIENCE = 20.0
-# No byte of it stands twice, so that one which is read elsewhere shows.
+# The seed of the daemons. No two bytes are equal, so that a byte read at a wrong place is noticed.
 SEED = bytes(range(1, 33)).hex()
 CONNECT = b'[{"channel":"/meta/connect","connectionType":"long-polling","clientId":"%s"}]'
 HANDSHAKE = {"channel": "/meta/handshake", "version": "1.0", "supportedConnectionTypes": ["long-polling"]}
 
 
 class Ended(Wrong):
-    """The connection ended before the answer did."""
+    """The connection ended before the response was complete."""
 
 
 class Daemon:
-    """A running daemon, with the times in milliseconds and the further words that it was started with."""
+    """A running bayeuxd that was started with positional arguments.
+
+    `timeout` and `max_interval`: milliseconds. `further`: the optional arguments at the end,
+    options and limit.
+    """
 
     def __init__(self, program, timeout, max_interval, *further, shards=4):
         self.begin([program, "127.0.0.1:0", str(shards), str(timeout), "0", str(max_interval), SEED, "0", *further])
 
     def begin(self, words, **streams):
-        """Starts the process, and waits until it listens."""
+        """Starts the command line `words`, and waits until the daemon listens.
+
+        `streams`: keyword arguments of `Popen`. Raises `Wrong` if the daemon does not listen.
+        """
         self.start(words, **streams)
         self.wait()
 
     def start(self, words, **streams):
-        """Starts the process."""
+        """Starts the command line `words`. Standard error goes to a temporary file."""
         self.errors = tempfile.TemporaryFile()
         self.process = subprocess.Popen(words, stdout=subprocess.PIPE, stderr=self.errors, start_new_session=True, **streams)
 
     def wait(self):
-        """Waits until it listens."""
+        """Waits for the first line of standard output, and reads the address from it.
+
+        Raises `Wrong` if this line does not say that the daemon listens.
+        """
         line = self.process.stdout.readline().decode()
         if not line.startswith("listening "):
             raise Wrong(f"it does not listen: {line!r} {self.told()!r}")
@@ -48,44 +58,47 @@ class Daemon:
         self.address = (host.strip("[]"), int(port))
 
     def told_address(self, before):
-        """Returns the address that stands behind this text in what it said."""
+        """Returns the host and port that follow `before` at the end of a log line.
+
+        Raises `Wrong` if there is no such line.
+        """
         found = re.search(f"{before}(\\S+):([0-9]+)$", self.told().decode(), re.MULTILINE)
         if not found:
             raise Wrong(f"no line with {before!r}: {self.told()!r}")
         return (found.group(1).strip("[]"), int(found.group(2)))
 
     def readers_address(self):
-        """Returns the address of the readers' door, once it is told."""
+        """Waits until the log has the address of the readers' listener, and returns it."""
         until("a line that tells where readers come", lambda: re.search(rb"readers at \S+\n", self.told()))
         return self.told_address("readers at ")
 
     def told(self):
-        """Returns what it wrote to standard error."""
+        """Returns the last 2,000 bytes that the daemon wrote to standard error."""
         self.errors.seek(0)
         return self.errors.read()[-2000:]
 
     def check_alive(self):
-        """Raises where the process is gone."""
+        """Raises `Wrong` if the process has ended."""
         if self.process.poll() is not None:
             raise Wrong(f"the daemon ended with status {self.process.returncode}: {self.told()!r}")
 
     def kilobytes(self):
-        """Returns its memory."""
+        """Returns the resident memory of the process, in units of 1,024 bytes."""
         with open(f"/proc/{self.process.pid}/status", encoding="ascii") as text:
             return int(next(line for line in text if line.startswith("VmRSS")).split()[1])
 
     def descriptors(self):
-        """Returns how many files it has open."""
+        """Returns how many file descriptors the process has open."""
         return len(os.listdir(f"/proc/{self.process.pid}/fd"))
 
     def processor_seconds(self):
-        """Returns the processor time that it took."""
+        """Returns the processor time that the process has used so far, in seconds."""
         with open(f"/proc/{self.process.pid}/stat", encoding="ascii") as text:
             words = text.read().rpartition(")")[2].split()
         return (int(words[11]) + int(words[12])) / os.sysconf("SC_CLK_TCK")
 
     def end(self):
-        """Ends the process."""
+        """Terminates the process, and kills it if it is still running after 5 seconds."""
         if self.process.poll() is None:
             self.process.send_signal(signal.SIGTERM)
             try:
@@ -98,7 +111,7 @@ class Daemon:
 
 
 class Response:
-    """A response that came whole."""
+    """A complete HTTP response. `fields` has the header fields by their names in lower case."""
 
     def __init__(self, head, body):
         lines = head.split(b"\r\n")
@@ -107,14 +120,17 @@ class Response:
         self.body = body
 
     def items(self):
-        """Returns the array that a response of JSON carries."""
+        """Returns the array in the JSON body. Raises `Wrong` if the status is not 200."""
         if self.status != 200:
             raise Wrong(f"status {self.status} in place of items: {self.body[:200]!r}")
         return json.loads(self.body)
 
 
 class Connection:
-    """A connection to a daemon."""
+    """A connection to a daemon.
+
+    `patience`: how long a send or a read may take, in seconds. After that it raises `Wrong`.
+    """
 
     def __init__(self, address, patience=PATIENCE):
         self.socket = socket.create_connection(address, timeout=patience)
@@ -128,7 +144,7 @@ class Connection:
         self.socket.close()
 
     def send(self, data):
-        """Sends all of it."""
+        """Sends all of `data`. Raises `Ended` if the daemon has ended the connection."""
         try:
             self.socket.sendall(data)
         except socket.timeout as error:
@@ -137,7 +153,7 @@ class Connection:
             raise Ended(f"ended while it was sent to: {error}") from error
 
     def fill(self):
-        """Reads what comes next; false at the end."""
+        """Appends the next bytes to `input`. Returns `False` if the connection has ended."""
         try:
             data = self.socket.recv(1 << 16)
         except socket.timeout as error:
@@ -148,7 +164,11 @@ class Connection:
         return bool(data)
 
     def response(self):
-        """Returns the next response."""
+        """Returns the next response.
+
+        Raises `Ended` if the connection ends first, and `Wrong` if the response does not state its
+        length. Only a 405 may omit it.
+        """
         while b"\r\n\r\n" not in self.input:
             if not self.fill():
                 raise Ended(f"ended before a head was whole: {self.input[:200]!r}")
@@ -165,7 +185,7 @@ class Connection:
         return response
 
     def rest(self):
-        """Returns all responses until the end."""
+        """Reads until the daemon ends the connection, and returns all responses."""
         while self.fill():
             pass
         found = []
@@ -174,7 +194,10 @@ class Connection:
         return found
 
     def ask(self, messages):
-        """Posts these messages, and returns the items of the answer."""
+        """Posts `messages`, and returns the items of the response.
+
+        Raises `Wrong` if the status is not 200.
+        """
         self.send(post(json.dumps(messages).encode()))
         response = self.response()
         if response.status != 200:
@@ -183,29 +206,35 @@ class Connection:
 
 
 def post(body, kind=b"application/json", path=b"/cometd"):
-    """Returns a POST of this body."""
+    """Returns a POST of `body` to `path`. `kind`: its content type."""
     return b"POST %s HTTP/1.1\r\nhost: h\r\ncontent-type: %s\r\ncontent-length: %d\r\n\r\n" % (path, kind, len(body)) + body
 
 
 def get(query, path=b"/cometd"):
-    """Returns a GET of this path and what stands behind it."""
+    """Returns a GET of `path` followed by `query`, which begins with `?` if it is not empty."""
     return b"GET %s%s HTTP/1.1\r\nhost: h\r\n\r\n" % (path, query)
 
 
 def succeed(items, count):
-    """Raises where these are not so many successful replies."""
+    """Returns `items`. Raises `Wrong` if they are not `count` successful replies."""
     if len(items) != count or not all(item.get("successful") for item in items):
         raise Wrong(f"not {count} successful replies: {items}")
     return items
 
 
 def opened(connection, **further):
-    """Opens a session by a handshake, to which these members may be added, and returns the member that names it."""
+    """Opens a session by a handshake, and returns a dictionary with its client id only.
+
+    `further`: more members of the handshake. Add the dictionary to each message of the session.
+    """
     return {"clientId": succeed(connection.ask([{**HANDSHAKE, **further}]), 1)[0]["clientId"]}
 
 
 def held(address, channel):
-    """Returns a connection whose session has a connect that is held, and hears this channel."""
+    """Returns a connection whose connect is held. Its session is subscribed to `channel`.
+
+    Does not wait until the daemon holds the connect.
+    """
     connection = Connection(address)
     mine = opened(connection)
     succeed(connection.ask([{"channel": "/meta/subscribe", "subscription": channel, **mine}]), 1)
@@ -214,7 +243,10 @@ def held(address, channel):
 
 
 def serve_right(address, channel):
-    """Raises where a client that does all right is not served as ever."""
+    """Checks that the daemon serves a well-behaved client, which publishes to `channel`.
+
+    The client subscribes, publishes, gets its event, and disconnects. Raises `Wrong` otherwise.
+    """
     with Connection(address) as connection:
         mine = opened(connection)
         succeed(connection.ask([{"channel": "/meta/subscribe", "subscription": channel, **mine}]), 1)
@@ -228,7 +260,10 @@ def serve_right(address, channel):
 
 
 def looked_at(name, daemon, look):
-    """Has a daemon looked at, ends it, and returns the status; what is wrong is told behind the script's name."""
+    """Calls `look` with `daemon`, ends the daemon, and returns the status as `judged` does.
+
+    `name`: the path of the script, for messages.
+    """
     try:
         return judged(name, lambda: look(daemon))
     finally:
@@ -236,23 +271,23 @@ def looked_at(name, daemon, look):
 
 
 class Progress:
-    """One line on what is done, on a terminal alone."""
+    """A line of progress on standard error. Nothing is shown if that is not a terminal."""
 
     def __init__(self):
         self.start = time.monotonic()
         self.last = 0.0
 
     def seconds(self):
-        """Returns for how long it has run."""
+        """Returns the time since this object was created, in seconds."""
         return time.monotonic() - self.start
 
     def show(self, text):
-        """Shows the text, at most five times a second."""
+        """Shows `text`, at most five times a second."""
         if sys.stderr.isatty() and self.seconds() - self.last > 0.2:
             self.last = self.seconds()
             print(f"\r{self.last:5.0f} s  {text}\x1b[K", end="", file=sys.stderr, flush=True)
 
     def clear(self):
-        """Takes the line away."""
+        """Clears the line."""
         if sys.stderr.isatty():
             print(CLEARED, end="", file=sys.stderr, flush=True)

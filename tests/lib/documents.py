@@ -1,4 +1,7 @@
-"""Documents, right and broken, and what a daemon has to answer to them, as Python's own JSON reads them."""
+"""Random requests, right and wrong, and checks of the responses to them.
+
+Whether a document is valid JSON is decided by Python's own parser.
+"""
 import json
 import re
 import urllib.parse
@@ -9,7 +12,8 @@ from daemon import post
 DEPTH = 127
 MESSAGES = 256
 LIMIT = 1 << 20
-# A longer line of a request is refused by the library that reads heads, with status 414.
+# The most bytes of a query. The library that reads heads rejects request lines that are longer
+# than some 64 KiB, with status 414.
 HEAD = 60000
 ERROR = re.compile(r"[0-9]{3}::.+")
 NAME = re.compile(r"[A-Za-z0-9_$.\-\[\]]{1,256}")
@@ -27,29 +31,36 @@ TOKENS = [
 
 
 class Refused(Exception):
-    """The document is none."""
+    """The document is not valid."""
 
 
 def number(text, kind):
-    """Returns a number as the daemon reads it, which takes none past the range of a double."""
+    """Converts `text` with `kind`, which is `int` or `float`.
+
+    Raises `Refused` if the number is outside the range of a double, as the daemon does.
+    """
     if float(text) in (float("inf"), float("-inf")):
         raise Refused(text[:20])
     return kind(text)
 
 
 def refuse(text):
-    """Refuses what JSON does not have."""
+    """Raises `Refused`: `text` is a constant that Python reads and JSON does not have."""
     raise Refused(text)
 
 
 def members(pairs):
-    """Returns an object of these members, each of whose texts has to be one of Unicode, also where a later one hides it."""
+    """Returns the object with the members `pairs`.
+
+    Raises `UnicodeEncodeError` if a string is not valid Unicode. This includes strings of members
+    that a later member of the same name replaces.
+    """
     json.dumps(pairs, ensure_ascii=False).encode("utf-8")
     return dict(pairs)
 
 
 def depth(text):
-    """Returns how deep the brackets of a text of JSON are nested."""
+    """Returns how many levels of brackets the JSON text `text` has."""
     now = most = 0
     for found in re.finditer(r'"(?:[^"\\]|\\.)*"|[\[{]|[\]}]', text, re.DOTALL):
         now += {"[": 1, "{": 1, "]": -1, "}": -1}.get(found[0], 0)
@@ -58,7 +69,7 @@ def depth(text):
 
 
 def messages_of(body):
-    """Returns the messages of a document; none where it is refused."""
+    """Returns the messages of the document `body`, or `None` if the daemon must reject it."""
     try:
         text = body.decode("utf-8")
         kinds = {"parse_float": lambda it: number(it, float), "parse_int": lambda it: number(it, int)}
@@ -75,7 +86,10 @@ def messages_of(body):
 
 
 def joined(bodies):
-    """Returns the messages of all documents; none where one is refused, or they are too many."""
+    """Returns the messages of all documents in `bodies`, in order.
+
+    Returns `None` if one document is not valid, or if there are too many messages.
+    """
     found = [messages_of(body) for body in bodies]
     if None in found or sum(len(it) for it in found) > MESSAGES:
         return None
@@ -83,7 +97,7 @@ def joined(bodies):
 
 
 def check_reply(message, reply):
-    """Raises where this is no reply to the message."""
+    """Raises `Wrong` if `reply` is not a valid reply to `message`."""
     wanted = message.get("id")
     is_repeated = isinstance(wanted, (str, int, float)) and not isinstance(wanted, bool)
     if reply["channel"] != message["channel"] or ("id" in reply) != is_repeated or (is_repeated and reply["id"] != wanted):
@@ -96,7 +110,10 @@ def check_reply(message, reply):
 
 
 def check_items(messages, items):
-    """Raises where these are not the replies to the messages, in order, with events between them."""
+    """Raises `Wrong` if `items` are not the replies to `messages` in order.
+
+    There may be events between the replies.
+    """
     replies = [item for item in items if "successful" in item]
     if len(replies) != len(messages):
         raise Wrong(f"{len(replies)} replies to {len(messages)} messages")
@@ -108,7 +125,7 @@ def check_items(messages, items):
 
 
 def check_status(response, wanted):
-    """Raises where the status is another one, or a refusal has a body."""
+    """Raises `Wrong` if the status is not `wanted`, or if an error response has a body."""
     if response.status != wanted:
         raise Wrong(f"status {response.status} and not {wanted}")
     if wanted != 200 and response.body:
@@ -116,7 +133,10 @@ def check_status(response, wanted):
 
 
 def check_post(messages, response):
-    """Raises where this is not the response to a POST of these messages."""
+    """Raises `Wrong` if `response` is not the right response to a POST of `messages`.
+
+    `messages` is `None` if the request is not valid.
+    """
     check_status(response, 400 if messages is None else 200)
     if messages is not None:
         if response.fields[b"content-type"] != b"application/json;charset=UTF-8":
@@ -125,7 +145,11 @@ def check_post(messages, response):
 
 
 def check_call(name, messages, response):
-    """Raises where this is not the call of the callback with the answers to these messages."""
+    """Raises `Wrong` if `response` does not call the callback `name` with the answer to `messages`.
+
+    `messages` is `None` if a document is not valid. The status must then be 400, and also if `name`
+    is not valid.
+    """
     is_taken = messages is not None and NAME.fullmatch(name)
     check_status(response, 200 if is_taken else 400)
     if is_taken:
@@ -137,7 +161,10 @@ def check_call(name, messages, response):
 
 
 def message(random, clients, wrong=0.2):
-    """Returns a message, of which with this probability a member is replaced by any value."""
+    """Returns a random message of one of `clients`.
+
+    With probability `wrong`, one member gets an arbitrary value.
+    """
     channel = random.choice(CHANNELS[: random.choice((5, 9, len(CHANNELS)))])
     made = {"channel": channel, "clientId": random.choice(clients)}
     if channel == "/meta/handshake":
@@ -158,13 +185,13 @@ def message(random, clients, wrong=0.2):
 
 
 def nested(random, levels):
-    """Returns a text of JSON that is nested so deep."""
+    """Returns a JSON text of arrays and objects with `levels` levels."""
     kinds = [random.random() < random.choice((0.0, 0.5, 1.0)) for _ in range(levels)]
     return "".join('{"a":' if it else "[" for it in kinds) + "1" + "".join("}" if it else "]" for it in reversed(kinds))
 
 
 def document(random, clients):
-    """Returns a document that is mostly right."""
+    """Returns a random document, which is mostly valid. `clients`: client ids."""
     count = random.choice((0, 1, 1, 1, 1, 2, 3, 5, 9))
     if random.random() < 0.005:
         count = random.choice((64, 256, 257))
@@ -174,7 +201,7 @@ def document(random, clients):
 
 
 def broken(random, body):
-    """Returns the document with a few bytes changed, some of them to what means something to JSON."""
+    """Returns `body` with some bytes changed, removed, or added. Many of them are JSON tokens."""
     made = bytearray(body)
     for _ in range(random.choice((1, 1, 1, 2, 3, 8))):
         at, end = sorted((random.randrange(len(made) + 1), random.randrange(len(made) + 1)))
@@ -197,18 +224,24 @@ def broken(random, body):
 
 
 def some(random, clients):
-    """Returns a document, right or broken."""
+    """Returns a random document. Most have random changes."""
     body = document(random, clients)
     return broken(random, body) if random.random() < 0.7 else body
 
 
 def escaped(random, text):
-    """Returns the bytes of a parameter, of which some are written as they are."""
+    """Returns `text` with percent-encoding.
+
+    Brackets, colons, commas and slashes sometimes stay as they are.
+    """
     return urllib.parse.quote_from_bytes(text, safe=random.choice(("", "[]:,/"))).encode()
 
 
 def parameters(random, clients):
-    """Returns a query of documents, with the name of a callback in it or none."""
+    """Returns a random query.
+
+    It has up to three documents, often the name of a callback, and sometimes other parameters.
+    """
     words = []
     for _ in range(random.choice((0, 1, 1, 1, 2, 3))):
         words.append(b"message=" + escaped(random, some(random, clients)))
@@ -221,7 +254,10 @@ def parameters(random, clients):
 
 
 def read_parameters(query):
-    """Returns the name of the callback and the documents that a query says."""
+    """Returns the name of the callback and the messages of `query`.
+
+    The messages are `None` if there is no document, or if one is not valid.
+    """
     pairs = urllib.parse.parse_qsl(query.decode(), keep_blank_values=True, errors="replace")
     names = [value for name, value in pairs if name == "jsonp"]
     bodies = [value.encode() for name, value in pairs if name == "message"]
@@ -229,7 +265,7 @@ def read_parameters(query):
 
 
 def post_case(random, clients):
-    """Returns a POST of JSON and what checks its response."""
+    """Returns a POST of a random JSON document, and a function that checks the response."""
     body = some(random, clients)
     messages = messages_of(body)
     kind = random.choice((b"application/json", b"application/json;charset=UTF-8", b"text/plain", b"", b"\xff"))
@@ -237,7 +273,7 @@ def post_case(random, clients):
 
 
 def form_case(random, clients):
-    """Returns a POST of a form and what checks its response."""
+    """Returns a POST of a random form, and a function that checks the response."""
     body = parameters(random, clients)
     _, messages = read_parameters(body)
     kind = random.choice((b"application/x-www-form-urlencoded", b"Application/X-WWW-form-urlencoded ; charset=UTF-8"))
@@ -245,7 +281,10 @@ def form_case(random, clients):
 
 
 def get_case(random, clients):
-    """Returns a GET, of a length that a head may have, and what checks its response."""
+    """Returns a GET with a random query, and a function that checks the response.
+
+    The query has at most `HEAD` bytes.
+    """
     query = parameters(random, clients)
     while len(query) > HEAD:
         query = parameters(random, clients)
@@ -254,7 +293,7 @@ def get_case(random, clients):
 
 
 def nested_case(random, _clients):
-    """Returns a POST of data that is nested deep, and what checks its response."""
+    """Returns a POST of deeply nested data, and a function that checks the response."""
     levels = random.choice((1, 2, 100, 123, 124, 125, 126, 127, 128, 129, 500, 20000))
     body = b'[{"channel":"/a/b","clientId":"x","data":%s}]' % nested(random, levels).encode()
     body = body[: -random.choice((0, 0, 0, 1, 2, levels)) or None]
@@ -263,7 +302,10 @@ def nested_case(random, _clients):
 
 
 def route_case(random, _clients):
-    """Returns a request of any path and method, and what checks its response."""
+    """Returns a request with a random path and method, and a function that checks the response.
+
+    The request has no body.
+    """
     method = random.choice((b"GET", b"POST", b"PUT", b"DELETE", b"OPTIONS", b"PATCH", b"FOO", b"get", b"TRACE"))
     path = random.choice((b"/cometd", b"/cometd/x", b"/", b"/cometdx", b"/COMETD", b"/comet%64", b"//cometd", b"/cometd/../x", b"/x?cometd"))
     is_served = path == b"/cometd" or path.startswith(b"/cometd/")

@@ -1,4 +1,4 @@
-"""Streams of bytes that are no right HTTP, or right HTTP that comes in a way that few clients have."""
+"""Byte streams that are not valid HTTP, or valid HTTP that arrives in an unusual way."""
 import select
 import socket
 import struct
@@ -8,7 +8,7 @@ from base import Wrong
 from daemon import Connection, Ended, post
 from documents import LIMIT, check_post, check_status, document, messages_of
 
-# What may be answered to bytes of any kind.
+# The statuses that a response to arbitrary bytes may have.
 STATUSES = {200, 400, 404, 405, 413, 414, 431, 501}
 HEADS = [
     *(b"GET", b"GET /", b"GET / HTTP/1.1", b"GET / HTTP/1.1\r\n", b"GET / HTTP/1.1\r\nhost: h\r\n", b"POST /cometd HTTP/9.9\r\n\r\n"),
@@ -27,7 +27,7 @@ LENGTHS = [b"0", b"00", b"1", b"-1", b"fffffffffffffffff", b"ffffffffffffffff", 
 
 
 def chunks(random, body, sizes):
-    """Returns the body in chunks of these sizes, without the last one, which is empty."""
+    """Returns `body` in chunks of random `sizes`, without the empty chunk that ends them."""
     made = []
     while body:
         size = random.choice(sizes)
@@ -37,18 +37,21 @@ def chunks(random, body, sizes):
 
 
 def chunked(random, body):
-    """Returns the body in chunks, some of them small."""
+    """Returns all chunks of `body`, in random sizes, sometimes with a trailer."""
     tail = random.choice((b"", b"", b"a: b\r\n"))
     return chunks(random, body, (1, 2, 7, 100, 4096, 1 << 20)) + b"0\r\n" + tail + b"\r\n"
 
 
 def post_chunked(body):
-    """Returns a POST of a body that is already in chunks."""
+    """Returns a POST of `body`, which is already in chunks."""
     return b"POST /cometd HTTP/1.1\r\nhost: h\r\ncontent-type: application/json\r\ntransfer-encoding: chunked\r\n\r\n" + body
 
 
 def lying_chunks(random, clients):
-    """Returns a POST whose chunks are not what their lines say."""
+    """Returns a POST in chunks with one change at a line end.
+
+    Some bytes are replaced, removed or inserted there, or the rest is missing.
+    """
     made = bytearray(chunked(random, document(random, clients)))
     lines = [at for at in range(len(made) - 1) if made[at : at + 2] == b"\r\n"]
     at = random.choice(lines)
@@ -65,7 +68,7 @@ def lying_chunks(random, clients):
 
 
 def lying_length(random, clients):
-    """Returns a POST whose body is longer or shorter than it says."""
+    """Returns a POST with a body that is longer or shorter than its `content-length`."""
     body = document(random, clients)
     length = max(0, len(body) + random.choice((-len(body), -9, -1, 1, 9, 1000)))
     head = b"POST /cometd HTTP/1.1\r\nhost: h\r\ncontent-type: application/json\r\ncontent-length: %d\r\n\r\n"
@@ -73,7 +76,7 @@ def lying_length(random, clients):
 
 
 def changed_head(random, clients):
-    """Returns a right POST with some bytes of it changed."""
+    """Returns a valid POST with a few changes in its first 90 bytes."""
     made = bytearray(post(document(random, clients)))
     for _ in range(random.choice((1, 1, 2, 5))):
         at = random.randrange(min(len(made), 90))
@@ -82,7 +85,7 @@ def changed_head(random, clients):
 
 
 def stream(random, clients):
-    """Returns some bytes that are no right HTTP, mostly."""
+    """Returns some bytes, which are mostly not valid HTTP."""
     way = random.randrange(6)
     if way == 0:
         return random.randbytes(random.choice((0, 1, 16, 200, 70000)))
@@ -94,7 +97,7 @@ def stream(random, clients):
 
 
 def cut(random, clients):
-    """Returns right requests that are cut at a random place."""
+    """Returns valid requests, cut off at a random byte."""
     made = b""
     for _ in range(random.choice((1, 1, 2, 5))):
         body = document(random, clients)
@@ -103,7 +106,11 @@ def cut(random, clients):
 
 
 def end(random, address, data):
-    """Sends the bytes on a connection of their own, ends it in one of three ways, and checks what is answered where that is seen."""
+    """Sends `data` on a new connection, and ends the connection in one of three ways.
+
+    It shuts down the sending side only, closes the socket, or resets the connection. In the first
+    case it reads the responses, and raises `Wrong` if one has an unexpected status.
+    """
     way = random.choice(("half", "half", "close", "reset"))
     with Connection(address) as connection:
         try:
@@ -121,7 +128,10 @@ def end(random, address, data):
 
 
 def check_large(random, address, _daemon):
-    """Posts a body at the limit, just below or above it; returns how many requests that were."""
+    """Posts a body of about the largest allowed size, and checks the response.
+
+    Returns 1, the number of requests.
+    """
     body = b'[{"channel":"/a/b","clientId":"x","data":1}]'
     size = LIMIT + random.choice((-1, 0, 0, 1, 1, 5000, 1 << 20))
     at = random.choice((0, len(body)))
@@ -142,7 +152,10 @@ def check_large(random, address, _daemon):
 
 
 def check_slow(random, address, _daemon):
-    """Sends a few requests in small pieces, all at once; returns how many they were."""
+    """Sends 20 requests in small pieces, on 20 connections at the same time.
+
+    Checks the responses, and returns the number of requests.
+    """
     left, cases = {}, []
     for _ in range(20):
         body = document(random, ["x"])
@@ -169,7 +182,11 @@ def check_slow(random, address, _daemon):
 
 
 def check_unread(random, address, daemon):
-    """Sends requests whose responses nobody reads, for as long as they are taken; they count as one."""
+    """Sends requests and reads no response, until the daemon stops reading or has read 64 MiB.
+
+    Raises `Wrong` if the daemon's memory grows by more than 64 MiB. Returns 1: all of it counts as
+    one request.
+    """
     request = post(b"[%s]" % b",".join([b'{"channel":"/meta/x"}'] * 64))
     before, sent, idle = daemon.kilobytes(), 0, 0
     with Connection(address) as connection:

@@ -8,7 +8,7 @@ use serve::serve;
 use std::process::ExitCode;
 use std::{env, io};
 
-/// Usage text, printed if the arguments are wrong.
+/// Usage text, printed if the arguments are not valid.
 const USAGE: &str = "usage: bare_hyper address connections";
 
 fn main(rt: HostRuntime) -> ExitCode {
@@ -29,7 +29,7 @@ fn main(rt: HostRuntime) -> ExitCode {
     }
 }
 
-// Returns the command-line arguments.
+// Returns the command-line arguments, without the program's name.
 fn words(rt: &HostRuntime) -> io::Result<Vec<String>> {
     let mut words = Vec::new(rt.alloc());
     for word in env::args(rt)?.skip(1) {

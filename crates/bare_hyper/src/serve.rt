@@ -1,4 +1,4 @@
-//! Serves connections, each as a task of a runtime.
+//! Serves HTTP connections, each as a task of a runtime.
 use crate::answer::Bare;
 use bx_serve::{Connections, Maker, most_of};
 use bytes::Bytes;
@@ -60,13 +60,17 @@ impl Maker for BareServer {
     }
 }
 
-/// Serves with the arguments in `words`: an address and a number of connections, 0 for any.
+/// Serves with the arguments `words`: an address and a number of connections, or 0 for no limit.
 ///
-/// Prints the address once it listens. Returns `false` if `words` are wrong.
+/// Prints the address once it listens. Returns `false` if `words` are not valid.
 ///
 /// # Errors
 ///
 /// The error of a system call, or of memory that runs out.
+///
+/// # Blocking
+///
+/// Blocks until all connections have ended.
 pub fn serve<R, W>(rt: R, words: &[String], writer: &mut W) -> io::Result<bool>
 where
     R: Wait + Threads + Clock + RandomSource + AllocGlobal + Net + Sync + Send + Copy + Drop,
@@ -82,7 +86,7 @@ where
     Ok(true)
 }
 
-// Serves `count` connections, or any number if it is 0.
+// Serves `count` connections, or connections without a limit if it is 0.
 fn run<R, W>(rt: R, address: SocketAddr, count: u64, writer: &mut W) -> io::Result<()>
 where
     R: Wait + Threads + Clock + RandomSource + AllocGlobal + Net + Sync + Send + Copy + Drop,
@@ -100,7 +104,7 @@ fn told<W: Write>(listener: &TcpListener, writer: &mut W) -> io::Result<()> {
     writer.flush()
 }
 
-// Serves the connections of `listener`.
+// Serves `count` connections of `listener`, or connections without a limit if it is 0.
 fn serve_connections<R>(
     rt: R,
     runtime: &mut Runtime,

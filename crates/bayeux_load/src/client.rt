@@ -1,4 +1,4 @@
-//! A client of the server, on its own connection.
+//! A client of the server, with its own connection.
 use crate::context::Context;
 use crate::fault::Fault;
 use crate::link::Link;
@@ -12,7 +12,7 @@ use std::sync::atomic::Ordering;
 // Nanoseconds without a request after which a publisher sends a connect to keep its session.
 const QUIET: u64 = 5_000_000_000;
 
-/// What a client waits for.
+/// The response that a client waits for.
 #[derive(Clone, Copy)]
 enum Awaited {
     Handshake,
@@ -35,7 +35,7 @@ pub struct Client {
 }
 
 impl Client {
-    /// Creates a client that has sent nothing.
+    /// Creates a client that has sent no request.
     pub fn new(alloc: Global, link: Link, role: Role) -> Client {
         Client {
             link,
@@ -58,7 +58,7 @@ impl Client {
         self.ask(Awaited::Handshake, request, 0)
     }
 
-    /// Returns how many events did not arrive.
+    /// Returns the number of events that did not arrive.
     pub fn lost(&self) -> u64 {
         match &self.role {
             Role::Subscriber(session) => session.lost(),
@@ -66,7 +66,9 @@ impl Client {
         }
     }
 
-    /// Writes and reads as much as possible, and returns `true` if a response is complete.
+    /// Writes and reads as far as possible, and returns `true` if a response is complete.
+    ///
+    /// `buffer`: what to read through.
     ///
     /// # Errors
     ///
@@ -77,13 +79,15 @@ impl Client {
         Ok(self.link.body()?.is_some())
     }
 
-    /// Handles the response, if it is complete, and sends what comes next.
+    /// Handles the response, if it is complete, and sends the next request.
     ///
-    /// `now`: nanoseconds since the load started.
+    /// A publisher sends its next request in [`publish`](Self::publish). `now`: nanoseconds since
+    /// the load started.
     ///
     /// # Errors
     ///
-    /// `BadResponse`, `Refused`, `Memory`, or as [`Link::send`].
+    /// `BadResponse` if the response is not the expected one, `Refused` if the server rejected a
+    /// message, `Memory`, or as [`Link::send`].
     pub fn take(&mut self, context: &Context, tally: &mut Tally, now: u64) -> Result<(), Fault> {
         let Some(body) = self.link.body()? else {
             return Ok(());
@@ -99,7 +103,7 @@ impl Client {
         self.go_on(context, tally, items.as_slice(), now)
     }
 
-    // Records the events, and checks the reply.
+    // Records the events, and checks that the request was answered with success.
     fn take_items(
         &mut self,
         context: &Context,
@@ -136,7 +140,7 @@ impl Client {
         }
     }
 
-    // Sends what comes after the response.
+    // Sends the request that follows the response, if any.
     fn go_on(
         &mut self,
         context: &Context,
@@ -170,7 +174,7 @@ impl Client {
         }
     }
 
-    // Subscribes after the handshake, or marks a publisher as ready.
+    // Subscribes after the handshake. Marks a publisher as ready, which does not subscribe.
     fn subscribe(&mut self, context: &Context, tally: &mut Tally, now: u64) -> Result<(), Fault> {
         match &self.role {
             Role::Subscriber(Subscriber { channel, .. }) => {
@@ -199,10 +203,11 @@ impl Client {
         self.ask(Awaited::Connect, request, now)
     }
 
-    /// Sends the next event if this is a publisher that waits for nothing, and it is due.
+    /// Sends the next event if it is due and this is a publisher that waits for no response.
     ///
-    /// Otherwise sends a connect after 5 seconds without a request. `begun` and `now`: nanoseconds
-    /// since the load started.
+    /// If no event is due, such a publisher sends a connect after 5 seconds without a request.
+    /// `begun`, `now`: nanoseconds since the load started. `begun` is `None` until the publishers
+    /// start.
     ///
     /// # Errors
     ///
@@ -242,7 +247,7 @@ impl Client {
     }
 }
 
-// Returns the client id in the first item.
+// Returns the client id in the first of `items`.
 fn id_of(context: &Context, items: &[Value]) -> Result<String, Fault> {
     let Some(reply) = items.first() else {
         return Err(Fault::BadResponse);

@@ -1,4 +1,4 @@
-//! What all clients of a load share.
+//! The state that all threads of a load share.
 use crate::fault::Fault;
 use bx_load::LoadSettings;
 use std::alloc::Global;
@@ -6,7 +6,7 @@ use std::net::SocketAddr;
 use std::sync::atomic::{AtomicBool, AtomicU64, Ordering};
 use std::time::{Clock, Instant};
 
-/// What the clients of all threads share.
+/// The state that all threads of a load share.
 #[derive(Drop)]
 pub struct Context {
     /// The allocator.
@@ -15,24 +15,24 @@ pub struct Context {
     pub settings: LoadSettings,
     /// The address of the server.
     pub address: SocketAddr,
-    /// When the load started. Moments count from here.
+    /// When the load started. All other times count from here.
     pub start: Instant,
     /// Number of clients that are not ready yet.
     pub unready: AtomicU64,
     /// When the publishers started, in nanoseconds since `start`, or 0 before.
     pub begun: AtomicU64,
-    /// Number of publishes not answered yet, sent or not.
+    /// Number of publishes that are not answered yet, whether sent or not.
     pub unpublished: AtomicU64,
-    /// Number of events that arrived.
+    /// Number of events that arrived, with repetitions.
     pub delivered: AtomicU64,
-    /// Number of threads whose events have not all arrived.
+    /// Number of threads that have not received all their events.
     pub working: AtomicU64,
     /// Whether a thread failed.
     pub has_failed: AtomicBool,
 }
 
 impl Context {
-    /// Creates the context of a load that has not started.
+    /// Creates the context of a load that starts at `start`, with `threads` threads.
     pub fn new(
         alloc: Global,
         settings: LoadSettings,
@@ -60,7 +60,7 @@ impl Context {
     ///
     /// # Errors
     ///
-    /// A fault if the clock cannot be read.
+    /// The error of the clock, as a [`Fault`].
     pub fn now(&self, clock: &impl Clock) -> Result<u64, Fault> {
         let passed = self.start.elapsed(clock)?;
         Ok(u64::try_from(passed.as_nanos()).unwrap_or(u64::MAX))
@@ -68,7 +68,8 @@ impl Context {
 
     /// Returns when the publishers started, or `None` while a client is not ready.
     ///
-    /// The first call after that sets it to `now`. Both are in nanoseconds since the load started.
+    /// The first call for which all clients are ready sets this time to `now`. Both are in
+    /// nanoseconds since the load started.
     pub fn begun(&self, now: u64) -> Option<u64> {
         if self.unready.load(Ordering::SeqCst) > 0 {
             return None;

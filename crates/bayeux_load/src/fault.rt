@@ -1,4 +1,4 @@
-//! Why a load fails.
+//! The reasons why a load fails.
 use std::alloc::{AllocError, AllocFailed};
 use std::io;
 
@@ -7,24 +7,24 @@ use std::io;
 pub enum Fault {
     /// Memory ran out.
     Memory,
-    /// The server's name has no address, or it cannot be reached.
+    /// The host has no address, or cannot be reached.
     Unreachable,
     /// The server closed a connection.
     Ended,
-    /// A system call failed.
+    /// A system call failed for another reason.
     System,
-    /// A response was not status 200 with an array of replies and events.
+    /// A response was not an array of replies and events with status 200.
     BadResponse,
     /// The server rejected a message.
     Refused,
-    /// Nothing progressed for 30 seconds.
+    /// The load made no progress for 30 seconds.
     Silent,
     /// Another thread failed.
     Other,
 }
 
 impl Fault {
-    /// Returns the error text.
+    /// Returns the text of the error for the user.
     pub fn text(self) -> &'static str {
         match self {
             Fault::Memory => "out of memory",

@@ -1,4 +1,4 @@
-//! A keep-alive connection.
+//! A connection to the server, for one request after another.
 use crate::fault::Fault;
 use bx_load::{Response, read_response};
 use mio::net::TcpStream;
@@ -11,7 +11,7 @@ use std::net::{Net, SocketAddr};
 // The largest input buffer that is kept, in bytes.
 const KEPT: usize = 4096;
 
-/// A connection, with its unwritten output and its input.
+/// A connection, with the request to write and the response read so far.
 #[derive(Drop)]
 pub struct Link {
     socket: TcpStream,
@@ -21,7 +21,7 @@ pub struct Link {
 }
 
 impl Link {
-    /// Starts to connect, and registers the connection under `token`.
+    /// Starts to connect to `address`, and registers the connection under `token`.
     ///
     /// # Errors
     ///
@@ -48,7 +48,7 @@ impl Link {
         })
     }
 
-    /// Writes as much of `request` as possible. The previous one must be answered.
+    /// Writes `request` as far as possible. The previous request must be answered.
     ///
     /// # Errors
     ///
@@ -59,7 +59,7 @@ impl Link {
         self.flush()
     }
 
-    /// Writes as much as possible of the rest of the request.
+    /// Writes the rest of the request as far as possible.
     ///
     /// # Errors
     ///
@@ -80,7 +80,7 @@ impl Link {
         Ok(())
     }
 
-    /// Reads what is available.
+    /// Reads what is available, through `buffer`.
     ///
     /// # Errors
     ///
@@ -123,7 +123,7 @@ impl Link {
         }
     }
 
-    /// Drops the response.
+    /// Drops the response, and its memory if that exceeds 4 KiB.
     pub fn forget(&mut self, alloc: Global) {
         if self.input.capacity() > KEPT {
             self.input = Vec::new(alloc);

@@ -1,4 +1,4 @@
-//! Runs a load on several threads.
+//! A load on several threads.
 use crate::context::Context;
 use crate::fault::Fault;
 use crate::part::LoadPart;
@@ -12,18 +12,22 @@ use std::thread;
 use std::thread::{JoinHandle, Threads};
 use std::time::{Clock, Instant};
 
-// More threads gain nothing on the machine that is measured.
+// More threads did not increase the measured rate.
 const MOST_THREADS: u64 = 8;
 
 // A thread that runs a part.
 type Other = JoinHandle<Result<Tally, Fault>>;
 
-/// Loads the server, and shows a line of progress if `is_shown`.
+/// Loads the server and returns the results of all threads.
+///
+/// `is_shown`: whether to show a line of progress on standard error.
 ///
 /// # Errors
 ///
-/// `Unreachable` if the host has no address, `System` if the clock or a thread fails, `Memory`, or
-/// the fault of a part.
+/// - `Unreachable`: the host has no address.
+/// - `System`: the clock cannot be read, or a thread cannot be spawned.
+/// - `Memory`: memory ran out, at any step.
+/// - Otherwise the fault of the first part that failed.
 pub fn load<R>(rt: R, settings: LoadSettings, is_shown: bool) -> Result<Tally, Fault>
 where
     R: Net<Listener = TcpListener, Stream = TcpStream>
@@ -47,7 +51,7 @@ where
     }
 }
 
-// Creates what all clients share.
+// Creates what all threads share.
 fn context_of<R: Net + Clock + AllocGlobal>(
     rt: &R,
     settings: LoadSettings,
@@ -122,7 +126,7 @@ where
     }
 }
 
-// Adds the results of all parts, or returns why one failed.
+// Adds the results of all parts to `whole`, or returns why the first one failed.
 fn added<R: Threads>(
     rt: R,
     whole: &mut Tally,
@@ -139,7 +143,7 @@ where
     fault
 }
 
-// Adds the result of a part, or returns why it failed, unless that is because another part did.
+// Adds the result of a part to `whole`, or returns its fault, unless that is `Other`.
 fn add(whole: &mut Tally, part: Result<Tally, Fault>) -> Option<Fault> {
     match part {
         Ok(tally) => {
@@ -151,7 +155,7 @@ fn add(whole: &mut Tally, part: Result<Tally, Fault>) -> Option<Fault> {
     }
 }
 
-// Resolves the server's address.
+// Returns the first address of the host.
 fn address_of(net: &impl Net, target: &Target) -> Result<SocketAddr, Fault> {
     match target.host.as_str().to_socket_addrs(net) {
         Ok(mut addresses) => addresses.next().ok_or(Fault::Unreachable),
@@ -159,7 +163,7 @@ fn address_of(net: &impl Net, target: &Target) -> Result<SocketAddr, Fault> {
     }
 }
 
-// Returns half the number of processors, from 1 to 8: the server needs some too.
+// Returns half the number of processors, from 1 to 8. The server may need the other half.
 fn threads_for(rt: &impl Threads) -> u64 {
     match thread::available_parallelism(rt) {
         Ok(count) => (count.get() as u64 / 2).clamp(1, MOST_THREADS),

@@ -21,7 +21,7 @@ use std::io::IsTerminal;
 use std::process::ExitCode;
 use tally::Tally;
 
-/// Usage text, printed if the arguments are wrong.
+/// The text that is printed if the arguments are wrong.
 const USAGE: &str = "usage: bayeux_load url sessions channels publishers events [rate] [ack]";
 
 fn main(rt: HostRuntime) -> ExitCode {
@@ -50,7 +50,7 @@ fn settings(rt: &HostRuntime) -> Result<LoadSettings, SettingsFault> {
     LoadSettings::read(rt.alloc(), words.as_slice())
 }
 
-// Prints the report. Succeeds if every event arrived once and in order.
+// Prints the report. Returns success if every event arrived once and in order.
 fn reported(rt: &HostRuntime, tally: &Tally) -> ExitCode {
     let Ok(text) = report(rt.alloc(), tally) else {
         return failed(rt, Fault::Memory);
@@ -61,7 +61,7 @@ fn reported(rt: &HostRuntime, tally: &Tally) -> ExitCode {
     }
 }
 
-// Prints why the load failed.
+// Prints why the load failed, and returns failure.
 fn failed(rt: &HostRuntime, fault: Fault) -> ExitCode {
     let text = fault.text();
     let _ = eprintln!(rt; "bayeux_load: {text}");

@@ -1,4 +1,4 @@
-//! The part of a load that one thread runs.
+//! One thread's part of a load.
 use crate::client::Client;
 use crate::context::Context;
 use crate::fault::Fault;
@@ -11,36 +11,38 @@ use std::net::Net;
 use std::sync::atomic::Ordering;
 use std::time::{Clock, Duration};
 
-// The most clients of a thread that are being opened at a time.
+// The greatest number of clients that one thread opens at a time.
 const AT_ONCE: usize = 32;
 
-// Nanoseconds to wait for further events once all publishes are answered.
+// Nanoseconds without progress after which a load ends, once all publishes are answered.
 const PATIENCE: u64 = 5_000_000_000;
 
 // Nanoseconds without progress after which a load fails, while publishes are unanswered.
 const SILENCE: u64 = 30_000_000_000;
 
-/// The part of a load that one thread runs.
+/// One thread's part of a load: its clients and their results.
 #[derive(Drop)]
 pub struct LoadPart {
     clients: Vec<Client>,
-    // Number of sessions among them. They precede the publishers.
+    // Number of sessions among the clients. They precede the publishers.
     sessions: usize,
-    // The next client to open, by its number among all threads' clients, and the number of threads.
+    // The number of the next client to open, among those of all threads, and the number of threads.
     next: u64,
     threads: u64,
     // Number of events to receive.
     expected: u64,
     tally: Tally,
-    // The last progress of all threads, and when it changed.
+    // The last progress of all threads, and when it changed, in nanoseconds since the load started.
     progress: (u64, u64, u64),
     changed: u64,
-    // Whether all its events have arrived.
+    // Whether all events of this part have arrived.
     has_ended: bool,
 }
 
 impl LoadPart {
-    /// Creates part `index` of `threads`.
+    /// Creates part `index` of `threads`, which has no clients yet.
+    ///
+    /// `index`: counted from 0.
     ///
     /// # Errors
     ///
@@ -59,7 +61,7 @@ impl LoadPart {
         })
     }
 
-    /// Opens more clients, up to 32 at a time.
+    /// Opens more clients, so that at most 32 are not ready at a time.
     ///
     /// # Errors
     ///
@@ -101,14 +103,16 @@ impl LoadPart {
         }
     }
 
-    /// Returns how long to wait for connections at most.
+    /// Returns how long the thread may wait for its connections.
     pub fn pause(&self, context: &Context) -> Duration {
         let (unready, unpublished, _) = self.progress;
         let is_paced = unready == 0 && unpublished > 0 && context.settings.rate > 0;
         Duration::from_millis(if is_paced { 1 } else { 10 })
     }
 
-    /// Reads and writes for a client, and handles its response if it is complete.
+    /// Writes and reads for client `token`, and handles its response if it is complete.
+    ///
+    /// `buffer`: what to read through. Does nothing if the client does not exist.
     ///
     /// # Errors
     ///
@@ -150,9 +154,9 @@ impl LoadPart {
         Ok(())
     }
 
-    /// Returns `true` if every thread has all its events, or without progress for 5 seconds.
+    /// Returns `true` if every thread has all its events, or after 5 seconds without progress.
     ///
-    /// In both cases all publishes must be answered. `now`: nanoseconds since the load started.
+    /// Returns `false` while publishes are unanswered. `now`: nanoseconds since the load started.
     ///
     /// # Errors
     ///
@@ -182,7 +186,7 @@ impl LoadPart {
         Ok(context.working.load(Ordering::SeqCst) == 0 || quiet > PATIENCE)
     }
 
-    /// Returns the result of this part.
+    /// Converts this part into its results, which include the lost events.
     pub fn end(self) -> Tally {
         let mut tally = self.tally;
         for client in self.clients.iter() {

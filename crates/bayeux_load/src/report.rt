@@ -4,7 +4,7 @@ ghost use Rattle.std.specs.Prelude.{◌<◌, ◌≤◌};
 use crate::tally::Tally;
 use std::alloc::{AllocError, Global};
 
-/// Formats the results in four lines.
+/// Formats the results of a load as four lines.
 ///
 /// # Errors
 ///
@@ -41,7 +41,7 @@ fn rates(text: &mut String, tally: &Tally) -> Result<(), AllocError> {
     )
 }
 
-// Appends the latency that `percent` percent of the events do not exceed.
+// Appends the latency in milliseconds that `percent` percent of the events do not exceed.
 fn latency(text: &mut String, tally: &Tally, percent: u64) -> Result<(), AllocError>
     requires some { 0 < percent }
     requires within { percent ≤ 100 }
@@ -51,7 +51,7 @@ fn latency(text: &mut String, tally: &Tally, percent: u64) -> Result<(), AllocEr
     write!(text, " {percent} % {whole}.{part:03} ms")
 }
 
-// Returns `count` per second between two moments in nanoseconds.
+// Returns `count` per second. `begin` and `end`: in nanoseconds.
 fn rate(count: u64, begin: u64, end: u64) -> u64 {
     let took = end.saturating_sub(begin).max(1);
     u64::try_from(count as u128 * 1_000_000_000 / took as u128).unwrap_or(u64::MAX)

@@ -11,19 +11,19 @@ pub enum Role {
     Publisher(Publisher),
 }
 
-/// A session that receives the events of one channel.
+/// The role of a session that receives the events of one channel.
 #[derive(Drop)]
 pub struct Subscriber {
-    /// The number of its channel, from 0.
+    /// The number of its channel, counted from 0.
     pub channel: u32,
-    /// The batch that its next connect acknowledges.
+    /// The batch that its next connect acknowledges, if any.
     pub acknowledged: Option<u64>,
-    // One for each publisher of the channel.
+    // One element for each publisher of the channel.
     arrivals: Vec<Arrivals>,
 }
 
 impl Subscriber {
-    /// Creates session `number`, which has received nothing.
+    /// Creates the role of session `number`, which has received no events.
     ///
     /// # Errors
     ///
@@ -48,7 +48,7 @@ impl Subscriber {
         })
     }
 
-    /// Returns how many events it should receive.
+    /// Returns the number of events that the session should receive.
     pub fn expected(&self) -> u64 {
         let mut expected: u64 = 0;
         for arrivals in self.arrivals.iter() {
@@ -57,7 +57,7 @@ impl Subscriber {
         expected
     }
 
-    /// Returns how many events did not arrive.
+    /// Returns the number of events that did not arrive.
     pub fn lost(&self) -> u64 {
         let mut lost: u64 = 0;
         for arrivals in self.arrivals.iter() {
@@ -66,7 +66,7 @@ impl Subscriber {
         lost
     }
 
-    /// Records the arrival of an event, and returns how it arrived.
+    /// Records the arrival of the event with data `stamp`, and returns how it arrived.
     pub fn take(&mut self, settings: &LoadSettings, stamp: Stamp) -> Reception {
         let channels = settings.channels as u64;
         if stamp.publisher % channels != self.channel as u64 {
@@ -80,20 +80,20 @@ impl Subscriber {
     }
 }
 
-/// A client that publishes its share of the events.
+/// The role of a client that publishes its share of the events.
 #[derive(Drop)]
 pub struct Publisher {
     number: u64,
-    /// The number of its channel, from 0.
+    /// The number of its channel, counted from 0.
     pub channel: u32,
     // Number of events sent.
     sent: u64,
-    // The number of its next event among all events.
+    // The number of its next event, among those of all publishers.
     next: u64,
 }
 
 impl Publisher {
-    /// Creates publisher `number`, which has sent nothing.
+    /// Creates the role of publisher `number`, which has sent no events.
     pub fn new(settings: &LoadSettings, number: u64) -> Publisher {
         Publisher {
             number,
@@ -103,7 +103,7 @@ impl Publisher {
         }
     }
 
-    /// Returns the stamp of the next event if it is due, and counts it as sent.
+    /// Returns the data of the next event if it is due, and counts the event as sent.
     ///
     /// `passed`: nanoseconds since the publishers started. `now`: nanoseconds since the load
     /// started.

@@ -2,12 +2,14 @@
 use bx_load::{Latencies, Reception};
 use std::alloc::{AllocError, Global};
 
-/// The results of a load or of one thread's part. Moments are in nanoseconds since it started.
+/// The results of a load, or of one thread's part.
+///
+/// All times are in nanoseconds since the load started.
 #[derive(Drop)]
 pub struct Tally {
     /// The latencies of events.
     pub latencies: Latencies,
-    /// Number of the thread's clients that are ready.
+    /// Number of clients of the thread that are ready.
     pub ready: usize,
     /// When all clients were ready and the publishers started.
     pub begun: u64,
@@ -30,7 +32,7 @@ pub struct Tally {
 }
 
 impl Tally {
-    /// Creates results of 0.
+    /// Creates results without publishes and events.
     ///
     /// # Errors
     ///
@@ -52,6 +54,8 @@ impl Tally {
     }
 
     /// Records an event that was sent at `sent` and arrived at `now`.
+    ///
+    /// `sent`, `now`: nanoseconds since the load started.
     pub fn arrived(&mut self, arrival: Reception, sent: u64, now: u64) {
         self.delivered = self.delivered.saturating_add(1);
         self.last_delivered = now;
@@ -64,7 +68,7 @@ impl Tally {
         }
     }
 
-    /// Returns how many events arrived, without repetitions.
+    /// Returns the number of events that arrived, without repetitions and unknown events.
     pub fn arrivals(&self) -> u64 {
         self.delivered
             .saturating_sub(self.doubled)
@@ -85,7 +89,7 @@ impl Tally {
         self.unknown = self.unknown.saturating_add(other.unknown);
     }
 
-    /// Returns `true` if each event reached each of its sessions once and in order.
+    /// Returns `true` if each event reached each session of its channel once and in order.
     pub fn is_whole(&self) -> bool {
         self.lost == 0 && self.doubled == 0 && self.out_of_order == 0 && self.unknown == 0
     }

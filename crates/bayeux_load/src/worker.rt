@@ -1,4 +1,4 @@
-//! A thread of a load.
+//! The work of one thread of a load.
 use crate::context::Context;
 use crate::fault::Fault;
 use crate::part::LoadPart;
@@ -13,17 +13,20 @@ use std::time::Clock;
 // Nanoseconds between updates of the line of progress.
 const SHOWN: u64 = 200_000_000;
 
-/// What a thread uses to wait and read.
+/// What a thread needs to wait and to read.
 #[derive(Drop)]
 struct Waiting {
     poll: Poll,
     events: Events,
     buffer: Vec<u8>,
-    // When the line of progress was last written, or `None` if it is not shown.
+    // When the line of progress was last written, in nanoseconds since the load started, or `None`
+    // if it is not shown.
     shown: Option<u64>,
 }
 
-/// Runs a part until the load is over, and returns its result.
+/// Runs a part until the load is over, and returns its results.
+///
+/// `is_shown`: whether to show a line of progress on standard error.
 ///
 /// # Errors
 ///
@@ -100,7 +103,7 @@ where
     Ok(is_over)
 }
 
-// Opens more clients, waits, and serves those with a ready connection.
+// Opens more clients, waits for connections, and serves the clients with a ready connection.
 fn serve<R>(
     rt: &R,
     context: &Context,

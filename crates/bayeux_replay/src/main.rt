@@ -1,4 +1,4 @@
-//! The program `bayeux_replay`, which answers a script of requests or the record of a server.
+//! The program `bayeux_replay`, which replays a script of requests or the record of a server.
 #![tactic(auto)]
 
 use bx_entry::ByRemainder;
@@ -11,7 +11,7 @@ use std::sync::Arc;
 use std::thread::Threads;
 use std::{env, io};
 
-/// Usage text, printed if the arguments for a script are wrong.
+/// The usage text, printed if the arguments for a script are wrong.
 const USAGE: &str =
     "usage: bayeux_replay shards workers timeout interval max_interval [options [limit]]";
 
@@ -25,7 +25,7 @@ fn main(rt: HostRuntime) -> ExitCode {
     }
 }
 
-// Replays the record that `--record` names, in a file or, for `-`, on standard input. Without
+// Replays the record in the file after `--record`, or on standard input if that is `-`. Without
 // `--record`, replays the script on standard input.
 fn run<T: Threads + Sync>(rt: &HostRuntime, threads: &T) -> Result<ExitCode, ScriptFault> {
     let words = words(rt).map_err(|error| ScriptFault::of_read(&error))?;
@@ -95,7 +95,7 @@ fn replay_record<T: Threads + Sync, R: Read + Drop>(
     }
 }
 
-// Answers the remaining lines.
+// Prints the answers to the lines that `reader` still has.
 fn answer<T: Threads + Sync, R: BufRead + Drop>(
     rt: &HostRuntime,
     threads: &T,

@@ -10,12 +10,12 @@ use std::sync::{Arc, Mutex, Wait};
 use std::time;
 use std::time::{Duration, Instant};
 
-/// A clock that counts the milliseconds since `start`.
+/// A clock that counts milliseconds from `start`.
 #[derive(Clone, Copy)]
 pub struct SinceStart<R> {
     /// The right to read the clock.
     pub rt: R,
-    /// When the server started.
+    /// When serving started.
     pub start: Instant,
 }
 
@@ -23,30 +23,30 @@ impl<R: time::Clock> Clock for SinceStart<R> {
     fn now(&self) -> u64 {
         match self.start.elapsed(&self.rt) {
             Ok(passed) => millis_of(passed),
-            // A moment that the hub refuses.
+            // A moment that the hub rejects.
             Err(_) => u64::MAX,
         }
     }
 }
 
-// Converts to whole milliseconds, at most `u64::MAX`, which the hub refuses.
+// Converts `passed` to whole milliseconds, at most `u64::MAX`, which the hub rejects.
 fn millis_of(passed: Duration) -> u64
     ensures { result ≡ min (as_nanos passed / 1_000_000) (2 ^ 64 - 1) }
 {
     u64::try_from(passed.as_millis()).unwrap_or(u64::MAX)
 }
 
-/// Nonces from a generator that all connections of both listeners share.
+/// A source of nonces: a generator that all connections of both listeners share.
 #[derive(Drop)]
 pub struct Drawn<R> {
     /// The right to wait for the lock.
     pub rt: R,
-    /// The generator, created from a seed of 32 bytes.
+    /// The generator.
     pub generator: Arc<Mutex<ChaCha20Rng>, Global>,
 }
 
 impl<R: Wait> Nonces for Drawn<R> {
-    // Draws two 64-bit words, the upper one first.
+    // Draws two numbers of 64 bits, the upper one first.
     fn next(&self) -> u128 {
         let mut generator = self.generator.lock(&self.rt);
         let upper = generator.next_u64();

@@ -1,4 +1,4 @@
-//! The end of the server when standard input ends.
+//! Ends the server when standard input ends.
 use bx_entry::Placing;
 use bx_figures::Counts;
 use bx_hub::{Gate, Hub};
@@ -10,7 +10,7 @@ use std::alloc::Global;
 use std::io::Read;
 use std::sync::{Arc, Wait};
 
-/// Reads standard input until it ends or fails, and then signals `told`.
+/// Reads standard input until it ends or fails, and then sends the signal `told`.
 pub fn tell_at_end<R: Input>(rt: &R, told: Sender<()>) {
     let mut bytes = [0; 512];
     let mut input = rt.reader();
@@ -23,7 +23,7 @@ pub fn tell_at_end<R: Input>(rt: &R, told: Sender<()>) {
     let _ = told.send(());
 }
 
-/// A future that waits for `told` and closes the hub, which ends held connects.
+/// A future that waits for `told` and then closes the hub, which ends held connects.
 ///
 /// # Blocking
 ///

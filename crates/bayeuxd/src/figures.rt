@@ -1,4 +1,4 @@
-//! The listener for metrics.
+//! The metrics listener.
 ghost use Rattle.std.specs.Prelude.{◌≤◌, length, IfOk};
 
 use bx_figures::{Asked, Counts, Figure, response_text};
@@ -15,11 +15,11 @@ use std::{io, thread};
 // server.
 const PATIENCE: u64 = 2000;
 
-// Pause after a failure to accept, for example without a free descriptor, in milliseconds. Policy
+// Pause after a failed accept, for example if no file descriptor is free, in milliseconds. Policy
 // of this server.
 const PAUSE: u64 = 20;
 
-// The most bytes read of a request's head, and the most reads. Policy of this server.
+// The most bytes that are read of a request, and the most reads. Policy of this server.
 const HEAD: usize = 4096;
 
 const READS: usize = 16;
@@ -28,7 +28,7 @@ const READS: usize = 16;
 ///
 /// # Errors
 ///
-/// If the system refuses a call, or memory runs out.
+/// The error of a system call, or of memory that runs out.
 pub fn show_figures<R>(rt: R, address: &str, counts: &Arc<Counts, Global>) -> io::Result<()>
 where
     R: Net<Listener = TcpListener, Stream = TcpStream>
@@ -53,8 +53,8 @@ where
     Ok(())
 }
 
-// Answers one request on each connection, one after another. A head that takes too long gets no
-// response.
+// Answers one request on each connection, one connection at a time. A request gets no response if
+// its head takes too long.
 fn answer_all<R: Clock>(
     rt: &R,
     alloc: Global,
@@ -74,7 +74,7 @@ fn answer_all<R: Clock>(
     }
 }
 
-// Answers one connection.
+// Answers the request on one connection.
 fn answer<R: Clock>(
     rt: &R,
     mut stream: TcpStream,
@@ -94,8 +94,8 @@ fn answer<R: Clock>(
     stream.write_all(text.as_slice())
 }
 
-// Reads a head up to its empty line, the end of the data or a limit, and returns its length. Fails
-// if it takes too long.
+// Reads a head up to its empty line, the end of the data or a limit. Returns its length in bytes,
+// or an error if it takes too long.
 fn read_head<R: Clock>(rt: &R, stream: &mut TcpStream, head: &mut [u8]) -> io::Result<usize>
     ensures { IfOk result (λ n. n ≤ length head.new) }
 {

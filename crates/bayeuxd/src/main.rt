@@ -28,17 +28,17 @@ use std::random::RandomSource;
 use std::sync::Arc;
 use std::{env, io, thread};
 
-/// Usage text, printed if positional arguments are wrong.
+/// Usage text, printed if the arguments are neither flags nor valid by position.
 const USAGE: &str =
     "usage: bayeuxd address shards timeout interval max_interval seed connections [options [limit]]";
 
-/// Second line of the usage text, if there are no arguments.
+/// Second line of the usage text, printed if there are no arguments.
 const FLAGS: &str = "or bayeuxd [--listen ADDRESS] [FLAG ..], of which bayeuxd --help tells all";
 
 /// Error text if the server cannot listen or serve. The log has the reason.
 const CANNOT_LISTEN: &str = "bayeuxd: cannot listen";
 
-/// Error text if the listener for metrics fails. Its address and the reason follow.
+/// Error text if the metrics listener cannot start. Its address and the reason follow.
 const NO_FIGURES: &str = "bayeuxd: cannot listen for figures";
 
 /// Error text if the record file cannot be created or written. Its name and the reason follow.
@@ -47,7 +47,7 @@ const CANNOT_RECORD: &str = "bayeuxd: cannot record";
 /// Error text if the thread that reads standard input cannot start.
 const NO_READER: &str = "bayeuxd: cannot read standard input";
 
-// One second, in milliseconds. A shorter time may have been meant in seconds.
+// One second, in milliseconds. The user may have meant a shorter time in seconds.
 const SECOND: u32 = 1000;
 
 /// Error text if memory runs out.
@@ -89,7 +89,7 @@ fn main(rt: HostRuntime) -> ExitCode {
         Ok(file) => file,
         Err(status) => return status,
     };
-    // Spawned here, because no other function may give a thread the right to read standard input.
+    // Spawned here, because only `main` can pass the right to read standard input to a thread.
     // Without `--until-eof`, `told` is kept: dropping it would end the server.
     let _kept = if settings.until_eof {
         let Ok(_reading) = thread::spawn(&rt, move || tell_at_end(&rt, told)) else {
@@ -175,7 +175,7 @@ fn record_of(
     }
 }
 
-// Returns the size limit of a body or a query.
+// Returns the size limit of bodies and queries.
 fn body_of(settings: &Settings<'_>) -> BodyLimit {
     match BodyLimit::new(settings.body) {
         Some(limit) => limit,
@@ -197,13 +197,13 @@ fn not_served(rt: &HostRuntime, fault: ServeFault<'_>) -> ExitCode {
     }
 }
 
-// Creates metrics for `shards` shards, all 0.
+// Creates metrics for `shards` shards. All are 0.
 fn counts_of(rt: &HostRuntime, shards: usize) -> io::Result<Arc<Counts, Global>> {
     let alloc = rt.alloc();
     Ok(Arc::new(alloc, Counts::new(alloc, shards)?)?)
 }
 
-// Logs all settings except the seed. Warns of a `timeout` or `max_interval` below a second.
+// Logs all settings except the seed, and warns of a `timeout` or `max_interval` below a second.
 fn tell_settings(rt: &HostRuntime, settings: &Settings<'_>) {
     if let Ok(text) = settings_text(rt.alloc(), settings) {
         info!(rt; target: "bayeuxd", "starting {text}");
@@ -257,7 +257,7 @@ fn settings_text(alloc: Global, settings: &Settings<'_>) -> Result<String, Alloc
     Ok(text)
 }
 
-// Returns the command-line arguments.
+// Returns the command-line arguments, without the program's name.
 fn words(rt: &HostRuntime) -> io::Result<Vec<String>> {
     let mut words = Vec::new(rt.alloc());
     for word in env::args(rt)?.skip(1) {
@@ -266,8 +266,8 @@ fn words(rt: &HostRuntime) -> io::Result<Vec<String>> {
     Ok(words)
 }
 
-// Parses the arguments, as flags or by position. Prints errors, `--help` and `--version`, and
-// returns the exit status for them.
+// Parses the arguments, as flags or by position. For `--help`, `--version` and errors it prints the
+// text and returns the exit status.
 fn settings_of<'a>(
     rt: &HostRuntime,
     words: &'a [String],
@@ -299,7 +299,7 @@ fn are_flags(words: &[String]) -> bool {
         .is_some_and(|it| it.as_bytes().starts_with(b"-"))
 }
 
-// Returns the seed for nonces: from the arguments, a file or the system.
+// Returns the seed for nonces, which comes from the arguments, a file or the system.
 fn seed_of(rt: &HostRuntime, seed: Seed<'_>) -> io::Result<[u8; 32]> {
     match seed {
         Seed::Said(seed) => Ok(seed),
@@ -329,13 +329,13 @@ fn addresses_of(rt: &HostRuntime, name: &str) -> io::Result<Vec<SocketAddr>> {
     Ok(addresses)
 }
 
-// Logs where and why the server cannot listen, and returns the exit status.
+// Reports that the server cannot listen at `listen`, and returns the exit status.
 fn cannot_listen(rt: &HostRuntime, listen: &str, error: &io::Error) -> ExitCode {
     error!(rt; target: "bayeuxd", "cannot listen at {listen}: {error}");
     failed(rt, CANNOT_LISTEN)
 }
 
-// Prints what failed, where and why, and returns the exit status.
+// Prints what failed, its address or file, and the error, and returns the exit status.
 fn refused_at(rt: &HostRuntime, what: &str, place: &str, error: &io::Error) -> ExitCode {
     match format!(in rt.alloc(); "{what} at {place}: {error}") {
         Ok(why) => failed(rt, why.as_str()),

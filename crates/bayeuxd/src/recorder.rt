@@ -18,22 +18,23 @@ use std::thread::{JoinHandle, Threads};
 use std::time::Clock;
 use std::{io, thread};
 
-// Permissions of the record file: only its owner may read or write it.
+// Permissions of the record file: only its owner can read and write it.
 const OWNERS: u32 = 0o600;
 
-/// The file of a record.
+/// The file of a record, after its first line was written.
 #[derive(Drop)]
 pub struct RecordFile<F> {
     file: CountedFile<F>,
-    /// Whether digests of answers are recorded too.
+    /// Whether answers' digests are recorded too.
     has_answers: bool,
 }
 
-/// Creates the record file at `path`, with the line that describes `config`.
+/// Creates the record file at `path` and writes the line that describes `config`.
 ///
 /// # Errors
 ///
-/// If `path` exists, I/O fails or memory runs out. The file may have been created.
+/// `AlreadyExists` if there is a file at `path`. Otherwise the error of a system call, or of memory
+/// that runs out; the file may have been created.
 pub fn make_record(
     rt: &HostRuntime,
     path: &str,
@@ -66,8 +67,9 @@ impl Recorder {
     ///
     /// # Errors
     ///
-    /// If memory runs out, the list is not empty (`InvalidInput`), or the thread cannot start. In
-    /// the last case the hub keeps recording.
+    /// - An error of memory that runs out; nothing has changed.
+    /// - `InvalidInput`: the list is not empty; nothing has changed.
+    /// - The error of starting the thread. The hub goes on recording.
     ///
     /// # Blocking
     ///
@@ -126,7 +128,11 @@ impl Recorder {
         }
     }
 
-    /// Writes what waits, and ends the thread.
+    /// Writes the lines that wait, and ends the thread.
+    ///
+    /// # Blocking
+    ///
+    /// Blocks until the thread has ended.
     pub fn end<R: Threads>(self, rt: &R) {
         let Recorder {
             thread,
@@ -174,7 +180,7 @@ impl<J: Naming, R: Wait + Log + Drop> Source for HubRecord<J, R> {
         })
     }
 
-    // A request is appended to the list before its answer is noted.
+    // Takes the lines of answers. Each request was in the list before its answer was logged.
     fn take_notes(&mut self, empty: Vec<u8>) -> Vec<u8> {
         let TakenAnswers { bytes, fault, .. } = self.log.take(&self.rt, empty);
         if let Some(fault) = fault {

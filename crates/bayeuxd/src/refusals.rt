@@ -1,9 +1,9 @@
-//! Log lines that say why requests were refused.
+//! Log lines for requests that are rejected or not answered.
 use bx_figures::{Counts, Figure, Reason};
 use bx_message::Status;
 use log::{Log, warn};
 
-// Metrics of refused or unanswered requests, each with its log text.
+// Metrics that count rejected or unanswered requests, each with its log text.
 const CAUSES: [(Figure, &str); 10] = [
     (
         Figure::Responses(Status::BadRequest),
@@ -35,7 +35,7 @@ const CAUSES: [(Figure, &str); 10] = [
     (Figure::Missing, "no memory for a response"),
 ];
 
-/// The number of refusals already logged, by cause.
+/// How many requests are already logged, by cause.
 #[derive(Clone, Copy)]
 pub struct Refusals {
     told: [u64; 10],
@@ -47,7 +47,7 @@ impl Refusals {
         Refusals { told: [0; 10] }
     }
 
-    /// Logs one line for each cause that occurred since the last call, with how often it did.
+    /// Logs each cause that has occurred since the last call, with its count since then.
     pub fn tell<R: Log>(&mut self, rt: &R, counts: &Counts) {
         for ((figure, text), told) in CAUSES.iter().zip(self.told.iter_mut()) {
             let count = counts.get(*figure);

@@ -36,27 +36,28 @@ use tokio::runtime::Runtime;
 /// How the server runs.
 #[derive(Clone, Copy)]
 pub struct Serving {
-    /// Number of shards, times in milliseconds, limits and options.
+    /// The number of shards, the times in milliseconds, the limits and the options.
     pub config: Config,
-    /// The size limit of a body or a query.
+    /// The size limit of bodies and queries.
     pub body: BodyLimit,
     /// The seed for nonces.
     pub seed: [u8; 32],
-    /// The number of connections after which the server ends, or 0 for no limit.
+    /// How many connections are accepted before the server ends, or 0 for no limit.
     pub connections: u64,
-    /// Whether the server also ends when standard input does.
+    /// Whether the server also ends when standard input ends.
     pub until_eof: bool,
 }
 
-// How long connections are served after the signal to end, in milliseconds. Policy of this server.
+// With `until_eof`: how long open connections are still served at the end, in milliseconds. Policy
+// of this server.
 const LEAVE: u64 = 1000;
 
 /// Why the server cannot start, or stopped.
 #[derive(Debug, Drop)]
 pub enum ServeFault<'a> {
-    /// The name has no usable address. The error is that of the last address.
+    /// The server cannot listen at any address of this name. The error is that of the last address.
     CannotListen(&'a str, io::Error),
-    /// The system refuses the runtime, a thread or the print, or memory runs out.
+    /// A system call failed, for example to start a thread or to print, or memory ran out.
     CannotServe(io::Error),
 }
 
@@ -66,14 +67,16 @@ impl From<io::Error> for ServeFault<'_> {
     }
 }
 
-/// A name to listen at, as it was given, and the addresses that it resolves to.
+/// A name to listen at, with its addresses.
 #[derive(Drop)]
 pub struct Place<'a> {
+    /// The host and the port, as they were given.
     pub name: &'a str,
+    /// The addresses of `name`, in the order in which they are tried.
     pub addresses: Vec<SocketAddr>,
 }
 
-// The publishers' listener and the read-only listener.
+// The publishers' listener and, if any, the read-only listener.
 type Listeners = (TcpListener, Option<TcpListener>);
 
 /// The runtime and its listeners.
@@ -83,13 +86,14 @@ pub struct Listening {
     listeners: Listeners,
 }
 
-/// Listens at `place`, and at `readers` with the read-only listener.
+/// Listens at `place` and, for the read-only listener, at `readers`.
 ///
-/// At each, uses the first address that the system grants.
+/// Uses the first address of each at which it can listen.
 ///
 /// # Errors
 ///
-/// `CannotServe` if the runtime cannot be created; `CannotListen` if a place has no usable address.
+/// - `CannotServe`: the runtime cannot be created.
+/// - `CannotListen`: a place has no address at which the server can listen.
 pub fn listen<'a, R>(
     rt: &R,
     place: Place<'a>,
@@ -110,19 +114,19 @@ where
     })
 }
 
-/// Serves connections until as many as configured have come and ended, or `told` is ready.
+/// Serves connections until `arguments.connections` were accepted or `told` is ready.
 ///
-/// Prints the listeners' addresses, and records the list in `record_file`, if given. Once `told` is
-/// ready, it accepts no more connections and ends held connects. With `until_eof`, it cuts
-/// connections that are still open after a second.
+/// Prints the listeners' addresses to `writer`, and records the list in `record_file`, if given.
+/// Once `told` is ready, it closes the hub, which ends held connects. At the end it waits for the
+/// open connections. With `until_eof` it closes those that are still open after a second.
 ///
 /// # Errors
 ///
-/// If printing or a system call fails, or memory runs out.
+/// The error of printing or of a system call, or of memory that runs out.
 ///
 /// # Blocking
 ///
-/// Blocks until serving has ended.
+/// Blocks until all connections have ended.
 pub fn serve<R, F, W>(
     rt: R,
     listening: Listening,
@@ -259,7 +263,7 @@ where
     served
 }
 
-// Logs and prints a listener's address.
+// Logs and prints the address of `listener`, after `what`.
 fn tell<R: Log, W: Write>(
     rt: &R,
     what: &str,
@@ -272,7 +276,7 @@ fn tell<R: Log, W: Write>(
     writer.flush()
 }
 
-// Listens at the first usable address of `place`. If there is none, returns the last error.
+// Listens at the first address of `place` that works. If none does, returns the last error.
 fn bind<'a, R: Net>(
     rt: &R,
     runtime: &Runtime,
@@ -308,7 +312,7 @@ struct Doorway<S, O> {
 }
 
 impl<J: Naming, R: Wait + Clock + AllocGlobal + Copy + Drop> Doors<J, R> {
-    // Creates the backend and the observer of `listener`.
+    // Creates the backend and the observer for `listener`.
     fn at(
         &self,
         listener: TcpListener,
@@ -368,7 +372,7 @@ where
     serve_until(rt, runtime, first, other, arguments.connections, end)
 }
 
-// Adds the service to a listener.
+// Creates the service of a listener.
 fn entrance_of<S: Backend, O: Observer>(
     alloc: Global,
     body: BodyLimit,

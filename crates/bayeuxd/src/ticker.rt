@@ -16,24 +16,24 @@ use std::{thread, time};
 // The pause before each tick, in milliseconds. Policy of this server.
 const TICK: u64 = 100;
 
-// Number of ticks that a filed answer is kept if not taken: a minute. Policy of this server.
+// Number of ticks after which a filed answer is dropped: a minute. Policy of this server.
 const KEPT: usize = 600;
 
-// The same if more answers are filed than sessions may live: a second. Policy of this server.
+// The same while more answers are filed than sessions may be live: a second. Policy of this server.
 const KEPT_IN_A_CROWD: usize = 10;
 
-// Number of ticks between logs of refusals: a second. Policy of this server.
+// Number of ticks between calls that log rejected requests: a second. Policy of this server.
 const TELLING: u64 = 10;
 
 /// Posts a tick every 100 ms until `is_over` is set.
 ///
-/// Counts each and copies the hub's state to `counts`. Logs once a second why requests were
-/// refused, and drops filed answers that were not taken for too long. With more than `crowd` filed
-/// answers it drops them sooner.
+/// Counts the ticks and copies the hub's state to `counts`. Once a second, logs why requests were
+/// rejected. Drops filed answers that are not taken within a minute, or within a second while more
+/// than `crowd` are filed.
 ///
 /// # Blocking
 ///
-/// Sleeps between ticks. Locks admission and each shard in turn.
+/// Sleeps between ticks. Locks and wakes tasks as [`Hub::tick`] does.
 pub fn tick<J, P, G, H, R, C>(
     rt: &R,
     alloc: Global,
@@ -65,7 +65,8 @@ where
         if turn % TELLING == 0 {
             refusals.tell(rt, counts);
         }
-        // A refused tick adds no place. Then answers are dropped only if too many are filed.
+        // A tick that is not appended adds no place. Answers are then dropped only if too many are
+        // filed.
         match hub.tick(rt, alloc, &mut pass, clock.now()) {
             Ok(ticked) => {
                 count_tick(counts, ticked.brought.behind());

@@ -9,13 +9,13 @@ use Rattle.bx_advice.specs.declared.advice.Outcome.TheVariants.{Opened, Connecte
 abbrev pub retry : Config → Advice
 retry c = record { interval = c.interval; reconnect = Retry; timeout = Some c.timeout }
 
--- Advice of `reconnect` instead of another connect.
+-- Advice to do `reconnect`, not to connect again.
 abbrev pub instead : Config → Reconnect → Advice
 instead c reconnect = record { interval = c.interval; reconnect = reconnect; timeout = None }
 
--- What an error advises: to handshake, if the session is unknown, has overflowed or finds no room.
--- If the client is not supported, not to reconnect; other errors advise nothing.
--- Policy of this server.
+-- What an error advises. If the session is unknown, has overflowed or found no room, the client
+-- should handshake. If the client is not supported, it should not reconnect. Other errors advise
+-- nothing. Policy of this server.
 abbrev pub reconnect_of : Error → Option Reconnect
 reconnect_of UnsupportedVersion = Some Never
 reconnect_of NoSupportedConnectionType = Some Never

@@ -1,14 +1,14 @@
--- The limits of the server.
+-- The limits of a server.
 use Rattle.std.specs.Prelude.{ℕ, ◌≡◌}
 use Rattle.std.proofs.Common.{lit≤}
 use Rattle.bx_advice.specs.declared.config.Limits.{Limits}
 use Rattle.bx_advice.specs.declared.config.TheConstants.{MAX_MOMENT, MAX_LENGTH, STANDARD_BATCH, STANDARD_BYTES, STANDARD_EVENTS, STANDARD_PATTERNS, STANDARD_SESSIONS, STANDARD_TEXTS}
 
--- The greatest moment that is accepted, in milliseconds.
+-- The greatest moment of a request or a tick, in milliseconds.
 abbrev pub greatest_moment : ℕ
 greatest_moment = MAX_MOMENT
 
--- How many elements the list may have.
+-- The maximum number of elements of the list.
 abbrev pub greatest_length : ℕ
 greatest_length = MAX_LENGTH
 
@@ -24,7 +24,7 @@ standard_limits = record {
   some_batch = lit≤ tt;
 }
 
--- The limits are the standard ones.
+-- `limits` are the standard limits.
 pub record IsStandard (limits : Limits) : Type 0 where
   pub events : limits.events ≡ standard_limits.events
   pub bytes : limits.bytes ≡ standard_limits.bytes

@@ -1,9 +1,9 @@
--- The words that select a server's options.
+-- The texts that select a server's options.
 use Rattle.std.specs.Prelude.{ℕ, if◌then◌else◌, true, false, List, codes, Option, Some, None}
 use Rattle.std.specs.Str.{bytes_eq}
 use Rattle.bx_advice.specs.declared.options.Options.{Options}
 
--- `r`: waiting events ride; `a`: sessionless publishes are accepted; `ra`: both; `-`: neither.
+-- The options of a text: `r` for `ride`, `a` for `anonymous`, `ra` for both and `-` for neither.
 abbrev pub options_in : List ℕ → Option Options
 options_in word =
     if bytes_eq word (codes "-") then Some (record { ride = false; anonymous = false })

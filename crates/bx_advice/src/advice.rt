@@ -10,17 +10,17 @@ use crate::error::Error;
 pub enum Outcome {
     /// A handshake succeeded.
     Opened,
-    /// A connect succeeded: at once, by an event, or by a tick.
+    /// A connect succeeded: at once, by an event, or by a tick that ended its hold.
     Connected,
-    /// A held connect succeeded because its session disconnected.
+    /// A held connect succeeded without events, because its session disconnected.
     Disconnected,
     /// Any other message succeeded.
     Done,
-    /// A message was refused, or a connect failed.
+    /// A message was rejected, or a connect failed.
     Failed(Error),
 }
 
-/// What a client is to do next.
+/// What a client should do next.
 ///
 /// Bayeux 1.0, the advice field `reconnect`.
 #[derive(Clone, Copy, Debug, PartialEq, Eq)]
@@ -29,7 +29,7 @@ pub enum Reconnect {
     Retry,
     /// Handshake again.
     Handshake,
-    /// Neither, written as `none` in JSON.
+    /// Do neither. In JSON this is `none`.
     Never,
 }
 
@@ -38,19 +38,19 @@ pub enum Reconnect {
 /// Bayeux 1.0, the field `advice`. Sending `timeout` with `Retry` only is a policy of this server.
 #[derive(Clone, Copy, Debug, PartialEq, Eq)]
 pub struct Advice {
-    /// How long the client is to wait before it connects again, in milliseconds.
+    /// How long the client should wait before it connects again, in milliseconds.
     pub interval: u32,
-    /// What the client is to do next.
+    /// What the client should do next.
     pub reconnect: Reconnect,
-    /// How long the server holds a connect at most, in milliseconds; `Some` only with `Retry`.
+    /// The maximum hold of a connect, in milliseconds; `Some` only with `Retry`.
     pub timeout: Option<u32>,
 }
 
 /// Returns the advice for `outcome`, if any.
 ///
 /// - `Retry`: a handshake or a connect succeeded.
-/// - `Handshake`: the session is unknown or has overflowed, or there was no room for it.
-/// - `Never`: the server does not support the client, or the session disconnected.
+/// - `Handshake`: the session is unknown, overflowed, or found no room.
+/// - `Never`: the client is not supported or has disconnected.
 ///
 /// Bayeux 1.0, the field `advice`. The advice for each outcome is a policy of this server.
 pub fn advice_for(outcome: Outcome, config: &Config) -> Option<Advice>
@@ -69,7 +69,8 @@ pub fn advice_for(outcome: Outcome, config: &Config) -> Option<Advice>
     })
 }
 
-// Returns the advice for an error. Most errors leave the session unchanged and need no advice.
+// Returns what an error advises, if anything. Most errors leave the session unchanged and need no
+// advice.
 fn reconnect_after(error: Error) -> Option<Reconnect>
     ensures { result ≡ reconnect_of error }
 {

@@ -5,22 +5,22 @@ ghost use Rattle.bx_advice.specs.declared.config.TheConstants.{MAX_SHARDS};
 use crate::options::Options;
 use std::marker::Model;
 
-/// The maximum size of a request's body or query, in bytes.
+/// The maximum length of a request's body or query, in bytes.
 pub const BODY_LIMIT: usize = 1_048_576;
 
 /// The maximum number of shards.
 pub const MAX_SHARDS: usize = 64;
 
-/// The largest moment of a request or a tick, in milliseconds: 2^62.
+/// The greatest moment of a request or a tick: 2^62 milliseconds after the server started.
 pub const MAX_MOMENT: u64 = 4_611_686_018_427_387_904;
 
 /// The maximum number of entries in the list: 2^62.
 pub const MAX_LENGTH: u64 = 4_611_686_018_427_387_904;
 
-/// The largest number that [`Config::with_limit`] accepts.
+/// The greatest number of events that [`Config::with_limit`] accepts.
 pub const MAX_EVENTS: u32 = 65_536;
 
-/// The largest number that [`Config::with_bytes`] accepts: 2^32-1.
+/// The greatest number of bytes that [`Config::with_bytes`] accepts: 2^32-1.
 pub const MAX_BYTES: u32 = 4_294_967_295;
 
 /// The limits of a server, by default [`STANDARD_LIMITS`].
@@ -32,7 +32,7 @@ pub struct Limits {
     pub bytes: usize,
     /// The maximum number of a session's active patterns.
     pub patterns: usize,
-    /// The maximum number of events sent to one connect.
+    /// The maximum number of events in one answer to a connect or a rider.
     pub batch: usize,
     /// The maximum number of live sessions.
     pub sessions: usize,
@@ -44,7 +44,7 @@ pub struct Limits {
 /// The default of [`Limits::events`].
 pub const STANDARD_EVENTS: usize = 1024;
 
-/// The default of [`Limits::bytes`]: 2^62, which no session reaches.
+/// The default of [`Limits::bytes`]: 2^62, more than any session can have.
 pub const STANDARD_BYTES: usize = 4_611_686_018_427_387_904;
 
 /// The default of [`Limits::patterns`], and the maximum for [`Config::with_patterns`].
@@ -74,21 +74,21 @@ pub const STANDARD_LIMITS: Limits = Limits {
 pub struct Config {
     /// The number of shards, from 1 to [`MAX_SHARDS`].
     pub shards: usize,
-    /// The maximum hold of a connect, and the advised timeout.
+    /// The maximum hold of a connect, which is also the advised timeout.
     pub timeout: u32,
     /// The advised interval between connects.
     pub interval: u32,
-    /// How long a session lives after its last accepted message, or a hold's deadline if that is
-    /// later.
+    /// How long a session lives after its last accepted message or, if later, the last deadline of
+    /// a hold.
     pub max_interval: u32,
     /// The limits of sessions and messages.
     pub limits: Limits,
-    /// Whether waiting events are also sent with the reply to a request's last message.
+    /// Whether the reply to a request's last message also carries the session's waiting events.
     ///
-    /// All messages of the request must come from one session that does not acknowledge. The last
-    /// must be a subscribe, an unsubscribe or a publish.
+    /// This message must be a subscribe, an unsubscribe or a publish. All messages of the request
+    /// must come from one session, which must not acknowledge.
     pub ride: bool,
-    /// Whether a publish without a client id is accepted, as a message of no session.
+    /// Whether a publish without a client id is accepted. It belongs to no session.
     pub anonymous: bool,
     pub ghost some_shard: { 1 ≤ shards },
     pub ghost shards_in_range: { shards ≤ MAX_SHARDS },
@@ -118,7 +118,7 @@ impl Model for ShardCount {
 impl ShardCount {
     ghost use Rattle.std.specs.Prelude.{◌≡◌, ◌≤◌, ◌↔◌, IsSome, IfSome};
 
-    /// Creates a shard count, or returns `None` if `count` is not from 1 to [`MAX_SHARDS`].
+    /// Creates a number of shards, or returns `None` if `count` is not from 1 to [`MAX_SHARDS`].
     pub fn new(count: usize) -> Option<ShardCount>
         ensures valid { IsSome result ↔ ((1 ≤ count) × (count ≤ MAX_SHARDS)) }
         ensures count { IfSome result (λ s. s ≡ count) }
@@ -129,7 +129,7 @@ impl ShardCount {
         Some(ShardCount { count })
     }
 
-    /// Returns the number.
+    /// Returns the number of shards, from 1 to [`MAX_SHARDS`].
     pub fn get(self) -> usize
         ensures same { result ≡ self }
         ensures some { 1 ≤ result }
@@ -166,7 +166,7 @@ impl Config {
         })
     }
 
-    /// Returns the configuration with `options`.
+    /// Returns the configuration with `ride` and `anonymous` set as in `options`.
     pub fn with(self, options: Options) -> Config
         ensures { result ≡ record self { ride = options.ride; anonymous = options.anonymous } }
     {
@@ -253,7 +253,7 @@ mod tests {
         Ok(())
     }
 
-    // The values that PROTOCOL and OPERATING document, as literals.
+    // Checks that the limits are the ones in PROTOCOL and OPERATING.
     #[test]
     fn limits_are_the_documented_ones(rt: HostRuntime) -> Result<(), Fail> {
         for (name, limit, documented) in [

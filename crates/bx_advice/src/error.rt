@@ -4,25 +4,25 @@ ghost use Rattle.bx_advice.specs.Errors.{error_text};
 
 use std::fmt;
 
-/// Why a message was refused, or a connect failed.
+/// Why a message was rejected, or a connect failed.
 ///
-/// The variants are in the order in which a message is tested; the first that applies is reported.
-/// The last two apply to accepted connects.
+/// The variants through `MissingData` are in the order in which a message is tested. The first that
+/// applies is reported. The last two are results of connects that were accepted.
 ///
 /// Bayeux 1.0, the field `error`, leaves codes and texts open. These are a policy of this server.
 #[derive(Clone, Copy, Debug, PartialEq, Eq, Hash)]
 pub enum Error {
     /// The channel begins with `/meta/` and is not one of the five meta channels.
     UnknownMetaChannel,
-    /// A handshake after another handshake of the same request.
+    /// The message is a handshake after another one in the same request.
     SecondHandshake,
     /// `version` is not a string that equals `1` or begins with `1.`.
     UnsupportedVersion,
     /// `supportedConnectionTypes` is not an array with at least one of the two polling types.
     NoSupportedConnectionType,
-    /// A handshake while the maximum number of sessions is live.
+    /// The message is a handshake, and the maximum number of sessions is live.
     TooManySessions,
-    /// `clientId` is not a string, or is absent though the message needs it.
+    /// `clientId` is not a string, or is absent although the message needs it.
     NoClientId,
     /// `clientId` is not the id of a live session.
     UnknownClient,
@@ -38,11 +38,11 @@ pub enum Error {
     SubscriptionDenied,
     /// `subscription` is absent, or neither a string nor an array of strings.
     MissingSubscription,
-    /// A publish without `data`.
+    /// The message is a publish without `data`.
     MissingData,
-    /// A held connect that was ended by a newer connect of its session.
+    /// A newer connect of the session ended the held connect.
     SupersededConnect,
-    /// A connect of a session that has overflowed.
+    /// The session of the connect has overflowed.
     QueueOverflow,
 }
 

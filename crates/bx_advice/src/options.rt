@@ -5,16 +5,18 @@ ghost use Rattle.bx_advice.specs.Options.{options_in};
 /// Features of a server that are off by default.
 #[derive(Clone, Copy, Debug, PartialEq, Eq)]
 pub struct Options {
-    /// Whether waiting events are also sent with replies to subscribes, unsubscribes and publishes.
+    /// Whether replies to subscribes, unsubscribes and publishes can carry waiting events.
     pub ride: bool,
     /// Whether publishes without a client id are accepted.
+    ///
+    /// See [`Config::anonymous`](crate::Config::anonymous).
     pub anonymous: bool,
 }
 
 impl Options {
-    /// Parses an argument: `r` for `ride`, `a` for `anonymous`, `ra` for both, `-` for neither.
+    /// Parses `r` as `ride`, `a` as `anonymous`, `ra` as both and `-` as neither.
     ///
-    /// Returns `None` for any other argument.
+    /// Returns `None` for any other `word`.
     pub fn read(word: &[u8]) -> Option<Options>
         ensures { result ≡ options_in word.now }
     {

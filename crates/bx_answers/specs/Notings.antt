@@ -1,4 +1,4 @@
--- What becomes of waiting lines, and whether further answers are noted.
+-- The lines that wait in a log of answers, and whether it accepts more.
 use Rattle.std.specs.Prelude.{ℕ, ◌≡◌, ◌+◌, ◌<◌, List, ◌++◌, length, Option, Some, None}
 use Rattle.bx_answers.specs.declared.lines.Noting.{Noting}
 use Rattle.bx_record.specs.declared.waiting.RecordFault.{RecordFault}
@@ -6,8 +6,8 @@ use Rattle.bx_record.specs.declared.waiting.RecordFault.TheVariants.{Full, Memor
 use Rattle.bx_answers.specs.declared.lines.Noting.TheVariants.{Open, Ended, Over}
 use Rattle.bx_record.specs.declared.waiting.TheConstants.{MOST_WAITING}
 
--- The effect of adding a line, by the noting before and after. It is appended to those that wait,
--- or dropped: too many bytes would wait, memory ran out, or the noting had ended.
+-- The effect of adding a line, by the state before and after. The line is appended, or dropped:
+-- too many bytes would wait, memory ran out, or the log had ended.
 abbrev pub IsAdded : Noting → Noting → List ℕ → List ℕ → List ℕ → Type 0
 IsAdded Open Open line old new = new ≡ old ++ line
 IsAdded Open (Ended Full) line old new = (new ≡ old) × (MOST_WAITING < length old + length line)
@@ -17,19 +17,19 @@ IsAdded Open Over line old new = ⊥
 IsAdded (Ended fault) after line old new = (new ≡ old) × (after ≡ Ended fault)
 IsAdded Over after line old new = (new ≡ old) × (after ≡ Over)
 
--- The noting after a reason to end it.
+-- The state after a reason to end the log. The first reason is kept.
 abbrev pub ended_by : RecordFault → Noting → Noting
 ended_by fault Open = Ended fault
 ended_by fault (Ended before) = Ended before
 ended_by fault Over = Over
 
--- Why answers are no longer noted, if that is not reported yet.
+-- Why the log ended, if that is not reported yet.
 abbrev pub fault_in : Noting → Option RecordFault
 fault_in Open = None
 fault_in (Ended fault) = Some fault
 fault_in Over = None
 
--- The noting after that was reported.
+-- The state after that was reported.
 abbrev pub told_of : Noting → Noting
 told_of Open = Open
 told_of (Ended fault) = Over

@@ -1,4 +1,4 @@
-//! The log of answers, shared by threads.
+//! The log of answers, which threads share.
 ghost use Rattle.std.specs.Prelude.{◌≡◌, []};
 
 use crate::line::answer_line;
@@ -10,7 +10,8 @@ use std::sync::{Mutex, Wait};
 
 /// The lines of answers that wait to be written.
 ///
-/// Any thread can add lines, and one takes them. At most 64 MiB wait.
+/// Any thread can add lines, and one takes them. At most 64 MiB wait. A log that has ended accepts
+/// no more lines.
 #[derive(Drop)]
 pub struct AnswerLog {
     lines: Mutex<Lines>,
@@ -31,7 +32,7 @@ impl AnswerLog {
     ///
     /// # Blocking
     ///
-    /// Locks the log, but not while the digest is computed.
+    /// Locks the log, but not while it computes the digest.
     pub fn note<R: Wait>(&self, rt: &R, alloc: Global, place: u64, items: &[Item]) {
         if !self.lines.lock(rt).is_open() {
             return;
@@ -44,12 +45,20 @@ impl AnswerLog {
 
     /// Appends `line`, unless the log has ended.
     ///
-    /// The log ends, without `line`, if more than 64 MiB would wait or memory runs out.
+    /// The log ends without `line` if more than 64 MiB would wait, or if memory runs out.
+    ///
+    /// # Blocking
+    ///
+    /// Locks the log.
     pub(crate) fn add<R: Wait>(&self, rt: &R, line: &[u8]) {
         self.lines.lock(rt).add(line);
     }
 
     /// Ends the log because of `fault`, unless it has ended.
+    ///
+    /// # Blocking
+    ///
+    /// Locks the log.
     pub(crate) fn end<R: Wait>(&self, rt: &R, fault: RecordFault) {
         self.lines.lock(rt).end(fault);
     }
@@ -63,10 +72,10 @@ impl AnswerLog {
         self.lines.lock(rt).stop(alloc);
     }
 
-    /// Takes all waiting lines, and leaves the empty buffer `empty` in their place.
+    /// Takes all waiting lines. The empty buffer `empty` replaces them.
     ///
-    /// A request is listed before its line is added. If the hub's record is taken after these lines
-    /// but written before them, each line follows its request.
+    /// A request is in the list before its line is added. Take the hub's record after these lines
+    /// and write it before them, so that each line follows its request.
     ///
     /// # Blocking
     ///

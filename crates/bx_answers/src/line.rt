@@ -1,4 +1,4 @@
-//! The line of one answer.
+//! The line that is logged for an answered request.
 ghost use Rattle.std.specs.Prelude.{◌≡◌, IfOk};
 ghost use Rattle.bx_message.specs.Texts.{body_text};
 ghost use Rattle.bx_record.specs.Answers.{answer_text};
@@ -9,7 +9,7 @@ use bx_record::answer_text;
 use sha2::{Digest, Sha256};
 use std::alloc::{AllocError, Global};
 
-/// Creates the line of the answer to a request: its place and the SHA-256 of its items.
+/// Creates the line for an answered request: its place and the SHA-256 of its items.
 ///
 /// `place`: the place of the request's first message. The digest is that of the JSON array of
 /// `items`.

@@ -1,4 +1,4 @@
-//! The lines of answers that wait to be written.
+//! The lines that wait to be written, without the lock.
 ghost use Rattle.std.specs.Prelude.{◌≡◌, ◌≤◌, [], length, ◌↔◌, IsTrue};
 ghost use Rattle.bx_answers.specs.Notings.{IsAdded, ended_by, fault_in, told_of};
 ghost use Rattle.bx_answers.specs.declared.lines.Noting.TheVariants.{Open, Over};
@@ -21,7 +21,7 @@ pub(crate) enum Noting {
 /// The lines taken from a log.
 #[derive(Drop)]
 pub struct TakenAnswers {
-    /// The lines, which follow all lines taken before.
+    /// The lines, in the order in which they were added. They follow all lines taken before.
     pub bytes: Vec<u8>,
     /// The fault that ended the log, unless it was reported before.
     pub fault: Option<RecordFault>,
@@ -56,7 +56,7 @@ impl Lines {
 
     /// Appends `line`, unless the log has ended.
     ///
-    /// If it does not fit, the log ends without it.
+    /// If too many bytes would wait, or memory runs out, the log ends without `line`.
     pub(crate) fn add(&mut self, line: &[u8])
         ensures { IsAdded self.old.noting self.new.noting line.now self.old.waiting self.new.waiting }
     {
@@ -87,7 +87,7 @@ impl Lines {
         self.noting = Noting::Over;
     }
 
-    /// Takes all waiting lines, and leaves the empty buffer `empty` in their place.
+    /// Takes all waiting lines. The empty buffer `empty` replaces them.
     ///
     /// Does not allocate or copy.
     pub(crate) fn take(&mut self, empty: Vec<u8>) -> TakenAnswers

@@ -6,7 +6,7 @@ use bx_service::{Event, Observer};
 use std::alloc::Global;
 use std::sync::{Arc, Wait};
 
-/// An observer that logs the items of each answered request that has a place in the list.
+/// An observer that logs the items of each answered request, unless it has no messages.
 ///
 /// Without a log it does nothing.
 #[derive(Drop)]
@@ -17,7 +17,7 @@ pub struct NotedAnswers<R> {
 }
 
 impl<R> NotedAnswers<R> {
-    /// Creates an observer that writes to `log`.
+    /// Creates an observer that appends to `log`.
     pub fn new(rt: R, alloc: Global, log: Option<Arc<AnswerLog, Global>>) -> NotedAnswers<R>
         ensures { result.log ≡ log }
     {

@@ -1,4 +1,4 @@
-//! Tests with answers whose digests `sha256sum` computed.
+//! Tests with digests that `sha256sum` computed.
 use crate::{AnswerLog, NotedAnswers, TakenAnswers, answer_line};
 use bx_advice::{Config, Outcome};
 use bx_entry::Refusal;
@@ -30,7 +30,7 @@ fn config() -> Result<Config, Fail> {
     Ok(Config::new(2, 30_000, 0, 10_000).ok_or("no configuration")?)
 }
 
-// Asserts which lines and which fault are taken.
+// Checks that `log` has the lines `wanted` and the fault `wanted_fault`, and takes them.
 fn check_taken<R: Wait + Abort>(
     rt: &R,
     alloc: Global,
@@ -113,7 +113,7 @@ fn a_full_log_ends(rt: HostRuntime) -> Result<(), Fail> {
     Ok(())
 }
 
-// Checks that threads may share `value`.
+// Checks, when compiled, that threads can share `value`.
 fn shared<T: Send + Sync>(value: T) -> T {
     value
 }

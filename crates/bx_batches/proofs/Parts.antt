@@ -1,4 +1,4 @@
--- Parts of a queue have the events of those parts.
+-- The events and the bytes of parts of a queue.
 use Rattle.std.proofs.Common.{◌≡◌, ◌≤◌, ◌<◌, length, get_or, ℕ, ◌+◌, List, [], ◌∷◌, ◌++◌, take, drop, refl, sym, ap, ◌∙◌}
 use Rattle.std.proofs.lemmas.List.{drop-map, take-map}
 use Rattle.std.proofs.lemmas.List.Sums.{sum_by-cons, sum_by_more, sum_by_more_le, sum_by-take-drop, sum_by-take-le, sum_by_push}
@@ -23,27 +23,21 @@ bytes_of_events [] = refl
 bytes_of_events (p ∷ ps) =
     ap (λ (n : ℕ). event_size p.event + n) (bytes_of_events ps) ∙ sym (sum_by-cons event_size p.event (events_of ps))
 
--- the bytes of a queue are those of its events
 pub bytes_in : (queue : List Publication) (events : List Event) → events_of queue ≡ events → bytes_of queue ≡ sum_by event_size events
 bytes_in queue events same = bytes_of_events queue ∙ ap (sum_by event_size) same
 
--- the first events have no more bytes than all
 pub front_bytes : (count : ℕ) (events : List Event) → sum_by event_size (take count events) ≤ sum_by event_size events
 front_bytes count events = sum_by-take-le event_size events count
 
--- the first and the others have those of all
 pub parted_bytes : (count : ℕ) (events : List Event) → sum_by event_size (take count events) + sum_by event_size (drop count events) ≡ sum_by event_size events
 parted_bytes count events = sum_by-take-drop event_size events count
 
--- one more event adds its own
 pub pushed_bytes : (events : List Event) (event : Event) → sum_by event_size (events ++ event ∷ []) ≡ sum_by event_size events + event_size event
 pushed_bytes events event = sum_by_push event_size events event
 
--- those of the first come before those of the others
 pub first_bytes : (event : Event) (events : List Event) → sum_by event_size (event ∷ events) ≡ event_size event + sum_by event_size events
 first_bytes event events = sum_by-cons event_size event events
 
--- the next event adds its own to those before it, within those of all
 pub grown_bytes : (events : List Event) (i : ℕ) (d : Event) → i < length events →
     (sum_by event_size (take (i + 1) events) ≡ sum_by event_size (take i events) + event_size (get_or events i d))
     × (sum_by event_size (take i events) + event_size (get_or events i d) ≤ sum_by event_size events)

@@ -20,7 +20,8 @@ use std::marker::Model;
 ///
 /// The outstanding batch was sent and is not acknowledged yet.
 ///
-/// Model: the events, each with the place of its publish, and the batch.
+/// Model: the events with the places of their publishes, the outstanding batch, and for how many
+/// more events there is room.
 ///
 /// CometD's acknowledgement extension.
 #[derive(Drop)]
@@ -30,9 +31,9 @@ pub struct Window {
     queue: History<Publication>,
     // Number of outstanding events.
     out: usize,
-    // The last batch's number.
+    // Number of the last batch.
     number: u64,
-    // Size of all events' texts, in bytes.
+    // Length of the events' JSON texts, in bytes.
     bytes: usize,
 }
 
@@ -55,12 +56,12 @@ impl Model for Window {
         × (w.bytes ≡ sum_by event_size w.events.items) };
 }
 
-/// The outstanding batch and its number.
+/// The outstanding batch, and the number of the last batch.
 #[derive(Drop)]
 pub struct Given<'a> {
-    /// The last batch's number, or 0 before the first.
+    /// The number of the last batch, or 0 before the first.
     pub number: u64,
-    /// The outstanding events, in order.
+    /// The outstanding events, oldest first. Empty if no batch is outstanding.
     pub events: Iter<'a, SharedEvent>,
 }
 
@@ -78,7 +79,7 @@ impl Window {
         }
     }
 
-    /// Returns `true` if adding `event` would exceed `events` events or `bytes` bytes.
+    /// Returns `true` if appending `event` would exceed `events` events or `bytes` bytes.
     #[tactic(auto, using(crate::proofs::Parts::bytes_in), unfolding(bx_entry::specs::Windows::has_room))]
     pub fn is_full(&self, events: usize, bytes: usize, event: &SharedEvent) -> bool
         ensures full { result ≡ not (has_room events bytes event.now self.now.contents) }
@@ -111,7 +112,10 @@ impl Window {
         self.events.reserve(count)
     }
 
-    /// Appends the event published at `place`, for which there must be room.
+    /// Appends the event published at `place`. Does not allocate.
+    ///
+    /// Call [`reserve`](Self::reserve) first. The texts of all events together must be less than
+    /// 2^64 bytes long. This is so if [`is_full`](Self::is_full) returned `false`.
     #[tactic(auto, using(crate::proofs::Parts::bytes_in, crate::proofs::Parts::pushed_bytes))]
     pub fn push_reserved(&mut self, place: u64, event: SharedEvent)
         requires room { 0 < self.old.spare }
@@ -125,7 +129,7 @@ impl Window {
         self.events.push_back_reserved(event);
     }
 
-    /// Returns how many events [`acknowledge`](Self::acknowledge) would drop.
+    /// Returns how many events [`acknowledge(number)`](Self::acknowledge) would drop.
     pub fn acknowledged(&self, number: u64) -> usize
         ensures { result ≡ (if acknowledges number self.now.contents then self.now.contents.out else 0) }
     {
@@ -134,8 +138,8 @@ impl Window {
 
     /// Returns how many events a connect gets after the first `done` are acknowledged.
     ///
-    /// `done`: 0 or the number of outstanding events. The connect gets the outstanding batch again
-    /// or, without one, at most `most` events.
+    /// `done`: 0 or the number of outstanding events. If a batch is then still outstanding, the
+    /// connect gets it again. If not, it gets at most `most` of the waiting events.
     pub fn portion(&self, done: usize, most: usize) -> usize
         requires { (done ≡ 0) ⊎ (done ≡ self.now.contents.out) }
         ensures again { done < self.now.contents.out → result ≡ self.now.contents.out }
@@ -150,8 +154,8 @@ impl Window {
 
     /// Acknowledges batch `number`.
     ///
-    /// Drops the outstanding events if `number` is at least the last batch's; otherwise does
-    /// nothing.
+    /// Drops the outstanding events if `number` is at least the number of the last batch. Otherwise
+    /// does nothing.
     #[tactic(auto, using(crate::proofs::Parts::front_bytes))]
     pub fn acknowledge(&mut self, number: u64)
         ensures contents { self.new.contents ≡ acknowledged number self.old.contents }
@@ -163,7 +167,9 @@ impl Window {
         self.out -= done;
     }
 
-    /// Forms the next batch of at most `most` waiting events, unless a batch is outstanding.
+    /// Forms the next batch from at most `most` waiting events.
+    ///
+    /// Does nothing if a batch is outstanding or no events wait.
     pub fn give(&mut self, most: usize)
         requires { self.old.contents.out ≡ 0 → self.old.contents.number + 1 < 2 ^ 64 }
         ensures contents { self.new.contents ≡ formed most self.old.contents }
@@ -177,9 +183,9 @@ impl Window {
         }
     }
 
-    /// Returns the outstanding batch and its number.
+    /// Returns the outstanding batch and the number of the last batch.
     ///
-    /// The result is the same until the batch is acknowledged.
+    /// An outstanding batch stays the same until it is acknowledged or cleared.
     pub fn given(&self) -> Given<'_>
         ensures number { result.number ≡ self.now.contents.number }
         ensures events { deque_iter_rest result.events ≡ events_of (outstanding self.now.contents) }
@@ -197,7 +203,7 @@ impl Window {
         self.events.iter()
     }
 
-    /// Drops the first `count` events, sent without a batch.
+    /// Drops the first `count` events, which were sent without a batch.
     ///
     /// No batch may be outstanding.
     #[tactic(auto, using(crate::proofs::Parts::front_bytes))]
@@ -210,9 +216,10 @@ impl Window {
         self.bytes -= drop_front(&mut self.events, count);
     }
 
-    /// Moves the first `count` events, sent without a batch, to `into`.
+    /// Moves the first `count` events to the empty list `into`, and returns it.
     ///
-    /// No batch may be outstanding. `into` must be empty and have room.
+    /// The events are sent without a batch, so no batch may be outstanding. `into` must have room
+    /// for `count` events. Does not allocate.
     #[tactic(auto, using(crate::proofs::Parts::front_bytes))]
     pub fn hand_over(&mut self, count: usize, into: Vec<SharedEvent>) -> Vec<SharedEvent>
         requires none_out { self.old.contents.out ≡ 0 }
@@ -229,9 +236,7 @@ impl Window {
         into
     }
 
-    /// Drops all events.
-    ///
-    /// The number of the last batch stays.
+    /// Drops all events, and keeps the number of the last batch.
     pub fn clear(&mut self)
         ensures contents { self.new.contents ≡ emptied self.old.contents }
         ensures spare { self.old.spare ≤ self.new.spare }
@@ -243,7 +248,7 @@ impl Window {
     }
 }
 
-// Drops up to `count` events from the front, and returns their size in bytes.
+// Drops up to `count` events from the front, and returns the length of their texts in bytes.
 #[tactic(auto, using(crate::proofs::Parts::front_bytes, crate::proofs::Parts::first_bytes))]
 fn drop_front(events: &mut VecDeque<SharedEvent>, count: usize) -> usize
     requires { sum_by event_size events.old.items < 2 ^ 64 }
@@ -278,7 +283,7 @@ fn move_front(events: &mut VecDeque<SharedEvent>, count: usize, into: &mut Vec<S
     }
 }
 
-// Returns the size of `events`, in bytes.
+// Returns the length of the texts of `events`, in bytes.
 #[tactic(auto, using(crate::proofs::Parts::grown_bytes))]
 fn bytes_in(events: &[SharedEvent]) -> usize
     requires { sum_by event_size events.now < 2 ^ 64 }

@@ -1,10 +1,10 @@
-//! Bodies of requests, as JSON.
+//! The requests of the workloads, and their bodies as JSON.
 use anyhow::Result;
 use bx_cut::Bodies;
 use bx_entry::{Arrival, Door};
 use std::alloc::Global;
 
-/// A handshake.
+/// The JSON of a handshake.
 pub const HANDSHAKE: &str =
     r#"{"channel":"/meta/handshake","version":"1.0","supportedConnectionTypes":["long-polling"]}"#;
 
@@ -18,7 +18,7 @@ pub fn arrival(body: String) -> Arrival {
     }
 }
 
-/// Writes a handshake, which opens the session with the next number.
+/// Creates a body with a handshake, which opens the session with the next number.
 ///
 /// # Errors
 ///
@@ -28,7 +28,7 @@ pub fn handshake(alloc: Global) -> Result<String> {
     Ok(format!(in alloc; "[{hello}]")?)
 }
 
-/// Writes a subscription of session `number` to the channel of `thread`.
+/// Creates a body with a subscription of session `number` to the channel of `thread`.
 ///
 /// # Errors
 ///
@@ -39,7 +39,7 @@ pub fn subscription(alloc: Global, number: u64, thread: u64) -> Result<String> {
     )?)
 }
 
-/// Writes a publish by session `number` to the channel of `thread`.
+/// Creates a body with a publish by session `number` to the channel of `thread`.
 ///
 /// # Errors
 ///
@@ -50,7 +50,7 @@ pub fn publish(alloc: Global, number: u64, thread: u64) -> Result<String> {
     )?)
 }
 
-/// Writes a connect of session `number`, which is answered at once.
+/// Creates a body with a connect of session `number`, which is answered at once.
 ///
 /// # Errors
 ///

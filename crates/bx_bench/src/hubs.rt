@@ -14,7 +14,7 @@ use std::marker::Brand;
 use std::sync::{Arc, Wait};
 use std::thread::{Threads, join};
 
-// Number of sessions while the clock ticks.
+// Number of sessions during the ticks.
 const IDLE: u64 = 65_536;
 
 type Served<J, R> = Hub<J, ByRemainder, OpenGate, R>;
@@ -25,11 +25,11 @@ type Served<J, R> = Hub<J, ByRemainder, OpenGate, R>;
 ///
 /// # Errors
 ///
-/// If `shards` is not 1 to 64, memory runs out, or the hub refuses a request.
+/// If `shards` is not 1 to 64, memory runs out, or the hub does not admit a request.
 ///
 /// # Blocking
 ///
-/// Waits for its threads and for the locks of the hub.
+/// Waits for the threads, and locks what each call of the hub locks.
 pub fn posts<R: Threads + Wait + Sync>(
     rt: &R,
     alloc: Global,
@@ -109,7 +109,7 @@ fn works<J: Naming, H: Wait + Drop, R: Wait>(
     Some(events)
 }
 
-// Publishes, and then connects each receiving session.
+// Publishes, and then connects each receiving session. Returns the number of events delivered.
 fn round<J: Naming, H: Wait + Drop, R: Wait>(
     rt: &R,
     alloc: Global,
@@ -130,7 +130,7 @@ fn round<J: Naming, H: Wait + Drop, R: Wait>(
     Some(events)
 }
 
-// Posts a body and takes the answers. Returns the number of their events.
+// Posts `body` and takes the answers. Returns the number of their events.
 fn post<J: Naming, H: Wait + Drop, R: Wait>(
     rt: &R,
     alloc: Global,
@@ -149,7 +149,7 @@ fn post<J: Naming, H: Wait + Drop, R: Wait>(
     Some(events)
 }
 
-// Runs a load in each of two threads, numbered from `thread` on.
+// Runs `load` in each of two threads, numbered from `thread` on.
 fn two<J: Naming + Send + Sync, H: Wait + Drop + Send, R: Threads + Wait + Sync>(
     rt: &R,
     alloc: Global,
@@ -166,7 +166,7 @@ fn two<J: Naming + Send + Sync, H: Wait + Drop + Send, R: Threads + Wait + Sync>
     a?.checked_add(b?)
 }
 
-// Runs a load in each of four threads.
+// Runs `load` in each of four threads.
 fn four<J: Naming + Send + Sync, H: Wait + Drop + Send, R: Threads + Wait + Sync>(
     rt: &R,
     alloc: Global,
@@ -183,15 +183,15 @@ fn four<J: Naming + Send + Sync, H: Wait + Drop + Send, R: Threads + Wait + Sync
 
 /// Opens 65,536 sessions in 64 shards, and makes `count` ticks that close none.
 ///
-/// Returns how often a shard ran out of memory.
+/// Returns how often a shard lagged because memory ran out.
 ///
 /// # Errors
 ///
-/// If memory runs out, or the hub refuses a request or a tick.
+/// If memory runs out, or the hub does not admit a request or a tick.
 ///
 /// # Blocking
 ///
-/// Waits for the locks of the hub.
+/// Locks what each call of the hub locks.
 pub fn ticks<R: Threads + Wait + Sync>(rt: &R, alloc: Global, count: u64) -> Result<usize> {
     let config = Config::new(64, 30_000, 0, 10_000).ok_or(anyhow!("no configuration"))?;
     let placing = Arc::new(alloc, ByRemainder)?;

@@ -12,7 +12,7 @@ pub fn many(alloc: Global) -> Result<Vec<u8>, AllocError> {
     publishes(alloc, 3_900)
 }
 
-/// Creates a body with 256 shorter publishes, which takes about 1 MB as a form.
+/// Creates a body of about 0.5 MB with 256 publishes, which has about 1 MB as a form.
 ///
 /// # Errors
 ///
@@ -21,7 +21,7 @@ pub fn short(alloc: Global) -> Result<Vec<u8>, AllocError> {
     publishes(alloc, 1_950)
 }
 
-// Writes 256 publishes with about `size` bytes of data each.
+// Creates a body with 256 publishes, each with about `size` bytes of data.
 fn publishes(alloc: Global, size: usize) -> Result<Vec<u8>, AllocError> {
     let mut body = Vec::with_capacity(alloc, MEGABYTE)?;
     body.push(b'[')?;

@@ -1,4 +1,4 @@
-//! Loads of threads that publish and connect.
+//! How many publishes and connects each thread makes.
 
 /// The load of one thread, in rounds.
 ///

@@ -1,4 +1,6 @@
-//! Workloads of the core and of the hub, for timing. Without an argument, prints a list of them.
+//! A program that runs a workload of the core or the hub, for timing.
+//!
+//! Without an argument, it prints a list of the workloads.
 #![tactic(auto)]
 
 mod bodies;
@@ -86,7 +88,7 @@ fn main(rt: HostRuntime) -> Result<()> {
     Ok(())
 }
 
-// Runs the workload `name`, or returns 0 for an unknown one.
+// Runs the workload `name` and returns its total, or returns 0 if there is no such workload.
 fn run<R: Threads + Wait + Sync>(rt: &R, alloc: Global, name: &str) -> Result<usize> {
     match name.split_once('-').map_or(name, |parts| parts.0) {
         "check" | "cut" => cuts(alloc, name),

@@ -1,6 +1,6 @@
 //! Workloads of a registry, which plan and commit requests and ticks.
 //!
-//! Each returns the list's length; `tick` adds the number of sessions closed.
+//! Each returns the length of the list. `tick` adds the number of sessions closed.
 ghost use Rattle.std.specs.Prelude.{◌≤◌};
 
 use anyhow::{Result, anyhow};
@@ -14,7 +14,7 @@ const PUBLISHERS: u64 = 10_000;
 
 const PUBLISHES: u64 = 1_000_000;
 
-// The limit of live sessions.
+// Number of live sessions during the ticks, which is also the limit.
 const SESSIONS: u64 = 65_536;
 
 const TICKS: u64 = 100_000;
@@ -81,7 +81,7 @@ fn client(alloc: Global, number: u64) -> Result<TextMember> {
     Ok(TextMember::Text(Text::from_string(id)?))
 }
 
-// Plans and commits a request.
+// Plans and commits a request with `messages`.
 fn admit(alloc: Global, registry: &mut Registry, messages: &[Message]) -> Result<()> {
     let planned = registry.plan(alloc, &AllFirst, 0, 0, messages);
     let Plan {
@@ -93,7 +93,7 @@ fn admit(alloc: Global, registry: &mut Registry, messages: &[Message]) -> Result
     Ok(())
 }
 
-/// Opens 10,000 sessions.
+/// Opens 10,000 sessions, a request each.
 ///
 /// # Errors
 ///
@@ -114,7 +114,7 @@ pub fn publish(alloc: Global) -> Result<usize> {
     publish_in(alloc, &mut registry, 1)
 }
 
-/// Makes the same publishes, 100 a request.
+/// Makes the publishes of [`publish`], 100 in a request.
 ///
 /// # Errors
 ///
@@ -135,7 +135,7 @@ fn publish_in(alloc: Global, registry: &mut Registry, at_once: usize) -> Result<
     Ok(registry.entries() as usize)
 }
 
-// Plans and commits `publishes`, at most `at_once` a request.
+// Plans and commits `publishes`, at most `at_once` in a request.
 fn admit_each(
     alloc: Global,
     registry: &mut Registry,

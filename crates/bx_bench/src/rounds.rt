@@ -1,7 +1,7 @@
 //! Workloads of rounds with several workers, from JSON to outs.
 //!
-//! Each returns the number of items in all responses. The round is never dropped: a server would go
-//! on, and one thread would take time to drop it.
+//! Each returns the number of items in all responses. It does not drop its round: a server would
+//! continue, and one thread would need time to drop it.
 use crate::bodies::{HANDSHAKE, arrival, connect};
 use anyhow::{Result, anyhow};
 use bx_advice::Config;
@@ -17,7 +17,7 @@ const SHARDS: usize = 8;
 
 const SESSIONS: u64 = 10_000;
 
-// Each session subscribes to one room by two patterns, so a publish reaches 1,000 sessions.
+// Each session subscribes to one room by two patterns. So a publish reaches 1,000 sessions.
 const ROOMS: u64 = 10;
 
 const TURNS: u64 = 10;
@@ -25,13 +25,13 @@ const TURNS: u64 = 10;
 // Number of publishes to each room in a turn.
 const PUBLISHES: u64 = 50;
 
-// After these turns 1,000 events wait for each session, as none connects.
+// After this number of turns, 1,000 events wait for each session, since no session connects.
 const TURNS_OF_WAITING: u64 = 20;
 
 // More inputs than any workload has.
 const MOST_INPUTS: usize = 1_000_000_000;
 
-// Writes a handshake that opens session `number`, and its subscription.
+// Creates a body with a handshake that opens session `number`, and with its subscription.
 fn open(alloc: Global, number: u64) -> Result<String> {
     let hello = HANDSHAKE;
     let room = number % ROOMS;
@@ -56,7 +56,7 @@ fn openings(alloc: Global) -> Result<Vec<Input>> {
     Ok(inputs)
 }
 
-// Creates publishes to all rooms in turn.
+// Creates the publishes of a turn, to each room in turn.
 fn publishes(alloc: Global) -> Result<Vec<Input>> {
     let mut inputs = Vec::new(alloc);
     for _ in 0..PUBLISHES {
@@ -125,9 +125,10 @@ fn open_all<R: Threads + Sync>(
     serve(rt, alloc, round, &openings(alloc)?)
 }
 
-/// Opens the sessions, and then makes 5,000 publishes, a request each, in ten turns.
+/// Opens the sessions as [`opened`], and makes 5,000 publishes, a request each, in ten turns.
 ///
-/// Each publish reaches 1,000 sessions. After each turn every session connects and gets its events.
+/// Each publish reaches 1,000 sessions. After each turn, every session connects and gets its
+/// events.
 ///
 /// # Errors
 ///
@@ -167,9 +168,9 @@ fn serve_in_turns<R: Threads + Sync>(
     Ok(items)
 }
 
-/// Opens the sessions, and then makes 10,000 publishes, a request each, whose events wait.
+/// Opens the sessions as [`opened`], and makes 10,000 publishes, a request each.
 ///
-/// Each publish reaches 1,000 sessions.
+/// Each publish reaches 1,000 sessions. The events wait, since no session connects.
 ///
 /// # Errors
 ///

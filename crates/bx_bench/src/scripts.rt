@@ -1,11 +1,11 @@
-//! Workloads of scripts of requests, as `replay` reads them.
+//! A workload of a script of requests, as the replay reads it.
 use anyhow::Result;
 use serde_json::Value;
 use std::alloc::Global;
 use std::io::{BufRead, BufReader};
 use std::str;
 
-// Reads a line's body by `serde_json`, and returns the number of its messages.
+// Reads the body in `line` as a `serde_json` value, and returns the number of its messages.
 fn messages(alloc: Global, line: &[u8]) -> Result<usize> {
     let Some(start) = line.iter().position(|byte| *byte == b'[') else {
         return Ok(0);
@@ -15,6 +15,8 @@ fn messages(alloc: Global, line: &[u8]) -> Result<usize> {
 }
 
 /// Reads the body of each line of standard input as a `serde_json` value.
+///
+/// Returns the number of messages in all lines.
 ///
 /// # Errors
 ///

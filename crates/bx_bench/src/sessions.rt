@@ -1,4 +1,6 @@
-//! Workloads of 1,000 sessions. Each returns a number of sessions or of events.
+//! Workloads of 1,000 sessions.
+//!
+//! Each returns a number of sessions or of events.
 use anyhow::{Result, anyhow};
 use bx_advice::Config;
 use bx_message::{Event, RawJson, SharedEvent, Text};
@@ -18,7 +20,7 @@ const ROUNDS: u64 = 10;
 
 const HOLD: u64 = 30_000;
 
-// What all deliveries share.
+// The configuration, client id and event of all deliveries.
 #[derive(Drop)]
 struct Setting {
     config: Config,
@@ -65,7 +67,7 @@ impl Setting {
         }
     }
 
-    // Connects, acknowledging all batches, and returns how many events the connect gets.
+    // Connects and acknowledges all batches. Returns how many events the connect gets.
     fn connect(&self, alloc: Global, session: &mut Session, hold: u64) -> Result<u64> {
         let number = session.last_batch();
         if number > MANY {
@@ -91,7 +93,7 @@ pub fn open(alloc: Global) -> Result<usize> {
     Ok(setting.open(alloc)?.len())
 }
 
-/// Delivers 1,000 events to each of 1,000 sessions, where they wait.
+/// Delivers 1,000 events to each of 1,000 sessions. They wait, since no session connects.
 ///
 /// # Errors
 ///
@@ -107,7 +109,7 @@ pub fn wait(alloc: Global) -> Result<usize> {
     Ok(sessions.len())
 }
 
-/// Delivers 100 events to each session, which then connects, 10 times.
+/// Delivers 100 events to each of 1,000 sessions, which then connects, 10 times.
 ///
 /// # Errors
 ///
@@ -129,7 +131,7 @@ pub fn batches(alloc: Global) -> Result<usize> {
     Ok(total as usize)
 }
 
-/// Holds a connect of each session, which an event answers, 1,000 times.
+/// Holds a connect of each of 1,000 sessions, which an event answers, 1,000 times.
 ///
 /// # Errors
 ///

@@ -1,4 +1,6 @@
-//! Workloads of taking the same JSON from a POST's body and from a form.
+//! Workloads of reading the same JSON from a POST's body and from a form.
+//!
+//! Each returns the number of messages over all runs.
 use crate::inputs;
 use anyhow::{Result, anyhow};
 use bx_cut::Document;
@@ -11,7 +13,7 @@ const RUNS: usize = 20;
 
 const FORM: &[u8] = b"application/x-www-form-urlencoded";
 
-/// Takes a form of about 1 MB and cuts its document, 20 times.
+/// Reads a form of about 1 MB and cuts its document into messages, 20 times.
 ///
 /// # Errors
 ///
@@ -23,7 +25,7 @@ pub fn form(alloc: Global) -> Result<usize> {
     take(alloc, Some(FORM), form.finish().as_bytes())
 }
 
-/// Takes the same document as JSON and cuts it, 20 times.
+/// Reads the same document as JSON and cuts it into messages, 20 times.
 ///
 /// # Errors
 ///

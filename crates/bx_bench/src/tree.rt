@@ -1,5 +1,6 @@
-//! Workloads of the pattern tree and of a plain list. Each returns a number of patterns or
-//! sessions.
+//! Workloads of the pattern tree and of a plain list.
+//!
+//! Each returns a number of patterns or of sessions found.
 use anyhow::Result;
 use bx_names::{ChannelName, Pattern, matches};
 use bx_tree::Tree;
@@ -11,7 +12,8 @@ const ROOMS: u64 = 1_000;
 
 const STOCKS: u64 = 5_000;
 
-// Patterns of a session besides two for its own channels and one for its room.
+// Number of stocks that a session subscribes to. It has three more patterns: two for its own
+// channels, and one for its room.
 const STOCKS_OF_ONE: u64 = 7;
 
 const TREE_FINDS: u64 = 1_000_000;
@@ -19,6 +21,8 @@ const TREE_FINDS: u64 = 1_000_000;
 const PLAIN_FINDS: u64 = 100;
 
 /// Builds the tree of 10,000 sessions with ten patterns each.
+///
+/// Returns how many patterns the first session has.
 ///
 /// # Errors
 ///
@@ -53,7 +57,7 @@ fn find_all(alloc: Global, tree: &Tree, names: &[ChannelName]) -> Result<usize> 
     Ok(total)
 }
 
-/// Builds a list of the same sessions and patterns.
+/// Builds a list of the same sessions and patterns, and returns its length.
 ///
 /// # Errors
 ///
@@ -62,7 +66,7 @@ pub fn plain_build(alloc: Global) -> Result<usize> {
     Ok(pairs(alloc)?.len())
 }
 
-/// Builds the same list, and looks up 100 names in it, each by a walk over all pairs.
+/// Builds the same list, and looks up 100 names in it, each in all pairs.
 ///
 /// # Errors
 ///
@@ -82,9 +86,9 @@ fn find_plainly(pairs: &[(u64, Pattern)], names: &[ChannelName]) -> usize {
     total
 }
 
-/// Builds a tree of `sessions` sessions with a pattern each, and makes `finds` finds.
+/// Builds a tree of `sessions` sessions with a pattern each, and looks up a name `finds` times.
 ///
-/// Each find returns one session.
+/// Each time, it finds one session.
 ///
 /// # Errors
 ///
@@ -111,8 +115,8 @@ fn find_one(alloc: Global, tree: &Tree, name: &ChannelName, finds: u64) -> Resul
 
 const NAMES: u64 = 4;
 
-// Names that 14 sessions subscribe to, a stock; ten sessions, a room; one session, under its own
-// channel; and no session.
+// Creates the names to look up. A stock has 14 subscribers, a room ten, a user's channel one, and
+// the last name none.
 fn names(alloc: Global) -> Result<Vec<ChannelName>> {
     let mut names = Vec::new(alloc);
     names.push(name(alloc, "/stock/4711")?)?;
@@ -164,7 +168,6 @@ fn patterns(alloc: Global, number: u64) -> Result<Vec<Pattern>> {
     Ok(patterns)
 }
 
-// Creates the pattern of `before`, `number` and `behind`.
 fn pattern(alloc: Global, before: &str, number: u64, behind: &str) -> Result<Pattern> {
     let text = format!(in alloc; "{before}{number}{behind}")?;
     Ok(Pattern::read(alloc, text.as_str())?)

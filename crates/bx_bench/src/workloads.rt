@@ -1,4 +1,6 @@
-//! Workloads of cutting bodies and of writing responses. Each returns a total over its runs.
+//! Workloads of cutting bodies and of writing responses.
+//!
+//! Each returns a total over all runs.
 use anyhow::{Result, anyhow};
 use bx_advice::{Config, Outcome};
 use bx_cut::Document;
@@ -74,7 +76,7 @@ pub fn value_texts(alloc: Global) -> Result<usize> {
     Ok(total)
 }
 
-/// Writes the same from events and replies, 100 times.
+/// Writes the same items from events and replies, 100 times.
 ///
 /// # Errors
 ///

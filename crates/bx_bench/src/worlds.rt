@@ -1,6 +1,6 @@
 //! Workloads of a single-threaded server, from JSON to answers.
 //!
-//! Each returns a number of entries, events or both.
+//! Each returns a number of entries, of events, or their sum.
 use crate::bodies::{HANDSHAKE, arrival, connect, handshake, publish, subscription};
 use crate::load::Load;
 use anyhow::{Result, anyhow};
@@ -39,7 +39,8 @@ impl Server {
         })
     }
 
-    // Admits a body, advances every shard, takes the answers and returns how many events they have.
+    // Admits a request with `body`, advances every shard and takes the answers. Returns how many
+    // events they have.
     fn serve(&mut self, alloc: Global, body: String) -> Result<u64> {
         let admitted = self.world.admit(alloc, &arrival(body));
         let admitted = admitted.map_err(|_| anyhow!("not admitted"))?;
@@ -66,7 +67,7 @@ impl Server {
         }
     }
 
-    // Takes the answer of `ticket`, and returns the number of its events.
+    // Takes the answer filed under `ticket`, if any, and returns the number of its events.
     fn taken(&mut self, ticket: Ticket) -> u64 {
         match self.world.take(ticket) {
             Some(answer) => answer.events.len() as u64,
@@ -83,7 +84,7 @@ fn open(alloc: Global, server: &mut Server) -> Result<usize> {
     Ok(server.entries as usize)
 }
 
-// Writes a handshake that opens session `number`, and its subscription.
+// Creates a body with a handshake that opens session `number`, and with its subscription.
 fn opening(alloc: Global, number: u64) -> Result<String> {
     let hello = HANDSHAKE;
     let channel = number % CHANNELS;
@@ -92,7 +93,7 @@ fn opening(alloc: Global, number: u64) -> Result<String> {
     )?)
 }
 
-// Writes a request with a publish to each of `PUBLISHES` channels, from `first` on.
+// Creates a body with a publish to each of `PUBLISHES` channels, from `first` on.
 fn publishes(alloc: Global, first: u64) -> Result<String> {
     let mut body = String::new(alloc);
     body.push('[')?;
@@ -108,7 +109,7 @@ fn publishes(alloc: Global, first: u64) -> Result<String> {
     Ok(body)
 }
 
-/// Opens 10,000 sessions in `shards` shards.
+/// Opens 10,000 sessions in `shards` shards, each with one subscription.
 ///
 /// # Errors
 ///
@@ -118,9 +119,10 @@ pub fn opened(alloc: Global, shards: usize) -> Result<usize> {
     open(alloc, &mut server)
 }
 
-/// Opens the sessions, makes 900,000 publishes, 100 a request, and 100,000 connects.
+/// Opens the sessions as [`opened`], and makes 900,000 publishes and 100,000 connects.
 ///
-/// Each publish reaches ten sessions, which get it by their connects.
+/// A request has 100 publishes. Each publish reaches ten sessions, which get the event by their
+/// connects.
 ///
 /// # Errors
 ///
@@ -159,7 +161,7 @@ fn connect_all(alloc: Global, server: &mut Server) -> Result<u64> {
     Ok(events)
 }
 
-/// Runs the load of one thread of a hub, and returns the number of events delivered.
+/// Runs what one thread of a hub runs for `load`, and returns the number of events delivered.
 ///
 /// # Errors
 ///

@@ -1,4 +1,4 @@
--- The entries of a list of ticks.
+-- Batches of ticks continue a list of ticks.
 use Rattle.std.proofs.Common.{◌≡◌, ℕ, zero, suc, ◌+◌, ◌<◌, List, [], ◌∷◌, ◌++◌, length, map, refl, ap, sym, ◌∙◌, subst, arith, append_assoc, length-append}
 use Rattle.std.specs.List.{fold}
 use Rattle.std.proofs.lemmas.List.{append-nil, map-append}
@@ -19,7 +19,6 @@ pub ticks_length : (n : ℕ) → length (ticks n) ≡ n
 ticks_length zero = refl
 ticks_length (suc n) = ap suc (ticks_length n)
 
--- one tick more
 pub ticks_more : (n : ℕ) → ticks n ++ Tick 0 ∷ [] ≡ ticks (n + 1)
 ticks_more n = ticks_add n 1
 
@@ -37,7 +36,7 @@ entries_count place (suc n) = ap suc (entries_count (place + 1) n)
 entry_in : Judged → Entry
 entry_in j = j.entry
 
--- the registry that has found these, and in which no session was ever opened
+-- A registry with these elements, in which no session was ever opened.
 idle : List Judged → Registry
 idle judged = record { clock = 0; sessions = []; senders = NoneYet; judged = judged }
 
@@ -66,7 +65,6 @@ entries_add place (suc m) n =
     let k : suc m + n ≡ suc (m + n) = omega arith in
     rw (e, k) (ap (λ (l : List Entry). tick_at place ∷ l) (entries_add (place + 1) m n))
 
--- so many ticks continue a list of ticks
 pub ticks_continue : (config : Config) (m n : ℕ) (b : Bundle) → 0 < n → b.batch.first ≡ m → b.batch.entries ≡ tick_entries m n → b.elements ≡ ticks n → Continues config (ticks m) b
 ticks_continue config m n b some first es xs =
     let count = entries_count m n in

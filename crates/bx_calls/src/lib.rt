@@ -63,7 +63,7 @@ pub const ANSWER_THIRD: &str =
 pub const TICKED: &str =
     r#"[{"advice":{"interval":0,"reconnect":"retry","timeout":30000},"channel":"/meta/connect","clientId":"000000000000000000000000000000000000000000000001","successful":true}]"#;
 
-/// The response to the first session's rider, [`PUBLISH_OWN`], after [`PUBLISH`].
+/// The response to the first session's rider, [`PUBLISH_OWN`], with the event of [`PUBLISH`].
 pub const RIDDEN: &str =
     r#"[{"channel":"/a/b","data":7},{"channel":"/a/c","data":8},{"channel":"/a/c","successful":true}]"#;
 
@@ -76,7 +76,7 @@ pub enum Found {
     Wanted,
     /// Another answer.
     Other,
-    /// The poll failed with this fault.
+    /// The fault with which the poll failed.
     Stopped(HubFault),
 }
 
@@ -130,7 +130,7 @@ pub fn is_of(arrival: &Arrival, body: &str) -> bool {
     }
 }
 
-// Returns the ticket of the first connect or rider whose answer is pending.
+// Returns the ticket of the first connect or rider with a pending answer.
 fn ticket_of(slots: &[Slot]) -> Option<Ticket> {
     for slot in slots {
         if let Slot::Waiting(ticket) = slot {
@@ -144,7 +144,7 @@ fn ticket_of(slots: &[Slot]) -> Option<Ticket> {
 ///
 /// # Errors
 ///
-/// [`Refused`] if memory runs out or the hub refuses the request.
+/// [`Refused`] if memory runs out or the hub does not admit the request.
 pub fn post<J: Naming, P: Placing, G: Gate + Drop, H: Wait + Drop, R: Wait>(
     rt: &R,
     alloc: Global,
@@ -183,7 +183,7 @@ fn found_in(alloc: Global, answer: Answer, wanted: &str) -> Result<Found, AllocE
 ///
 /// # Errors
 ///
-/// [`Refused`] if memory runs out for the answer's text. The answer has then been taken.
+/// [`Refused`] if memory runs out for the answer's text. The answer was then taken all the same.
 pub fn find<J: Naming, P: Placing, G: Gate + Drop, H: Wait + Drop, R: Wait>(
     rt: &R,
     alloc: Global,
@@ -199,7 +199,7 @@ pub fn find<J: Naming, P: Placing, G: Gate + Drop, H: Wait + Drop, R: Wait>(
     }
 }
 
-/// Polls for an answer; returns its number of events plus 1, or 0 if none is filed.
+/// Polls for an answer, and returns its number of events plus 1, or 0 if none is filed.
 ///
 /// # Errors
 ///
@@ -238,7 +238,7 @@ pub fn in_turn(alloc: Global, home: usize) -> Result<ByTable, AllocError> {
     }
 }
 
-/// Opens and subscribes the first session, and returns the ticket of its connect.
+/// Opens and subscribes the first session, and returns the ticket of its held connect.
 ///
 /// # Errors
 ///

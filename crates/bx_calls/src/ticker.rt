@@ -10,7 +10,7 @@ use bx_window::{Bundle, Front, LogWriter, Naming, PublishFault};
 use std::alloc::{AllocError, Global};
 use std::sync::Wait;
 
-// A writer publishes only while its steps, its list and the batch are each shorter than this.
+// A writer publishes only while its log, its list and the batch are each shorter than this.
 const MOST: u64 = 1_000_000;
 
 /// What happened to a batch.
@@ -29,7 +29,7 @@ pub enum Taken {
     },
 }
 
-/// A window writer whose list has only ticks.
+/// A window writer that publishes only ticks of moment 0.
 #[derive(Drop)]
 pub struct Ticker<J: Naming, R: Wait + Drop> {
     writer: LogWriter<J, R>,
@@ -93,8 +93,11 @@ impl<J: Naming, R: Wait + Drop> Ticker<J, R> {
     ///
     /// # Errors
     ///
-    /// `bundle`, and `Full` if `count` is 0 or if `count`, the list's length or the number of steps
-    /// is at least 1,000,000. Otherwise the window's fault. The list is as long as before.
+    /// `bundle`, and one of these; the list is unchanged:
+    ///
+    /// - `Full`, if `count` is 0, or `count`, the list's length or the number of steps is at least
+    ///   1,000,000.
+    /// - The window's fault, otherwise.
     pub fn publish_bundle(
         &mut self,
         alloc: Global,
@@ -119,7 +122,9 @@ impl<J: Naming, R: Wait + Drop> Ticker<J, R> {
         }
     }
 
-    /// Drops the batches that are wholly below `place`, and returns `true` if that succeeds.
+    /// Drops the batches that are wholly before `place`, and returns `true` if that succeeds.
+    ///
+    /// Fails after 1,000,000 steps, or if an earlier change still cannot be shown to readers.
     pub fn trim(&mut self, place: u64) -> bool {
         if self.writer.tell().steps() >= MOST {
             return false;

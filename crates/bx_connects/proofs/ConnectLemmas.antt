@@ -1,4 +1,4 @@
--- What `retain` leaves of connects that it changes.
+-- Connects after `retain`, which changes and keeps each.
 use Rattle.std.proofs.Common.{◌≡◌, ℕ, nat_eq, Bool, true, option_map, List, [], ◌∷◌, ap}
 use Rattle.std.specs.{Map.lookup, Map.Calls.RetainsPairs}
 use Rattle.std.proofs.lemmas.Grind.{common_steps}
@@ -6,7 +6,6 @@ use Rattle.std.proofs.Common.{arith}
 
 module _ {X F : Type 0} (T : F → ℕ → X → Bool → X → F → Type 0) (turned : X → X) (f : F)
     (says : (k : ℕ) (v : X) (b : Bool) (w : X) (g : F) → T f k v b w g → (b ≡ true) × (w ≡ turned v) × (g ≡ f)) where
-  -- each is kept as it was turned
   pub lookup-turned : (es kept : List (ℕ × X)) → RetainsPairs T f es kept → (n : ℕ) → lookup (nat_eq n) kept ≡ option_map turned (lookup (nat_eq n) es)
   lookup-turned [] kept h n = ap (lookup (nat_eq n)) h
   lookup-turned (e ∷ es) kept h n = grind (arith, common_steps, lookup-turned es h.3)

@@ -8,7 +8,7 @@ use Rattle.bx_connects.specs.declared.{connects.ConnectState.ConnectState, conne
 use Rattle.bx_connects.specs.declared.connects.ConnectState.TheVariants.{Held, Filed}
 use Rattle.bx_connects.specs.declared.watch.Watch.TheVariants.{Stored, Ready, Unknown, Shut}
 
--- The held connects and the filed answers, each with the place of its connect.
+-- The held connects and the filed answers, each with the place of its connect or rider.
 pub record KnownConnects : Type 0 where
   pub held : List (ℕ × HeldConnect)
   pub filed : List (ℕ × FiledAnswer)
@@ -21,7 +21,7 @@ hold_at held place = lookup (nat_eq place) held
 abbrev pub filing_at : List (ℕ × FiledAnswer) → ℕ → Option FiledAnswer
 filing_at filed place = lookup (nat_eq place) filed
 
--- The state of a connect by its hold or, if it is not held, its filed answer.
+-- The state of a connect: its hold or, if it is not held, its filed answer.
 abbrev pub state_by : Option HeldConnect → Option FiledAnswer → Option ConnectState
 state_by (Some h) filed = Some (Held h.session h.deadline h.waker)
 state_by None (Some f) = Some (Filed f.session f.place f.answer)
@@ -31,12 +31,12 @@ state_by None None = None
 abbrev pub connect_at : KnownConnects → ℕ → Option ConnectState
 connect_at connects place = state_by (hold_at connects.held place) (filing_at connects.filed place)
 
--- Whether a connect is held although its answer is filed.
+-- Whether a connect is held and its answer is filed.
 abbrev pub is_both : Option HeldConnect → Option FiledAnswer → Bool
 is_both (Some h) (Some f) = true
 is_both _ _ = false
 
--- No connect is held whose answer is filed.
+-- No connect is held while its answer is filed.
 abbrev pub AreApart : List (ℕ × HeldConnect) → List (ℕ × FiledAnswer) → Type 0
 AreApart held filed = (place : ℕ) → is_both (hold_at held place) (filing_at filed place) ≡ false
 
@@ -44,13 +44,13 @@ AreApart held filed = (place : ℕ) → is_both (hold_at held place) (filing_at 
 abbrev pub held_for : ℕ → Option ℕ → Option HeldConnect
 held_for session deadline = Some (record { session = session; deadline = deadline; waker = None })
 
--- The result of offering a waker to a held connect, if there is one.
+-- The result of registering a waker with a held connect, if there is one.
 abbrev pub watched_hold : Bool → Waker → Option HeldConnect → Watch
 watched_hold shut waker None = Unknown waker
 watched_hold true waker (Some h) = Shut waker
 watched_hold false waker (Some h) = Stored h.waker
 
--- A held connect with the waker that it is offered, unless the shard is shut.
+-- A held connect after a waker was registered; it stores the waker unless the shard is shut.
 abbrev pub stored_at : Bool → Waker → HeldConnect → HeldConnect
 stored_at true waker h = h
 stored_at false waker h = record h { waker = Some waker }
@@ -79,7 +79,7 @@ known_as None = None
 known_as (Some (Held session deadline waker)) = Some (session, deadline)
 known_as (Some (Filed session place answer)) = Some (session, None)
 
--- A connect that is known is answered at `place`.
+-- A known connect after it was answered by the entry at `place`.
 abbrev pub filed_as : ℕ → Answer → Option ConnectState → Option ConnectState
 filed_as place answer None = None
 filed_as place answer (Some (Held session deadline waker)) = Some (Filed session place answer)
@@ -105,14 +105,14 @@ abbrev pub taken_from : Option ConnectState → Option ConnectState
 taken_from (Some (Filed session place answer)) = None
 taken_from state = state
 
--- The result of offering a waker for a connect; a shard that is shut stores none.
+-- The result of registering a waker with a connect; a shard that is shut stores none.
 abbrev pub watched : Bool → Waker → Option ConnectState → Watch
 watched shut waker None = Unknown waker
 watched true waker (Some (Held session deadline older)) = Shut waker
 watched false waker (Some (Held session deadline older)) = Stored older
 watched shut waker (Some (Filed session place answer)) = Ready waker
 
--- A held connect stores the waker that it is offered, unless the shard is shut.
+-- A connect after a waker was registered; only a held connect stores it, unless the shard is shut.
 abbrev pub with_waker : Bool → Waker → Option ConnectState → Option ConnectState
 with_waker false waker (Some (Held session deadline older)) = Some (Held session deadline (Some waker))
 with_waker _ waker state = state
@@ -122,21 +122,21 @@ abbrev pub unwatched : ConnectState → ConnectState
 unwatched (Held session deadline waker) = Held session deadline None
 unwatched (Filed session place answer) = Filed session place answer
 
--- Whether a connect's answer was given below place `before`.
+-- Whether a connect was answered by an entry before place `before`.
 abbrev pub is_filed_below : ℕ → ConnectState → Bool
 is_filed_below before (Held session deadline waker) = false
 is_filed_below before (Filed session place answer) = nat_lt place before
 
--- A connect becomes unknown if its answer was given below place `before`.
+-- A connect becomes unknown if it was answered by an entry before place `before`.
 abbrev pub unswept : ℕ → Option ConnectState → Option ConnectState
 unswept before None = None
 unswept before (Some state) = if not (is_filed_below before state) then Some state else None
 
--- The answers that were not given below place `before`.
+-- The answers that were given by the entry at place `before` or a later one.
 abbrev pub kept_from : ℕ → List (ℕ × FiledAnswer) → List (ℕ × FiledAnswer)
 kept_from before filed = filter (λ (f : ℕ × FiledAnswer). not (nat_lt f.1.place before)) filed
 
--- The connects without the answers that were given below place `before`.
+-- The connects without the answers that were given by entries before place `before`.
 abbrev pub swept : ℕ → KnownConnects → KnownConnects
 swept before connects = record { held = connects.held; filed = kept_from before connects.filed }
 
@@ -156,6 +156,6 @@ pub record IsDue (connects : KnownConnects) (session moment : ℕ) : Type 0 wher
   pub held : IsHeldUntil connects place session (Some deadline)
   pub due : deadline ≤ moment
 
--- How many filed answers were given below place `before`.
+-- How many filed answers were given by entries before place `before`.
 abbrev pub count_filed_below : ℕ → KnownConnects → ℕ
 count_filed_below before connects = length (filter (λ (f : ℕ × FiledAnswer). nat_lt f.1.place before) connects.filed)

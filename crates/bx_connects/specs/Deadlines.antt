@@ -27,6 +27,6 @@ abbrev pub is_held_until : Option HeldConnect → ℕ → ℕ → Bool
 is_held_until None session deadline = false
 is_held_until (Some h) session deadline = ends_at h.deadline deadline && nat_eq h.session session
 
--- Exactly the holds that have a deadline are in `deadlines`.
+-- Exactly the holds with a deadline are in `deadlines`.
 abbrev pub AreNoted : List (ℕ × HeldConnect) → Deadlines → Type 0
 AreNoted held deadlines = (place session deadline : ℕ) → is_noted deadlines (deadline, place, session) ≡ is_held_until (hold_at held place) session deadline

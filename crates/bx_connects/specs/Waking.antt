@@ -1,4 +1,4 @@
--- Which wakers are removed from connects, to be woken.
+-- Which wakers are removed from connects, to wake their tasks.
 use Rattle.std.specs.Prelude.{ℕ, ◌≡◌, nat_eq, List, [], ◌∷◌, ◌++◌, if◌then◌else◌, Option, Some, None}
 use Rattle.futures.specs.declared.task.waker.Waker.{Waker}
 use Rattle.bx_connects.specs.declared.connects.ConnectState.{ConnectState}
@@ -19,7 +19,7 @@ abbrev pub AreTaken : List Waker → (ℕ → Option Waker) → (ℕ → Option 
 AreTaken [] before after = (p : ℕ) → after p ≡ before p
 AreTaken (waker ∷ rest) before after = (place : ℕ) × (before place ≡ Some waker) × AreTaken rest (without place before) after
 
--- The wakers that were removed from connects, and no others, are appended to those to be woken.
+-- The wakers that were removed from connects, and no others, are appended to the list.
 pub record AreWoken (before after : ℕ → Option ConnectState) (old new : List Waker) : Type 0 where
   pub added : List Waker
   pub behind : new ≡ old ++ added

@@ -23,7 +23,7 @@ use std::marker::Model;
 /// Only a held connect has a waker.
 #[derive(Drop)]
 pub enum ConnectState {
-    /// Held, at the latest until a tick at or after the deadline.
+    /// Held until it is answered, at the latest by a tick at or after the deadline.
     Held {
         /// The number of the session that holds it.
         session: u64,
@@ -38,7 +38,7 @@ pub enum ConnectState {
         session: u64,
         /// The place of the entry that gave the answer.
         place: u64,
-        /// The answer.
+        /// The answer: its events and its reply.
         answer: Answer,
     },
 }
@@ -50,15 +50,16 @@ pub struct FiledAnswer {
     pub session: u64,
     /// The place of the entry that gave the answer.
     pub place: u64,
-    /// The answer.
+    /// The answer: its events and its reply.
     pub answer: Answer,
 }
 
 /// The held connects and the filed answers of a shard, by the place of the connect or rider.
 ///
-/// Riders are never held. While a connect is held, room for its waker and its answer is reserved,
-/// so that neither `watch` nor `file` allocates. If it is answered or forgotten, its waker moves to
-/// the caller's list.
+/// A connect is known while it is held or its answer is filed. Riders are never held.
+///
+/// While a connect is held, there is room for its waker and its answer, so storing them does not
+/// allocate. When it is answered or removed, its waker is appended to the caller's list.
 ///
 /// Model: the held connects and the filed answers, each with its place.
 #[derive(Drop)]
@@ -113,7 +114,7 @@ impl Connects {
         self.held.hold(place, session, deadline)
     }
 
-    /// Forgets the connect at `place`, held or answered, and moves its waker to `wakers`.
+    /// Removes the connect at `place`, held or answered, and appends its waker to `wakers`.
     pub fn forget(&mut self, place: u64, wakers: &mut Wakers)
         ensures forgotten { (p : ℕ) → connect_at self.new p ≡ (if nat_eq place p then None else connect_at self.old p) }
         ensures woken { wakers.new ≡ wakers.old ++ option_to_list (waker_of (connect_at self.old place)) }
@@ -126,8 +127,8 @@ impl Connects {
 
     /// Files the answer to a known connect, given by the entry at `place`.
     ///
-    /// Moves the connect's waker to `wakers`. Replaces an answer filed before. Does nothing if the
-    /// connect is not known.
+    /// Appends the connect's waker to `wakers`. If an answer is already filed, replaces it. Does
+    /// nothing if the connect is not known.
     pub fn file(&mut self, place: u64, answered: Answered, wakers: &mut Wakers)
         ensures filed { (p : ℕ) → connect_at self.new p
             ≡ (if nat_eq answered.place p then filed_as place answered.answer (connect_at self.old answered.place)
@@ -159,7 +160,7 @@ impl Connects {
         }
     }
 
-    /// Files `answer`, which `session` gives at `place`.
+    /// Files `answer` to the rider at `place`, given by `session` at the same place.
     ///
     /// No connect or answer may be known at `place`.
     ///
@@ -192,7 +193,7 @@ impl Connects {
         }
     }
 
-    /// Files an answer, if there is one, as [`file`](Self::file) does.
+    /// Files `answered`, if there is one, as [`file`](Self::file) does.
     pub fn file_if(&mut self, place: u64, answered: Option<Answered>, wakers: &mut Wakers)
         ensures filed { (p : ℕ) → connect_at self.new p ≡ filing place answered (connect_at self.old) p }
         ensures woken { AreWoken (connect_at self.old) (connect_at self.new) wakers.old wakers.new }
@@ -202,7 +203,7 @@ impl Connects {
         }
     }
 
-    /// Returns the session of a held connect whose deadline is at or before `moment`, if any.
+    /// Returns a session that holds a connect with a deadline at or before `moment`, if any.
     ///
     /// `moment`: milliseconds since the server started.
     pub fn first_due(&self, moment: u64) -> Option<u64>
@@ -214,7 +215,7 @@ impl Connects {
         Some(session)
     }
 
-    /// Removes and returns the answer filed for `place`, if any.
+    /// Takes the answer filed for `place`, if any.
     pub fn take(&mut self, place: u64) -> Option<Answer>
         ensures answer { result ≡ filed_answer (connect_at self.old place) }
         ensures taken { (p : ℕ) → connect_at self.new p
@@ -224,7 +225,7 @@ impl Connects {
         Some(answer)
     }
 
-    /// Removes and returns a filed answer, or `None` if there is none.
+    /// Takes some filed answer, or returns `None` if no answer is filed.
     pub fn take_any(&mut self) -> Option<Filing>
         ensures filed { IfSome result (λ f. (session : ℕ) × (connect_at self.old f.connect ≡ Some (Filed session f.place f.answer))) }
         ensures taken { IfSome result (λ f. (p : ℕ) → connect_at self.new p
@@ -288,7 +289,7 @@ impl Connects {
         self.held.places()
     }
 
-    /// Returns the places of the connects and riders whose answers are filed.
+    /// Returns the places of the connects and riders that have a filed answer.
     pub fn filed_places(&self) -> &[u64]
         ensures places { result.now ≡ keys_of self.now.filed }
         ensures apart { AreApart self.now.held self.now.filed }
@@ -309,7 +310,7 @@ impl Connects {
         Some((filed.session, None))
     }
 
-    /// Removes the last filed answer, and returns it with the place of its connect or rider.
+    /// Takes the last filed answer, with the place of its connect or rider.
     pub fn pop_filed(&mut self) -> Option<(u64, FiledAnswer)>
         ensures filed { self.old.filed ≡ self.new.filed ++ option_to_list result }
         ensures held { self.new.held ≡ self.old.held }
@@ -319,7 +320,7 @@ impl Connects {
         self.filed.pop()
     }
 
-    /// Reserves a connect that `session` holds at `place`, unless one is known there.
+    /// Holds the connect at `place` for `session`, unless a connect or an answer is known there.
     ///
     /// `deadline`: milliseconds since the server started. Without one, no tick ends the hold.
     ///

@@ -26,7 +26,11 @@ impl Deadlines {
         }
     }
 
-    /// Adds a hold. On error, nothing has changed.
+    /// Adds a hold.
+    ///
+    /// # Errors
+    ///
+    /// `AllocError` if memory runs out; nothing has changed.
     pub(crate) fn note(&mut self, hold: Hold) -> Result<(), AllocError>
         ensures ok { OnOk result ((q : ℕ × ℕ × ℕ) → is_noted self.new q
             ≡ (if same_hold hold q then true else is_noted self.old q)) }

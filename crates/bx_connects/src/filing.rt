@@ -8,6 +8,6 @@ pub struct Filing {
     pub connect: u64,
     /// The place of the entry that gave the answer. For a rider, it is the rider's own.
     pub place: u64,
-    /// The answer.
+    /// The answer: its events and its reply.
     pub answer: Answer,
 }

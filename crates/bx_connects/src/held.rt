@@ -12,9 +12,9 @@ use indexmap::IndexMap;
 use std::alloc::{AllocError, Global};
 use std::marker::Model;
 
-/// A connect held by `session` until a tick at or after `deadline`, if it has one.
+/// A connect held by `session`, and the waker of the task that waits for its answer.
 ///
-/// Dropping `waker` wakes its task.
+/// A tick at or after `deadline` ends the hold. Dropping `waker` wakes the task.
 #[derive(Drop)]
 pub(crate) struct HeldConnect {
     pub(crate) session: u64,
@@ -23,7 +23,7 @@ pub(crate) struct HeldConnect {
 }
 
 impl HeldConnect {
-    // Stores `waker` and returns the one that it replaces, unless the shard was shut.
+    // Stores `waker` and returns the one that it replaces, or returns `waker` itself if `is_shut`.
     fn watch(&mut self, waker: Waker, is_shut: bool) -> Watch
         ensures watch { result ≡ watched_hold is_shut waker (Some self.old) }
         ensures stored { self.new ≡ stored_at is_shut waker self.old }
@@ -77,7 +77,9 @@ impl HeldConnects {
 
     /// Holds the connect at `place`, which must not be held, for `session` until `deadline`.
     ///
-    /// On error, no connect has changed.
+    /// # Errors
+    ///
+    /// `AllocError` if memory runs out; nothing has changed.
     pub(crate) fn hold(
         &mut self,
         place: u64,
@@ -107,7 +109,7 @@ impl HeldConnects {
         noted
     }
 
-    /// Removes and returns the connect at `place`, if it is held.
+    /// Takes the connect at `place`, if it is held.
     pub(crate) fn release(&mut self, place: u64) -> Option<HeldConnect>
         ensures was { result ≡ hold_at self.old place }
         ensures released { (p : ℕ) → hold_at self.new p ≡ (if nat_eq place p then None else hold_at self.old p) }
@@ -132,7 +134,8 @@ impl HeldConnects {
 
     /// Registers `waker` with the connect at `place`, and returns the waker that it replaces.
     ///
-    /// Returns `waker` itself if no connect is held there, or if the shard was shut.
+    /// Returns `waker` itself if no connect is held there (`Unknown`), or `is_shut` is `true`
+    /// (`Shut`).
     pub(crate) fn watch(&mut self, place: u64, waker: Waker, is_shut: bool) -> Watch
         ensures watch { result ≡ watched_hold is_shut waker (hold_at self.old place) }
         ensures stored { (p : ℕ) → hold_at self.new p

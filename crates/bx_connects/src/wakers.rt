@@ -1,4 +1,4 @@
-//! The wakers of tasks whose connects are no longer held.
+//! A list of wakers of tasks that waited for connects.
 ghost use Rattle.std.specs.Prelude.{◌≡◌, [], ◌∷◌, ◌++◌, length, option_to_list, ◌≤◌};
 
 use bx_history::History;
@@ -6,16 +6,16 @@ use futures::task::Waker;
 use std::alloc::Global;
 use std::marker::Model;
 
-/// A list of wakers to be woken, in the order in which they were added.
+/// A list of wakers, which wakes their tasks when it is dropped.
 ///
-/// Dropping the list wakes their tasks. Create it before you lock a shard, and drop it after you
-/// unlock the shard. If memory runs out for a waker, its task is woken at once.
+/// Create it before you lock a shard, and drop it after you unlock the shard. If memory runs out
+/// for a waker, its task is woken at once.
 ///
-/// Model: all wakers that were added.
+/// Model: all wakers that were appended, in order.
 #[derive(Drop)]
 pub struct Wakers {
     list: Vec<Waker>,
-    // Ghost: the wakers that were added, and those of them that were woken at once.
+    // Ghost: the wakers that were appended, and those of them that were woken at once.
     given: History<Waker>,
     at_once: History<Waker>,
 }
@@ -29,7 +29,7 @@ impl Model for Wakers {
 
     ghost view = { λ w. w.given };
 
-    // Each waker that was added is in the list or was woken at once. There are no others.
+    // Each waker that was appended is in the list or was woken at once. There are no others.
     ghost invariant = { λ w. IsPermutation w.given (w.at_once ++ w.list.items) };
 }
 
@@ -45,7 +45,7 @@ impl Wakers {
         }
     }
 
-    /// Adds a waker, or wakes its task at once if memory runs out.
+    /// Appends `waker`, or wakes its task at once if memory runs out.
     #[tactic(auto, using(crate::proofs::WakingLemmas::pushed))]
     pub fn push(&mut self, waker: Waker)
         ensures { self.new ≡ self.old ++ waker ∷ [] }
@@ -56,7 +56,7 @@ impl Wakers {
         }
     }
 
-    /// Adds `waker`, if there is one.
+    /// Appends `waker`, if there is one.
     pub(crate) fn push_if(&mut self, waker: Option<Waker>)
         ensures { self.new ≡ self.old ++ option_to_list waker }
     {
@@ -65,9 +65,9 @@ impl Wakers {
         }
     }
 
-    /// Returns how many wakers are still to be woken.
+    /// Returns how many tasks are still to be woken.
     ///
-    /// Those that were woken at once do not count.
+    /// Tasks that were woken at once do not count.
     pub fn len(&self) -> usize
         ensures { result ≤ length self.now }
     {

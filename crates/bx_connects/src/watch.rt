@@ -6,12 +6,12 @@ use futures::task::Waker;
 /// `Ready`, `Unknown` and `Shut` return the waker itself.
 #[derive(Drop)]
 pub enum Watch {
-    /// The waker is stored. Returns the one that it replaces; dropping that wakes its task.
+    /// The waker is stored. Returns the one that it replaces, if any. Dropping that wakes its task.
     Stored(Option<Waker>),
     /// The answer is filed and can be taken.
     Ready(Waker),
     /// No connect of this shard is held under the ticket, and no answer is filed.
     Unknown(Waker),
-    /// The shard was shut.
+    /// The shard is shut.
     Shut(Waker),
 }

@@ -1,4 +1,4 @@
--- The lexer's first step, by the byte that a text begins with.
+-- The lexer's first step, by the first byte of a text.
 use Rattle.std.proofs.Common.{◌≡◌, ◌≢◌, ℕ, suc, ◌+◌, ◌⊎◌, Bool, true, false, cond, ◌||◌, ◌==◌, List, [], ◌∷◌, ◌++◌, length, take, drop, refl, sym, ap, ◌∙◌, subst, arith}
 use Rattle.std.proofs.lemmas.Bool.{true≢false, eqb-true, or_cases}
 use Rattle.std.proofs.lemmas.List.{take-append-drop}
@@ -30,11 +30,9 @@ pub record Other (x : ℕ) : Type 0 where
   pub closes_not : closes x ≡ false
   pub word_byte : is_word_byte x ≡ true
 
--- a byte that is none of those with a meaning of their own
 pub is_other : (x : ℕ) → x ≢ 34 → x ≢ 92 → x ≢ 123 → x ≢ 125 → x ≢ 91 → x ≢ 93 → x ≢ 58 → x ≢ 44 → x ≢ 32 → x ≢ 9 → x ≢ 10 → x ≢ 13 → Other x
 is_other x a b c d e f g h i j k l = grind (arith, common_steps)
 
--- the cases of a byte that is no white space
 pub byte_cases : (P : ℕ → Type 0) → P 34 → P 92 → P 123 → P 125 → P 91 → P 93 → P 58 → P 44 → ((x : ℕ) → Other x → P x) → (x : ℕ) → is_space x ≡ false → P x
 byte_cases P a b c d e f g h o x s =
     at 34 a (λ i. at 92 b (λ j. at 123 c (λ k. at 125 d (λ l. at 91 e (λ m. at 93 f (λ n. at 58 g (λ p. at 44 h (λ q.
@@ -44,7 +42,7 @@ byte_cases P a b c d e f g h o x s =
     at : (n : ℕ) → P n → ((x ≡ n → ⊥) → P x) → P x
     at n p q = grind (arith, common_steps)
 
--- ---- white space in front
+-- ---- leading whitespace
 
 pub record Blank (w : List ℕ) : Type 0 where
   pub lexes : (z : List ℕ) → lex between (w ++ z) ≡ lex between z
@@ -94,7 +92,6 @@ split_blanks t = sym (take-append-drop (prefix_len is_space t) t)
 pub past-lex : (t : List ℕ) → lex between t ≡ lex between (past_blank t)
 past-lex t = ap (lex between) (split_blanks t) ∙ (Blank-blanks t).lexes (past_blank t)
 
--- what stands after white space is none
 abbrev pub BeginsFull : List ℕ → Type 0
 BeginsFull [] = Unit {0}
 BeginsFull (x ∷ xs) = is_space x ≡ false

@@ -1,4 +1,4 @@
--- Which bodies may be cut, told from the values that were read.
+-- Which bodies are valid documents, by the values that they read as.
 use Rattle.std.proofs.Common.{◌≡◌, ℕ, suc, ◌<◌, ◌≤◌, Bool, true, false, cond, ◌&&◌, nat_lt, List, [], ◌∷◌, length, Some, None, is_some, refl, sym, ap, ◌∙◌}
 use Rattle.std.proofs.lemmas.{Bool.lt-ltb, Bool.le-ltb, Str.is_utf8-from_IsUtf8, Str.IsUtf8-from_is_utf8}
 use Rattle.std.specs.{List.list_all, Str.IsUtf8, Str.is_utf8}

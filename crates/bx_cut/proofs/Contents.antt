@@ -1,4 +1,4 @@
--- The content of a string, a part at a time.
+-- The content of a string, one part at a time.
 use Rattle.std.proofs.Common.{◌≡◌, ◌≢◌, ℕ, suc, ◌+◌, ◌<◌, ◌≤◌, Bool, true, false, cond, ◌&&◌, ◌==◌, nat_lt, List, [], ◌∷◌, ◌++◌, length, take, drop, get_or, Option, Some, None, option_and_then, refl, sym, ap, ◌∙◌, subst, arith}
 use Rattle.std.proofs.lemmas.List.{append_assoc, append-nil, length-append, length-drop, take_all, drop-drop, get_or-drop}
 use Rattle.std.proofs.lemmas.Bool.{and_parts, or_parts, not-true, false≢true, ne_eqb}
@@ -18,7 +18,6 @@ pub after_backslash-at : (t : List ℕ) → 0 < length t → content after_backs
 unfolding content
 after_backslash-at t h1 = grind (arith, common_steps)
 
--- what follows `\u` in a text that begins with the `u`
 pub unit-short : (t : List ℕ) → length t < 5 → content after_u (drop 1 t) ≡ None
 unfolding content
 unit-short t h1 = grind (arith, common_steps)
@@ -57,7 +56,6 @@ prepend-prepend a b r = grind (arith, common_steps)
 pub prepend-nil : (r : Option (List ℕ)) → prepend [] r ≡ r
 prepend-nil r = grind (arith, common_steps)
 
--- plain bytes stand for themselves
 pub content-run : (xs : List ℕ) → content plain xs ≡ prepend (take (prefix_len is_plain xs) xs) (content plain (drop (prefix_len is_plain xs) xs))
 unfolding content
 content-run [] = sym (prepend-nil _)
@@ -74,7 +72,6 @@ content-run (x ∷ xs) = by_test (is_plain x) refl (content-run xs)
         (λ i. cond (tests.0 i) (Some []) (cond (tests.1 i) (content after_backslash xs) (cond (none.1 i) None (prepend (x ∷ []) (ih i)))))
         ∙ prepend-prepend (x ∷ []) (take n xs) (content plain (drop n xs)) ∙ ap (λ k. prepend (take k (x ∷ xs)) (content plain (drop k (x ∷ xs)))) next
 
--- each of the plain bytes is one
 pub run-plain : (t : List ℕ) → list_all is_plain (take (prefix_len is_plain t) t) ≡ true
 run-plain [] = refl
 run-plain (x ∷ xs) = by_test (is_plain x) refl (run-plain xs)
@@ -82,7 +79,6 @@ run-plain (x ∷ xs) = by_test (is_plain x) refl (run-plain xs)
     by_test : (p : Bool) → is_plain x ≡ p → list_all is_plain (take (prefix_len is_plain xs) xs) ≡ true → list_all is_plain (take (cond p (1 + prefix_len is_plain xs) 0) (x ∷ xs)) ≡ true
     by_test p h1 h2 = grind (arith, common_steps)
 
--- where plain bytes and a quote stand in front, the quote stands behind the plain bytes
 pub plain-then-quote : (text rest : List ℕ) → list_all is_plain text ≡ true
     → begins_with 34 (drop (prefix_len is_plain ((text ++ (34 ∷ [])) ++ rest)) ((text ++ (34 ∷ [])) ++ rest)) ≡ true
 plain-then-quote [] rest h = refl
@@ -96,7 +92,6 @@ pub after-quote : (xs : List ℕ) → after_first 34 (34 ∷ xs) ≡ Some xs
 unfolding after_first
 after-quote xs = refl
 
--- what stands after the plain bytes is none
 pub plain-none : (t : List ℕ) → prefix_len is_plain (drop (prefix_len is_plain t) t) ≡ 0
 plain-none [] = refl
 plain-none (x ∷ xs) = by_test (is_plain x) refl (plain-none xs)
@@ -104,7 +99,7 @@ plain-none (x ∷ xs) = by_test (is_plain x) refl (plain-none xs)
     by_test : (p : Bool) → p ≡ is_plain x → prefix_len is_plain (drop (prefix_len is_plain xs) xs) ≡ 0 → prefix_len is_plain (drop (cond p (1 + prefix_len is_plain xs) 0) (x ∷ xs)) ≡ 0
     by_test p h1 h2 = grind (arith, common_steps)
 
--- ---- where no plain byte is next
+-- ---- a byte that is not plain
 
 pub at-quote : (t : List ℕ) → begins_with 34 t ≡ true → content plain t ≡ Some []
 unfolding content
@@ -130,9 +125,8 @@ after-escape front text rest c o e h = h ∙ ap (prepend front) e ∙ prepend-pr
 pub after-fault : (front text : List ℕ) (o : Option (List ℕ)) → content plain text ≡ None → o ≡ prepend front (content plain text) → o ≡ None
 after-fault front text o e h = h ∙ ap (prepend front) e
 
--- ---- beside a text that is wanted
+-- ---- comparison with an expected text
 
--- a byte that is no backslash, and not the first one that is wanted, begins another text
 differs : (x y : ℕ) (xs ys : List ℕ) → x ≢ y → (x == 92) ≡ false → content plain (x ∷ xs) ≡ Some (y ∷ ys) → ⊥
 unfolding content
 differs x y xs ys other plainly e = by_tests (x == 34) (x == 92) (nat_lt x 32) plainly (content plain xs) e
@@ -149,7 +143,6 @@ abbrev pub wanted_of : Option (List ℕ) → List ℕ
 wanted_of None = []
 wanted_of (Some s) = s
 
--- no text that begins otherwise is spelled
 pub not-spelled : (text done wanted part : List ℕ) (o rest : Option (List ℕ)) → text ≡ done ++ wanted → ((s : List ℕ) → wanted ≡ part ++ s → ⊥) → o ≡ prepend (done ++ part) rest → o ≡ Some text → ⊥
 not-spelled text done wanted part o None t none h e = let no : None ≡ Some text = sym h ∙ e in cc
 not-spelled text done wanted part o (Some s) t none h e =
@@ -170,7 +163,6 @@ not_some text o e h = let no : None ≡ Some text = sym e ∙ h in cc
 pub fault-not-spelled : (text : List ℕ) (o : Option (List ℕ)) → o ≡ None → (IsTrue false → o ≡ Some text) × (o ≡ Some text → IsTrue false)
 fault-not-spelled text o e = never (not_some text o e)
 
--- the string ends: what is wanted has to end too
 pub end-spelled : (text done wanted run left : List ℕ) (o : Option (List ℕ)) (b : Bool) → text ≡ done ++ wanted → wanted ≡ run ++ left → o ≡ Some (done ++ run) → b ≡ (length left == 0)
     → (IsTrue b → o ≡ Some text) × (o ≡ Some text → IsTrue b)
 end-spelled text done wanted run [] o b t w h e = grind (arith, common_steps)
@@ -184,7 +176,7 @@ end-spelled text done wanted run (x ∷ xs) o b t w h e =
           let no : ⊥ = omega (arith, ap length same, ap length whole, length-append done run, length-append done (run ++ (x ∷ xs)), length-append run (x ∷ xs)) in absurd no,
     )
 
--- ---- what the functions on strings are proved by
+-- ---- lemmas for the functions of `string.rt`
 
 pub of_scalar : (r : Option ℕ) (code : ℕ) (text rest : Option (List ℕ)) → SomeIff r (IsScalar code) code → (InScalarRange code → IsSome r) → InScalarRange code → text ≡ prepend (encode_utf8 code) rest
     → MatchOption r (text ≡ None) (λ c. text ≡ prepend (encode_utf8 c) rest)

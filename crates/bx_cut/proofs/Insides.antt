@@ -1,4 +1,4 @@
--- What stands inside a value reads as its parts.
+-- The text inside a value reads as the value's parts.
 use Rattle.std.proofs.Common.{◌≡◌, ℕ, ◌≤◌, Bool, true, false, ◌==◌, List, [], ◌∷◌, Option, Some, None, IsSome, IfSome, option_map, option_and_then, refl, sym, ap, ◌∙◌, subst, arith}
 use Rattle.std.proofs.lemmas.{Bool.or_parts, Bool.false≢true, List.append-nil}
 use Rattle.std.specs.{Borrow.Bor, Bool.IsTrue}
@@ -14,7 +14,6 @@ use Rattle.bx_cut.proofs.Laws.{text_reads, members_bare, items_parts, members_fo
 use Rattle.bx_cut.proofs.Nested.{EachText, find_items, find_members, found_first, other_first}
 use Rattle.std.proofs.lemmas.Grind.{common_steps}
 
--- what a text begins with, by its value
 pub record Begins (t : List ℕ) (x : ℕ) : Type 0 where
   pub rest : List ℕ
   pub at : past_blank t ≡ x ∷ rest
@@ -104,7 +103,7 @@ module _ (t : List ℕ) (d : Data) where
     pub spelled_reads : past_blank t ≡ t → spelled t ≡ as_str d
     spelled_reads p = let w = whole t d r in spelled_json p w.json (subst (Matches true t) w.tokens_are (seen true t)) w.data_is
 
--- ---- from what a function found
+-- ---- results of the functions
 
 module _ (value : List ℕ) (d : Data) (r : read value ≡ Some d) (bare : BeginsBare value) where
   pub spells_reads : (text : List ℕ) (b : Bool) → (IsTrue b → spelled value ≡ Some text) × (spelled value ≡ Some text → IsTrue b) → (IsTrue b → as_str d ≡ Some text) × (as_str d ≡ Some text → IsTrue b)

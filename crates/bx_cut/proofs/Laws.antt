@@ -22,7 +22,6 @@ use Rattle.bx_cut.proofs.Seen.{start, Matches, seen}
 use Rattle.bx_cut.proofs.Slices.{text_bare, blanks_blank, nothing_left, shut_at, stands_at, goes_on_at}
 use Rattle.std.proofs.lemmas.Grind.{common_steps}
 
--- a value's own bytes have its tokens
 text_tokens : (v : List ℕ) (ts : List Token) → Text v ts → tokens v ≡ ts
 unfolding lex punctuate
 text_tokens v ts x = ap tokens (sym (append-nil v)) ∙ x.reads true [] (refl, refl) ∙ append-nil ts
@@ -192,7 +191,6 @@ array_json (json.string s) ds e = cc
 array_json (json.array js) ds e = let m = from_map array (of_items js) (array ds) e in let same : ds ≡ m.0 = (let whole_same : array ds ≡ array m.0 = m.2 in cc) in (js, refl, ap Some same ∙ m.1)
 array_json (json.object ms) ds e = let m = from_map object (of_members ms no_members) (array ds) e in let no : array ds ≡ object m.0 = m.2 in cc
 
--- what the messages read as, and where they stand
 abbrev pub ArePieces : List ℕ → List Object → Data → Type 0
 ArePieces text os d = ArePiecesOf os d × LieIn os text
 
@@ -236,7 +234,6 @@ pieces_read text (array ds) e f = array_pieces text ds e (passes (all_objects ds
     passes false g = cc
 pieces_read text (object ms) e f = object_pieces text ms e
 
--- so where the messages stand in a text that may be cut
 pub pieces_lie : (text : List ℕ) → value_fault (read text) ≡ None → LieIn (pieces text) text
 pieces_lie text f = go (read text) refl
   where

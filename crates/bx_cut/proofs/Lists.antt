@@ -1,4 +1,4 @@
--- What commas separate, a turn at a time.
+-- Parts separated by commas, one at a time.
 use Rattle.std.proofs.Common.{◌≡◌, ℕ, zero, suc, ◌<◌, ◌≤◌, List, [], ◌∷◌, ◌++◌, length, Option, Some, None, sym, ap, ◌∙◌, arith}
 use Rattle.std.proofs.lemmas.List.{append_assoc, append-nil}
 use Rattle.bx_cut.specs.Cut.{past_byte, first_and_more, separated, listed, split_value, split_member}
@@ -17,7 +17,6 @@ module _ {A : Type 0} (split : List ℕ → Option (A × List ℕ)) (shortens : 
   unfolding separated
   at_end n t h1 = grind (arith, common_steps)
 
-  -- more turns than the text has bytes give no more
   pub enough : (n m : ℕ) (t : List ℕ) → length t ≤ n → length t ≤ m → separated split n t ≡ separated split m t
   unfolding separated
   enough zero m t h k = at_end m t (omega arith)
@@ -26,7 +25,6 @@ module _ {A : Type 0} (split : List ℕ → Option (A × List ℕ)) (shortens : 
       first_same (separated split n) (separated split m) t (split t)
       (λ p r e f. enough n m r (omega (arith, shortens t p e, past_byte-shorter 44 p.1 r f)) (omega (arith, shortens t p e, past_byte-shorter 44 p.1 r f)))
 
-  -- one turn
   pub turn : (t : List ℕ) → listed split t ≡ first_and_more split (listed split) t (split t)
   unfolding separated
   turn t = enough (length t) (suc (length t)) t (omega arith) (omega arith) ∙ unroll
@@ -44,7 +42,7 @@ module _ {A : Type 0} (split : List ℕ → Option (A × List ℕ)) (shortens : 
   pub listed-more : (t : List ℕ) (p : A × List ℕ) (r : List ℕ) → Some p ≡ split t → Some r ≡ past_byte 44 p.1 → listed split t ≡ (p.0 ∷ (listed split r).0, (listed split r).1)
   listed-more t p r e f = grind (arith, common_steps, turn)
 
-  -- ---- what was found so far, and what is still to be found
+  -- ---- the parts found so far, and the others
 
   pub grown-none : (done : List A) (t : List ℕ) (whole : List A × List ℕ) → None ≡ split t → (done ++ (listed split t).0, (listed split t).1) ≡ whole → (done, t) ≡ whole
   grown-none done t whole e h = grind (arith, common_steps, listed-none, append-nil)
@@ -55,8 +53,6 @@ module _ {A : Type 0} (split : List ℕ → Option (A × List ℕ)) (shortens : 
   pub grown-more : (done : List A) (t : List ℕ) (p : A × List ℕ) (r : List ℕ) (whole : List A × List ℕ) → Some p ≡ split t → Some r ≡ past_byte 44 p.1 → (done ++ (listed split t).0, (listed split t).1) ≡ whole
       → ((done ++ p.0 ∷ []) ++ (listed split r).0, (listed split r).1) ≡ whole
   grown-more done t p r whole e f h = grind (arith, common_steps, listed-more, append_assoc)
-
-  -- the same, of what was found alone
 
   pub found-none : (done : List A) (t : List ℕ) (all : List A) → None ≡ split t → done ++ (listed split t).0 ≡ all → done ≡ all
   found-none done t all e h = sym (append-nil done) ∙ sym (ap (λ (q : List A × List ℕ). done ++ q.0) (listed-none t e)) ∙ h

@@ -1,4 +1,4 @@
--- A string and a word are read from their own bytes alone.
+-- A string or a word is read from its own bytes alone.
 use Rattle.std.proofs.Common.{◌≡◌, ℕ, suc, ◌+◌, ◌*◌, Bool, true, false, cond, ◌&&◌, ◌==◌, nat_lt, List, [], ◌∷◌, ◌++◌, take, Option, Some, None, option_and_then, refl, sym, ap, ◌∙◌, subst, arith}
 use Rattle.std.proofs.lemmas.Bool.{true≢false, eqb-true}
 use Rattle.std.specs.Char.{digit_value, is_digit, encode_utf8}
@@ -14,7 +14,6 @@ mode after_backslash = in_escape
 mode after_u = in_string
 mode (after_high h) = in_string
 
--- the content is found in the bytes that the string spans, whatever follows them
 abbrev pub Local : Within → List ℕ → List ℕ → Type 0
 Local w xs s = (b : List ℕ) → (content w (take (span (mode w) xs) xs ++ b) ≡ Some s) × (span (mode w) (take (span (mode w) xs) xs ++ b) ≡ span (mode w) xs)
 
@@ -153,7 +152,7 @@ local_unit : (a b c d : ℕ) (xs s : List ℕ) (o : Option ℕ) → code_unit a 
 local_unit a b c d xs s None p e f g = no_some s (sym (no_unit a b c d xs p) ∙ e)
 local_unit a b c d xs s (Some u) p e f g = local_some a b c d u xs s (is_high_surrogate u) (is_low_surrogate u) p refl refl e (f u) g
 
--- ---- the second half of a pair
+-- ---- the second half of a surrogate pair
 
 abbrev half_of : ℕ → ℕ → Bool → Option (List ℕ) → Option (List ℕ)
 half_of h l low rest = cond low (prepend (encode_utf8 (surrogate_pair h l)) rest) None

@@ -1,4 +1,4 @@
--- The last member of a name, as the members are gone through.
+-- The last member of a name, found in a loop over the members.
 use Rattle.std.proofs.Common.{◌≡◌, ℕ, Bool, cond, List, [], ◌∷◌, ◌++◌, Option, Some, option_map, refl, sym, ap, ◌∙◌}
 use Rattle.std.proofs.lemmas.{Bool.false≢true, Slice.Eq.bytes_eq-Decides}
 use Rattle.std.specs.{Bool.IsTrue, Borrow.Bor, Option.unwrap_or}
@@ -23,7 +23,6 @@ rest_or_nothing o d r h1 h2 = grind (arith, common_steps)
 pub then_elements : (t : List ℕ) (o : Option (List ℕ)) → (then_more split_value (listed split_value) t o).0 ≡ elements_inside o
 then_elements t o = grind (arith, common_steps)
 
--- a value that is found at the last of these members
 pub one_more : (name : List ℕ) (seen : List Member) (m : Member) (before after : Option (List ℕ)) (b : Bool) → (IsTrue b → spelled m.0 ≡ Some name) × (spelled m.0 ≡ Some name → IsTrue b) → before ≡ last_member name seen
     → after ≡ cond b (Some m.1) before → after ≡ last_member name (seen ++ m ∷ [])
 one_more name seen m before after b h e f =

@@ -16,7 +16,7 @@ use Rattle.bx_cut.proofs.Seen.{start, SeenMark, Matches, seen, past_string, IsWo
 use Rattle.bx_cut.proofs.Values.{Quote, quote, quote_at, Fits, Text, Found, find_string, find_number, find_true, find_false, find_null}
 use Rattle.std.proofs.lemmas.Grind.{common_steps}
 
--- ---- what a text is, by its first token, after a value
+-- ---- a text by its first token, after a value
 
 abbrev pub SeenComma : List ℕ → List Token → Type 0
 SeenComma t ts = (xs : List ℕ) × (past_blank t ≡ 44 ∷ xs) × (punctuate after_comma (lex between xs) ≡ ts)
@@ -58,7 +58,7 @@ next t = subst (λ (ls : List Lexeme). Next t (punctuate after_value ls)) (sym (
         (λ e. tt) (λ e. after_the_comma t xs e (punctuate after_comma (lex between xs)) refl (seen false xs))
         (λ y o e. subst (λ (c : Class). Next t (punctuate after_value (lex_byte between c y xs (λ m. lex m xs)))) (sym o.class_is) (word_refused t (word (y ∷ xs)) (lex in_word xs) (begins_colon (lex in_word xs)) (is_word (y ∷ xs)))) x f e
 
--- ---- passing over a text, and up to a closing bracket
+-- ---- a scan to a closing bracket
 
 abbrev pub Passing : List ℕ → Type 0
 Passing v = (depth : ℕ) (z : List ℕ) → nest_len outside depth (v ++ z) ≡ length v + nest_len outside depth z
@@ -87,15 +87,13 @@ closes_one depth z = grind (arith, common_steps)
 three : (a b c z : List ℕ) → (a ++ (b ++ c)) ++ z ≡ a ++ (b ++ (c ++ z))
 three a b c z = append_assoc a (b ++ c) z ∙ ap (λ (x : List ℕ). a ++ x) (append_assoc b c z)
 
--- the value that stands in front is split off
 split_text : (u v z : List ℕ) → past_blank u ≡ v ++ z → value_len (v ++ z) ≡ length v → 0 < length v → Some (v, z) ≡ split_value u
 unfolding split_value
 split_text u v z e n h = grind (arith, common_steps)
 
--- ---- what stands between two brackets
+-- ---- parts between two brackets
 
--- What commas separate there: a thing, what all of them say, how the next one is split off, their tokens up to that of the closing bracket, which things
--- say what, and that bracket's byte.
+-- Parts separated by commas: the elements of an array, or the members of an object.
 pub record Between : Type 1 where
   pub Thing : Type 0
   pub Said : Type 0
@@ -105,7 +103,6 @@ pub record Between : Type 1 where
   pub shuts : ℕ
 
 module _ (k : Between) where
-  -- all of it, from its bracket on or from a comma on
   pub record Inside (b : Bool) (v : List ℕ) (said : k.Said) : Type 0 where
     pub closing : Closing v
     pub reads : (z : List ℕ) → punctuate (start b) (lex between (v ++ z)) ≡ k.tokens said ++ punctuate after_value (lex between z)
@@ -115,7 +112,6 @@ module _ (k : Between) where
     pub list : (z : List ℕ) → listed k.split (v ++ z) ≡ (found, last ++ z)
     pub shut : (z : List ℕ) → past_byte k.shuts (last ++ z) ≡ Some z
 
-  -- what follows one thing
   pub record Behind (v : List ℕ) (said : k.Said) : Type 0 where
     pub closing : Closing v
     pub reads : (z : List ℕ) → punctuate after_value (lex between (v ++ z)) ≡ k.tokens said ++ punctuate after_value (lex between z)
@@ -126,7 +122,6 @@ module _ (k : Between) where
     pub more : (z : List ℕ) → then_more k.split (listed k.split) (v ++ z) (past_byte 44 (v ++ z)) ≡ (found, last ++ z)
     pub shut : (z : List ℕ) → past_byte k.shuts (last ++ z) ≡ Some z
 
-  -- a text begins with all of it
   pub record FoundInside (b : Bool) (t : List ℕ) (said : k.Said) (rest : List Token) : Type 0 where
     pub v : List ℕ
     pub r : List ℕ
@@ -134,7 +129,6 @@ module _ (k : Between) where
     pub text : Inside b v said
     pub left : punctuate after_value (lex between r) ≡ rest
 
-  -- a text begins with what follows one thing
   pub record FoundBehind (t : List ℕ) (said : k.Said) (rest : List Token) : Type 0 where
     pub v : List ℕ
     pub r : List ℕ
@@ -142,7 +136,6 @@ module _ (k : Between) where
     pub text : Behind v said
     pub left : punctuate after_value (lex between r) ≡ rest
 
--- the closing bracket, behind which nothing is said, is this token
 record Shuts (k : Between) (nothing : k.Said) (close : Token) : Type 0 where
   closing : Closing (k.shuts ∷ [])
   bare : (z : List ℕ) → past_blank (k.shuts ∷ z) ≡ k.shuts ∷ z

@@ -1,4 +1,4 @@
--- The object that a text begins with, and how it is told from its parts.
+-- The object at the front of a text, and its parts.
 use Rattle.std.proofs.Common.{◌≡◌, ℕ, zero, suc, ◌-◌, ◌<◌, ◌≤◌, List, length, take, Option, Some, None, option_map, option_and_then, refl, ap, ◌∙◌, arith}
 use Rattle.std.proofs.lemmas.List.{length-drop}
 use Rattle.std.specs.List.{prefix_len}

@@ -1,4 +1,4 @@
--- How far strings and nested values reach: the steps of a scan at a place of the text, and where a scan ends.
+-- The lengths of strings and nested values.
 use Rattle.std.proofs.Common.{◌≡◌, ℕ, suc, ◌+◌, ◌-◌, ◌<◌, ◌≤◌, ◌⊎◌, inl, inr, Bool, true, false, cond, ◌==◌, List, [], ◌∷◌, length, take, drop, get_or, Option, Some, None, option_map, option_and_then, refl, sym, ap, ◌∙◌, subst, arith}
 use Rattle.std.proofs.lemmas.{List.drop_more, List.drop_all, List.take_all, List.length-drop, Bool.eqb-true, Bool.true≢false, Grind.common_steps}
 use Rattle.std.proofs.lemmas.Str.{IsCharBoundary-end, IsCharBoundary-after_ascii, IsCharBoundary-start}
@@ -11,7 +11,6 @@ use Rattle.bx_cut.specs.Cut.{Scan, outside, quoted, escaped, opens, closes, nest
 span_of_tests : (a b c d : Bool) (k : Mode → ℕ) → span_byte in_string (cond a quote (cond b backslash (cond c operator (cond d space other)))) k ≡ cond a 1 (cond b (1 + k in_escape) (1 + k in_string))
 span_of_tests a b c d k = grind (arith, common_steps)
 
--- a string's byte: its end, the beginning of an escape, or neither
 pub span-cons : (x : ℕ) (xs : List ℕ) → span in_string (x ∷ xs) ≡ cond (x == 34) 1 (cond (x == 92) (1 + span in_escape xs) (1 + span in_string xs))
 unfolding span
 span-cons x xs = span_of_tests (x == 34) (x == 92) _ _ (λ m. span m xs)
@@ -50,7 +49,6 @@ past_one n k x xs e = let s : n ≡ suc k = omega arith in ap (λ j. drop j (x �
 one_more : (a b s depth x : ℕ) (xs : List ℕ) → a ≡ s + nest_len outside depth (drop s xs) → b ≡ 1 + a → b ≡ 1 + s + nest_len outside depth (drop (1 + s) (x ∷ xs))
 one_more a b s depth x xs h e = let same = past_one (1 + s) s x xs refl in rw same (omega arith)
 
--- a scan passes over the rest of a string, and goes on outside of it
 pub nest-string : (e : Bool) (depth : ℕ) (xs : List ℕ) → nest_len (scan_of e) depth xs ≡ span (mode_of e) xs + nest_len outside depth (drop (span (mode_of e) xs) xs)
 unfolding nest_len span
 nest-string true depth [] = refl
@@ -58,9 +56,9 @@ nest-string false depth [] = refl
 nest-string true depth (x ∷ xs) = one_more _ _ _ depth x xs (nest-string false depth xs) refl
 nest-string false depth (x ∷ xs) = grind (arith, common_steps, span-cons, one_more, nest-string true depth xs, nest-string false depth xs)
 
--- ---- a scan ends where the text does, or after a quote or a closing bracket
+-- ---- a scan ends with the text, or after a quote or a closing bracket
 
--- n is where the text ends, or follows a byte of this kind
+-- `n` is the end of the text, or follows a byte of this kind.
 abbrev pub EndsBy : (ℕ → Type 0) → List ℕ → ℕ → Type 0
 EndsBy P t n = (n ≡ length t) ⊎ ((k : ℕ) × (n ≡ suc k) × (k < length t) × P (get_or t k 0))
 
@@ -113,7 +111,6 @@ module _ (P : ℕ → Type 0) where
   ends_len : (t : List ℕ) (n : ℕ) → EndsBy P t n → n ≤ length t
   ends_len t n h1 = grind (arith, common_steps)
 
--- so such a place is a boundary of characters
 abbrev pub EndsWell : List ℕ → ℕ → Type 0
 EndsWell = EndsBy (λ x. x < 128)
 
@@ -225,7 +222,7 @@ split_member-shorter t p e =
     let third = with_value-shorter colon.0 key.0.0 (split_value colon.0) p (split_value-shorter colon.0) colon.2 in
     omega (arith, first, second, third)
 
--- ---- what the lengths are proved by
+-- ---- lemmas for the functions of `scan.rt`
 
 pub ruleset string_ends = (span-in_string, span-in_escape, span-end, common_steps)
 

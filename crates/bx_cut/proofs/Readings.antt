@@ -1,4 +1,4 @@
--- What the grammar reads, as the tokens of what it read and what is left.
+-- What the grammar reads: the tokens of a value, and the rest.
 use Rattle.std.proofs.Common.{◌≡◌, ℕ, zero, suc, List, [], ◌++◌, ◌≤◌, length, Option, Some, None, option_and_then, refl, sym, ap, ◌∙◌}
 use Rattle.std.proofs.lemmas.List.{append-nil}
 use Rattle.json.specs.Token.{Token}
@@ -48,7 +48,7 @@ value_front (suc d) = value_with_front (λ ts. items (value d) (length ts) ts) (
 
 -- ---- a whole text
 
--- a text that nests so deep at most
+-- A text that nests at most `levels` deep.
 pub record WholeWithin (levels : ℕ) (text : List ℕ) (d : Data) : Type 0 where
   pub json : Json
   pub tokens_are : tokens text ≡ json_tokens json
@@ -77,7 +77,6 @@ whole_within levels text d e =
 pub whole : (text : List ℕ) (d : Data) → read text ≡ Some d → WholeWithin 127 text d
 whole text d e = whole_within 127 text d e
 
--- what has the tokens of a value reads as it
 pub reads_within : (levels : ℕ) (text : List ℕ) (j : Json) → tokens text ≡ json_tokens j → depth j ≤ levels → within levels text ≡ of_json j
 reads_within levels text j e h =
     let got : value levels (tokens text) ≡ Some (j, []) = ap (value levels) (e ∙ sym (append-nil (json_tokens j))) ∙ value-json_tokens j levels [] h in

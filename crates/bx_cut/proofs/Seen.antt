@@ -1,4 +1,4 @@
--- What the text is that gives a token.
+-- The text of each token.
 use Rattle.std.proofs.Common.{◌≡◌, ℕ, Bool, true, false, cond, List, [], ◌∷◌, drop, Option, Some, refl, sym, ap, ◌∙◌, subst}
 use Rattle.std.proofs.lemmas.Bool.{false≢true}
 use Rattle.std.specs.List.{prefix_len}
@@ -13,7 +13,7 @@ use Rattle.bx_cut.proofs.Reach.{mode_of, span-cons}
 use Rattle.std.proofs.lemmas.Grind.{common_steps}
 use Rattle.std.proofs.Common.{arith}
 
--- ---- past a string and past a word
+-- ---- after a string or a word
 
 pub string-lex : (e : Bool) (xs : List ℕ) → lex (mode_of e) xs ≡ lex between (drop (span (mode_of e) xs) xs)
 unfolding lex span
@@ -48,7 +48,7 @@ colon_at z h = go (past_blank z) refl (past-full z) (ap begins_colon (sym (past-
         (λ e h. record { rest = xs; text = e; lexed = past-lex z ∙ ap (lex between) e }) (λ e h. absurd (false≢true h))
         (λ y o e h. absurd (false≢true (sym (ap (λ (c : Class). begins_colon (lex_byte between c y xs (λ m. lex m xs))) o.class_is) ∙ h))) x f e h
 
--- ---- what a text is, by its first token, where a value may begin
+-- ---- a text by its first token, before a value
 
 abbrev pub start : Bool → Place
 start true = fresh
@@ -78,7 +78,7 @@ abbrev pub Matches : Bool → List ℕ → List Token → Type 0
 Matches b t [] = Unit {0}
 Matches b t (k ∷ rest) = Seen b t k rest
 
--- a word is a number, a literal or bad
+-- A number, a literal or a bad token.
 abbrev pub IsWord : Token → Type 0
 IsWord (number s) = Unit {0}
 IsWord (boolean v) = Unit {0}

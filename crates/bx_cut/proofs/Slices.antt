@@ -1,4 +1,4 @@
--- What stands round the values of a text: no value's text ends with white space, and white space alone stands behind the last one.
+-- No value's text ends with whitespace, and only whitespace follows the last value.
 use Rattle.std.proofs.Common.{◌≡◌, ℕ, suc, ◌+◌, ◌<◌, ◌≤◌, inl, inr, Bool, true, false, cond, ◌==◌, List, [], ◌∷◌, ◌++◌, length, take, get_or, refl, sym, ap, ◌∙◌, subst, arith}
 use Rattle.std.proofs.Math.Seq.{get_or-append_seam}
 use Rattle.std.proofs.lemmas.{List.append-nil, List.append_assoc, List.length-append, List.length-drop, List.Sums.prefix_len_passes}
@@ -13,7 +13,7 @@ use Rattle.bx_cut.proofs.Bytes.{byte_cases, BeginsFull, past-full, past-lex, bla
 use Rattle.bx_cut.proofs.{Reach.EndsBy, Reach.ends_more, Reach.ends_string, Reach.ends_nested, Values.Fits, Values.Text}
 use Rattle.std.proofs.lemmas.Grind.{common_steps}
 
--- ---- a value's text ends with no white space
+-- ---- no value's text ends with whitespace
 
 abbrev NoSpace : ℕ → Type 0
 NoSpace x = is_space x ≡ false
@@ -24,7 +24,6 @@ closes_full x h = grind (arith, common_steps)
 word_full : (x : ℕ) → is_word_byte x ≡ true → NoSpace x
 word_full x h = grind (arith, common_steps)
 
--- where a value ends within a text, the byte before its end is no white space
 value_ends : (t : List ℕ) (k : ℕ) → value_len t ≡ suc k → suc k < length t → NoSpace (get_or t k 0)
 unfolding value_len
 value_ends [] k e h = let no : ⊥ = omega (arith, h) in absurd no
@@ -59,7 +58,7 @@ text_begins v ts x = ap past_blank (sym (append-nil v)) ∙ x.full [] ∙ append
 pub text_bare : (v : List ℕ) (ts : List Token) → Text v ts → IsBare v
 text_bare v ts x = (text_begins v ts x, text_ends v ts x)
 
--- ---- white space
+-- ---- whitespace
 
 pub blanks_blank : (t : List ℕ) → IsBlank (blanks t)
 blanks_blank [] = refl
@@ -75,7 +74,7 @@ prefix_le (x ∷ xs) = grind (arith, common_steps, prefix_le xs)
 past_nothing : (t : List ℕ) → past_blank t ≡ [] → IsBlank t
 past_nothing t e = omega (arith, ap length e, length-drop (prefix_len is_space t) t, prefix_le t)
 
--- ---- a text without tokens is white space
+-- ---- a text without tokens is whitespace
 
 placed : (p : Place) (t : Token) (c : Bool) (k : Place → List Token) → place_token p t c k ≡ [] → ⊥
 placed p t c k h1 = grind (arith, common_steps)
@@ -94,7 +93,7 @@ nothing_left t h = go (past_blank t) refl (past-full t) (sym (ap (punctuate afte
     go : (u : List ℕ) → past_blank t ≡ u → BeginsFull u → punctuate after_value (lex between u) ≡ [] → IsBlank t
     go u h1 h2 h3 = grind (arith, common_steps, past_nothing, byte_cases, placed, after_a_comma)
 
--- ---- where the messages stand
+-- ---- positions of the messages
 
 pub shut_at : (t xs : List ℕ) → past_blank t ≡ 93 ∷ xs → punctuate after_value (lex between xs) ≡ [] → IsShut t
 shut_at t xs e h = (blanks t, xs, split_blanks t ∙ ap (λ (x : List ℕ). blanks t ++ x) e, blanks_blank t, nothing_left xs h)

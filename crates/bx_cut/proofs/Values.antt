@@ -1,4 +1,4 @@
--- The text of a value within a text: how far it reaches, and that its own bytes read as the value.
+-- The text of a value within a text: its length, and that it reads as the value.
 use Rattle.std.proofs.Common.{◌≡◌, ℕ, ◌+◌, ◌<◌, Bool, true, false, cond, List, [], ◌∷◌, ◌++◌, length, take, drop, Option, Some, refl, sym, ap, ap₂, ◌∙◌, subst, arith}
 use Rattle.std.proofs.lemmas.{Bool.false≢true, List.append-nil, List.take-append-drop, List.length-take-le, List.drop_at}
 use Rattle.std.specs.Prelude.{not}
@@ -56,7 +56,6 @@ module _ (xs s : List ℕ) (h : content plain xs ≡ Some s) where
 
 -- ---- a value
 
--- what may stand after a value
 abbrev pub Fits : List ℕ → Type 0
 Fits z = (ends_word z ≡ true) × (begins_colon (lex between z) ≡ false)
 

@@ -1,4 +1,4 @@
--- The text of a number or a literal: bytes without a meaning of their own, up to the end of the word.
+-- The text of a number or a literal, up to the end of the word.
 use Rattle.std.proofs.Common.{◌≡◌, ℕ, ◌+◌, ◌-◌, ◌<◌, Bool, true, false, cond, ◌&&◌, ◌||◌, ◌==◌, nat_eq, List, [], ◌∷◌, ◌++◌, length, take, drop, Option, Some, None, option_and_then, refl, sym, ap, ◌∙◌, subst, arith}
 use Rattle.std.proofs.lemmas.{Bool.true≢false, Bool.eqb-true, Bool.Decides.Decides-eqb, Slice.Eq.starts_is}
 use Rattle.std.proofs.lemmas.List.{append_assoc, take-append-drop, length-append, take_at}
@@ -12,7 +12,6 @@ use Rattle.bx_cut.specs.Cut.{outside, nest_len, is_word_byte}
 use Rattle.bx_cut.proofs.{Bytes.Other, Reach.from_and_then, Reach.some_same}
 use Rattle.std.proofs.lemmas.Grind.{common_steps}
 
--- an ASCII byte without a meaning of its own
 pub record Letter (x : ℕ) : Type 0 where
   pub other : Other x
   pub low : x < 128
@@ -37,7 +36,7 @@ pub other_len : (s : List ℕ) → AllOther s → (z : List ℕ) → ends_word z
 other_len [] h z e = ends_none z e
 other_len (x ∷ xs) h z e = ap (λ b. cond b (1 + prefix_len is_word_byte (xs ++ z)) 0) h.0.other.word_byte ∙ omega (arith, other_len xs h.1 z e)
 
--- ---- what the parts of a number take
+-- ---- the bytes of the parts of a number
 
 pub record Part (t r : List ℕ) : Type 0 where
   pub taken : List ℕ

@@ -1,4 +1,4 @@
--- The documents that a transport passes on.
+-- The documents of a request.
 use Rattle.std.specs.Prelude.{ℕ, List, [], ◌∷◌, map, string_bytes}
 use Rattle.bx_cut.specs.declared.bodies.Bodies.{Bodies}
 use Rattle.bx_cut.specs.declared.bodies.Bodies.TheVariants.{Whole, Decoded}

@@ -1,4 +1,4 @@
--- The length of the parts of a JSON text, in bytes. For other texts it has no meaning.
+-- How a JSON text is split into parts. For other texts, the results have no meaning.
 use Rattle.std.specs.Prelude.{◌≡◌, ◌≤◌, ℕ, zero, suc, ◌+◌, ◌-◌, ◌==◌, ◌||◌, List, [], ◌∷◌, length, take, drop, Bool, false, not, cond, Option, Some, None, option_map, option_and_then}
 use Rattle.std.specs.{List.prefix_len, Str.IsCharBoundary}
 use Rattle.json.specs.Word.{is_operator, is_space}
@@ -6,7 +6,7 @@ use Rattle.json.specs.Lex.{in_string}
 use Rattle.json.specs.Align.{span}
 use Rattle.json.specs.Ascii as ascii
 
--- The text without leading white space.
+-- The text without leading whitespace.
 abbrev pub past_blank : List ℕ → List ℕ
 past_blank t = drop (prefix_len is_space t) t
 
@@ -24,8 +24,8 @@ pub data Scan : Type 0 where
   quoted : Scan
   escaped : Scan
 
--- The length up to and including the bracket that closes one opened before the text. Another
--- `depth` brackets inside it are open.
+-- The length of an array or object from here through its closing bracket, in bytes. Inside it,
+-- `depth` further brackets are open.
 unfoldable pub nest_len : Scan → ℕ → List ℕ → ℕ
 nest_len m depth [] = 0
 nest_len outside depth (x ∷ xs) =
@@ -33,12 +33,13 @@ nest_len outside depth (x ∷ xs) =
 nest_len quoted depth (x ∷ xs) = 1 + cond (x == ascii.quote) (nest_len outside depth xs) (cond (x == ascii.backslash) (nest_len escaped depth xs) (nest_len quoted depth xs))
 nest_len escaped depth (x ∷ xs) = 1 + nest_len quoted depth xs
 
--- The length of the value at the start of a text: a string, array, object, number or literal.
+-- The length of the value at the start of a text, in bytes. It is a string, an array, an object, a
+-- number or a literal.
 unfoldable pub value_len : List ℕ → ℕ
 value_len [] = 0
 value_len (x ∷ xs) = cond (x == ascii.quote) (1 + span in_string xs) (cond (opens x) (1 + nest_len outside 0 xs) (prefix_len is_word_byte (x ∷ xs)))
 
--- ---- Splitting a text from its start; each pair ends with the rest
+-- ---- Splitting a text from its start: the result is a part and the rest
 
 abbrev pub begins_with : ℕ → List ℕ → Bool
 begins_with b [] = false
@@ -48,11 +49,11 @@ begins_with b (x ∷ xs) = x == b
 unfoldable pub after_first : ℕ → List ℕ → Option (List ℕ)
 after_first b t = cond (begins_with b t) (Some (drop 1 t)) None
 
--- The rest after the byte `b`, if it comes next after white space.
+-- The rest after the byte `b`, if it comes next after whitespace.
 abbrev pub past_byte : ℕ → List ℕ → Option (List ℕ)
 past_byte b t = after_first b (past_blank t)
 
--- The value that comes next after white space, and the rest.
+-- The value that comes next after whitespace, and the rest.
 unfoldable pub split_value : List ℕ → Option (List ℕ × List ℕ)
 split_value t = cond (value_len (past_blank t) == 0) None (Some (take (value_len (past_blank t)) (past_blank t), drop (value_len (past_blank t)) (past_blank t)))
 
@@ -66,7 +67,7 @@ with_value key v = option_map (λ p. ((key, p.0), p.1)) v
 abbrev pub after_key : List ℕ × List ℕ → Option (Member × List ℕ)
 after_key p = cond (begins_with ascii.quote p.0) (option_and_then (λ r. with_value p.0 (split_value r)) (past_byte ascii.colon p.1)) None
 
--- The member that comes next after white space, and the rest.
+-- The member that comes next after whitespace, and the rest.
 unfoldable pub split_member : List ℕ → Option (Member × List ℕ)
 split_member t = option_and_then after_key (split_value t)
 
@@ -78,8 +79,8 @@ pub record IsRest (rest text : List ℕ) : Type 0 where
 
 -- ---- Parts separated by commas
 
--- The parts and the rest. The last part has no comma after it, or no part after its comma. A number
--- limits the turns; the text's length is always enough.
+-- The parts and the rest. The last part has no comma after it, or no part after its comma.
+-- The number in `separated` limits the recursion; the text's length is always enough.
 module _ {A : Type 0} (split : List ℕ → Option (A × List ℕ)) where
   abbrev pub then_more : (List ℕ → List A × List ℕ) → List ℕ → Option (List ℕ) → List A × List ℕ
   then_more more t None = ([], t)

@@ -1,4 +1,4 @@
--- Which bodies are not split, and why.
+-- Which bodies are rejected, and why.
 use Rattle.std.specs.Prelude.{ℕ, List, Bool, true, cond, ◌&&◌, nat_lt, is_some, Option, Some, None}
 use Rattle.std.specs.Str.{is_utf8}
 use Rattle.serde_json.specs.Data.{Data, Items, no_items, item}
@@ -13,7 +13,7 @@ abbrev pub all_objects : Items → Bool
 all_objects no_items = true
 all_objects (item d ds) = is_some (as_object d) && all_objects ds
 
--- The fault of an array, or of a value that is not one.
+-- The fault of an array with these elements. `None` is any other value, except an object.
 abbrev pub array_fault : Option Items → Option CutError
 array_fault None = Some NotObject
 array_fault (Some ds) = cond (all_objects ds) (cond (nat_lt MAX_MESSAGES (items_len ds)) (Some TooMany) None) (Some NotObject)

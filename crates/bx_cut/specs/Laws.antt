@@ -1,4 +1,4 @@
--- What messages and members are, by the grammar that `serde_json` reads.
+-- What messages and members are, by the grammar of `serde_json`.
 use Rattle.std.specs.Prelude.{◌≡◌, ℕ, List, [], ◌∷◌, ◌++◌, length, Some, false, option_and_then, IfSome, ⊤, ◌⊎◌}
 use Rattle.std.specs.List.{prefix_len}
 use Rattle.json.specs.Word.{is_space}
@@ -8,20 +8,20 @@ use Rattle.serde_json.specs.Read.{read}
 use Rattle.bx_cut.specs.Cut.{past_blank}
 use Rattle.bx_cut.specs.Pieces.{Object, members, last_member}
 
--- No white space is at the start.
+-- The text does not begin with whitespace.
 abbrev pub BeginsBare : List ℕ → Type 0
 BeginsBare t = past_blank t ≡ t
 
--- No white space is at the end.
+-- The text does not end with whitespace.
 abbrev pub EndsBare : List ℕ → Type 0
 EndsBare t = (front : List ℕ) (last : ℕ) → t ≡ front ++ (last ∷ []) → is_space last ≡ false
 
--- No white space is at the start or the end.
+-- The text neither begins nor ends with whitespace.
 abbrev pub IsBare : List ℕ → Type 0
 IsBare t = BeginsBare t × EndsBare t
 
--- The text of `o` reads as `d`, and its members are those of the text. The value under a name reads
--- as what `get` finds. Neither has white space around it.
+-- The text of `o` reads as `d`, and its members are those of the text. The value of each name reads
+-- as what `get` finds. Neither the text nor a value has whitespace around it.
 pub record IsObjectOf (o : Object) (d : Data) : Type 0 where
   pub reads : read o.0 ≡ Some d
   pub trim : IsBare o.0
@@ -38,7 +38,7 @@ abbrev pub IsOnlyObject : List Object → Data → Type 0
 IsOnlyObject (o ∷ []) d = IsObjectOf o d
 IsOnlyObject _ d = ⊥
 
--- There is one message for each element of an array, in order, or the only object. Nothing is
+-- There is one message for each element of an array, in order, or one for an object. Nothing is
 -- claimed about other values.
 abbrev pub ArePiecesOf : List Object → Data → Type 0
 ArePiecesOf os (array ds) = AreObjectsOf os ds
@@ -52,7 +52,7 @@ AreTextsOf [] no_items = ⊤
 AreTextsOf (v ∷ vs) (item d ds) = (read v ≡ Some d) × IsBare v × AreTextsOf vs ds
 AreTextsOf _ _ = ⊥
 
--- There is one text for each element of an array, in order, and none for another value.
+-- There is one text for each element of an array, in order, and none for any other value.
 abbrev pub AreElementsOf : List (List ℕ) → Data → Type 0
 AreElementsOf vs (array ds) = AreTextsOf vs ds
 AreElementsOf vs _ = vs ≡ []
@@ -62,12 +62,12 @@ AreElementsOf vs _ = vs ≡ []
 abbrev pub IsBlank : List ℕ → Type 0
 IsBlank w = prefix_len is_space w ≡ length w
 
--- The text is a closing bracket and white space.
+-- The text is a closing bracket with whitespace around it.
 abbrev pub IsShut : List ℕ → Type 0
 IsShut t = (w : List ℕ) × (rest : List ℕ) × (t ≡ w ++ (93 ∷ rest)) × IsBlank w × IsBlank rest
 
--- The messages come in order, up to the closing bracket. Only white space is before the first, and
--- only a comma and white space before each other one.
+-- The messages come in order, up to the closing bracket. Only whitespace is before the first one,
+-- and only a comma and whitespace before each other one.
 abbrev mutual
   pub StandsIn : List Object → List ℕ → Type 0
   StandsIn [] t = IsShut t
@@ -77,11 +77,11 @@ abbrev mutual
   GoesOnIn [] t = IsShut t
   GoesOnIn (o ∷ os) t = (w : List ℕ) × (rest : List ℕ) × (t ≡ w ++ (44 ∷ rest)) × IsBlank w × (v : List ℕ) × (more : List ℕ) × (rest ≡ v ++ (o.0 ++ more)) × IsBlank v × GoesOnIn os more
 
--- The messages are between an opening bracket and its closing bracket.
+-- The messages are between an opening and a closing bracket.
 abbrev pub IsBracketed : List Object → List ℕ → Type 0
 IsBracketed os t = (w : List ℕ) × (rest : List ℕ) × (t ≡ w ++ (91 ∷ rest)) × IsBlank w × StandsIn os rest
 
--- The text is one message and white space.
+-- The text is one message with whitespace around it.
 abbrev pub IsAlone : List Object → List ℕ → Type 0
 IsAlone (o ∷ []) t = (w : List ℕ) × (rest : List ℕ) × (t ≡ w ++ (o.0 ++ rest)) × IsBlank w × IsBlank rest
 IsAlone _ t = ⊥

@@ -11,7 +11,7 @@ abbrev pub elements_inside : Option (List ℕ) → List (List ℕ)
 elements_inside None = []
 elements_inside (Some inside) = (listed split_value inside).0
 
--- The texts of an array's elements; none if the value is not an array.
+-- The texts of an array's elements, or none if the value is not an array.
 abbrev pub elements : List ℕ → List (List ℕ)
 elements array = elements_inside (past_byte ascii.open_bracket array)
 
@@ -21,7 +21,7 @@ abbrev pub members_inside : Option (List ℕ) → List Member
 members_inside None = []
 members_inside (Some inside) = (listed split_member inside).0
 
--- An object's keys and the texts of their values; none if the value is not an object.
+-- An object's keys and the texts of their values, or none if the value is not an object.
 abbrev pub members : List ℕ → List Member
 members object = members_inside (past_byte ascii.open_brace object)
 
@@ -33,7 +33,7 @@ abbrev pub later_or : Option (List ℕ) → Option (List ℕ) → Option (List �
 later_or None earlier = earlier
 later_or (Some value) earlier = Some value
 
--- The text of the value of the last member whose unescaped key is `name`.
+-- The text of the value of the last member that has `name` as its unescaped key.
 abbrev pub last_member : List ℕ → List Member → Option (List ℕ)
 last_member name [] = None
 last_member name (m ∷ ms) = later_or (last_member name ms) (cond (is_name name (spelled m.0)) (Some m.1) None)
@@ -50,7 +50,7 @@ Object = List ℕ × List Member
 abbrev pub closed : List ℕ → List Member × List ℕ → Option (Object × List ℕ)
 closed t ms = option_map (λ rest. ((take (length t - length rest) t, ms.0), rest)) (past_byte ascii.close_brace ms.1)
 
--- The object that comes next after white space, and the rest.
+-- The object that comes next after whitespace, and the rest.
 unfoldable pub split_object : List ℕ → Option (Object × List ℕ)
 split_object t = option_and_then (λ inside. closed (past_blank t) (listed split_member inside)) (after_first ascii.open_brace (past_blank t))
 

@@ -1,4 +1,4 @@
--- The text that a JSON string spells.
+-- Decoding of JSON strings.
 use Rattle.std.specs.Prelude.{◌≡◌, ℕ, ◌<◌, ◌≤◌, ◌-◌, List, [], ◌∷◌, ◌++◌, length, drop, slice_index, Option, Some, None, option_and_then, MatchOption}
 use Rattle.std.specs.Char.{encode_utf8}
 use Rattle.json.specs.Text.{Within, content, plain, prepend}
@@ -7,7 +7,7 @@ use Rattle.bx_cut.specs.Cut.{after_first}
 use Rattle.bx_cut.specs.declared.string.Part.{Part}
 use Rattle.bx_cut.specs.declared.string.Part.TheVariants.{End, Escape, Fault}
 
--- The text that a JSON value spells, if it is a string.
+-- The decoded text of a JSON value, if it is a string.
 abbrev pub spelled : List ℕ → Option (List ℕ)
 spelled value = option_and_then (content plain) (after_first ascii.quote value)
 
@@ -15,10 +15,10 @@ spelled value = option_and_then (content plain) (after_first ascii.quote value)
 abbrev pub quoted : List ℕ → List ℕ
 quoted text = ascii.quote ∷ (text ++ (ascii.quote ∷ []))
 
--- The rest is for private clauses, about the next part of a string.
+-- ---- The next part of a string, for private clauses
 
--- The next character of a string is `r.0`, in `r.1` bytes of which the last is ASCII. Without one
--- the string is faulty.
+-- `r` is the next character and the length of its escape in bytes. The last of these bytes is
+-- ASCII. Without `r`, the text is not the rest of a string.
 abbrev pub Unescapes : Within → List ℕ → Option (ℕ × ℕ) → Type 0
 Unescapes within text r =
     MatchOption r (content within text ≡ None)

@@ -2,17 +2,17 @@
 ghost use Rattle.std.specs.Prelude.{◌≡◌, ◌<◌, ◌==◌, ℕ, List, [], length, get_or};
 ghost use Rattle.bx_cut.specs.Bodies.{texts_of};
 
-/// The documents of one request, as received by a transport.
+/// The documents of one request, before they are parsed.
 #[derive(Drop)]
 pub enum Bodies {
-    /// A body that is one document.
+    /// One document: the whole body.
     Whole(Vec<u8>),
-    /// Decoded documents, such as the parameters of a form or a query.
+    /// The decoded documents of a form or a query.
     Decoded(Vec<String>),
 }
 
 impl Bodies {
-    /// Returns the number of documents.
+    /// Returns the number of documents, which is 1 for a whole body.
     pub fn len(&self) -> usize
         ensures { result ≡ length (texts_of self.now) }
     {

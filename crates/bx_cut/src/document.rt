@@ -1,4 +1,4 @@
-//! Documents, split into messages.
+//! JSON documents, split into messages.
 ghost use Rattle.std.specs.Prelude.{◌≡◌, ◌≢◌, ◌<◌, length, map, option_map, is_some, IfOk, IfErr, OnOk, IfSome, Some, None};
 ghost use Rattle.std.specs.List.{list_all};
 ghost use Rattle.serde_json.specs.Data.{Data};
@@ -24,7 +24,7 @@ use std::marker::Model;
 /// Policy of this server.
 pub const MAX_MESSAGES: usize = 256;
 
-/// A JSON document, split into its messages, which borrow the body.
+/// A JSON document, split into messages that borrow the body.
 ///
 /// Model: the list of the messages.
 #[derive(Debug, Drop)]
@@ -32,7 +32,7 @@ pub struct Document<'a> {
     pieces: Vec<Piece<'a>>,
 }
 
-/// A message: the part of a body that is one JSON object, without surrounding white space.
+/// A message: the part of a body that is one JSON object, without surrounding whitespace.
 ///
 /// Model: its text, and its members as pairs of a quoted key and the text of a value.
 #[derive(Debug, Drop)]
@@ -59,18 +59,18 @@ impl<'a> Model for Document<'a> {
 }
 
 impl<'a> Document<'a> {
-    /// Splits a body into its object or the objects of its array.
+    /// Parses a body and splits it into messages: its object, or the objects of its array.
     ///
     /// # Errors
     ///
     /// - `NotJson`, `NotObject`, `TooMany`: the first that applies.
-    /// - `Memory`: memory ran out; the body may be valid or not.
+    /// - `Memory`: memory ran out, whether the body is valid or not.
     pub fn read(alloc: Global, body: &'a [u8]) -> Result<Document<'a>, CutError>
         ensures ok { OnOk result (fault body.now ≡ None) }
         ensures fault { IfErr result (λ e. e ≢ CutError.Memory → fault body.now ≡ Some e) }
         ensures pieces { IfOk result (λ document. document ≡ pieces body.now) }
 
-        // A piece reads as its element, and `member` finds in it what `get` finds in the element.
+        // Each piece reads as its element, and `member` finds in it what `get` finds in that.
         ensures reads { IfOk result (λ document. (d : Data) → read body.now ≡ Some d
             → ArePiecesOf document d) }
         ensures order { IfOk result (λ document. LieIn document body.now) }
@@ -93,7 +93,7 @@ impl<'a> Document<'a> {
 }
 
 impl<'a> Piece<'a> {
-    /// Returns the text of the object.
+    /// Returns the text of the object, as the sender wrote it.
     pub fn text(&self) -> &'a str
         ensures { result.now ≡ self.now.0 }
     {
@@ -134,7 +134,7 @@ fn check(alloc: Global, text: &str) -> Result<(), CutError>
     }
 }
 
-// Returns why a value is not a valid document.
+// Returns why a value is not a valid document, or `None` if it is one.
 #[tactic(auto, using(crate::proofs::Checks::faults))]
 fn fault_of(value: &Value) -> Option<CutError>
     ensures { result ≡ value_fault (Some (view value.now)) }
@@ -181,7 +181,7 @@ fn cut(alloc: Global, text: &str) -> Result<Vec<Piece<'_>>, AllocError>
     Ok(pieces)
 }
 
-// Splits off the next object, after white space.
+// Returns the next object, after whitespace, and the rest of `text`.
 fn split_object<'a>(
     alloc: Global,
     text: &'a str,
@@ -201,7 +201,7 @@ fn split_object<'a>(
     Ok(Some((Piece { text, members }, after)))
 }
 
-// Splits off the members up to the end of an object.
+// Returns the members of an object and the rest of `text`, which begins after the opening brace.
 fn split_members<'a>(alloc: Global, text: &'a str) -> Result<(Vec<Member<'a>>, &'a str), AllocError>
     ensures value { IfOk result (λ parts. (map member_view parts.0.items, parts.1.now)
         ≡ listed split_member text.now) }

@@ -1,4 +1,4 @@
-//! Errors of documents.
+//! Errors of splitting a body into messages.
 ghost use Rattle.std.specs.Prelude.{◌≡◌};
 ghost use Rattle.bx_cut.specs.declared.error.CutError.TheVariants.{Memory};
 
@@ -13,13 +13,14 @@ use std::fmt;
 pub enum CutError {
     /// The bytes are not UTF-8, or not JSON that `serde_json` accepts.
     ///
-    /// It refuses more than 127 levels of arrays and objects, and numbers too large for a float.
+    /// It also rejects more than 127 levels of arrays and objects, and numbers too large for a
+    /// 64-bit float.
     NotJson,
-    /// The value is neither an object nor an array of objects.
+    /// The JSON value is neither an object nor an array of objects.
     ///
     /// Bayeux 1.0, messages.
     NotObject,
-    /// There are more than `MAX_MESSAGES` messages.
+    /// The array has more than `MAX_MESSAGES` objects.
     ///
     /// Policy of this server.
     TooMany,

@@ -15,7 +15,7 @@ fn is_space(byte: u8) -> bool
     matches!(byte, b' ' | b'\t' | b'\n' | b'\r')
 }
 
-// Returns the length of the white space at the front.
+// Returns the length of the whitespace at the front.
 pub(crate) fn blank_len(text: &str) -> usize
     ensures value { result ≡ prefix_len is_space text.now }
     ensures boundary { IsCharBoundary text.now result }
@@ -41,7 +41,7 @@ pub(crate) fn plain_len(text: &str) -> usize
     at
 }
 
-// Returns the length of a string after its opening quote, including the closing one.
+// Returns the length of a string through its closing quote. `text` begins after the opening one.
 #[tactic(auto, using(crate::proofs::Reach::string_ends))]
 fn string_len(text: &[u8]) -> usize
     ensures value { result ≡ span in_string text.now }
@@ -60,7 +60,8 @@ fn string_len(text: &[u8]) -> usize
     text.len()
 }
 
-// Returns the length of an array or object after its opening bracket, including the closing one.
+// Returns the length of an array or object through its closing bracket. `text` begins after the
+// opening one.
 #[tactic(auto, using(crate::proofs::Reach::nest_ends))]
 fn nested_len(text: &[u8]) -> usize
     ensures value { result ≡ nest_len outside 0 text.now }
@@ -101,7 +102,7 @@ fn word_len(text: &[u8]) -> usize
     at
 }
 
-// Returns the length of the value at the front, or 0 without one.
+// Returns the length of the value at the front, or 0 if there is none.
 #[tactic(auto, using(crate::proofs::Reach::value_ends))]
 pub(crate) fn value_len(text: &str) -> usize
     ensures value { result ≡ value_len text.now }
@@ -128,7 +129,7 @@ pub(crate) fn begins_with(text: &str, byte: u8) -> bool
     }
 }
 
-// Returns the rest of `text` after `byte`, if `text` begins with it.
+// Returns the rest of `text` after `byte`, or `None` if `text` does not begin with `byte`.
 #[tactic(auto, unfolding(crate::specs::Cut::after_first))]
 pub(crate) fn after_first(text: &str, byte: u8) -> Option<&str>
     requires { byte < 128 }

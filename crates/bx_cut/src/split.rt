@@ -1,4 +1,4 @@
-//! Splits the text of JSON values from the front.
+//! Splits JSON texts into values, members and elements.
 ghost use Rattle.std.specs.Prelude.{◌≡◌, ◌<◌, length, Some, option_map, option_and_then, IsSome, IfSome};
 ghost use Rattle.std.specs.Iterator.{YieldsFirstRef, item_count};
 ghost use Rattle.serde_json.specs.Data.{Data};
@@ -13,10 +13,10 @@ use crate::scan::{after_first, begins_with, blank_len, value_len};
 use crate::string::spells;
 use std::marker::Model;
 
-// The text of a member of an object.
+// A member of an object.
 #[derive(Clone, Copy, Debug, Drop)]
 pub(crate) struct Member<'a> {
-    // With its quotes.
+    // The text of the key, with its quotes.
     pub(crate) key: &'a str,
     pub(crate) value: &'a str,
 }
@@ -28,7 +28,7 @@ pub(crate) fn past_blank(text: &str) -> &str
     text.split_at(blank_len(text)).1
 }
 
-// Returns the rest of `text` after white space and `byte`, if they come first.
+// Returns the rest of `text` after `byte`, if it comes first, except for whitespace.
 pub(crate) fn past(text: &str, byte: u8) -> Option<&str>
     requires { byte < 128 }
     ensures value { option_map (λ rest. rest.now) result ≡ past_byte byte text.now }
@@ -38,7 +38,7 @@ pub(crate) fn past(text: &str, byte: u8) -> Option<&str>
     after_first(past_blank(text), byte)
 }
 
-// Splits off the next value, after white space.
+// Returns the next value, after whitespace, and the rest of `text`.
 #[tactic(auto, unfolding(crate::specs::Cut::split_value))]
 fn split_value(text: &str) -> Option<(&str, &str)>
     ensures value { option_map (λ parts. (parts.0.now, parts.1.now)) result
@@ -55,7 +55,7 @@ fn split_value(text: &str) -> Option<(&str, &str)>
     }
 }
 
-// Splits off the next member, after white space.
+// Returns the next member, after whitespace, and the rest of `text`.
 #[tactic(auto, unfolding(crate::specs::Cut::split_member))]
 pub(crate) fn split_member(text: &str) -> Option<(Member<'_>, &str)>
     ensures value { option_map (λ parts. (member_view parts.0, parts.1.now)) result
@@ -71,10 +71,10 @@ pub(crate) fn split_member(text: &str) -> Option<(Member<'_>, &str)>
     Some((Member { key, value }, rest))
 }
 
-/// Returns the text of the value of member `name`, if `object` has one.
+/// Returns the text of the value of member `name`, if `object` has that member.
 ///
-/// `object`: the text of a JSON value, possibly not an object. Keys are compared as by
-/// [`Piece::member`](crate::Piece::member).
+/// `object`: the text of a JSON value. If it is not an object, the result is `None`. Keys are
+/// compared as by [`Piece::member`](crate::Piece::member).
 pub fn member_of<'a>(object: &'a str, name: &str) -> Option<&'a str>
     ensures value { option_map (λ value. value.now) result ≡ member_text name.now object.now }
     ensures reads { (d : Data) → read object.now ≡ Some d
@@ -95,7 +95,7 @@ pub fn member_of<'a>(object: &'a str, name: &str) -> Option<&'a str>
     found
 }
 
-/// An iterator over the texts of an array's elements, without surrounding white space.
+/// An iterator over the texts of an array's elements, without surrounding whitespace.
 ///
 /// Model: the remaining elements.
 #[derive(Debug, Drop)]
@@ -112,9 +112,9 @@ impl<'a> Model for Elements<'a> {
     ghost view = { λ elements. (listed split_value elements.rest.now).0 };
 }
 
-/// Returns an iterator over the elements of `array`, the text of a JSON value.
+/// Returns an iterator over the texts of the elements of `array`.
 ///
-/// It is empty if the value is not an array.
+/// `array`: the text of a JSON value. If it is not an array, there are no elements.
 pub fn elements_of(array: &str) -> Elements<'_>
     ensures value { result ≡ elements array.now }
     ensures reads { (d : Data) → read array.now ≡ Some d → AreElementsOf result d }

@@ -21,7 +21,7 @@ enum Part<'a> {
     Fault,
 }
 
-// Parses the four hexadecimal digits from `at` on.
+// Parses the four hexadecimal digits at index `at`.
 #[tactic(auto, unfolding(json::specs::Text::code_unit))]
 fn unit_at(text: &[u8], at: usize) -> Option<u32>
     requires { at + 4 ≤ length text.now }
@@ -120,7 +120,7 @@ fn next_part(text: &str) -> Part<'_>
     }
 }
 
-// Returns the rest of `text` after `front`, if `text` begins with it.
+// Returns the rest of `text` after `front`, or `None` if `text` does not begin with `front`.
 fn without<'a>(text: &'a [u8], front: &[u8]) -> Option<&'a [u8]>
     ensures { MatchOption result ((rest : List ℕ) → text.now ≢ front.now ++ rest)
         (λ rest. text.now ≡ front.now ++ rest.now) }
@@ -132,8 +132,8 @@ fn without<'a>(text: &'a [u8], front: &[u8]) -> Option<&'a [u8]>
     }
 }
 
-// Returns `true` if the first byte of `rest` shows that it does not spell `text`. This is unknown
-// if `rest` begins with an escape.
+// Returns `true` if the first bytes show that `rest` does not spell `text`. If `rest` begins with
+// an escape, they show nothing.
 #[tactic(auto, using(crate::proofs::Contents::differing))]
 fn differs_at_once(rest: &str, text: &str) -> bool
     ensures { IsTrue result → content plain rest.now ≢ Some text.now }
@@ -179,7 +179,9 @@ pub fn spells(value: &str, text: &str) -> bool
     }
 }
 
-/// Returns the content of a JSON string that has no escapes, and `None` for any other value.
+/// Returns the content of a JSON string without escapes, or `None` for any other value.
+///
+/// Does not allocate.
 pub fn plain_text_of(value: &str) -> Option<&str>
     ensures value { IfSome result (λ text. spelled value.now ≡ Some text.now) }
     ensures plain { IfSome result (λ text. list_all is_plain text.now ≡ true) }
@@ -194,7 +196,7 @@ pub fn plain_text_of(value: &str) -> Option<&str>
     }
 }
 
-/// Returns the unescaped content of a JSON string, and `None` for any other value.
+/// Returns the unescaped content of a JSON string, or `None` for any other value.
 ///
 /// # Errors
 ///

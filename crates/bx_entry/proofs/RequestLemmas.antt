@@ -1,4 +1,4 @@
--- Reading on, a message or a document at a time, what a door lets in, and what a request adds to the list.
+-- Reading messages one by one, what a listener allows, and what a request appends to the list.
 use Rattle.std.proofs.Common.{◌≡◌, ℕ, ◌+◌, ◌||◌, Bool, true, false, cond, Result, Ok, Err, is_ok, List, [], ◌∷◌, ◌++◌, length, Option, Some, None, option_map, option_and_then, drop, refl, sym, ap, arith, ◌∙◌}
 use Rattle.std.proofs.lemmas.List.{append_assoc}
 use Rattle.bx_cut.specs.Pieces.{Object}
@@ -12,11 +12,9 @@ use Rattle.bx_entry.specs.declared.input.Refusal.TheVariants.{Body}
 use Rattle.bx_entry.specs.declared.input.BodyError.TheVariants.{Forbidden}
 use Rattle.bx_entry.specs.declared.input.Door.TheVariants.{Publishers, Readers}
 
--- these messages, and those that are still to be read
 abbrev pub joined : List Message → Option (List Message) → Option (List Message)
 joined xs rest = option_map (λ ms. xs ++ ms) rest
 
--- the messages of what comes first, and those of what comes then
 abbrev pub chained : Option (List Message) → Option (List Message) → Option (List Message)
 chained first rest = option_and_then (λ ms. joined ms rest) first
 
@@ -24,12 +22,10 @@ one_more_by : (xs : List Message) (m : Message) (rest : Option (List Message)) �
 one_more_by xs m None = refl
 one_more_by xs m (Some ms) = ap (λ ys. Some ys) (sym (append_assoc xs (m ∷ []) ms))
 
--- a message that was read goes to the others
 pub one_more : (xs : List Message) (o : Object) (os : List Object) (m : Message) → message_in o.1 ≡ Some m → joined xs (all_messages (o ∷ os)) ≡ joined (xs ++ m ∷ []) (all_messages os)
 one_more xs o os m e =
     ap (λ (read : Option Message). joined xs (option_and_then (λ m. joined (m ∷ []) (all_messages os)) read)) e ∙ one_more_by xs m (all_messages os)
 
--- an object without a channel ends the reading
 pub no_message : (o : Object) (os : List Object) → message_in o.1 ≡ None → all_messages (o ∷ os) ≡ None
 no_message o os e = ap (λ (read : Option Message). option_and_then (λ m. joined (m ∷ []) (all_messages os)) read) e
 
@@ -64,36 +60,31 @@ chained-more : (old new : List Message) (first rest : Option (List Message)) →
 chained-more old new None rest e = cc
 chained-more old new (Some ms) rest e = joined-joined old ms new rest (some-injective e)
 
--- a document's messages go to the others
 pub document_more : (old new : List Message) (os rest : List Object) → joined old (all_messages os) ≡ Some new → joined old (all_messages (os ++ rest)) ≡ joined new (all_messages rest)
 document_more old new os rest e = ap (joined old) (all_messages-append os rest) ∙ chained-more old new (all_messages os) (all_messages rest) e
 
 chained-none : (rest : Option (List Message)) (first : Option (List Message)) → first ≡ None → chained first rest ≡ None
 chained-none rest first e = ap (λ (f : Option (List Message)). chained f rest) e
 
--- a document with such an object ends it too
 pub no_document : (os rest : List Object) → all_messages os ≡ None → all_messages (os ++ rest) ≡ None
 no_document os rest e = all_messages-append os rest ∙ chained-none (all_messages rest) (all_messages os) e
 
--- one document more is read
 pub cut_more : (cs : List Cut) (i : ℕ) (x : Cut) (old new : List Message) → drop i cs ≡ x ∷ drop (i + 1) cs → joined old (all_messages (objects_in x)) ≡ Some new
     → joined old (all_messages (objects_of (drop i cs))) ≡ joined new (all_messages (objects_of (drop (i + 1) cs)))
 cut_more cs i x old new e added =
     ap (λ (l : List Cut). joined old (all_messages (objects_of l))) e ∙ document_more old new (objects_in x) (objects_of (drop (i + 1) cs)) added
 
--- one document has a message without a channel
 pub cut_none : (cs : List Cut) (i : ℕ) (x : Cut) (old : List Message) → drop i cs ≡ x ∷ drop (i + 1) cs → all_messages (objects_in x) ≡ None
     → joined old (all_messages (objects_of (drop i cs))) ≡ None
 cut_none cs i x old e none =
     ap (λ (l : List Cut). joined old (all_messages (objects_of l))) e ∙ ap (joined old) (no_document (objects_in x) (objects_of (drop (i + 1) cs)) none)
 
--- ---- a door
+-- ---- Listeners
 
 ok_by : (ns ms : List Message) (b : Bool) → cond b (Err Forbidden) (Ok ns) ≡ Ok ms → ns ≡ ms
 ok_by ns ms true e = cc
 ok_by ns ms false e = cc
 
--- what a door lets in is what was read
 pub let_in-ok : (door : Door) (read : Result (List Message) BodyError) (ms : List Message) → let_in door read ≡ Ok ms → read ≡ Ok ms
 let_in-ok Publishers read ms e = e
 let_in-ok Readers (Ok ns) ms e = ap (λ xs. Ok xs) (ok_by ns ms (has_broadcast ns) e)
@@ -104,16 +95,14 @@ let_in-is_ok Publishers read e = e
 let_in-is_ok Readers (Ok ns) e = refl
 let_in-is_ok Readers (Err f) e = e
 
--- what is not read is not let in
 pub let_in-unread : (door : Door) (read : Result (List Message) BodyError) (fault : AdmitFault) → IsUnread read fault → IsUnread (let_in door read) fault
 let_in-unread door read Memory is = tt
 let_in-unread Publishers read (Refused refusal) is = is
 let_in-unread Readers read (Refused (Body fault)) is = ap (let_in Readers) is
 let_in-unread Readers read (Refused _) is = is
 
--- ---- what a request adds to the list
+-- ---- The elements of a request
 
--- as many elements as it has messages
 pub length-listed : (moment nonce : ℕ) (sole seen : Bool) (ms : List Message) → length (listed_from moment nonce sole seen ms) ≡ length ms
 length-listed moment nonce sole seen [] = refl
 length-listed moment nonce sole seen (m ∷ ms) = omega (arith, length-listed moment nonce sole (seen || is_handshake m) ms)

@@ -1,4 +1,4 @@
--- What makes room in a window for one more event, and what the events of a part of a queue weigh.
+-- When a queue has room for one more event, and the size of a part of a queue.
 use Rattle.std.proofs.Common.{◌≡◌, ℕ, ◌+◌, ◌<◌, ◌≤◌, true, List, [], ◌∷◌, ◌++◌, length, drop, refl, sym, ap, ◌∙◌, arith}
 use Rattle.std.proofs.lemmas.Grind.{common_steps}
 use Rattle.std.proofs.lemmas.List.Sums.{sum_by-cons, sum_by-take-drop}
@@ -25,11 +25,9 @@ unfolding bytes_of
 bytes_of_sum [] = refl
 bytes_of_sum (p ∷ ps) = ap (λ (n : ℕ). event_size p.event + n) (bytes_of_sum ps) ∙ sym (sum_by-cons (λ (q : Publication). event_size q.event) p ps)
 
--- the end of a queue is no heavier than the whole
 pub bytes_of_drop : (n : ℕ) (ps : List Publication) → bytes_of (drop n ps) ≤ bytes_of ps
 bytes_of_drop n ps = omega (arith, bytes_of_sum ps, bytes_of_sum (drop n ps), sum_by-take-drop (λ (p : Publication). event_size p.event) ps n)
 
--- there is room where fewer events wait than may, and with this one their bytes are within the limit
 pub room_count : (events bytes : ℕ) (e : Event) (w : Window) → has_room events bytes e w ≡ true → length w.queue < events
 unfolding has_room
 room_count events bytes e w h = grind (arith, common_steps)

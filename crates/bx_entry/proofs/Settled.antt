@@ -1,4 +1,4 @@
--- What is kept of a session settles what is kept after a change of it, and the answers that it gives: so it is with each move of the step.
+-- What is kept of a session determines what is kept after an entry, and the answers that it adds.
 use Rattle.std.proofs.Common.{◌≡◌, ℕ, Bool, true, false, cond, Option, List, ◌++◌, ◌==◌, refl, sym, ap, ◌∙◌, append-nil, append_assoc, arith}
 use Rattle.std.proofs.lemmas.Grind.{common_steps}
 use Rattle.bx_advice.specs.declared.{config.Config.Config, advice.Outcome.Outcome}
@@ -8,12 +8,10 @@ use Rattle.bx_entry.specs.declared.entry.{Entry.Entry, EntryKind.EntryKind, Ride
 use Rattle.bx_entry.specs.declared.entry.EntryKind.TheVariants.{Connect}
 use Rattle.bx_entry.specs.Words.{Session, Pending, Filed, released, admitted, connected, step_by, ridden_by, rider_of, step, Kept, kept, resumed}
 
--- What is kept of a session settles what is kept after this change of it, and the answers that it adds.
 pub record Settled (f : Session → Session) : Type 0 where
   pub state : (s : Session) → kept (f s) ≡ kept (f (resumed (kept s)))
   pub answers : (s : Session) → (f s).answers ≡ s.answers ++ (f (resumed (kept s))).answers
 
--- one change behind another, which may look at what is kept at first
 in_turn : (f : Session → Session) (g : Bool → Session → Session) → Settled f → ((overflow : Bool) → Settled (g overflow)) → Settled (λ s. g s.overflow (f s))
 in_turn f g a b = record {
   state = λ s. (b s.overflow).state (f s) ∙ ap (λ (k : Kept). kept (g s.overflow (resumed k))) (a.state s) ∙ sym ((b s.overflow).state (f (resumed (kept s))));
@@ -25,7 +23,7 @@ in_turn f g a b = record {
       ∙ ap (λ (fs : List Filed). s.answers ++ fs) (sym ((b s.overflow).answers r));
 }
 
--- ---- a connect
+-- ---- Connects
 
 released_s : (config : Config) (place : ℕ) (outcome : Outcome) → Settled (released config place outcome)
 released_s config place outcome = record { state = λ s. grind (arith, common_steps); answers = λ s. grind (arith, common_steps) }
@@ -39,7 +37,7 @@ connected_s config p acked =
     in_turn (released config p.place (Failed SupersededConnect)) (admitted config p acked) (released_s config p.place (Failed SupersededConnect)) (admitted_s config p acked) in
     record { state = a.state; answers = a.answers }
 
--- ---- an entry
+-- ---- Entries
 
 step_by_s : (config : Config) (place moment : ℕ) (k : EntryKind) → Settled (λ s. step_by config place moment s k)
 step_by_s config place moment (Connect n client id acked hold) =

@@ -7,13 +7,13 @@ use Rattle.bx_entry.specs.declared.entry.Entry.{Entry}
 use Rattle.bx_entry.specs.Registry.{PlaceSlot, Ready, Waiting, NoSlot, Judged, Registry, registry, entries_of}
 use Rattle.bx_entry.specs.Sessions.{Publication, Filed, session}
 
--- An answer: the place where it is given, its events and its reply.
+-- An answer: the place of the entry that gives it, its events and its reply.
 pub record PlacedAnswer : Type 0 where
   pub place : ℕ
   pub events : List Event
   pub reply : Reply
 
--- The events without their places.
+-- The events of publications, without their places.
 abbrev pub events_of : List Publication → List Event
 events_of ps = map (λ (p : Publication). p.event) ps
 
@@ -25,22 +25,22 @@ answer_of f = record { place = f.place; events = events_of f.publications; reply
 abbrev pub filed_for : ℕ → List Filed → Option PlacedAnswer
 filed_for place answers = option_map answer_of (find (λ (f : Filed). f.connect == place) answers)
 
--- A connect or a rider is answered by its session, any other message at its own place, and a tick
--- not at all.
+-- The answer to the element at `place`, by its slot. A reply is given at that place. A connect or a
+-- rider gets what its session filed, if anything. A tick gets no answer.
 abbrev pub answer_by : Config → List Entry → ℕ → PlaceSlot → Option PlacedAnswer
 answer_by config es place (Ready reply) = Some (record { place = place; events = []; reply = reply })
 answer_by config es place (Waiting number) = filed_for place (session config number es).answers
 answer_by config es place NoSlot = None
 
--- The answer at a place with this result, if any.
+-- The answer to the element at `place`, by its result. There is none if there is no such element.
 abbrev pub answer_at : Config → List Entry → ℕ → Option Judged → Option PlacedAnswer
 answer_at config es place None = None
 answer_at config es place (Some j) = answer_by config es place j.slot
 
--- The answer at a place of a registry, if it is given.
+-- The answer to the element at `place` of a registry, if it is given.
 abbrev pub answer_in : Config → Registry → ℕ → Option PlacedAnswer
 answer_in config r place = answer_at config (entries_of r) place (slice_get r.judged place)
 
--- The answer at a place of the list, if it is given.
+-- The answer to the element at `place` of the list, if it is given.
 abbrev pub answer : Config → List Listed → ℕ → Option PlacedAnswer
 answer config list place = answer_in config (registry config list) place

@@ -1,4 +1,4 @@
--- Inputs whose documents are read, and why one is refused.
+-- Inputs after their documents are read, and why an input is rejected.
 use Rattle.std.specs.Prelude.{ℕ, ◌≡◌, ◌+◌, List, [], ◌∷◌, length, nat_lt, Option, Some, None}
 use Rattle.bx_names.specs.Faults.{first_case}
 use Rattle.bx_advice.specs.Limits.{greatest_moment, greatest_length}
@@ -9,29 +9,31 @@ use Rattle.bx_entry.specs.declared.input.{AdmitFault.AdmitFault, BodyError.BodyE
 use Rattle.bx_entry.specs.declared.input.AdmitFault.TheVariants.{Refused, Memory}
 use Rattle.bx_entry.specs.declared.input.Refusal.TheVariants.{Body, BadMoment, Ended}
 
--- A request with its messages, a request refused for its documents, or a tick.
+-- A request with its messages, a request that is rejected for its documents, or a tick.
 pub data ReadInput : Type 0 where
   Request : (moment : ℕ) → (nonce : ℕ) → (messages : List Message) → ReadInput
   Unread : (fault : BodyError) → ReadInput
   Tick : (moment : ℕ) → ReadInput
 
--- The elements that an input adds to the list, if it is admitted.
+-- The elements that an input appends to the list, if it is admitted.
 abbrev pub added_by : ReadInput → List Listed
 added_by (Request moment nonce ms) = request moment nonce ms
 added_by (Unread fault) = []
 added_by (Tick moment) = messages.Tick moment ∷ []
 
--- An input is refused if its moment is too large, or else if the list would become too long.
+-- Why an input at `moment` that makes the list `end` long is rejected, if it is: its moment is too
+-- large or, otherwise, the list would be too long.
 abbrev pub refused_beyond : ℕ → ℕ → Option Refusal
 refused_beyond moment end = first_case ((nat_lt greatest_moment moment, BadMoment) ∷ (nat_lt greatest_length end, Ended) ∷ [])
 
--- Why an input is refused, if it is, while the list has length `len`.
+-- Why an input is rejected, if it is, when the list has length `len`.
 abbrev pub refusal_of : ℕ → ReadInput → Option Refusal
 refusal_of len (Request moment nonce ms) = refused_beyond moment (len + length ms)
 refusal_of len (Unread fault) = Some (Body fault)
 refusal_of len (Tick moment) = refused_beyond moment (len + 1)
 
--- A program reports the refusal, if there is one, and otherwise that memory ran out.
+-- The fault that a program may report: the refusal, if there is one, and otherwise that memory ran
+-- out.
 abbrev pub IsFault : Option Refusal → AdmitFault → Type 0
 IsFault refusal (Refused r) = refusal ≡ Some r
 IsFault refusal Memory = refusal ≡ None

@@ -1,4 +1,4 @@
--- What a server keeps of a session: all that the rules read, and no history.
+-- What a server keeps of a session: all that the rules read, without history.
 use Rattle.std.specs.Prelude.{ℕ, ◌≡◌, ◌<◌, ◌≤◌, Bool, true, false, List, [], ◌++◌, length, fold, Option, is_some}
 use Rattle.bx_names.specs.Globs.{Glob}
 use Rattle.bx_advice.specs.declared.config.Config.{Config}
@@ -88,8 +88,8 @@ KeptRuns = (config : Config) (number : ℕ) (es : List Entry) → kept (session 
 
 -- ---- Bounds
 
--- The queue and the outstanding batch, which is its front, are within their limits. A plain session
--- has no batch, and the queue is empty while a connect is held.
+-- The queue and the outstanding batch are within their limits, and the batch is the front of the
+-- queue. A plain session has no batch. While a connect is held, the queue is empty.
 pub record InBounds (config : Config) (k : Kept) : Type 0 where
   pub queue : length k.queue ≤ config.limits.events
   pub bytes : bytes_of k.queue ≤ config.limits.bytes
@@ -98,6 +98,6 @@ pub record InBounds (config : Config) (k : Kept) : Type 0 where
   pub plain : k.ack ≡ false → k.out ≡ 0
   pub idle : is_some k.held ≡ true → k.queue ≡ []
 
--- What is kept is within these bounds after any entries, if batches are not empty.
+-- What is kept is within these bounds after any entries, if a batch may have an event.
 abbrev pub KeptInBounds : Type 0
 KeptInBounds = (config : Config) (number : ℕ) (es : List Entry) → 0 < config.limits.batch → InBounds config (kept (session config number es))

@@ -3,8 +3,9 @@ use Rattle.std.specs.Prelude.{ℕ, ◌==◌, ◌&&◌, ◌||◌, Bool, false, Li
 use Rattle.bx_message.specs.declared.message.Message.{Message}
 use Rattle.bx_message.specs.MessageKinds.{is_handshake}
 
--- A message in the list, with its request's moment and nonce. `sole` and `last`: its request's only
--- and last message. `second`: a handshake after another one in its request.
+-- A message in the list, with the moment and the nonce of its request. `sole`, `last`: whether it
+-- is the only message, or the last one, of its request. `second`: whether it is a handshake after
+-- another one in its request.
 pub record Posted : Type 0 where
   pub message : Message
   pub moment : ℕ
@@ -18,13 +19,14 @@ pub data Listed : Type 0 where
   Post : (posted : Posted) → Listed
   Tick : (moment : ℕ) → Listed
 
--- The elements that a request's messages become. `seen`: whether an earlier message is a handshake.
+-- The elements for messages of a request. `sole`: whether the request has one message. `seen`:
+-- whether a message before these is a handshake.
 abbrev pub listed_from : ℕ → ℕ → Bool → Bool → List Message → List Listed
 listed_from moment nonce sole seen [] = []
 listed_from moment nonce sole seen (m ∷ ms) =
     Post (record { message = m; moment = moment; nonce = nonce; sole = sole; last = length ms == 0; second = seen && is_handshake m })
     ∷ listed_from moment nonce sole (seen || is_handshake m) ms
 
--- The elements that a request adds to the list.
+-- The elements that a request appends to the list.
 abbrev pub request : ℕ → ℕ → List Message → List Listed
 request moment nonce ms = listed_from moment nonce (length ms == 1) false ms

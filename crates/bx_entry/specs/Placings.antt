@@ -1,4 +1,4 @@
--- Placings: in which shard each session lives.
+-- Placings: the shard of each session.
 use Rattle.std.specs.Prelude.{ℕ, ◌%◌, ◌<◌, ◌≤◌, List, [], ◌∷◌, length, slice_index}
 use Rattle.bx_advice.specs.declared.config.Config.{Config}
 use Rattle.std.proofs.Common.{arith}
@@ -10,19 +10,20 @@ pub record Setup : Type 0 where
   pub shards : ℕ
   pub placing : ℕ → ℕ → ℕ
 
--- This configuration, with `shards` shards and a placing.
+-- A configuration with `shards` shards and a placing.
 abbrev pub placed_by : Config → ℕ → (ℕ → ℕ → ℕ) → Setup
 placed_by config shards placing = record { config = config; shards = shards; placing = placing }
 
--- Sessions go to the shards in turn.
+-- Sessions are placed in the shards in turn.
 abbrev pub by_remainder : ℕ → ℕ → ℕ
 by_remainder number shards = number % shards
 
--- All sessions go to the first shard.
+-- All sessions are placed in the first shard.
 abbrev pub all_first : ℕ → ℕ → ℕ
 all_first number shards = 0
 
--- Sessions go to the shards of a table, over and over; if it is empty, to the first.
+-- Sessions are placed in the shards of a table in turn, or in the first shard if it is empty. A
+-- number in the table counts modulo `shards`.
 abbrev pub by_table : List ℕ → ℕ → ℕ → ℕ
 by_table [] number shards = 0
 by_table (x ∷ xs) number shards = slice_index (x ∷ xs) (number % length (x ∷ xs)) % shards

@@ -1,4 +1,4 @@
--- The registry: who is live, which messages are refused, and the entry at each place.
+-- The registry: which sessions are live, which messages are rejected, and the entry at each place.
 use Rattle.std.specs.Prelude.{ℕ, zero, suc, ◌+◌, ◌/◌, ◌%◌, ◌==◌, ◌&&◌, ◌||◌, not, min, max, Bool, true, false, List, [], ◌∷◌, ◌++◌, length, map, filter, find, fold, nat_lt, nat_le, nat_eq, codes, if◌then◌else◌, Option, Some, None, is_some, is_none, unwrap_or, option_map}
 use Rattle.std.specs.{List.list_any, List.starts_with, Str.bytes_eq, Char.digit_char}
 use Rattle.bx_names.specs.Words.{first_case, name_fault, pattern_fault, Glob, glob_of, segments, is_meta, is_service}
@@ -20,7 +20,8 @@ use Rattle.bx_entry.specs.declared.senders.Senders.TheVariants.{NoneYet, Only, M
 
 -- ---- State
 
--- A session that was opened, with its client id and its due moment.
+-- A session that was opened, with its client id. `due`: the moment after which a tick closes it.
+-- `live`: whether it is not closed yet.
 pub record Registered : Type 0 where
   pub number : ℕ
   pub client : List ℕ
@@ -28,23 +29,23 @@ pub record Registered : Type 0 where
   pub due : ℕ
   pub live : Bool
 
--- How an element is answered: by a reply, by its session (a connect or a rider), or not at all (a
--- tick).
+-- How an element is answered: at once by a reply, by its session (a connect or a rider), or not at
+-- all (a tick).
 pub data PlaceSlot : Type 0 where
   Ready : (reply : Reply) → PlaceSlot
   Waiting : (session : ℕ) → PlaceSlot
   NoSlot : PlaceSlot
 
--- The result for one element: its entry, the session of an accepted message, its hold, and its
--- slot.
+-- The result of one element: its entry, the session of an accepted message, how long it may be held
+-- in milliseconds, and its slot.
 pub record Judged : Type 0 where
   pub entry : Entry
   pub sender : Option ℕ
   pub hold : ℕ
   pub slot : PlaceSlot
 
--- The greatest moment so far, all sessions ever opened, in order, the current request's senders so
--- far, and the result at each place.
+-- The greatest moment so far, all sessions ever opened, in order, the senders of the current
+-- request so far, and the result at each place.
 pub record Registry : Type 0 where
   pub clock : ℕ
   pub sessions : List Registered
@@ -55,15 +56,14 @@ pub record Registry : Type 0 where
 abbrev pub empty_registry : Registry
 empty_registry = record { clock = 0; sessions = []; senders = NoneYet; judged = [] }
 
--- What the rules read: the sessions, how many were ever opened, and the current request's senders
--- so far.
+-- What the rules read: the sessions, how many were ever opened, and the senders of the current
+-- request so far.
 pub record State : Type 0 where
   pub sessions : List Registered
   pub opened : ℕ
   pub senders : Senders
 
--- The verdict on an element: the state after it, its entry's kind and rider, the session of an
--- accepted message, its hold, and its slot.
+-- The verdict on an element: the state after it, and its result without place and moment.
 pub record Verdict : Type 0 where
   pub state : State
   pub kind : EntryKind
@@ -99,7 +99,7 @@ sender_of sessions Absent = None
 sender_of sessions NotText = None
 sender_of sessions (Text client) = live_with_id sessions client
 
--- ---- Refusals
+-- ---- Errors of messages
 
 -- Whether a member is a string.
 abbrev pub is_text : TextMember → Bool
@@ -107,7 +107,7 @@ is_text Absent = false
 is_text NotText = false
 is_text (Text text) = true
 
--- Whether a version is the string `1`, or begins with `1.`.
+-- Whether a version is the string `1` or one that begins with `1.`.
 abbrev pub is_version : TextMember → Bool
 is_version Absent = false
 is_version NotText = false
@@ -132,13 +132,14 @@ handshake_cases config sessions p =
     ∷ (nat_le config.limits.sessions (count_live sessions), TooManySessions)
     ∷ []
 
--- A publish needs a session, unless it has no client id and `--anonymous` is set.
+-- Whether a publish needs a session. It does not if it has no client id and `--anonymous` is set.
 abbrev pub needs_session : Config → TextMember → Bool
 needs_session config Absent = not config.anonymous
 needs_session config NotText = true
 needs_session config (Text client) = true
 
--- A message that needs a session is refused if its client id is missing or names no live session.
+-- The errors of a message that needs a session, in order: it has no client id that is a string, or
+-- the id names no live session.
 abbrev pub client_cases : Bool → List Registered → Message → List (Bool × Error)
 client_cases needed sessions m =
     (needed && not (is_text m.client), NoClientId)
@@ -165,7 +166,7 @@ publish_cases m =
     ∷ (is_none m.payload, MissingData)
     ∷ []
 
--- All errors that a message of this kind can have, in the order of testing.
+-- All errors of a message of this kind, in the order in which they are tested.
 abbrev pub cases_of : Config → List Registered → Posted → MessageKind → List (Bool × Error)
 cases_of config sessions p MessageKind.Handshake = handshake_cases config sessions p
 cases_of config sessions p MessageKind.Connect = client_cases true sessions p.message ++ connect_cases p.message
@@ -175,21 +176,22 @@ cases_of config sessions p MessageKind.Disconnect = client_cases true sessions p
 cases_of config sessions p MessageKind.Publish = client_cases (needs_session config p.message.client) sessions p.message ++ publish_cases p.message
 cases_of config sessions p MessageKind.UnknownMeta = (true, UnknownMetaChannel) ∷ []
 
--- The first error that applies, if any, refuses a message.
+-- The error of a message: the first that applies. A message without an error is accepted.
 abbrev pub refusal : Config → List Registered → Posted → Option Error
 refusal config sessions p = first_case (cases_of config sessions p (message_kind_of p.message.channel))
 
 -- ---- Accepted messages
 
--- Only a sole connect may be held, for the smaller of the server's timeout and its own.
+-- How long a message may be held, in milliseconds. A connect that is alone in its request may be
+-- held for the smaller of the server's timeout and its own. Other messages are not held.
 abbrev pub hold_of : Config → Posted → ℕ
 hold_of config p = if p.sole && is_connect p.message then min config.timeout (unwrap_or p.message.timeout config.timeout) else 0
 
--- When a silent session expires, after a message at `moment`, held for `hold`.
+-- The due moment that an accepted message at `moment` sets, if it may be held for `hold`.
 abbrev pub due_of : Config → ℕ → ℕ → ℕ
 due_of config moment hold = moment + hold + config.max_interval
 
--- An accepted message moves its session's due moment forward, never back.
+-- The due moment of session `number` becomes `due`, unless it is already later.
 abbrev pub extended : ℕ → ℕ → List Registered → List Registered
 extended number due sessions = map (λ (r : Registered). if r.number == number then record r { due = max r.due due } else r) sessions
 
@@ -197,11 +199,11 @@ extended number due sessions = map (λ (r : Registered). if r.number == number t
 abbrev pub closed : ℕ → List Registered → List Registered
 closed number sessions = map (λ (r : Registered). if r.number == number then record r { live = false } else r) sessions
 
--- Whether a tick at `moment` closes a session: it is live and was due before.
+-- Whether a tick at `moment` closes a session: the session is live and was due before.
 abbrev pub is_overdue : ℕ → Registered → Bool
 is_overdue moment r = r.live && nat_lt r.due moment
 
--- A tick closes the overdue sessions.
+-- The overdue sessions are closed.
 abbrev pub swept : ℕ → List Registered → List Registered
 swept moment sessions = map (λ (r : Registered). if is_overdue moment r then record r { live = false } else r) sessions
 
@@ -209,13 +211,13 @@ swept moment sessions = map (λ (r : Registered). if is_overdue moment r then re
 abbrev pub overdue : ℕ → List Registered → List ℕ
 overdue moment sessions = map (λ (r : Registered). r.number) (filter (is_overdue moment) sessions)
 
--- Whether a handshake turns acknowledgement on.
+-- Whether a handshake opens an acknowledging session.
 abbrev pub is_ack : AckMember → Bool
 is_ack NoAck = false
 is_ack AckTrue = true
 is_ack (AckNumber number) = false
 
--- The batch that a connect acknowledges, if any.
+-- The number of the batch that a connect acknowledges, if any.
 abbrev pub acked_by : AckMember → Option ℕ
 acked_by NoAck = None
 acked_by AckTrue = None
@@ -225,55 +227,56 @@ acked_by (AckNumber number) = Some number
 abbrev pub patterns_of : Message → List Glob
 patterns_of m = map (λ text. glob_of (segments text)) (filter (λ text. not (is_service text)) m.texts)
 
--- The event of a publish, without the publisher's client id.
+-- The event of a publish. It does not have the client id of the publisher.
 abbrev pub event_of : Message → Event
 event_of m = record { channel = m.channel; payload = unwrap_or m.payload []; id = m.id }
 
 -- ---- Riders
 
--- The senders after one more accepted message of this session.
+-- The senders after one more accepted message, which comes from session `number`.
 abbrev pub joined : Senders → ℕ → Senders
 joined NoneYet number = Only number
 joined (Only other) number = if other == number then Only other else Mixed
 joined Mixed number = Mixed
 
--- The senders before the next message: none yet if that begins another request.
+-- The senders after a message. After the last message of a request, there are none yet.
 abbrev pub senders_behind : Posted → Senders → Senders
 senders_behind p senders = if p.last then NoneYet else senders
 
--- Whether all messages so far come from one session.
+-- Whether there are messages, and all come from one session.
 abbrev pub is_one : Senders → Bool
 is_one NoneYet = false
 is_one (Only number) = true
 is_one Mixed = false
 
--- Only the reply to a subscription, an unsubscription or a publish may carry waiting events.
+-- Whether a message of this kind may be a rider, with a reply that carries waiting events.
 abbrev pub may_ride : MessageKind → Bool
 may_ride MessageKind.Subscribe = true
 may_ride MessageKind.Unsubscribe = true
 may_ride MessageKind.Publish = true
 may_ride _ = false
 
--- Under `--ride`, an accepted message that may ride is a rider if it ends a request of accepted
--- messages from one session, which does not acknowledge.
+-- Whether an accepted message of session `s` is a rider. `--ride` is set, `s` does not acknowledge,
+-- and the message may ride and ends its request. All messages of the request are accepted and come
+-- from `s`, and none is a handshake.
 abbrev pub is_rider : Config → Senders → MessageKind → Posted → Registered → Bool
 is_rider config senders message_kind p s = config.ride && (p.last && (not s.ack && (is_one (joined senders s.number) && may_ride message_kind)))
 
--- The rider that a message becomes, if it is one, with the reply from its slot.
+-- The rider that a message is, if it is one, with the reply from its slot.
 abbrev pub rider_for : Bool → ℕ → PlaceSlot → Option Rider
 rider_for true number (Ready reply) = Some (record { session = number; reply = reply })
 rider_for true number (Waiting session) = None
 rider_for true number NoSlot = None
 rider_for false number slot = None
 
--- A rider waits for its session's answer.
+-- The slot of a message with this rider. A rider waits for the answer of its session.
 abbrev pub slot_with : Option Rider → PlaceSlot → PlaceSlot
 slot_with None slot = slot
 slot_with (Some rider) slot = Waiting rider.session
 
 -- ---- Verdicts
 
--- A refused message changes no session and gets its error at once.
+-- A rejected message changes no session and gets its error at once.
 abbrev pub refused : Config → State → Posted → Error → Option Registered → Verdict
 refused config state p error sender = record {
   state = record state { senders = senders_behind p Mixed };
@@ -284,7 +287,7 @@ refused config state p error sender = record {
   slot = Ready (reply_to config (message_kind_of p.message.channel) p.message (option_map (λ (s : Registered). s.client) sender) (Failed error) replies.NoAck);
 }
 
--- A session as its handshake opens it.
+-- The session that a handshake opens.
 abbrev pub newcomer : Config → ℕ → Posted → ℕ → Registered
 newcomer config moment p number =
     record { number = number; client = client_id p.nonce number; ack = is_ack p.message.ack; due = due_of config moment 0; live = true }
@@ -300,7 +303,8 @@ opened config state moment p number = record {
   slot = Ready (reply_to config MessageKind.Handshake p.message (Some (client_id p.nonce number)) advice.Opened (if is_ack p.message.ack then replies.AckTrue else replies.NoAck));
 }
 
--- The kind of entry for a live session's message, never a handshake or to an unknown meta channel.
+-- The kind of entry for an accepted message of a live session. No message reaches the cases of
+-- handshakes and unknown meta channels.
 abbrev pub kind_for : MessageKind → Posted → Registered → ℕ → EntryKind
 kind_for MessageKind.Handshake p s hold = Refused
 kind_for MessageKind.Connect p s hold = Connect s.number s.client p.message.id (acked_by p.message.ack) hold
@@ -310,7 +314,8 @@ kind_for MessageKind.Disconnect p s hold = Disconnect s.number
 kind_for MessageKind.Publish p s hold = Publish (event_of p.message)
 kind_for MessageKind.UnknownMeta p s hold = Refused
 
--- A connect waits for its answer; any other message succeeds at once.
+-- The slot of an accepted message of a live session. A connect waits for its answer. Any other
+-- message succeeds at once.
 abbrev pub slot_for : Config → MessageKind → Posted → Registered → PlaceSlot
 slot_for config MessageKind.Connect p s = Waiting s.number
 slot_for config MessageKind.Handshake p s = Ready (reply_to config MessageKind.Handshake p.message (Some s.client) Done replies.NoAck)
@@ -320,7 +325,7 @@ slot_for config MessageKind.Disconnect p s = Ready (reply_to config MessageKind.
 slot_for config MessageKind.Publish p s = Ready (reply_to config MessageKind.Publish p.message (Some s.client) Done replies.NoAck)
 slot_for config MessageKind.UnknownMeta p s = Ready (reply_to config MessageKind.UnknownMeta p.message (Some s.client) Done replies.NoAck)
 
--- A disconnect closes its session.
+-- The sessions after a message of session `number`. A disconnect closes the session.
 abbrev pub left_by : MessageKind → ℕ → List Registered → List Registered
 left_by MessageKind.Disconnect number sessions = closed number sessions
 left_by _ number sessions = sessions
@@ -329,7 +334,7 @@ left_by _ number sessions = sessions
 abbrev pub rider_by : Config → Senders → MessageKind → Posted → Registered → Option Rider
 rider_by config senders message_kind p s = rider_for (is_rider config senders message_kind p s) s.number (slot_for config message_kind p s)
 
--- An accepted message of a live session extends the session, or closes it.
+-- An accepted message of a live session sets a due moment. A disconnect also closes the session.
 abbrev pub served : Config → State → ℕ → Posted → MessageKind → Registered → ℕ → Verdict
 served config state moment p message_kind s hold = record {
   state = record {
@@ -344,7 +349,7 @@ served config state moment p message_kind s hold = record {
   slot = slot_with (rider_by config state.senders message_kind p s) (slot_for config message_kind p s);
 }
 
--- The kind of entry for an accepted message without a session, always a publish.
+-- The kind of entry for an accepted message without a session, which is always a publish.
 abbrev pub sessionless_kind : MessageKind → Message → EntryKind
 sessionless_kind MessageKind.Publish m = Publish (event_of m)
 sessionless_kind _ m = Refused
@@ -370,7 +375,7 @@ abbrev pub accepted : Config → State → ℕ → Posted → Option Registered 
 accepted config state moment p None = unnamed config state moment p (is_handshake p.message)
 accepted config state moment p (Some s) = served config state moment p (message_kind_of p.message.channel) s (hold_of config p)
 
--- A message is refused with this error, or accepted if there is none.
+-- A message is rejected with this error, or accepted if there is none.
 abbrev pub judged_by : Config → State → ℕ → Posted → Option Registered → Option Error → Verdict
 judged_by config state moment p sender (Some error) = refused config state p error sender
 judged_by config state moment p sender None = accepted config state moment p sender
@@ -381,12 +386,12 @@ named_by sessions MessageKind.Handshake m = None
 named_by sessions MessageKind.UnknownMeta m = None
 named_by sessions _ m = sender_of sessions m.client
 
--- The verdict on a message when the clock is `moment`.
+-- The verdict on a message, when the clock is at `moment`.
 abbrev pub verdict : Config → State → ℕ → Posted → Verdict
 verdict config state moment p =
     judged_by config state moment p (named_by state.sessions (message_kind_of p.message.channel) p.message) (refusal config state.sessions p)
 
--- A tick closes the overdue sessions and is not answered.
+-- The verdict on a tick: it closes the overdue sessions and is not answered.
 abbrev pub tick_verdict : State → ℕ → Verdict
 tick_verdict state moment = record {
   state = record state { sessions = swept moment state.sessions };
@@ -399,11 +404,11 @@ tick_verdict state moment = record {
 
 -- ---- The whole list
 
--- The result at `place`.
+-- The result of an element at `place` with the verdict `v`, when the clock is at `moment`.
 abbrev pub found_at : ℕ → ℕ → Verdict → Judged
 found_at place moment v = record { entry = record { place = place; moment = moment; kind = v.kind; rides = v.rides }; sender = v.sender; hold = v.hold; slot = v.slot }
 
--- The registry after one more element.
+-- The registry after one more element, which has the verdict `v` and moves the clock to `moment`.
 abbrev pub noted : Registry → ℕ → Verdict → Registry
 noted r moment v = record { clock = moment; sessions = v.state.sessions; senders = v.state.senders; judged = r.judged ++ found_at (length r.judged) moment v ∷ [] }
 
@@ -411,7 +416,8 @@ noted r moment v = record { clock = moment; sessions = v.state.sessions; senders
 abbrev pub state_of : Registry → State
 state_of r = record { sessions = r.sessions; opened = length r.sessions; senders = r.senders }
 
--- An element is judged by the sessions before it, at the greatest moment so far.
+-- The registry after one more element. It is judged by the sessions before it, at the greatest
+-- moment so far, its own included.
 abbrev pub judge : Config → Registry → Listed → Registry
 judge config r (Post p) = noted r (max r.clock p.moment) (verdict config (state_of r) (max r.clock p.moment) p)
 judge config r (messages.Tick moment) = noted r (max r.clock moment) (tick_verdict (state_of r) (max r.clock moment))

@@ -1,4 +1,4 @@
--- The messages of a request's documents, or their fault.
+-- The messages of a request, or the fault of its documents.
 use Rattle.std.specs.Prelude.{ℕ, ⊤, ◌≡◌, ◌||◌, if◌then◌else◌, Bool, true, false, List, [], ◌∷◌, length, map, flat_map, nat_lt, Option, Some, None, option_map, option_and_then, Result, Ok, Err}
 use Rattle.std.specs.List.{list_any}
 use Rattle.bx_names.specs.Faults.{first_case}
@@ -19,7 +19,7 @@ use Rattle.bx_entry.specs.declared.input.BodyError.TheVariants.{NotJson, NotObje
 
 -- ---- Documents
 
--- A document, cut into its messages' objects, or its fault.
+-- A document that is split into the objects of its messages, or its fault.
 abbrev pub Cut : Type 0
 Cut = Result (List Object) CutError
 
@@ -28,7 +28,7 @@ abbrev pub cut_by : Option CutError → List Object → Cut
 cut_by None objects = Ok objects
 cut_by (Some e) objects = Err e
 
--- How a document is cut.
+-- The objects of a document's text, or its fault.
 abbrev pub cut_of : List ℕ → Cut
 cut_of document = cut_by (fault document) (pieces document)
 
@@ -48,7 +48,7 @@ is_not_object (Err cuts.NotObject) = true
 is_not_object (Err cuts.TooMany) = false
 is_not_object (Err cuts.Memory) = false
 
--- Whether a document by itself has too many messages.
+-- Whether one document alone has too many messages.
 abbrev pub is_too_many : Cut → Bool
 is_too_many (Ok objects) = false
 is_too_many (Err cuts.NotJson) = false
@@ -67,7 +67,7 @@ objects_of cs = flat_map objects_in cs
 
 -- ---- Requests
 
--- The first of these faults that any document has. Messages are counted over all documents.
+-- The first of these faults that applies to any document. Messages are counted over all documents.
 abbrev pub cut_fault : List Cut → Option BodyError
 cut_fault cs = first_case (
     (list_any is_not_json cs, NotJson)
@@ -75,12 +75,12 @@ cut_fault cs = first_case (
     ∷ (list_any is_too_many cs || nat_lt MAX_MESSAGES (length (objects_of cs)), TooMany)
     ∷ [])
 
--- The messages that these objects are, if each has a channel.
+-- The messages in these objects, if each object has a channel.
 abbrev pub all_messages : List Object → Option (List Message)
 all_messages [] = Some []
 all_messages (o ∷ os) = option_and_then (λ m. option_map (λ ms. m ∷ ms) (all_messages os)) (message_in o.1)
 
--- A message without a channel is a fault.
+-- The messages, or the fault that one has no channel.
 abbrev pub with_channels : Option (List Message) → Result (List Message) BodyError
 with_channels None = Err NoChannel
 with_channels (Some ms) = Ok ms
@@ -90,7 +90,7 @@ abbrev pub messages_by : List Cut → Option BodyError → Result (List Message)
 messages_by cs None = with_channels (all_messages (objects_of cs))
 messages_by cs (Some f) = Err f
 
--- The messages of cut documents, or the first fault.
+-- The messages of split documents, or the first fault.
 abbrev pub messages_of : List Cut → Result (List Message) BodyError
 messages_of cs = messages_by cs (cut_fault cs)
 
@@ -100,11 +100,12 @@ request_messages documents = messages_of (map cut_of documents)
 
 -- ---- Listeners
 
--- Whether some message is to a broadcast channel.
+-- Whether a message is to a broadcast channel.
 abbrev pub has_broadcast : List Message → Bool
 has_broadcast ms = list_any (λ m. is_broadcast m.channel) ms
 
--- The read-only listener refuses every request that has a message to a broadcast channel.
+-- The messages that the listener allows. The read-only listener rejects a request with a message to
+-- a broadcast channel.
 abbrev pub let_in : Door → Result (List Message) BodyError → Result (List Message) BodyError
 let_in Publishers messages = messages
 let_in Readers (Ok ms) = if has_broadcast ms then Err Forbidden else Ok ms
@@ -114,7 +115,7 @@ let_in Readers (Err f) = Err f
 abbrev pub arrival_messages : Arrival → Result (List Message) BodyError
 arrival_messages a = let_in a.door (request_messages (texts_of a.bodies))
 
--- A program that returns no messages reports their fault, or that it ran out of memory.
+-- The fault that a program may report instead of messages: theirs, or that memory ran out.
 abbrev pub IsUnread : Result (List Message) BodyError → AdmitFault → Type 0
 IsUnread messages (Refused (Body fault)) = messages ≡ Err fault
 IsUnread messages (Refused BadMoment) = ⊥
@@ -123,7 +124,7 @@ IsUnread messages Memory = ⊤
 
 -- ---- Inputs
 
--- The input that a request becomes.
+-- A request with these messages, or with this fault of its documents.
 abbrev pub read_by : ℕ → ℕ → Result (List Message) BodyError → ReadInput
 read_by moment nonce (Ok ms) = Request moment nonce ms
 read_by moment nonce (Err f) = Unread f

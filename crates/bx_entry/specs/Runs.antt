@@ -1,4 +1,5 @@
--- The outs of a run: what each input makes whole, and what is still held at the end.
+-- The outs of a run: the responses to its inputs, in the order in which they are whole. An input is
+-- whole once all its messages are answered. Inputs that are not whole at the end are held.
 use Rattle.std.specs.Prelude.{ℕ, zero, suc, ◌+◌, ◌==◌, ◌&&◌, max, Bool, false, List, [], ◌∷◌, ◌++◌, length, filter, map, fold, nat_lt, nat_le, is_none, Option, Some, None, Result, Ok, Err, flat_map, position}
 use Rattle.bx_entry.specs.Listing.{Listed}
 use Rattle.bx_advice.specs.declared.config.Config.{Config}
@@ -9,19 +10,19 @@ use Rattle.bx_entry.specs.Answers.{PlacedAnswer, answer_in}
 use Rattle.bx_entry.specs.Inputs.{ReadInput, Request, Unread, Tick, refusal_of, added_by}
 use Rattle.bx_entry.specs.declared.input.Refusal.{Refusal}
 
--- What became of an input: where its elements are in the list, or its refusal.
+-- What an input appends to the list: `count` elements from place `first` on, or its refusal.
 pub record Intake : Type 0 where
   pub input : ReadInput
   pub first : ℕ
   pub count : ℕ
   pub refusal : Option Refusal
 
--- The list, and what became of each input so far.
+-- The list, and what each input so far appended to it.
 pub record Taking : Type 0 where
   pub list : List Listed
   pub intake : List Intake
 
--- An input is refused, or its elements join the list.
+-- An input is rejected, or its elements are appended to the list.
 abbrev pub taken_as : Taking → ReadInput → Option Refusal → Taking
 taken_as t input (Some refusal) = record t { intake = t.intake ++ record { input = input; first = length t.list; count = 0; refusal = Some refusal } ∷ [] }
 taken_as t input None = record {
@@ -29,15 +30,15 @@ taken_as t input None = record {
   intake = t.intake ++ record { input = input; first = length t.list; count = length (added_by input); refusal = None } ∷ [];
 }
 
--- The next input is admitted or refused.
+-- The next input is admitted or rejected.
 abbrev pub take_in : Taking → ReadInput → Taking
 take_in t input = taken_as t input (refusal_of (length t.list) input)
 
--- The list after all inputs, and what became of each.
+-- The list after all inputs, and what each of them appended to it.
 abbrev pub taken_in : List ReadInput → Taking
 taken_in inputs = fold take_in (record { list = []; intake = [] }) inputs
 
--- The response to an input, or its refusal; `input` is the input's number.
+-- The response to an input, or its refusal. `input`: the number of the input, from 0.
 pub record Out : Type 0 where
   pub input : ℕ
   pub result : Result (List Item) Refusal
@@ -49,63 +50,64 @@ abbrev pub numbers_from : ℕ → ℕ → List ℕ
 numbers_from first zero = []
 numbers_from first (suc count) = first ∷ numbers_from (first + 1) count
 
--- The places whose answers an input waits for: its messages'. A tick waits for none.
+-- The places of an input's messages, for which it waits to be answered. A tick waits for nothing.
 abbrev pub places_of : Intake → ReadInput → List ℕ
 places_of d (Request moment nonce ms) = numbers_from d.first d.count
 places_of d (Unread fault) = []
 places_of d (Tick moment) = []
 
--- The greatest place of these answers, or none if an answer is missing.
+-- The greatest of `place` and the places of these answers, or none if an answer is missing.
 abbrev pub latest : ℕ → List (Option PlacedAnswer) → Option ℕ
 latest place [] = Some place
 latest place (None ∷ answers) = None
 latest place (Some a ∷ answers) = latest (max place a.place) answers
 
--- Whether `place` is one of the input's.
+-- Whether an element of the input is at `place`.
 abbrev pub has_place : ℕ → Intake → Bool
 has_place place d = nat_le d.first place && nat_lt place (d.first + d.count)
 
--- The input that makes input `i` whole: it gives the last answer, or is `i` if none is awaited.
+-- The number of the input that makes input `i` whole, if any. That input gives the last of these
+-- answers. If there are no answers to wait for, it is `i` itself.
 abbrev pub whole_by : List Intake → ℕ → List (Option PlacedAnswer) → Option ℕ
 whole_by intake i [] = Some i
 whole_by intake i (a ∷ answers) = elim (latest 0 (a ∷ answers)) [ None ↦ None | Some place ↦ position (has_place place) intake ]
 
--- A message's part of a response: its events, then its reply.
+-- The part of a response for one message: its events, then its reply.
 abbrev pub items_of : PlacedAnswer → List Item
 items_of a = map EventItem a.events ++ ReplyItem a.reply ∷ []
 
--- The items of a response, message by message.
+-- The items of a response, message by message. Missing answers are left out.
 abbrev pub answered_items : List (Option PlacedAnswer) → List Item
 answered_items [] = []
 answered_items (None ∷ answers) = answered_items answers
 answered_items (Some a ∷ answers) = items_of a ++ answered_items answers
 
--- The response, unless the input was refused.
+-- The response with these answers, unless the input is rejected.
 abbrev pub result_by : List (Option PlacedAnswer) → Option Refusal → Result (List Item) Refusal
 result_by answers None = Ok (answered_items answers)
 result_by answers (Some refusal) = Err refusal
 
--- An input's out, and the input that makes it whole, if any.
+-- The out of an input, and the number of the input that makes it whole, if any.
 pub record Whole : Type 0 where
   pub at : Option ℕ
   pub out : Out
 
--- When input `i` is whole, and its out.
+-- The out of input `i`, and the input that makes it whole.
 abbrev pub whole_of : Config → Registry → List Intake → ℕ → Intake → Whole
 whole_of config r intake i d =
     let answers = map (answer_in config r) (places_of d d.input) in
     record { at = whole_by intake i answers; out = record { input = i; result = result_by answers d.refusal } }
 
--- When these inputs, from number `i` on, are whole, and their outs.
+-- The outs of these inputs, numbered from `i` on, each with the input that makes it whole.
 abbrev pub wholes_from : Config → Registry → List Intake → ℕ → List Intake → List Whole
 wholes_from config r intake i [] = []
 wholes_from config r intake i (d ∷ ds) = whole_of config r intake i d ∷ wholes_from config r intake (i + 1) ds
 
--- When each input is whole, and its out.
+-- The outs of all inputs over their list, each with the input that makes it whole.
 abbrev pub wholes_in : Config → Taking → List Whole
 wholes_in config t = wholes_from config (registry config t.list) t.intake 0 t.intake
 
--- When each input of a run is whole, and its out.
+-- The outs of the inputs of a run, each with the input that makes it whole.
 abbrev pub wholes : Config → List ReadInput → List Whole
 wholes config inputs = wholes_in config (taken_in inputs)
 
@@ -116,7 +118,7 @@ abbrev pub is_at : ℕ → Option ℕ → Bool
 is_at j None = false
 is_at j (Some i) = i == j
 
--- The outs of the inputs that input `j` makes whole, in ascending order.
+-- The outs of the inputs that input `j` makes whole, in the order of their numbers.
 abbrev pub whole_at : ℕ → List Whole → List Out
 whole_at j ws = map (λ (w : Whole). w.out) (filter (λ (w : Whole). is_at j w.at) ws)
 
@@ -128,6 +130,6 @@ outs_in count ws = flat_map (λ j. whole_at j ws) (numbers_from 0 count)
 abbrev pub outs : Config → List ReadInput → List Out
 outs config inputs = outs_in (length inputs) (wholes config inputs)
 
--- The inputs that are still held at the end of a run.
+-- The numbers of the inputs that are not whole at the end of a run.
 abbrev pub held : Config → List ReadInput → List ℕ
 held config inputs = map (λ (w : Whole). w.out.input) (filter (λ (w : Whole). is_none w.at) (wholes config inputs))

@@ -25,7 +25,7 @@ pub record Pending : Type 0 where
   pub moment : ℕ
   pub hold : ℕ
 
--- The answer to the connect or rider at `connect`, given by the entry at `place`.
+-- The answer to the connect or rider at place `connect`, given by the entry at `place`.
 pub record Filed : Type 0 where
   pub connect : ℕ
   pub place : ℕ
@@ -38,9 +38,10 @@ pub data Stage : Type 0 where
   Live : Stage
   Closed : Stage
 
--- A session. Its `queue` has the outstanding batch, the first `out` events, and then those that
--- wait. `num` is the last batch's number. No rule reads the last three: all events that it
--- received, how many of them are never sent again, and all its answers.
+-- A session. It acknowledges batches (`ack`) or is plain. The first `out` events of its `queue` are
+-- the outstanding batch, and the others wait. `num` is the number of the last batch. No rule reads
+-- its history: all `events` that it received, how many of them are never sent again (`done`), and
+-- all its `answers`.
 pub record Session : Type 0 where
   pub number : ℕ
   pub stage : Stage
@@ -100,7 +101,8 @@ batch s = outstanding (window_in s)
 
 -- ---- Answers
 
--- A successful connect's reply carries the last batch's number, if the session acknowledges.
+-- The acknowledgement in the reply to a connect: the number of the last batch, if the connect
+-- succeeds and the session acknowledges.
 abbrev pub ack_given : Bool → ℕ → Outcome → AckReply
 ack_given ack num Connected = if ack then AckNumber num else NoAck
 ack_given ack num Disconnected = if ack then AckNumber num else NoAck
@@ -133,7 +135,8 @@ released config place outcome s = released_from config place outcome s s.held
 abbrev pub cleared : Session → Session
 cleared s = record (with_window (windows.cleared (window_in s)) s) { done = s.done + s.out }
 
--- A connect acknowledges the outstanding batch by its number, unless the session is plain.
+-- A connect with a high enough number acknowledges the outstanding batch. In a plain session it
+-- acknowledges nothing.
 abbrev pub acknowledged : Option ℕ → Session → Session
 acknowledged None s = s
 acknowledged (Some n) s = if s.ack && acknowledges n (window_in s) then cleared s else s
@@ -166,29 +169,29 @@ given config s = if s.ack then batch (formed config s) else take (portion config
 abbrev pub holding : Pending → Session → Session
 holding p s = record s { held = Some p }
 
--- A connect without events is held, if it may be.
+-- A connect that gets no events is held, if it may be. Otherwise it is answered.
 abbrev pub idle : Config → Pending → Session → Session
 idle config p s = if p.hold == 0 then answered config p p.place [] Connected s else holding p s
 
--- A connect with events is answered at once.
+-- A connect that gets events is answered at once. One that gets none is held, if it may be.
 abbrev pub answered_or_held : Config → Pending → Session → Session
 answered_or_held config p s =
     if length (given config s) == 0 then idle config p s
     else answered config p p.place (given config s) Connected (gives config s)
 
--- A connect acknowledges and then gets events. After an overflow it fails.
+-- A connect acknowledges a batch and then gets events. After an overflow, it fails.
 abbrev pub admitted : Config → Pending → Option ℕ → Bool → Session → Session
 admitted config p acked overflow s =
     if overflow then answered config p p.place [] (Failed QueueOverflow) s
     else answered_or_held config p (acknowledged acked s)
 
--- A connect ends the one that was held.
+-- A new connect ends the held one, which fails as superseded.
 abbrev pub connected : Config → Pending → Option ℕ → Session → Session
 connected config p acked s = admitted config p acked s.overflow (released config p.place (Failed SupersededConnect) s)
 
 -- ---- Overflow and patterns
 
--- An overflow drops all patterns and events.
+-- A session overflows: it drops all patterns and events.
 abbrev pub overflowed : Session → Session
 overflowed s = record (with_window (emptied (window_in s)) s) { overflow = true; patterns = [] }
 
@@ -206,7 +209,8 @@ unsubscribed ps s = record s { patterns = fold without_pattern s.patterns ps }
 
 -- ---- Events
 
--- A publish to a broadcast channel hits a live session with a pattern that matches.
+-- Whether a publish hits the session. Its channel is a broadcast channel that a pattern of the
+-- session matches. The session is live and has not overflowed.
 abbrev pub is_hit : Session → Event → Bool
 is_hit s e = is_live s.stage && not s.overflow && is_broadcast e.channel && any_matches s.patterns (segments e.channel)
 
@@ -214,7 +218,7 @@ is_hit s e = is_live s.stage && not s.overflow && is_broadcast e.channel && any_
 abbrev pub has_room : Config → Event → Session → Bool
 has_room config e s = windows.has_room config.limits.events config.limits.bytes e (window_in s)
 
--- One event is sent, as a batch or, in a plain session, permanently.
+-- One event is sent: as a batch or, in a plain session, without one and dropped.
 abbrev pub gives_one : Session → Session
 gives_one s = if s.ack then with_batch 1 s else forgotten 1 s
 
@@ -223,7 +227,7 @@ abbrev pub delivered_to : Config → Publication → Session → Option Pending 
 delivered_to config e s None = s
 delivered_to config e s (Some p) = answered config p e.place (e ∷ []) Connected (gives_one (unheld s))
 
--- The event joins the end of the queue.
+-- The event is appended to the queue.
 abbrev pub with_event : Publication → Session → Session
 with_event e s = record (with_window (windows.with_event e (window_in s)) s) { events = s.events ++ e ∷ [] }
 
@@ -284,7 +288,8 @@ begun ack s Closed = s
 
 -- ---- Riders
 
--- A rider gets the waiting events, at most one batch, unless the session acknowledges.
+-- How many events a rider gets: those that wait, up to one batch. In an acknowledging session, it
+-- gets none.
 abbrev pub ride_portion : Config → Session → ℕ
 ride_portion config s = if s.ack then 0 else portion config s
 
@@ -296,7 +301,7 @@ ride_filing config place reply s = record { connect = place; place = place; publ
 abbrev pub ridden : Config → ℕ → Reply → Session → Session
 ridden config place reply s = record (forgotten (ride_portion config s) s) { answers = s.answers ++ ride_filing config place reply s ∷ [] }
 
--- Whether a rider belongs to this live session.
+-- Whether the session is live and the rider is its own.
 abbrev pub is_riding : Rider → Session → Bool
 is_riding rider s = (rider.session == s.number) && is_live s.stage
 
@@ -305,7 +310,7 @@ abbrev pub ridden_by : Config → ℕ → Session → Option Rider → Session
 ridden_by config place s None = s
 ridden_by config place s (Some rider) = if is_riding rider s then ridden config place rider.reply s else s
 
--- Only a subscription, an unsubscription or a publish can be a rider.
+-- The rider of an entry, if any. Only a subscription, an unsubscription or a publish can be one.
 abbrev pub rider_of : EntryKind → Option Rider → Option Rider
 rider_of (Subscribe n ps) rides = rides
 rider_of (Unsubscribe n ps) rides = rides

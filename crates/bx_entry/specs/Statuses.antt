@@ -1,11 +1,11 @@
--- The HTTP statuses of refused inputs.
+-- The HTTP statuses of rejected inputs.
 use Rattle.bx_message.specs.declared.status.Status.{Status}
 use Rattle.bx_message.specs.declared.status.Status.TheVariants.{BadRequest, Forbidden, Unavailable}
 use Rattle.bx_entry.specs.declared.input.BodyError.TheVariants as bodies
 use Rattle.bx_entry.specs.declared.input.Refusal.{Refusal}
 use Rattle.bx_entry.specs.declared.input.Refusal.TheVariants.{Body, BadMoment, Ended}
 
--- The status of a refused request or tick.
+-- The status of a rejected request or tick.
 abbrev pub refusal_status : Refusal → Status
 refusal_status (Body bodies.Forbidden) = Forbidden
 refusal_status (Body fault) = BadRequest

@@ -1,4 +1,4 @@
--- The queued events of one session, and its outstanding batch.
+-- The queue of one session, and its outstanding batch.
 use Rattle.std.specs.Prelude.{ℕ, ◌+◌, ◌==◌, ◌&&◌, min, Bool, List, [], ◌∷◌, ◌++◌, length, take, drop, nat_lt, nat_le, if◌then◌else◌}
 use Rattle.bx_message.specs.declared.event.Event.{Event}
 use Rattle.bx_message.specs.Events.{event_size}
@@ -8,8 +8,8 @@ pub record Publication : Type 0 where
   pub place : ℕ
   pub event : Event
 
--- A session's queued events, oldest first: the outstanding batch, the first `out`, and then those
--- that wait. `number` is the last batch's number.
+-- The queue of a session, oldest event first. The first `out` events are the outstanding batch, and
+-- the others wait. `number` is the number of the last batch.
 pub record Window : Type 0 where
   pub queue : List Publication
   pub out : ℕ
@@ -19,16 +19,16 @@ pub record Window : Type 0 where
 abbrev pub empty : Window
 empty = record { queue = []; out = 0; number = 0 }
 
--- The size of these events' texts, in bytes.
+-- The size of the texts of these events, in bytes.
 unfoldable pub bytes_of : List Publication → ℕ
 bytes_of [] = 0
 bytes_of (p ∷ ps) = event_size p.event + bytes_of ps
 
--- Whether one more event stays within `events` events and `bytes` bytes.
+-- Whether the queue has room for one more event, if it may have `events` events and `bytes` bytes.
 unfoldable pub has_room : ℕ → ℕ → Event → Window → Bool
 has_room events bytes e w = nat_lt (length w.queue) events && nat_le (bytes_of w.queue + event_size e) bytes
 
--- An event joins the end of the queue.
+-- An event is appended to the queue.
 abbrev pub with_event : Publication → Window → Window
 with_event e w = record w { queue = w.queue ++ e ∷ [] }
 
@@ -40,15 +40,15 @@ outstanding w = take w.out w.queue
 abbrev pub cleared : Window → Window
 cleared w = record w { queue = drop w.out w.queue; out = 0 }
 
--- A number acknowledges the outstanding batch if it is at least the last batch's number.
+-- Whether a number acknowledges the outstanding batch: it is at least the number of the last batch.
 abbrev pub acknowledges : ℕ → Window → Bool
 acknowledges number w = nat_le w.number number
 
--- A client acknowledges batch `number`.
+-- The outstanding batch is dropped if `number` acknowledges it.
 abbrev pub acknowledged : ℕ → Window → Window
 acknowledged number w = if acknowledges number w then cleared w else w
 
--- How many events are sent at once, if no batch is outstanding: all that wait, up to `most`.
+-- How many events are sent at once if no batch is outstanding: all of the queue, up to `most`.
 abbrev pub portion : ℕ → Window → ℕ
 portion most w = min most (length w.queue)
 
@@ -68,6 +68,6 @@ formed most w = if forms most w then with_batch (portion most w) w else w
 abbrev pub forgotten : ℕ → Window → Window
 forgotten count w = record w { queue = drop count w.queue }
 
--- All events are dropped; the last batch's number stays.
+-- All events are dropped. The number of the last batch stays.
 abbrev pub emptied : Window → Window
 emptied w = record w { queue = []; out = 0 }

@@ -2,14 +2,14 @@
 use bx_message::{RawJson, Reply, Sequence, SharedEvent, Text};
 use bx_names::Pattern;
 
-/// The result of a message or a tick.
+/// The result of judging a message or a tick.
 #[derive(Drop)]
 pub enum EntryKind {
     /// An accepted handshake.
     Opened {
         /// The number of the new session, from 1.
         session: u64,
-        /// Whether acknowledgement is on.
+        /// Whether the session acknowledges batches.
         ack: bool,
     },
     /// An accepted connect, with all that its reply needs.
@@ -20,7 +20,7 @@ pub enum EntryKind {
         client: Text,
         /// The message's `id` as the sender wrote it, which the reply repeats.
         id: Option<RawJson>,
-        /// The batch number that it acknowledges, if any.
+        /// The number of the batch that the connect acknowledges, if any.
         acked: Option<u64>,
         /// How long it may be held, in milliseconds; 0 to answer it at once.
         hold: u64,
@@ -39,43 +39,44 @@ pub enum EntryKind {
         /// The patterns, in the message's order, except those of service channels.
         patterns: Sequence<Pattern>,
     },
-    /// An accepted publish, also to a service channel.
+    /// An accepted publish, to a broadcast or a service channel.
     Publish(SharedEvent),
     /// An accepted disconnect.
     Disconnect {
         /// The number of the session that it closes.
         session: u64,
     },
-    /// A refused message.
+    /// A rejected message. It changes no session.
     Refused,
-    /// A tick, with the numbers of the sessions that it closes, ascending.
+    /// A tick, with the numbers of the sessions that it closes, in ascending order.
     Tick(Sequence<u64>),
 }
 
-/// A message whose reply carries the waiting events of its session.
+/// A message with a reply that carries the waiting events of its session.
 ///
-/// It is a subscribe, an unsubscribe or a publish, and the last message of a request whose messages
-/// all come from this session.
+/// It is a subscription, an unsubscription or a publish, and the last message of its request. All
+/// messages of the request are accepted and come from one session, which does not acknowledge. None
+/// is a handshake. Only a server with `--ride` has riders.
 #[derive(Drop)]
 pub struct Rider {
     /// The session's number.
     pub session: u64,
-    /// The reply, which follows the events.
+    /// The reply. It is sent after the events.
     pub reply: Reply,
 }
 
-/// An element of the list of everything that was admitted.
+/// An entry of the list: an admitted message or tick.
 #[derive(Drop)]
 pub struct Entry {
     /// The place, counted from 0.
     pub place: u64,
-    /// The greatest moment in the list so far, in milliseconds since the server started.
+    /// The greatest moment in the list up to this entry, in milliseconds since the server started.
     pub moment: u64,
-    /// The result of the message or tick.
+    /// What the entry does.
     pub kind: EntryKind,
     /// The rider, if the message is one.
     ///
-    /// It gets its events after the entry has taken effect.
+    /// It gets its events after `kind` has taken effect.
     pub rides: Option<Rider>,
 }
 
@@ -84,14 +85,14 @@ pub struct Entry {
 pub struct Batch {
     /// The place of the first entry.
     pub first: u64,
-    /// The entries, at consecutive places: one for each message in order, or one for the tick.
+    /// The entries, at consecutive places: one for each message, in order, or one for the tick.
     pub entries: Sequence<Entry>,
 }
 
 /// The place and the shard under which the answer to a connect or a rider is filed.
 ///
-/// A ticket is valid until the sessions are redistributed, which may move the answer to another
-/// shard.
+/// If sessions are redistributed, the answer may move to another shard. Its ticket then names the
+/// wrong one.
 #[derive(Clone, Copy, Debug, PartialEq, Eq)]
 pub struct Ticket {
     /// The message's place in the list.
@@ -105,14 +106,14 @@ pub struct Ticket {
 pub enum Slot {
     /// At once, by this reply.
     Ready(Reply),
-    /// Later: the answer to a connect or a rider is filed under this ticket.
+    /// By the answer to a connect or a rider, which is filed under this ticket.
     Waiting(Ticket),
 }
 
 /// The place of an admitted request or tick, and how its messages are answered.
 #[derive(Drop)]
 pub struct Admitted {
-    /// The place of the tick or the first message, or the list's length without messages.
+    /// The place of the tick or the first message; without messages, the length of the list.
     pub first: u64,
     /// How each message is answered, in order; empty for a tick.
     pub slots: Sequence<Slot>,

@@ -1,4 +1,4 @@
-//! Requests and ticks, and why they are refused.
+//! Requests and ticks, and why they are rejected.
 ghost use Rattle.std.specs.Prelude.{◌≡◌};
 ghost use Rattle.bx_entry.specs.Statuses.{refusal_status};
 ghost use Rattle.bx_entry.specs.declared.input.AdmitFault.TheVariants.{Memory, Refused};
@@ -13,16 +13,16 @@ use std::alloc::{AllocError, AllocFailed};
 /// Policy of this server.
 #[derive(Clone, Copy, Debug, PartialEq, Eq)]
 pub enum Door {
-    /// The main listener, which accepts every request.
+    /// The main listener, which allows all messages.
     Publishers,
-    /// The read-only listener, which refuses requests with a message to a broadcast channel.
+    /// The read-only listener, which rejects requests with a message to a broadcast channel.
     Readers,
 }
 
-/// A request as it arrived.
+/// A request as it arrived, with its documents still to be read.
 #[derive(Drop)]
 pub struct Arrival {
-    /// Milliseconds since the server started.
+    /// The moment of arrival, in milliseconds since the server started.
     pub moment: u64,
     /// 128 bits for the client id of a session that the request opens.
     pub nonce: u128,
@@ -41,7 +41,7 @@ pub enum Input {
     Tick(u64),
 }
 
-/// Why the documents of a request are not accepted as messages.
+/// Why a request is rejected for its documents.
 ///
 /// The variants are in the order in which they are tested, each over all documents of the request.
 #[derive(Clone, Copy, Debug, PartialEq, Eq, PartialOrd, Ord)]
@@ -50,40 +50,41 @@ pub enum BodyError {
     NotJson,
     /// A document is neither an object nor an array of objects.
     NotObject,
-    /// The documents together have more than `MAX_MESSAGES` messages.
+    /// The documents together have more than `MAX_MESSAGES` (256) messages.
     TooMany,
     /// A message has no `channel`, or one that is not a string.
     NoChannel,
-    /// The listener does not accept the messages.
+    /// A message is to a broadcast channel, and the listener is read-only.
     Forbidden,
 }
 
-/// Why a request or a tick is refused.
+/// Why a request or a tick is rejected.
 ///
-/// The variants are in the order in which they are tested. A refusal changes nothing.
+/// The variants are in the order in which they are tested. A rejected request or tick changes
+/// nothing.
 #[derive(Clone, Copy, Debug, PartialEq, Eq)]
 pub enum Refusal {
-    /// The documents of the request are not accepted as messages.
+    /// The documents of the request are not messages that its listener allows.
     Body(BodyError),
-    /// The moment exceeds `MAX_MOMENT`.
+    /// The moment exceeds `MAX_MOMENT`, 2^62 milliseconds.
     BadMoment,
-    /// The list would exceed `MAX_LENGTH` entries.
+    /// The list would have more than `MAX_LENGTH` entries, 2^62.
     Ended,
 }
 
 /// Why a request or a tick is not admitted.
 ///
-/// In either case, nothing has changed.
+/// Nothing has changed in either case.
 #[derive(Clone, Copy, Debug, PartialEq, Eq)]
 pub enum AdmitFault {
-    /// It was refused.
+    /// The request or tick is rejected.
     Refused(Refusal),
     /// Memory ran out.
     Memory,
 }
 
 impl AdmitFault {
-    /// Creates the fault for documents that are not accepted as messages.
+    /// Creates the fault of a request that is rejected for its documents.
     pub(crate) fn unread(fault: BodyError) -> AdmitFault
         ensures { result ≡ Refused (Body fault) }
     {
@@ -109,6 +110,8 @@ impl<T: Drop> From<AllocFailed<T>> for AdmitFault {
 
 impl Refusal {
     /// Returns the HTTP status for this refusal.
+    ///
+    /// It is 403 for `Forbidden`, 503 for `Ended`, and otherwise 400.
     ///
     /// Policy of this server.
     pub fn status(self) -> Status

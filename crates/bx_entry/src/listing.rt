@@ -1,4 +1,4 @@
-//! The list of all admitted messages and ticks, for contracts only.
+//! The list of all admitted messages and ticks, for use in contracts.
 ghost use Rattle.std.specs.Prelude.{◌≡◌, [], ◌∷◌, ◌++◌};
 ghost use Rattle.bx_entry.specs.Listing.{Listed};
 ghost use Rattle.bx_entry.specs.Listing as elements;
@@ -25,7 +25,7 @@ impl Model for Element {
 
 /// Ghost: messages and ticks in the order of their admission.
 ///
-/// It needs no memory, and a program cannot read it. Moments are in milliseconds since the server
+/// It takes no memory, and a program cannot read it. Moments are in milliseconds since the server
 /// started.
 #[derive(Drop)]
 pub struct Listing {
@@ -51,7 +51,7 @@ impl Listing {
         }
     }
 
-    /// Appends the messages of a request.
+    /// Appends `messages`, which are one request's, with its `moment` and `nonce`.
     pub fn post(&mut self, moment: u64, nonce: u128, messages: &[Message])
         ensures { self.new ≡ self.old ++ elements.request moment nonce messages.now }
     {
@@ -64,7 +64,7 @@ impl Listing {
             .join(&History::of::<Request<'_>, Messages>(&request));
     }
 
-    /// Appends a tick.
+    /// Appends a tick at `moment`.
     pub fn tick(&mut self, moment: u64)
         ensures { self.new ≡ self.old ++ elements.Tick moment ∷ [] }
     {
@@ -78,7 +78,7 @@ impl Listing {
         self.elements.join(&later.elements);
     }
 
-    /// Returns a copy of the listing without allocating.
+    /// Returns an equal listing. Does not allocate.
     pub fn again(&self) -> Listing
         ensures { result ≡ self.now }
     {
@@ -88,7 +88,6 @@ impl Listing {
     }
 }
 
-// A request whose messages have been read.
 #[derive(Drop)]
 struct Request<'a> {
     moment: u64,
@@ -96,7 +95,7 @@ struct Request<'a> {
     messages: &'a [Message],
 }
 
-// What a request and a tick append.
+// The elements that a request and a tick append.
 
 struct Messages;
 

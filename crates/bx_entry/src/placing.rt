@@ -21,7 +21,7 @@ pub trait Placing {
     ghost is_below: { (placing : Self) (number shards : ℕ) → 1 ≤ shards → shards ≤ 64 → place_of placing number shards < shards };
 }
 
-/// Places sessions in turn: session `number` in shard `number % shards`.
+/// A rule that places sessions in turn: session `number` in shard `number % shards`.
 #[derive(Clone, Copy, Debug)]
 pub struct ByRemainder;
 
@@ -35,7 +35,7 @@ impl Placing for ByRemainder {
     }
 }
 
-/// Places all sessions in the first shard.
+/// A rule that places all sessions in the first shard.
 #[derive(Clone, Copy, Debug)]
 pub struct AllFirst;
 
@@ -49,7 +49,9 @@ impl Placing for AllFirst {
     }
 }
 
-/// Places session `number` in shard `table[number % table.len()] % shards`.
+/// A rule that places session `number` in shard `table[number % table.len()] % shards`.
+///
+/// An empty table places all sessions in the first shard.
 ///
 /// Model: the table.
 #[derive(Drop)]
@@ -66,9 +68,7 @@ impl Model for ByTable {
 }
 
 impl ByTable {
-    /// Creates a placing from `table`.
-    ///
-    /// An empty table places all sessions in the first shard.
+    /// Creates a placing by a copy of `table`.
     ///
     /// # Errors
     ///

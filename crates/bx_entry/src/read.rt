@@ -13,7 +13,7 @@ use bx_names::is_broadcast;
 use std::alloc::{AllocError, Global};
 
 impl Arrival {
-    /// Reads the messages of all documents in order, if the listener accepts them.
+    /// Reads the messages of all documents, in order, if the listener allows them.
     ///
     /// # Errors
     ///
@@ -43,10 +43,10 @@ fn has_broadcast(messages: &[Message]) -> bool
         .any(|message| is_broadcast(message.channel.as_str()))
 }
 
-// A document, or why it is not one.
+// A document that is split into its messages, or its error.
 type Cut<'a> = Result<Document<'a>, CutError>;
 
-/// Reads the messages of all documents in order, regardless of the listener.
+/// Reads the messages of all documents, in order, whatever the listener allows.
 ///
 /// # Errors
 ///
@@ -67,7 +67,7 @@ pub fn read_messages(alloc: Global, bodies: &Bodies) -> Result<Vec<Message>, Adm
     }
 }
 
-// Splits every document, because the errors are ordered over all of them.
+// Splits every document, since the errors are ordered over all of them.
 fn cut_all(alloc: Global, bodies: &Bodies) -> Result<Vec<Cut<'_>>, AllocError>
     ensures { IfOk result (λ cuts. cuts.items ≡ map cut_of (texts_of bodies.now)) }
 {
@@ -81,7 +81,7 @@ fn cut_all(alloc: Global, bodies: &Bodies) -> Result<Vec<Cut<'_>>, AllocError>
     Ok(cuts)
 }
 
-// Returns the first error of the documents, except messages without a channel.
+// Returns the first error of the documents, except `NoChannel` and `Forbidden`.
 fn fault_in(cuts: &[Cut<'_>]) -> Option<BodyError>
     ensures { result ≡ cut_fault cuts.now }
 {
@@ -146,7 +146,7 @@ fn read_all(alloc: Global, cuts: &[Cut<'_>]) -> Result<Vec<Message>, MessageErro
     Ok(messages)
 }
 
-// Appends the messages of a document, unless it has an error.
+// Appends the messages of a document. Appends none if the document has an error.
 fn read_cut(alloc: Global, cut: &Cut<'_>, messages: &mut Vec<Message>) -> Result<(), MessageError>
     ensures added { OnOk result (option_map (λ ms. messages.old.items ++ ms)
         (all_messages (objects_in cut.now)) ≡ Some messages.new.items) }

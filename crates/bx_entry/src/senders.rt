@@ -9,12 +9,12 @@ pub enum Senders {
     NoneYet,
     /// All are accepted messages of this session.
     Only(u64),
-    /// A message was refused, is a handshake, or has no session or another one.
+    /// A message is rejected, is a handshake, or has no session or another one.
     Mixed,
 }
 
 impl Senders {
-    /// Returns `self` with one more accepted message, which comes from `session`.
+    /// Returns the senders after one more accepted message, which comes from `session`.
     pub fn joined(self, session: u64) -> Senders
         ensures { result ≡ joined self session }
     {

@@ -1,4 +1,4 @@
--- An input that was taken in.
+-- Proves what holds of an input when it starts.
 use Rattle.std.proofs.Common.{◌≡◌, ℕ, ◌+◌, ◌<◌, false, List, [], ◌∷◌, ◌++◌, length, map, filter, refl, sym, ap, subst, ◌∙◌, inl, inr, Option, Some, None, append-nil, add-zero, zero-add}
 use Rattle.std.specs.Prelude.{◌==◌}
 use Rattle.bx_entry.proofs.RequestLemmas.{length-listed}
@@ -16,7 +16,7 @@ use Rattle.bx_theory.specs.Opens.{intake_as, open_after}
 use Rattle.bx_fanout.specs.declared.current_input.CurrentInput.{CurrentInput}
 use Rattle.bx_fanout.proofs.{TakingIn.none-left, TakingIn.taken-one, Stages.length-numbers}
 
--- ---- how many messages are answered
+-- ---- The number of answers
 
 asked : (len : ℕ) (input : ReadInput) → length (places_of (intake_as len input None) input) ≡ asked_by input
 asked len (Request moment nonce ms) = length-numbers len (length (request moment nonce ms)) ∙ length-listed moment nonce (length ms == 1) false ms
@@ -26,7 +26,7 @@ refused-asked : (len : ℕ) (input : ReadInput) (refusal : Refusal) → length (
 refused-asked len (Request moment nonce ms) refusal = refl
 refused-asked len _ refusal = refl
 
--- ---- what the admission says
+-- ---- The result of the admission
 
 record Took (len : ℕ) (refusal : Option Refusal) (first : ℕ) : Type 0 where
   none : refusal ≡ None
@@ -48,9 +48,8 @@ refused : (setup : Setup) (w : WorldState) (i : Input) (refusal : Refusal) → I
 refused setup w i refusal (inl e) = refused-by setup w (read_input i) refusal (refusal_of (length w.list) (read_input i)) e
 refused setup w i refusal (inr (may, e)) = let no : NotAdmitted refusal ≡ OutOfMemory = e in cc
 
--- ---- the input is taken in
+-- ---- The input starts
 
--- nothing is left to be added
 pub all-added : (setup : Setup) (inputs : List ReadInput) (w : WorldState) (rows : List Row) (added : List runs.Out) → IsGiving setup inputs w rows [] added → rows ≡ filter waits rows → added ≡ outs setup.config inputs
 all-added setup inputs w rows added g settled =
     sym (append-nil added) ∙ ap (λ (os : List runs.Out). added ++ os) (sym (ap (map seen_out) (none-left rows rows settled))) ∙ sym (append-nil (added ++ map seen_out (outs_of rows))) ∙ g.left

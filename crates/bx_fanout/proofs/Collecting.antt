@@ -1,4 +1,4 @@
--- The answers that takings give where every shard has applied the whole list.
+-- Proves that the answers taken are the definitions', if every shard has applied the list.
 use Rattle.std.proofs.Common.{◌≡◌, ◌≢◌, ℕ, ◌+◌, ◌<◌, ◌≤◌, Bool, true, false, List, [], ◌∷◌, ◌++◌, length, refl, sym, ap, subst, ◌∙◌, arith, Option, Some, None, option_map, slice_get, slice_index, add-one, get_or, drop, ltb, add-zero, add_assoc, ne_eqb}
 use Rattle.std.specs.Prelude.{◌||◌, ◌==◌}
 use Rattle.std.proofs.Math.Bool.{or-false}
@@ -17,14 +17,12 @@ use Rattle.bx_fanout.specs.CurrentInputs.{AreAnswers, IsCollected, IsLevel, Keep
 use Rattle.bx_fanout.specs.declared.current_input.CurrentInput.{CurrentInput}
 use Rattle.bx_theory.proofs.Below.{answer_below}
 
--- each session stands in a shard of the world
 abbrev pub AllPlaced : Setup → WorldState → Type 0
 AllPlaced setup w = (session : ℕ) → setup.placing session setup.shards < length w.applied
 
 taken-of : (a b : Option Answer) → Taken a ≡ Taken b → a ≡ b
 taken-of a b e = cc
 
--- what a taking gives is the answer
 pub take-is-answer : (setup : Setup) (w : WorldState) (t : Ticket) (b : Answer) → 0 < setup.config.limits.batch → IsOutput setup w (Take t) (Taken (Some b)) → given_at setup.config w.list t.place ≡ Some b
 take-is-answer setup w t b batch output = (takes_are_answers setup w (Take t ∷ []) (Taken (Some b) ∷ []) (after w (Take t) (Taken (Some b))) batch (output, refl)).0
 
@@ -46,12 +44,12 @@ take-gives setup w t place o batch placed ticket level fresh output =
     let P : ℕ → Type 0 = λ p. IsTicket setup w.list p t → is_taken w.taken p ≡ false → o ≡ given_at setup.config w.list p in
     subst P ticket.place (λ ticket' fresh'. gives-by setup w t o batch placed ticket' level fresh' output (answer setup.config w.list t.place) refl) ticket fresh
 
--- ---- one more place that was taken
+-- ---- One more answer taken
 
 pub taken-more : (taken : List ℕ) (place p : ℕ) → place ≢ p → is_taken (taken ++ place ∷ []) p ≡ is_taken taken p
 taken-more taken place p other = list_any-append (λ (t : ℕ). t == p) taken (place ∷ []) ∙ ap (λ (b : Bool). is_taken taken p || (b || false)) (ne_eqb place p other) ∙ or-false (is_taken taken p)
 
--- ---- the next slot is a ticket
+-- ---- The next slot is a ticket
 
 pub front-of : (items : List Slot) (slot d : Slot) → true ≡ ltb 0 (length items) → d ≡ get_or items 0 d → d ≡ slot → items ≡ slot ∷ drop 1 items
 front-of [] slot d some first is = let no : true ≡ false = some in cc
@@ -82,7 +80,7 @@ next-taken setup old new t a rest before left batch placed is same output step p
       },
     )
 
--- ---- one more answer
+-- ---- One more answer collected
 
 length-one-more : (a : Answer) (answers : List Answer) → length (a ∷ answers) ≡ 1 + length answers
 length-one-more a answers = omega (arith, add-one (length answers))

@@ -1,4 +1,4 @@
--- Answers that are taken shard after shard, and put to their connects.
+-- Proves that all filed answers are taken, shard by shard, and assigned to their connects.
 use Rattle.std.proofs.Common.{◌≡◌, ◌≢◌, ℕ, ◌+◌, ◌<◌, ◌≤◌, Bool, true, false, List, [], ◌∷◌, ◌++◌, length, map, find, refl, sym, ap, subst, ◌∙◌, arith, inl, inr, Option, Some, None, option_map, slice_index, flat_map, nat_lt, eqb-true}
 use Rattle.std.specs.Prelude.{◌&&◌, ◌||◌, ◌==◌, ◌⊎◌, is_none, if◌then◌else◌, IfNone}
 use Rattle.std.specs.List.{AllByRecursion}
@@ -17,9 +17,8 @@ use Rattle.bx_fanout.specs.CurrentInputs.{IsLevel, NoneTakenFrom, given_at}
 use Rattle.bx_fanout.proofs.Collecting.{AllPlaced, take-gives, take-is-answer, taken-more}
 use Rattle.bx_shard.proofs.{Taking.taken_own, Untaken.untaken}
 
--- ---- one answer
+-- ---- One answer
 
--- an answer is that of a message of the list
 pub inside : (config : Config) (list : List Listed) (place : ℕ) (a : Answer) → given_at config list place ≡ Some a → place < length list
 inside config list place a given = by (cases_lt place (length list))
   where
@@ -50,7 +49,6 @@ put-rows config list taken c a (row ∷ rows) given =
     ap (λ (r : Row). r ∷ answered_at c a (map (put_if config list taken) rows)) (put-row config list taken c a row given)
     ∙ ap (λ (rs : List Row). put_if config list (taken ++ c ∷ []) row ∷ rs) (put-rows config list taken c a rows given)
 
--- what has no answer is another place
 apart : (config : Config) (list : List Listed) (c p : ℕ) (a : Answer) → given_at config list c ≡ Some a → given_at config list p ≡ None → c ≢ p
 apart config list c p a given none same = grind arith
 
@@ -60,7 +58,6 @@ untaken-more config list taken c a [] given all = tt
 untaken-more config list taken c a (row ∷ rows) given all =
     ((λ none. taken-more taken c row.0 (apart config list c row.0 a given none) ∙ all.0 none), untaken-more config list taken c a rows given all.1)
 
--- what is not taken now was not taken before
 before-by : (taken : List ℕ) (c p : ℕ) → is_taken (taken ++ c ∷ []) p ≡ false → (b : Bool) → (c == p) ≡ b → is_taken taken p ≡ false
 before-by taken c p e true same =
     let yes : is_taken (taken ++ c ∷ []) p ≡ true = ap (is_taken (taken ++ c ∷ [])) (sym (eqb-true c p same)) ∙ taken_own taken c in
@@ -78,7 +75,6 @@ draining-on setup before list applied taken rows shard c a given d = record {
   emptied = λ k less place session slot at none. d.emptied k less place session slot at (before-by taken c place none (c == place) refl);
 }
 
--- one more answer was taken and put
 pub draining-more : (setup : Setup) (before : List Row) (old new : WorldState) (rows after' : List Row) (shard : ℕ) (t : Ticket) (a : Answer) → 0 < setup.config.limits.batch → IsOutput setup old (Take t) (Taken (Some a)) →
     new ≡ after old (Take t) (Taken (Some a)) → after' ≡ answered_at t.place a rows → Draining setup before old rows shard → Draining setup before new after' shard
 draining-more setup before old new rows after' shard t a batch output step put d =
@@ -87,7 +83,7 @@ draining-more setup before old new rows after' shard t a batch output step put d
     let world : Draining setup before new (answered_at t.place a rows) shard = subst (λ (w : WorldState). Draining setup before w (answered_at t.place a rows) shard) (sym step) more in
     subst (λ (rs : List Row). Draining setup before new rs shard) (sym put) world
 
--- ---- the shard has no more
+-- ---- The shard has no more answers
 
 emptied-now : (setup : Setup) (w : WorldState) (shard : ℕ) → 0 < setup.config.limits.batch → AllPlaced setup w → IsLevel w → ((place : ℕ) → filed_under setup w (record { place = place; shard = shard }) ≡ None) → IsEmptied setup w.list w.taken shard
 emptied-now setup w shard batch placed level none place session slot at untaken =
@@ -108,7 +104,7 @@ draining-next setup before w rows shard batch placed none d = record {
   emptied = λ k less. emptied-by setup w shard k d.emptied (emptied-now setup w shard batch placed d.level none) less (cases_lt k shard);
 }
 
--- ---- one fewer is filed
+-- ---- One answer fewer is filed
 
 stays-taken : (taken : List ℕ) (c p : ℕ) → is_taken taken p ≡ true → is_taken (taken ++ c ∷ []) p ≡ true
 stays-taken taken c p e = list_any-append (λ (t : ℕ). t == p) taken (c ∷ []) ∙ ap (λ (b : Bool). b || ((c == p) || false)) e
@@ -117,7 +113,6 @@ fewer-or-same : (taken : List ℕ) (c : ℕ) (fs : List Filed) → length (untak
 fewer-or-same taken c [] = omega arith
 fewer-or-same taken c (f ∷ fs) = grind (arith, fewer-or-same taken c fs, stays-taken taken c f.connect)
 
--- one answer fewer is filed that was not taken
 fewer-filed : (taken : List ℕ) (c : ℕ) (g : Filed) (fs : List Filed) → find (λ (f : Filed). f.connect == c) (untaken taken fs) ≡ Some g → length (untaken (taken ++ c ∷ []) fs) < length (untaken taken fs)
 fewer-filed taken c g [] found = cc
 fewer-filed taken c g (f ∷ fs) found = grind (arith, fewer-or-same taken c fs, fewer-filed taken c g fs, stays-taken taken c f.connect, taken_own taken c)
@@ -149,7 +144,7 @@ fewer-count s setup old new shard c a same output step =
     let moved : count_filed setup new shard < count_filed setup old shard = subst (λ (w : WorldState). count_filed setup w shard < count_filed setup old shard) (sym step) less in
     subst (λ (t : Setup). count_filed t new shard < count_filed setup old shard) (sym same) moved
 
--- ---- all shards
+-- ---- All shards
 
 bare-row : (config : Config) (list : List Listed) (taken : List ℕ) (row : Row) → row.1.answer ≡ None → is_taken taken row.0 ≡ false → row ≡ put_if config list taken row
 bare-row config list taken row bare untaken =
@@ -165,7 +160,6 @@ none-taken : (setup : Setup) (w : WorldState) (rows : List Row) → AllByRecursi
 none-taken setup w [] each = tt
 none-taken setup w (row ∷ rows) each = ((λ none. each.0.untaken), none-taken setup w rows each.1)
 
--- before the first shard
 pub draining-first : (setup : Setup) (w : WorldState) (rows : List Row) → CanDrain setup w rows → Draining setup rows w rows 0
 draining-first setup w rows can = record {
   level = can.level;
@@ -189,7 +183,6 @@ all-filled setup old w (row ∷ rows) list placed emptied each =
     let head : put_if setup.config w.list w.taken row ≡ filled setup.config w.list row = filled-by setup.config w.list row (is_taken w.taken row.0) (λ e. emptied (setup.placing session setup.shards) (placed session) row.0 session slot refl e) in
     ap (λ (r : Row). r ∷ map (put_if setup.config w.list w.taken) rows) head ∙ ap (λ (rs : List Row). filled setup.config w.list row ∷ rs) (all-filled setup old w rows list placed emptied each.1)
 
--- behind the last shard
 pub draining-last : (setup : Setup) (old w : WorldState) (before rows : List Row) → w.list ≡ old.list → w.applied ≡ old.applied → ((session : ℕ) → setup.placing session setup.shards < setup.shards) →
     CanDrain setup old before → Draining setup before w rows setup.shards → Drained setup old before w rows
 draining-last setup old w before rows list applied placed can d = record {

@@ -1,4 +1,4 @@
--- The steps of a round keep what stands of its state.
+-- Proves that the steps of a run keep the invariant of a round's state.
 use Rattle.std.proofs.Common.{◌≡◌, ℕ, ◌+◌, List, [], ◌∷◌, ◌++◌, length, refl, sym, ap, subst, ◌∙◌, drop, take, append-nil, arith, map, ◌-◌, false}
 use Rattle.bx_entry.specs.Placings.{Setup}
 use Rattle.bx_entry.specs.Runs as runs
@@ -24,19 +24,16 @@ giving-same s setup inputs old new rows own added same list taken i =
       left = i.left;
     })
 
--- how far the last input has come stands on the list and on what was taken alone
 pub staged-same : (s setup : Setup) (inputs : List ReadInput) (old new : WorldState) (rows : List Row) (stage : Stage) (added : List runs.Out) → s ≡ setup → new.list ≡ old.list → new.taken ≡ old.taken →
     IsStaged setup inputs old rows stage added → IsStaged s inputs new rows stage added
 staged-same s setup inputs old new rows Idle added same list taken i = giving-same s setup inputs old new rows [] added same list taken i
 staged-same s setup inputs old new rows (Collecting n) added same list taken i = intake-same s setup inputs old new rows n added same list taken i
 staged-same s setup inputs old new rows (Complete n) added same list taken i = giving-same s setup inputs old new rows (seen_out (out_of n) ∷ []) added same list taken i
 
--- where answers are collected, the last input was taken in
 pub intake-at : (setup : Setup) (inputs : List ReadInput) (w : WorldState) (rows : List Row) (stage : Stage) (n : CurrentInput) (added : List runs.Out) → stage ≡ Collecting n →
     IsStaged setup inputs w rows stage added → IsTakenIn setup inputs w rows n added
 intake-at setup inputs w rows stage n added is i = subst (λ (s : Stage). IsStaged setup inputs w rows s added) is i
 
--- where none are, outs are given
 pub giving-at : (setup : Setup) (inputs : List ReadInput) (w : WorldState) (rows : List Row) (stage : Stage) (added : List runs.Out) → is_collecting stage ≡ false →
     IsStaged setup inputs w rows stage added → IsGiving setup inputs w rows (map seen_out (own stage)) added
 giving-at setup inputs w rows (Collecting n) added none i = cc
@@ -47,12 +44,10 @@ pub staged-at : (setup : Setup) (inputs : List ReadInput) (w : WorldState) (rows
 staged-at setup inputs w rows (Collecting n) added none i = cc
 staged-at setup inputs w rows _ added none i = i
 
--- and where none is left of the last input, nothing is
 pub idle-at : (stage : Stage) → is_collecting stage ≡ false → own stage ≡ [] → stage ≡ Idle
 idle-at Idle none left = refl
 idle-at _ none left = cc
 
--- what lies behind the first of them
 pub behind-is : (xs ys all now : List Out) (k : ℕ) → k ≡ length xs → all ≡ xs ++ ys → now ≡ all → take (length now - k) (drop k now) ≡ ys
 behind-is xs ys all now k at is same =
     let len : length (xs ++ ys) ≡ length xs + length ys = length-append xs ys in

@@ -1,4 +1,4 @@
--- The outs of the connects that are answered, given from the least place on.
+-- Proves that the outs of answered connects are appended in the order of their places.
 use Rattle.std.proofs.Common.{◌≡◌, ◌≢◌, ℕ, ◌+◌, ◌-◌, ◌<◌, Bool, true, false, List, [], ◌∷◌, ◌++◌, length, map, filter, refl, sym, ap, subst, ◌∙◌, cond, arith, eqb, Option, Some, None, Ok, reverse, append_assoc, append-nil, length-append, take, slice_get, eqb-true}
 use Rattle.std.proofs.lemmas.{List.reverse-append, Option.slice_get-get_or, Option.slice_get_past, Bool.eqb-false, List.Sorted.IsPermutation-reverse, List.Sorted.list_any-IsPermutation, Map.Keys.IsStrictlyIncreasing-dedup, Map.Keys.sorted_from_strictly_increasing}
 use Rattle.std.proofs.Math.Seq.{get_or-append_seam, take-append_seam}
@@ -14,7 +14,7 @@ use Rattle.bx_history.specs.Members.{has}
 use Rattle.bx_fanout.specs.HeldInputs.{Gives, Row, answered_places, is_answered, items_of, out_by, outs_of, waits}
 use Rattle.bx_fanout.proofs.HeldInputs.{at-is}
 
--- ---- the places of those that are answered
+-- ---- The places of answered connects
 
 places-above-by : (x : ℕ) (row : Row) (rows : List Row) → x < row.0 → AllAbove x (answered_places rows) → (b : Bool) → AllAbove x (map (λ (r : Row). r.0) (cond b (row ∷ filter is_answered rows) (filter is_answered rows)))
 places-above-by x row rows less ih true = (less, ih)
@@ -33,7 +33,6 @@ unfolding IsStrictlySortedBy
 places-ascend [] s = tt
 places-ascend (row ∷ rows) s = places-ascend-by row rows (places-above row.0 rows s.0) (places-ascend rows s.1) (is_answered row)
 
--- the marks in order, the least last
 pub marks-in-order : (rows : List Row) (marks sorted once turned : List ℕ) → IsStrictlySortedBy nat_cmp (keys_of rows) → ((n : ℕ) → has n marks ≡ has n (answered_places rows)) →
     IsPermutation marks sorted → IsSorted nat_cmp sorted → once ≡ dedup eqb sorted → turned ≡ reverse once → turned ≡ reverse (answered_places rows)
 marks-in-order rows marks sorted once turned ordered marked moved rises is back =
@@ -43,13 +42,11 @@ marks-in-order rows marks sorted once turned ordered marked moved rises is back 
     (λ n. dedup-has n sorted ∙ sym (list_any-IsPermutation (λ (k : ℕ). k == n) marks sorted moved) ∙ marked n) in
     back ∙ ap (λ (ns : List ℕ). reverse ns) same
 
--- the marks that are left
 pub marked-turned : (rows : List Row) (turned : List ℕ) → turned ≡ reverse (answered_places rows) → (n : ℕ) → has n turned ≡ has n (answered_places rows)
 marked-turned rows turned is n = ap (has n) is ∙ sym (list_any-IsPermutation (λ (k : ℕ). k == n) (answered_places rows) (reverse (answered_places rows)) (IsPermutation-reverse (answered_places rows)))
 
--- ---- the first of them is given
+-- ---- The first answered connect
 
--- what is held of the connect at the first of the places, and what is left without it
 pub record First (rows : List Row) (place : ℕ) (places : List ℕ) : Type 0 where
   pub out : Out
   pub found : out_by (lookup (is_at (nat_cmp place)) rows) ≡ Some out
@@ -57,7 +54,6 @@ pub record First (rows : List Row) (place : ℕ) (places : List ℕ) : Type 0 wh
   pub rest : answered_places (remove_entry (is_at (nat_cmp place)) rows) ≡ places
   pub others : filter waits (remove_entry (is_at (nat_cmp place)) rows) ≡ filter waits rows
 
--- the same with a test for the first row
 abbrev found-at : Row → List Row → ℕ → Bool → Option HeldInput
 found-at row rows place b = cond b (Some row.1) (lookup (is_at (nat_cmp place)) rows)
 
@@ -74,7 +70,6 @@ record FirstBy (row : Row) (rows : List Row) (place : ℕ) (places : List ℕ) (
 from-by : (row : Row) (rows : List Row) (place : ℕ) (places : List ℕ) → FirstBy row rows place places (is_at (nat_cmp place) row.0) → First (row ∷ rows) place places
 from-by row rows place places f = record { out = f.out; found = f.found; outs = f.outs; rest = f.rest; others = f.others }
 
--- a place that is among those of rows behind one is not that one's
 apart : (x place : ℕ) (places : List ℕ) (rows : List Row) → AllByRecursion (λ (y : ℕ). nat_cmp x y ≡ Less) (keys_of rows) → answered_places rows ≡ place ∷ places → x ≢ place
 apart x place places rows all is =
     let above : AllAbove x (place ∷ places) = subst (AllAbove x) is (places-above x rows all) in
@@ -118,7 +113,6 @@ first-given (row ∷ rows) place places s is =
     let step = first-by row rows place places (first-given rows place places s.1) (apart row.0 place places rows s.0) row.1.answer refl is (row.0 == place) refl in
     from-by row rows place places (subst (FirstBy row rows place places) (sym (at-is place row.0)) step)
 
--- the outs so far, with this one
 pub gives-on : (old rows : List Row) (before outs after : List Out) (place : ℕ) (places : List ℕ) (f : First rows place places) → Gives old before outs rows → after ≡ outs ++ f.out ∷ [] →
     Gives old before after (remove_entry (is_at (nat_cmp place)) rows)
 gives-on old rows before outs after place places f g is =
@@ -133,7 +127,7 @@ gives-on old rows before outs after place places f g is =
 pub gives-none : (rows : List Row) (before : List Out) → Gives rows before before rows
 gives-none rows before = record { more = []; behind = sym (append-nil before); given = refl; others = refl }
 
--- ---- the last mark
+-- ---- The last mark
 
 pub record Last (places : List ℕ) (place : ℕ) (before : List ℕ) : Type 0 where
   pub rest : List ℕ
@@ -157,7 +151,6 @@ last-by marks before place p ps is last taken =
       before-is = taken ∙ ap (λ (n : ℕ). take n marks) len ∙ ap (λ (ns : List ℕ). take (length (reverse ps)) ns) is ∙ take-append_seam (reverse ps) (p ∷ []);
     }
 
--- where the marks are these places from the last on, the last of them is the first place
 pub last-first : (marks before places : List ℕ) (place : ℕ) → marks ≡ reverse places → slice_get marks (length marks - 1) ≡ Some place → before ≡ take (length marks - 1) marks → Last places place before
 last-first marks before [] place is last taken =
     let none : slice_get marks (length marks - 1) ≡ None = ap (λ (ns : List ℕ). slice_get ns (length marks - 1)) is ∙ slice_get_past (reverse []) (length marks - 1) (omega arith) in
@@ -165,7 +158,7 @@ last-first marks before [] place is last taken =
     cc
 last-first marks before (p ∷ ps) place is last taken = last-by marks before place p ps (is ∙ reverse-append (p ∷ []) ps) last taken
 
--- ---- all are given
+-- ---- All answered connects
 
 pub all-wait : (rows : List Row) → answered_places rows ≡ [] → filter waits rows ≡ rows
 all-wait [] is = refl

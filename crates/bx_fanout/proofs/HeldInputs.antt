@@ -1,4 +1,4 @@
--- What becomes of the held connects, and of the marks of those that are answered.
+-- Proves how the held connects and the marks of answered ones change with an answer.
 use Rattle.std.proofs.Common.{◌≡◌, ◌≢◌, ℕ, ◌+◌, ◌<◌, ◌≤◌, Bool, true, false, List, [], ◌∷◌, ◌++◌, length, map, filter, refl, sym, ap, ◌∙◌, cond, arith, Option, Some, None, count_by, length-append, append-nil, zero-add, ne_eqb, eqb-true}
 use Rattle.std.specs.Prelude.{◌&&◌, ◌||◌, ◌==◌, is_none, is_some, if◌then◌else◌}
 use Rattle.std.specs.{List.AllByRecursion, List.list_any, List.Sorted.IsStrictlySortedBy, BTreeMap.insert_entry, BTreeMap.is_at, Ordering.nat_cmp}
@@ -12,7 +12,7 @@ use Rattle.bx_fanout.specs.declared.held_inputs.HeldInput.{HeldInput}
 use Rattle.bx_history.specs.Members.{has}
 use Rattle.bx_fanout.specs.HeldInputs.{AllBelow, Row, answered_at, answered_places, is_answered, waits, waits_there, with_answer}
 
--- ---- tests on numbers
+-- ---- Tests of numbers
 
 pub at-is : (a b : ℕ) → is_at (nat_cmp a) b ≡ (b == a)
 at-is a b = grind (arith, nat_tests)
@@ -20,7 +20,7 @@ at-is a b = grind (arith, nat_tests)
 greater : (a b : ℕ) → b < a → nat_cmp a b ≡ Greater
 greater a b l = grind (arith, nat_tests)
 
--- ---- one more behind the others
+-- ---- One more connect
 
 pub held-behind : (place : ℕ) (h : HeldInput) (rows : List Row) → AllBelow place rows → insert_entry nat_cmp rows place h ≡ rows ++ (place, h) ∷ []
 held-behind place h [] below = refl
@@ -42,9 +42,8 @@ count-behind place number rows =
     let len : length all ≡ length rows + 1 = length-append rows _ in
     omega arith
 
--- ---- an answer came
+-- ---- An answer arrives
 
--- whether the connect waits
 abbrev pub waits_by : Option HeldInput → Bool
 waits_by None = false
 waits_by (Some h) = is_none h.answer
@@ -56,13 +55,11 @@ none-there x place (row ∷ rows) above same =
     let other : row.0 ≢ place = omega arith in
     rw (ne_eqb row.0 place other) (none-there x place rows above.1 same)
 
--- a connect at the place waits, if one is found there that does
 pub any-waits : (place : ℕ) (rows : List Row) → IsStrictlySortedBy nat_cmp (keys_of rows) → list_any (waits_there place) rows ≡ waits_by (lookup (is_at (nat_cmp place)) rows)
 unfolding IsStrictlySortedBy
 any-waits place [] sorted = refl
 any-waits place (row ∷ rows) sorted = grind (arith, at-is place row.0, none-there row.0 place rows sorted.0, any-waits place rows sorted.1)
 
--- where none waits there, nothing changes
 pub unchanged : (place : ℕ) (a : Answer) (rows : List Row) → list_any (waits_there place) rows ≡ false → answered_at place a rows ≡ rows
 unchanged place a [] e = refl
 unchanged place a (row ∷ rows) e = grind (arith, unchanged place a rows)
@@ -86,7 +83,6 @@ put-by place a row rows h w number answer none ih true e found =
     ∙ ap (λ (rs : List Row). (if waits row then with_answer a row else row) ∷ rs) (sym (unchanged place a rows (none (eqb-true row.0 place e))))
 put-by place a row rows h w number answer none ih false e found = ap (λ (rs : List Row). row ∷ rs) (ih found)
 
--- what is written to the connect that is found at the place
 pub put-at : (place : ℕ) (a : Answer) (rows : List Row) (h w : HeldInput) → IsStrictlySortedBy nat_cmp (keys_of rows) → lookup (is_at (nat_cmp place)) rows ≡ Some h →
     w.number ≡ h.number → w.answer ≡ (if is_none h.answer then Some a else h.answer) → set_value (is_at (nat_cmp place)) rows w ≡ answered_at place a rows
 unfolding IsStrictlySortedBy
@@ -97,7 +93,7 @@ put-at place a (row ∷ rows) h w sorted found number answer =
     ap (λ (b : Bool). cond b ((row.0, w) ∷ rows) (row ∷ set_value (is_at (nat_cmp place)) rows w)) test
     ∙ put-by place a row rows h w number answer (none-there row.0 place rows sorted.0) (λ found'. put-at place a rows h w sorted.1 found' number answer) (row.0 == place) refl found'
 
--- ---- the marks after it
+-- ---- The marks after an answer
 
 mark-true : (p any old rest : Bool) → rest ≡ ((p && any) || old) → (p || rest) ≡ (p || old)
 mark-true p any old rest e = grind arith
@@ -121,7 +117,6 @@ marks-by place a n row rows ih (Some b) is true e =
 marks-by place a n row rows ih (Some b) is false e =
     rw is (mark-false (place == n) (list_any (waits_there place) rows) (row.0 == n) (has n (answered_places rows)) (has n (answered_places (answered_at place a rows))) ih)
 
--- the place is one more of those that are answered, if its connect waited
 marks-answered : (place : ℕ) (a : Answer) (n : ℕ) (rows : List Row) →
     has n (answered_places (answered_at place a rows)) ≡ (((place == n) && list_any (waits_there place) rows) || has n (answered_places rows))
 marks-answered place a n [] = sym (or-false _ ∙ and-false (place == n))
@@ -144,6 +139,5 @@ count-answered place a [] = omega arith
 count-answered place a (row ∷ rows) =
     grind (arith, count-answered place a rows, count-cons row rows, count-cons (if waits_there place row then with_answer a row else row) (answered_at place a rows))
 
--- one fewer waits
 pub fewer-wait : (place : ℕ) (a : Answer) (rows : List Row) → list_any (waits_there place) rows ≡ true → count_by waits (answered_at place a rows) + 1 ≤ count_by waits rows
 fewer-wait place a rows any = rw any at (count-answered place a rows)

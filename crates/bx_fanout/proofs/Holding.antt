@@ -1,4 +1,4 @@
--- The inputs that are held.
+-- Proves which inputs are held.
 use Rattle.std.proofs.Common.{◌≡◌, ℕ, ◌<◌, Bool, true, false, not, List, [], ◌∷◌, ◌++◌, map, filter, refl, sym, ap, ◌∙◌, cond, append-nil}
 use Rattle.std.proofs.lemmas.List.{append_cancel_left, map-append}
 use Rattle.bx_advice.specs.declared.config.Config.{Config}
@@ -14,7 +14,7 @@ use Rattle.bx_fanout.specs.declared.stage.Stage.TheVariants.{Collecting}
 use Rattle.bx_fanout.proofs.Finishing.{giving-at, intake-at}
 use Rattle.bx_theory.proofs.Opens.{open_is_held, opens_go_on, outs_add}
 
--- ---- lists
+-- ---- Lists
 
 none-behind : {T : Type 0} (xs ys : List T) → xs ≡ xs ++ ys → ys ≡ []
 none-behind xs ys e = append_cancel_left xs ys [] (sym e ∙ sym (append-nil xs))
@@ -27,12 +27,11 @@ others-by : {T : Type 0} (p q : T → Bool) (x : T) (xs : List T) → (filter p 
 others-by p q x xs ih true here other none = let no : x ∷ filter p xs ≡ [] = none in cc
 others-by {T} p q x xs ih false here other none = ap (λ (b : Bool). cond b (x ∷ filter q xs) (filter q xs)) other ∙ ap (λ (ys : List T). x ∷ ys) (ih none)
 
--- where none passes a test, all pass the other
 others-all : {T : Type 0} (p q : T → Bool) → ((x : T) → q x ≡ not (p x)) → (xs : List T) → filter p xs ≡ [] → filter q xs ≡ xs
 others-all p q other [] none = refl
 others-all p q other (x ∷ xs) none = others-by p q x xs (others-all p q other xs) (p x) refl (other x) none
 
--- ---- held connects
+-- ---- Held connects
 
 numbers-bare : (os : List Numbered) → numbers (map bare os) ≡ map (λ (o : Numbered). o.number) os
 numbers-bare [] = refl
@@ -42,14 +41,14 @@ waits-bare : (os : List Numbered) → filter waits (map bare os) ≡ map bare os
 waits-bare [] = refl
 waits-bare (o ∷ os) = ap (λ (rows : List Row). bare o ∷ rows) (waits-bare os)
 
--- ---- no answer is collected
+-- ---- All answers are collected
 
 held-giving : (setup : Setup) (inputs : List ReadInput) (w : WorldState) (rows : List Row) (left : List runs.Out) (added : List runs.Out) → 0 < setup.config.limits.batch →
     IsGiving setup inputs w rows left added → numbers (filter waits rows) ≡ held setup.config inputs
 held-giving setup inputs w rows left added batch g =
     ap numbers g.rest ∙ numbers-bare (open_after setup.config inputs) ∙ sym (open_is_held setup.config inputs batch)
 
--- ---- answers are collected
+-- ---- Answers are being collected
 
 waiting-collecting : (setup : Setup) (inputs : List ReadInput) (input : ReadInput) (w : WorldState) (rows : List Row) (n : CurrentInput) (added : List runs.Out) →
     IsCollecting setup inputs input w rows n added → numbers (filter waits rows) ≡ map (λ (o : Numbered). o.number) (open_after setup.config inputs)
@@ -57,7 +56,6 @@ waiting-collecting setup inputs input w rows n added c =
     let opens : List Numbered = open_after setup.config inputs in
     ap (λ (rs : List Row). numbers (filter waits rs)) c.held ∙ ap numbers (waits-bare opens) ∙ numbers-bare opens
 
--- the inputs before the last are held, and all outs were added
 held-collecting : (setup : Setup) (inputs : List ReadInput) (input : ReadInput) (w : WorldState) (rows : List Row) (n : CurrentInput) (added : List runs.Out) → 0 < setup.config.limits.batch →
     IsCollecting setup inputs input w rows n added → added ≡ outs setup.config (inputs ++ input ∷ []) → numbers (filter waits rows) ++ n.number ∷ [] ≡ held setup.config (inputs ++ input ∷ [])
 held-collecting setup inputs input w rows n added batch c all =
@@ -76,14 +74,12 @@ held-collecting setup inputs input w rows n added batch c all =
     ∙ ap (map number) (sym (opens_go_on config inputs input batch ∙ same))
     ∙ sym (open_is_held config (inputs ++ input ∷ []) batch)
 
--- ---- a round
+-- ---- A round
 
--- where no input is being collected
 pub held-none : (setup : Setup) (inputs : List ReadInput) (w : WorldState) (rows : List Row) (stage : Stage) (added : List runs.Out) → 0 < setup.config.limits.batch → is_collecting stage ≡ false →
     IsStaged setup inputs w rows stage added → numbers (filter waits rows) ≡ held setup.config inputs
 held-none setup inputs w rows stage added batch none i = held-giving setup inputs w rows (map seen_out (own stage)) added batch (giving-at setup inputs w rows stage added none i)
 
--- where one is
 pub held-before : (setup : Setup) (inputs : List ReadInput) (w : WorldState) (rows : List Row) (stage : Stage) (n : CurrentInput) (added : List runs.Out) → 0 < setup.config.limits.batch → stage ≡ Collecting n →
     IsStaged setup inputs w rows stage added → AreHeldBefore setup.config inputs (numbers (filter waits rows) ++ n.number ∷ [])
 held-before setup inputs w rows stage n added batch is i =
@@ -97,7 +93,6 @@ held-before setup inputs w rows stage n added batch is i =
           ∙ ap (λ (k : ℕ). held setup.config d.earlier ++ k ∷ []) d.collecting.number;
     }
 
--- where all outs were added too
 pub held-some : (setup : Setup) (inputs : List ReadInput) (w : WorldState) (rows : List Row) (stage : Stage) (n : CurrentInput) (added : List runs.Out) → 0 < setup.config.limits.batch → stage ≡ Collecting n →
     IsStaged setup inputs w rows stage added → added ≡ outs setup.config inputs → numbers (filter waits rows) ++ n.number ∷ [] ≡ held setup.config inputs
 held-some setup inputs w rows stage n added batch is i all =

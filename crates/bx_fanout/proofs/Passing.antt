@@ -1,4 +1,4 @@
--- An input that is whole at once, while the shards stay behind.
+-- Proves that an input can be completed without the shards.
 use Rattle.std.proofs.Common.{◌≡◌, ℕ, ◌<◌, List, [], ◌∷◌, ◌++◌, length, map, refl, sym, ap, subst, ◌∙◌, arith, Some, None, add-one}
 use Rattle.bx_entry.specs.Words.{ReadInput, read_input}
 use Rattle.bx_entry.specs.Runs as runs
@@ -13,7 +13,6 @@ use Rattle.bx_fanout.specs.declared.stage.Stage.TheVariants.{Collecting, Complet
 use Rattle.bx_fanout.specs.declared.{current_input.CurrentInput.CurrentInput, round_state.RoundState.RoundState}
 use Rattle.bx_fanout.proofs.{Collecting.collected-more, TakingIn.collected-intake, TakingIn.fresh-behind, Finishing.intake-at, Stages.giving-whole}
 
--- a reply that is there is the answer, whatever the shards have applied
 next-at-once : (setup : Setup) (w : WorldState) (place : ℕ) (before after : List Slot) (a : Answer) → EachSlot setup w.list place before → NoneTakenFrom place w.taken → NextReady before after (Some a) → NextBy setup w place before after w (Some a)
 next-at-once setup w place before after a each fresh next =
     let slots : EachSlot setup w.list place (Ready a.reply ∷ after) = subst (EachSlot setup w.list place) next.0 each in
@@ -25,12 +24,10 @@ next-at-once setup w place before after a each fresh next =
       record { list = refl; applied = refl; earlier = λ p less. refl },
     )
 
--- one more reply
 pub collected-ready : (setup : Setup) (w : WorldState) (n m : CurrentInput) (a : Answer) → IsCollected setup w n → NextReady n.slots.items m.slots.items (Some a) → m.first ≡ n.first → m.answers.items ≡ n.answers.items ++ a ∷ [] → IsCollected setup w m
 collected-ready setup w n m a so_far next first answers =
     collected-more setup w w n m a so_far (next-at-once setup w (next_place n) n.slots.items m.slots.items a so_far.slots so_far.fresh next) first answers
 
--- more replies were collected
 pub intake-ready : (setup : Setup) (inputs : List ReadInput) (w : WorldState) (rows : List Row) (n m : CurrentInput) (added : List runs.Out) → 0 < setup.config.limits.batch → IsTakenIn setup inputs w rows n added →
     (IsCollected setup w n → IsCollected setup w m) → Collects n m → IsTakenIn setup inputs w rows m added
 intake-ready setup inputs w rows n m added batch d so_far collects =
@@ -42,14 +39,12 @@ giving-alone setup inputs input w [] n added batch bare c none =
     giving-whole setup inputs input w w [] [] n added batch c none (record { list = refl; applied = refl; rows = refl; untaken = tt; fresh = fresh-behind setup inputs input w [] n added c })
 giving-alone setup inputs input w (row ∷ rows) n added batch bare c none = cc
 
--- where no connect is held and all are replies, the input is whole
 pub giving-at-once : (setup : Setup) (inputs : List ReadInput) (w : WorldState) (rows : List Row) (n : CurrentInput) (added : List runs.Out) → 0 < setup.config.limits.batch → rows ≡ [] → IsTakenIn setup inputs w rows n added →
     n.slots.items ≡ [] → IsGiving setup inputs w rows (seen_out (out_of n) ∷ []) added
 giving-at-once setup inputs w rows n added batch bare d none =
     subst (λ (is : List ReadInput). IsGiving setup is w rows (seen_out (out_of n) ∷ []) added) (sym d.are) (giving-alone setup d.earlier d.last w rows n added batch bare d.collecting none)
 
 module _ {P : Type 0} {g : Ghosts P} where
-  -- what stands of the state stands where more replies were collected
   pub stands-ready : (p : RoundState P g) (n m : CurrentInput) → p.stage ≡ Collecting n → ((setup : Setup) (w : WorldState) → IsCollected setup w n → IsCollected setup w m) → Collects n m → Stands p → Stands (record p { stage = Collecting m })
   stands-ready p n m is so_far collects i =
       let inputs : List ReadInput = map read_input p.inputs in
@@ -59,7 +54,6 @@ module _ {P : Type 0} {g : Ghosts P} where
         staged = intake-ready (setup_of p.world) inputs (world_of p.world) p.held n m (map seen_out p.added) p.world.admission.config.limits.some_batch intake (so_far (setup_of p.world) (world_of p.world)) collects;
       }
 
-  -- and where the input is whole with them, and no connect is held
   pub stands-whole : (p : RoundState P g) (n m : CurrentInput) → p.stage ≡ Collecting n → p.held ≡ [] → ((setup : Setup) (w : WorldState) → IsCollected setup w n → IsCollected setup w m) → Collects n m →
       m.slots.items ≡ [] → Stands p → Stands (record p { stage = Complete m })
   stands-whole p n m is bare so_far collects none i =

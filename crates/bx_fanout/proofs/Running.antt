@@ -1,4 +1,4 @@
--- What a run comes to, in the words of the definitions.
+-- Proves the outcome of a run, in terms of the definitions.
 use Rattle.std.proofs.Common.{◌≡◌, ℕ, ◌<◌, ◌≤◌, List, [], ◌∷◌, ◌++◌, length, map, take, filter, sym, ap, subst, ◌∙◌, arith, Result, Ok, Err, append_assoc}
 use Rattle.std.proofs.lemmas.List.{map-append}
 use Rattle.bx_entry.specs.Words.{ReadInput, read_input, outs}

@@ -1,4 +1,4 @@
--- What the held connects give once their answers are put, in the words of the definitions.
+-- Proves that the outs of answered connects are those of the definitions.
 use Rattle.std.proofs.Common.{◌≡◌, ℕ, ◌+◌, ◌<◌, Bool, true, false, not, List, [], ◌∷◌, ◌++◌, length, map, filter, refl, sym, ap, subst, ◌∙◌, cond, arith, Option, Some, None, Ok, Result, option_map, append_assoc, append-nil, zero, suc, max, add-one, add-zero, zero-add}
 use Rattle.std.specs.Prelude.{is_some, flat_map}
 use Rattle.std.specs.List.{AllByRecursion}
@@ -17,7 +17,6 @@ use Rattle.bx_theory.specs.Sole.{IsConnect}
 use Rattle.bx_fanout.specs.declared.current_input.CurrentInput.{CurrentInput}
 use Rattle.bx_theory.proofs.{Opens.opens_go_on, Opens.outs_add, Sole.open_are_sole}
 
--- an input of one message that was not refused
 pub record IsSole (o : Numbered) : Type 0 where
   pub accepted : o.intake.refusal ≡ None
   pub sole : places_of o.intake o.intake.input ≡ o.intake.first ∷ []
@@ -26,7 +25,7 @@ pub all-sole : (config : Config) (list : List Listed) (os : List Numbered) → A
 all-sole config list [] all = tt
 all-sole config list (o ∷ os) all = (record { accepted = all.0.accepted; sole = all.0.sole }, all-sole config list os all.1)
 
--- ---- one of them
+-- ---- One held connect
 
 whole-sole : (config : Config) (r : Registry) (o : Numbered) → IsSole o → is_whole config r o ≡ is_some (latest 0 (answer_in config r o.intake.first ∷ []))
 whole-sole config r o s = ap (λ (ps : List ℕ). is_some (latest 0 (map (answer_in config r) ps))) s.sole
@@ -46,7 +45,7 @@ outs-head config r o rows os s ih (Some p) e =
     let head : record { input = o.number; result = Ok (runs.items_of p) } ≡ out_of config r o = ap (λ (res : Result (List Item) Refusal). record { input = o.number; result = res }) (sym (result-sole config r o p s e)) in
     ap (λ (x : runs.Out). x ∷ map seen_out (outs_of rows)) head ∙ ap (λ (xs : List runs.Out). out_of config r o ∷ xs) ih
 
--- ---- all of them
+-- ---- All held connects
 
 pub outs-sole : (config : Config) (list : List Listed) (os : List Numbered) → AllByRecursion IsSole os →
     map seen_out (outs_of (map (filled config list) (map bare os))) ≡ map (out_of config (registry config list)) (filter (is_whole config (registry config list)) os)
@@ -70,7 +69,6 @@ rest-sole config list (o ∷ os) all =
     rest-head config r o (map (filled config list) (map bare os)) os (rest-sole config list os all.1) (answer_in config r o.intake.first)
     ∙ ap (λ (b : Bool). map bare (cond (not b) (o ∷ filter (λ (n : Numbered). not (is_whole config r n)) os) (filter (λ (n : Numbered). not (is_whole config r n)) os))) (sym (whole-sole config r o all.0))
 
--- the others were not taken
 untaken-head : (config : Config) (r : Registry) (taken : List ℕ) (o : Numbered) (os : List Numbered) → AllUntaken taken (filter (λ (n : Numbered). not (is_whole config r n)) os) → (x : Option PlacedAnswer) →
     (option_map given_of x ≡ None → is_taken taken o.intake.first ≡ false) → AllUntaken taken (cond (not (is_some (latest 0 (x ∷ [])))) (o ∷ filter (λ (n : Numbered). not (is_whole config r n)) os) (filter (λ (n : Numbered). not (is_whole config r n)) os))
 untaken-head config r taken o os ih None here = (here refl, ih)
@@ -84,9 +82,8 @@ untaken-sole config list taken (o ∷ os) all none =
     subst (λ (b : Bool). AllUntaken taken (cond (not b) (o ∷ filter (λ (n : Numbered). not (is_whole config r n)) os) (filter (λ (n : Numbered). not (is_whole config r n)) os))) (sym (whole-sole config r o all.0))
     (untaken-head config r taken o os (untaken-sole config list taken os all.1 none.1) (answer_in config r o.intake.first) none.0)
 
--- ---- the last input
+-- ---- The last input
 
--- a message that is answered
 record Found (o : Option PlacedAnswer) (a : Answer) : Type 0 where
   answered : PlacedAnswer
   is : o ≡ Some answered
@@ -137,7 +134,6 @@ pub length-numbers : (place n : ℕ) → length (numbers_from place n) ≡ n
 length-numbers place zero = refl
 length-numbers place (suc n) = ap (λ (m : ℕ). suc m) (length-numbers (place + 1) n)
 
--- so many messages of an input stand at places that are in order
 places-are : (d : Intake) (input : ReadInput) (n : ℕ) → n ≡ length (places_of d input) → places_of d input ≡ numbers_from d.first n
 places-are d (Request moment nonce ms) n e = ap (numbers_from d.first) (sym (e ∙ length-numbers d.first d.count))
 places-are d _ n e = ap (numbers_from d.first) (sym e)
@@ -150,7 +146,6 @@ pub intake-first : (len : ℕ) (input : ReadInput) (o : Option Refusal) → (int
 intake-first len input None = refl
 intake-first len input (Some refusal) = refl
 
--- the answers to the messages of the last input
 answers-newest : (config : Config) (r : Registry) (inputs : List ReadInput) (input : ReadInput) (n : ℕ) → n ≡ length (places_of (newest inputs input).intake input) →
     answers_to config r (newest inputs input) ≡ map (answer_in config r) (numbers_from (length (taken_in inputs).list) n)
 answers-newest config r inputs input n e =
@@ -163,7 +158,6 @@ answers-newest config r inputs input n e =
 result-same : (answers : List (Option PlacedAnswer)) (items : List Item) (o : Option Refusal) → answered_items answers ≡ items → result_by answers o ≡ current.result_of items o
 result-same answers items o e = grind arith
 
--- it is whole, and this is its out
 record Newly (config : Config) (r : Registry) (inputs : List ReadInput) (input : ReadInput) (n : CurrentInput) : Type 0 where
   whole : is_whole config r (newest inputs input) ≡ true
   out : seen_out (current.out_of n) ≡ out_of config r (newest inputs input)
@@ -189,9 +183,8 @@ newest-whole setup inputs input w rows n added c none =
           ∙ ap (λ (k : ℕ). record { input = k; result = result_by (answers_to config r (newest inputs input)) (newest inputs input).intake.refusal }) c.number;
     }
 
--- ---- all answers were put
+-- ---- The last input is complete
 
--- one more behind the others
 all-append : (os ps : List Numbered) → AllByRecursion IsSole os → AllByRecursion IsSole ps → AllByRecursion IsSole (os ++ ps)
 all-append [] ps all more = more
 all-append (o ∷ os) ps all more = (all.0, all-append os ps all.1 more)
@@ -206,7 +199,6 @@ none-more config r os o e =
 one-more : (config : Config) (r : Registry) (os : List Numbered) (o : Numbered) → is_whole config r o ≡ true → filter (is_whole config r) (os ++ o ∷ []) ≡ filter (is_whole config r) os ++ o ∷ []
 one-more config r os o e = filter-append (is_whole config r) os (o ∷ []) ∙ ap (λ (b : Bool). filter (is_whole config r) os ++ cond b (o ∷ []) []) e
 
--- what the definitions add at the input, and what they leave open, in the world's list
 adds : (setup : Setup) (inputs : List ReadInput) (input : ReadInput) (list : List Listed) → 0 < setup.config.limits.batch → list ≡ (taken_in (inputs ++ input ∷ [])).list →
     outs setup.config (inputs ++ input ∷ []) ≡ outs setup.config inputs ++ map (out_of setup.config (registry setup.config list)) (filter (is_whole setup.config (registry setup.config list)) (waiting_at setup.config inputs input))
 adds setup inputs input list batch same =
@@ -219,7 +211,6 @@ leaves setup inputs input list batch same =
     subst (λ (ls : List Listed). open_after setup.config (inputs ++ input ∷ []) ≡ filter (λ (n : Numbered). not (is_whole setup.config (registry setup.config ls) n)) (waiting_at setup.config inputs input))
     (sym same) (opens_go_on setup.config inputs input batch)
 
--- the last input is whole: its out comes behind those of the held ones
 pub giving-whole : (setup : Setup) (inputs : List ReadInput) (input : ReadInput) (old w : WorldState) (rows after : List Row) (n : CurrentInput) (added : List runs.Out) → 0 < setup.config.limits.batch →
     IsCollecting setup inputs input old rows n added → n.slots.items ≡ [] → Drained setup old rows w after → IsGiving setup (inputs ++ input ∷ []) w after (seen_out (current.out_of n) ∷ []) added
 giving-whole setup inputs input old w rows after n added batch c none d =
@@ -249,7 +240,7 @@ giving-whole setup inputs input old w rows after n added batch c none d =
           ∙ sym (adds setup inputs input old.list batch c.list);
     }
 
--- ---- the last input is held
+-- ---- The last input is held
 
 last-of : (config : Config) (list : List Listed) (os : List Numbered) (o : Numbered) → AllByRecursion (IsConnect config list) (os ++ o ∷ []) → IsConnect config list o
 last-of config list [] o all = all.0
@@ -271,7 +262,6 @@ newest-missing setup inputs input w rows n added c some missing =
     ap (λ (os : List (Option PlacedAnswer)). is_some (latest 0 os)) (answers-newest config r inputs input (length n.answers.items + suc m.0) (sym m.1 ∙ c.many))
     ∙ one-missing config w.list len 0 m.0 n.answers.items are none
 
--- it is a connect, its request's only message
 pub newest-sole : (setup : Setup) (inputs : List ReadInput) (input : ReadInput) (w : WorldState) (rows : List Row) (n : CurrentInput) (added : List runs.Out) → 0 < setup.config.limits.batch → IsCollecting setup inputs input w rows n added →
     0 < length n.slots.items → given_at setup.config w.list (next_place n) ≡ None → IsConnect setup.config w.list (newest inputs input)
 newest-sole setup inputs input w rows n added batch c some missing =
@@ -286,7 +276,6 @@ newest-sole setup inputs input w rows n added batch c some missing =
     subst (AllByRecursion (IsConnect config (taken_in (inputs ++ input ∷ [])).list)) opened (open_are_sole config (inputs ++ input ∷ []) batch) in
     subst (λ (ls : List Listed). IsConnect config ls (newest inputs input)) (sym c.list) (last-of config (taken_in (inputs ++ input ∷ [])).list (filter (λ (o : Numbered). not (is_whole config r o)) opens) (newest inputs input) all)
 
--- it stands behind the others
 pub giving-held : (setup : Setup) (inputs : List ReadInput) (input : ReadInput) (old w : WorldState) (rows after : List Row) (n : CurrentInput) (added : List runs.Out) → 0 < setup.config.limits.batch →
     IsCollecting setup inputs input old rows n added → 0 < length n.slots.items → given_at setup.config old.list (next_place n) ≡ None →
     Drained setup old (rows ++ (n.first, record { number = n.number; answer = None }) ∷ []) w after → IsGiving setup (inputs ++ input ∷ []) w after [] added

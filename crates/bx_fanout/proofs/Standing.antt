@@ -1,4 +1,4 @@
--- What stands of a round's state where its world went on.
+-- Proves that the invariant of a round's state holds after changes to its world.
 use Rattle.std.proofs.Common.{◌≡◌, ◌∙◌, ℕ, zero, suc, List, Some, ap, is_none, length, map, replicate, slice_get, sym, true≢false}
 use Rattle.std.proofs.lemmas.Option.{same_Some}
 use Rattle.bx_entry.specs.Words.{ReadInput, Listed, read_input}
@@ -12,19 +12,16 @@ use Rattle.bx_fanout.specs.Runs as state
 use Rattle.bx_fanout.specs.declared.round_state.RoundState.{RoundState}
 use Rattle.bx_fanout.proofs.Finishing.{giving-at, giving-same, staged-at, staged-same}
 
--- the shards and the placing matter to none of it
 pub giving-intake : (setup : Setup) (shards : ℕ) (placing : ℕ → ℕ → ℕ) (inputs : List ReadInput) (w : WorldState) (rows : List Row) (left : List runs.Out) (added : List runs.Out) → IsGiving setup inputs w rows left added →
     IsGiving (record setup { shards = shards; placing = placing }) inputs w rows left added
 giving-intake setup shards placing inputs w rows left added i = record { list = i.list; rest = i.rest; untaken = i.untaken; fresh = i.fresh; left = i.left }
 
--- each of a row of the same number is that number
 each-same : (n m k i : ℕ) → slice_get (replicate n m) k ≡ Some i → i ≡ m
 each-same zero m k i found = absurd (true≢false (ap is_none found))
 each-same (suc n) m zero i found = sym (same_Some m i found)
 each-same (suc n) m (suc k) i found = each-same n m k i found
 
 module _ {P : Type 0} {g : Ghosts P} where
-  -- the same list, and the same answers were taken
   pub stands-over : (p : RoundState P g) (v : World P g) → setup_of v ≡ setup_of p.world → (world_of v).list ≡ (world_of p.world).list → (world_of v).taken ≡ (world_of p.world).taken → Stands p → Stands (record p { world = v })
   stands-over p v setup list taken i = record {
     counted = i.counted;
@@ -34,7 +31,6 @@ module _ {P : Type 0} {g : Ghosts P} where
   giving-done : (p : RoundState P g) → IsDone p → Stands p → IsGiving (setup_of p.world) (map read_input p.inputs) (world_of p.world) p.held (map seen_out (own p.stage)) (map seen_out p.added)
   giving-done p done i = giving-at (setup_of p.world) (map read_input p.inputs) (world_of p.world) p.held p.stage (map seen_out p.added) done.none i.staged
 
-  -- sessions were redistributed among so many shards
   pub stands-intake : (p : RoundState P g) (v : World P g) (shards : ℕ) (placing : ℕ → ℕ → ℕ) → setup_of v ≡ record (setup_of p.world) { shards = shards; placing = placing } →
       (world_of v).list ≡ (world_of p.world).list → (world_of v).taken ≡ (world_of p.world).taken → IsDone p → Stands p → Stands (record p { world = v })
   stands-intake p v shards placing setup list taken done i =
@@ -47,7 +43,6 @@ module _ {P : Type 0} {g : Ghosts P} where
             (giving-intake (setup_of p.world) shards placing inputs (world_of p.world) p.held left (map seen_out p.added) (giving-done p done i)));
       }
 
-  -- and each shard is at the end of the list
   pub level-intake : (p : RoundState P g) (v : World P g) (shards : ℕ) → (world_of v).list ≡ (world_of p.world).list → (world_of v).applied ≡ replicate shards (length (world_of p.world).list) → IsDone p → Stands p →
       state.IsLevel (record p { world = v })
   level-intake p v shards list applied done i = record {

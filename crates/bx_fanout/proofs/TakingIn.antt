@@ -1,4 +1,4 @@
--- What holds of the held connects and of the last input while its answers are collected.
+-- Proves what holds of the held connects and the last input while answers are collected.
 use Rattle.std.proofs.Common.{◌≡◌, ℕ, Bool, ◌+◌, ◌<◌, ◌≤◌, List, [], ◌∷◌, ◌++◌, length, map, filter, refl, sym, ap, subst, ◌∙◌, arith, Option, Some, None, option_map, append_assoc, append-nil, slice_get, add-one, Result, Ok, Err, OnErr, OnOk, cond, count_by, nat_lt, zero-add}
 use Rattle.std.specs.List.{AllByRecursion}
 use Rattle.std.proofs.lemmas.{List.length-append, List.map-append, List.Sums.fold-append, List.Sums.sum_by-append, Option.slice_get_within}
@@ -19,7 +19,7 @@ use Rattle.bx_theory.specs.Sole.{IsConnect}
 use Rattle.bx_fanout.specs.declared.{current_input.CurrentInput.CurrentInput, out.Out.Out, stage.Stage.Stage}
 use Rattle.bx_fanout.proofs.{Draining.inside, Stages.intake-first, Stages.intake-input, Stages.newest-sole}
 
--- ---- the list
+-- ---- The list
 
 grows-by : (t : Taking) (input : ReadInput) (o : Option Refusal) → (more : List Listed) × ((taken_as t input o).list ≡ t.list ++ more)
 grows-by t input None = (added_by input, refl)
@@ -33,7 +33,7 @@ grows inputs input =
     let g = grows-by (taken_in inputs) input (refusal_of (length (taken_in inputs).list) input) in
     (g.0, ap (λ (t : Taking). t.list) (taken-one inputs input) ∙ g.1)
 
--- ---- slots
+-- ---- Slots
 
 slot-by : (config : Config) (xs ys : List Listed) (place : ℕ) (s : PlaceSlot) (o : Option Judged) → slice_get (registry config xs).judged place ≡ o → option_map (λ (j : Judged). j.slot) o ≡ Some s → slot_at config (xs ++ ys) place ≡ Some s
 slot-by config xs ys place s None e slot = cc
@@ -49,13 +49,12 @@ within-by config xs place s (Some j) e slot = let less : place < length (registr
 slot-within : (config : Config) (xs : List Listed) (place : ℕ) (s : PlaceSlot) → slot_at config xs place ≡ Some s → place < length xs
 slot-within config xs place s slot = within-by config xs place s (slice_get (registry config xs).judged place) refl slot
 
--- ---- the held ones
+-- ---- Held connects
 
 below-all : (config : Config) (list : List Listed) (os : List Numbered) → AllByRecursion (IsConnect config list) os → AllBelow (length list) (map bare os)
 below-all config list [] all = tt
 below-all config list (o ∷ os) all = (slot-within config list o.intake.first (Waiting all.0.session) all.0.waits, below-all config list os all.1)
 
--- the last input's connect stands behind them
 pub held-below : (setup : Setup) (inputs : List ReadInput) (input : ReadInput) (w : WorldState) (rows : List Row) (n : CurrentInput) (added : List runs.Out) → 0 < setup.config.limits.batch → IsCollecting setup inputs input w rows n added → AllBelow n.first rows
 held-below setup inputs input w rows n added batch c =
     let config : Config = setup.config in
@@ -81,7 +80,7 @@ waits-held setup inputs input w rows n added batch c =
     subst (AllByRecursion (Waits setup w)) (sym c.held)
     (wait-all setup w (taken_in inputs).list g.0 (open_after setup.config inputs) (c.list ∙ g.1) (open_are_sole setup.config inputs batch) c.untaken)
 
--- ---- what was not taken
+-- ---- Answers not taken
 
 reach : (config : Config) (list : List Listed) (place : ℕ) (answers : List Answer) → AreAnswers config list place answers → place ≤ length list → place + length answers ≤ length list
 reach config list place [] are le = let none : place + 0 ≡ place = omega arith in omega arith
@@ -98,7 +97,7 @@ fresh-behind setup inputs input w rows n added c = λ p le.
     let far : n.first + length n.answers.items ≤ length w.list = reach setup.config w.list n.first n.answers.items c.collected.answers (omega arith) in
     c.collected.fresh p (omega arith)
 
--- ---- answers can be put
+-- ---- Answers can be assigned
 
 pub can-drain : (setup : Setup) (inputs : List ReadInput) (input : ReadInput) (w : WorldState) (rows : List Row) (n : CurrentInput) (added : List runs.Out) → 0 < setup.config.limits.batch → IsCollecting setup inputs input w rows n added → IsLevel w → CanDrain setup w rows
 can-drain setup inputs input w rows n added batch c level = record {
@@ -111,7 +110,6 @@ all-behind : (P : Row → Type 0) (rows : List Row) (row : Row) → AllByRecursi
 all-behind P [] row all here = (here, tt)
 all-behind P (r ∷ rows) row all here = (all.0, all-behind P rows row all.1 here)
 
--- the same where the last input is held
 pub can-drain-held : (setup : Setup) (inputs : List ReadInput) (input : ReadInput) (w : WorldState) (rows : List Row) (n : CurrentInput) (added : List runs.Out) → 0 < setup.config.limits.batch → IsCollecting setup inputs input w rows n added → IsLevel w →
     0 < length n.slots.items → given_at setup.config w.list (next_place n) ≡ None → CanDrain setup w (rows ++ (n.first, record { number = n.number; answer = None }) ∷ [])
 can-drain-held setup inputs input w rows n added batch c level some missing =
@@ -133,7 +131,7 @@ can-drain-held setup inputs input w rows n added batch c level some missing =
       fresh = fresh-behind setup inputs input w rows n added c;
     }
 
--- ---- answers were collected
+-- ---- Answers are collected
 
 untaken-on : (config : Config) (list : List Listed) (place : ℕ) (before after : List ℕ) (os : List Numbered) → length list ≤ place → ((p : ℕ) → p < place → is_taken after p ≡ is_taken before p) → AllByRecursion (IsConnect config list) os →
     AllUntaken before os → AllUntaken after os
@@ -173,12 +171,11 @@ pub on-err : {T E P : Type 0} (r : Result T E) → P → OnErr r P
 on-err (Ok x) p = tt
 on-err (Err e) p = p
 
--- what was given, of the same world
 pub giving-of : (s setup : Setup) (inputs xs : List ReadInput) (w : WorldState) (rows : List Row) (own : List runs.Out) (added : List runs.Out) → s ≡ setup → inputs ≡ xs → IsGiving setup xs w rows own added → IsGiving s inputs w rows own added
 giving-of s setup inputs xs w rows own added same are g =
     subst (λ (t : Setup). IsGiving t inputs w rows own added) (sym same) (subst (λ (ys : List ReadInput). IsGiving setup ys w rows own added) (sym are) g)
 
--- ---- all outs are given
+-- ---- All outs are appended
 
 none-answered : (rows : List Row) → filter is_answered (filter waits rows) ≡ []
 none-answered [] = refl
@@ -207,7 +204,6 @@ gives-own rows after stage stage' before middle outs' (Err e) g held none added 
   collecting = collecting;
 }
 
--- nothing but the held connects' outs was given
 pub gives-held : (rows after : List Row) (stage : Stage) (before middle : List Out) → Gives rows before middle after → GivesOut rows stage before middle after stage
 gives-held rows after stage before middle g = record {
   more = g.more;
@@ -238,7 +234,7 @@ giving-out setup inputs w rows after stage stage' before outs' added i g = recor
       ∙ i.left;
 }
 
--- ---- the shards were brought up
+-- ---- The shards have advanced
 
 level-by : (len : ℕ) (x : ℕ) (xs : List ℕ) → ((k n : ℕ) → slice_get xs k ≡ Some n → len ≤ n) → (b : Bool) → nat_lt x len ≡ b → cond b 1 0 + count_by (λ (n : ℕ). nat_lt n len) xs ≡ 0 → (k n : ℕ) → slice_get (x ∷ xs) k ≡ Some n → len ≤ n
 level-by len x xs ih n e none k n' found = grind arith
@@ -246,7 +242,6 @@ level-by len x xs ih n e none k n' found = grind arith
 count-behind-cons : (len x : ℕ) (xs : List ℕ) → count_by (λ (n : ℕ). nat_lt n len) (x ∷ xs) ≡ cond (nat_lt x len) 1 0 + count_by (λ (n : ℕ). nat_lt n len) xs
 count-behind-cons len x xs = sum_by-append (λ (n : ℕ). cond (nat_lt n len) 1 0) (x ∷ []) xs ∙ ap (λ (n : ℕ). n + count_by (λ (m : ℕ). nat_lt m len) xs) (zero-add (cond (nat_lt x len) 1 0))
 
--- where none stayed behind, every shard has applied the whole list
 pub level-all : (len : ℕ) (xs : List ℕ) → count_by (λ (n : ℕ). nat_lt n len) xs ≡ 0 → (k n : ℕ) → slice_get xs k ≡ Some n → len ≤ n
 level-all len [] none k n found = let no : None ≡ Some n = found in cc
 level-all len (x ∷ xs) none k n found =
@@ -254,7 +249,6 @@ level-all len (x ∷ xs) none k n found =
     let rest : count_by (λ (m : ℕ). nat_lt m len) xs ≡ 0 = omega arith in
     level-by len x xs (level-all len xs rest) (nat_lt x len) refl here k n found
 
--- what is collected stands on the list and on what was taken alone
 pub collecting-same : (setup : Setup) (inputs : List ReadInput) (input : ReadInput) (old new : WorldState) (rows : List Row) (n : CurrentInput) (added : List runs.Out) → new.list ≡ old.list → new.taken ≡ old.taken →
     IsCollecting setup inputs input old rows n added → IsCollecting setup inputs input new rows n added
 collecting-same setup inputs input old new rows n added list taken c = record {

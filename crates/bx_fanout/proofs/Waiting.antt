@@ -1,15 +1,13 @@
--- The numbers of the held connects that have no answer.
+-- Proves which input numbers the held connects without an answer have.
 use Rattle.std.proofs.Common.{◌≡◌, ℕ, Bool, true, false, List, [], ◌∷◌, map, filter, refl, ap, cond}
 use Rattle.std.specs.Prelude.{is_none}
 use Rattle.std.specs.Map.{values_of}
 use Rattle.bx_fanout.specs.HeldInputs.{Row, numbers, waits}
 use Rattle.bx_fanout.specs.declared.held_inputs.HeldInput.{HeldInput}
 
--- those among what is held
 abbrev pub waiting_in : List HeldInput → List ℕ
 waiting_in hs = map (λ (h : HeldInput). h.number) (filter (λ (h : HeldInput). is_none h.answer) hs)
 
--- the same by the rows
 pub waiting-are : (rows : List Row) → waiting_in (values_of rows) ≡ numbers (filter waits rows)
 waiting-are [] = refl
 waiting-are (row ∷ rows) = by (waiting-are rows) (is_none row.1.answer)

@@ -1,4 +1,4 @@
--- The last input, and the answers to its messages as they are collected.
+-- The last input of a round, and the answers to its messages as they are collected.
 use Rattle.std.specs.Prelude.{ℕ, ◌+◌, ◌<◌, ◌≤◌, ◌≡◌, Bool, true, false, List, [], ◌∷◌, ◌++◌, length, flat_map, slice_get, option_map, Option, Some, None, Result, Ok, Err, ⊤}
 use Rattle.bx_advice.specs.declared.config.Config.{Config}
 use Rattle.bx_entry.specs.Words.{answer, Listed}
@@ -14,11 +14,11 @@ use Rattle.bx_world.specs.Words.{EachSlot, WorldState}
 abbrev pub IsLevel : WorldState → Type 0
 IsLevel w = (k n : ℕ) → slice_get w.applied k ≡ Some n → length w.list ≤ n
 
--- What the client gets of the answer to the message at `place`, if the list has it.
+-- The answer to the message at `place` as its client gets it, if the list has it.
 abbrev pub given_at : Config → List Listed → ℕ → Option Answer
 given_at config list place = option_map given_of (answer config list place)
 
--- The answers are those to the messages from `place` on, in order.
+-- These are the answers to messages from `place` on, in order.
 abbrev pub AreAnswers : Config → List Listed → ℕ → List Answer → Type 0
 AreAnswers config list place [] = ⊤
 AreAnswers config list place (a ∷ answers) = (given_at config list place ≡ Some a) × AreAnswers config list (place + 1) answers
@@ -35,13 +35,13 @@ pub record Keeps (place : ℕ) (old new : WorldState) : Type 0 where
 
 -- ---- One answer
 
--- The list has no answer to the message at `place`, or it was taken and its slot removed.
+-- The list has no answer to the message at `place`; or it was taken, and its slot was removed.
 abbrev pub NextBy : Setup → WorldState → ℕ → List Slot → List Slot → WorldState → Option Answer → Type 0
 NextBy setup old place before after new None = (given_at setup.config old.list place ≡ None) × (after ≡ before) × (new ≡ old)
 NextBy setup old place before after new (Some a) =
     (given_at setup.config old.list place ≡ Some a) × EachSlot setup old.list (place + 1) after × (length before ≡ length after + 1) × NoneTakenFrom (place + 1) new.taken × Keeps place old new
 
--- `NextBy` holds if all shards have applied the list and the slots from `place` on are untaken.
+-- `NextBy` holds if all shards have applied the list and no answer from `place` on was taken.
 abbrev pub Next : Setup → WorldState → List Slot → List Slot → WorldState → Option Answer → Type 0
 Next setup old before after new result =
     (place : ℕ) → IsLevel old → EachSlot setup old.list place before → NoneTakenFrom place old.taken → 0 < length before → NextBy setup old place before after new result
@@ -53,11 +53,12 @@ NextReady before after (Some a) = (before ≡ Ready a.reply ∷ after) × (a.eve
 
 -- ---- All answers
 
--- The place of the first message whose answer is not collected.
+-- The place of the first message without a collected answer.
 abbrev pub next_place : CurrentInput → ℕ
 next_place n = n.first + length n.answers.items
 
--- The first messages' answers are collected; the slots are those of the others, untaken.
+-- The answers to the first messages are collected. The slots are those of the other messages, and
+-- no answer to these was taken.
 pub record IsCollected (setup : Setup) (w : WorldState) (n : CurrentInput) : Type 0 where
   pub answers : AreAnswers setup.config w.list n.first n.answers.items
   pub slots : EachSlot setup w.list (next_place n) n.slots.items
@@ -68,7 +69,7 @@ abbrev pub IsWhole : Config → List Listed → CurrentInput → Bool → Type 0
 IsWhole config list n true = n.slots.items ≡ []
 IsWhole config list n false = (0 < length n.slots.items) × (given_at config list (next_place n) ≡ None)
 
--- Only the answers and slots change; their total number stays the same.
+-- Answers may have taken the place of slots; the rest is unchanged.
 pub record Collects (old new : CurrentInput) : Type 0 where
   pub number : new.number ≡ old.number
   pub first : new.first ≡ old.first
@@ -78,11 +79,11 @@ pub record Collects (old new : CurrentInput) : Type 0 where
 
 -- ---- The response
 
--- The items so far, and then those of the collected answers.
+-- The items so far, and then those of the other collected answers.
 abbrev pub response_of : CurrentInput → List Item
 response_of n = n.items.items ++ flat_map items_of n.answers.items
 
--- The response, or the refusal if there is one.
+-- The response, or why the input was rejected.
 abbrev pub result_of : List Item → Option Refusal → Result (List Item) Refusal
 result_of items None = Ok items
 result_of items (Some refusal) = Err refusal
@@ -90,7 +91,7 @@ result_of items (Some refusal) = Err refusal
 abbrev pub out_of : CurrentInput → Out
 out_of n = record { input = n.number; result = result_of (response_of n) n.refusal }
 
--- Everything except the items and answers is unchanged.
+-- Only the items and the answers may change.
 pub record OthersStay (old new : CurrentInput) : Type 0 where
   pub number : new.number ≡ old.number
   pub first : new.first ≡ old.first

@@ -6,7 +6,7 @@ use Rattle.bx_fanout.specs.declared.{held_inputs.HeldInput.HeldInput, out.Out.Ou
 use Rattle.bx_message.specs.declared.reply.{Answer.Answer, Item.Item}
 use Rattle.bx_message.specs.declared.reply.Item.TheVariants.{EventItem, ReplyItem}
 
--- The place of a connect, and what is held of it.
+-- A held connect with its place.
 abbrev pub Row : Type 0
 Row = ℕ × HeldInput
 
@@ -16,17 +16,17 @@ is_answered row = is_some row.1.answer
 abbrev pub waits : Row → Bool
 waits row = is_none row.1.answer
 
--- Each connect is before `place`.
+-- All connects are before `place`.
 abbrev pub AllBelow : ℕ → List Row → Type 0
 AllBelow place rows = AllByRecursion (λ (row : Row). row.0 < place) rows
 
 -- ---- An answer arrives
 
--- Whether a row is a connect that waits at `place`.
+-- Whether the connect is at `place` and waits.
 abbrev pub waits_there : ℕ → Row → Bool
 waits_there place row = (row.0 == place) && waits row
 
--- The row with an answer.
+-- The connect with an answer.
 abbrev pub with_answer : Answer → Row → Row
 with_answer answer row = (row.0, record row.1 { answer = Some answer })
 
@@ -56,16 +56,16 @@ abbrev pub out_by : Option HeldInput → Option Out
 out_by None = None
 out_by (Some h) = option_map (λ (a : Answer). record { input = h.number; result = Ok (items_of a) }) h.answer
 
--- How many items that out has.
+-- The number of items in that out.
 abbrev pub room_by : Option HeldInput → ℕ
 room_by None = 0
 room_by (Some h) = elim h.answer [ None ↦ 0 | Some a ↦ length a.events + 1 ]
 
--- The numbers of the inputs.
+-- The numbers of the connects' inputs.
 abbrev pub numbers : List Row → List ℕ
 numbers rows = map (λ (row : Row). row.1.number) rows
 
--- The first outs of answered connects were appended; the waiting connects are unchanged.
+-- A first part of the outs of answered connects was appended. The waiting connects are unchanged.
 pub record Gives (old : List Row) (before after : List Out) (new : List Row) : Type 0 where
   pub more : List Out
   pub behind : after ≡ before ++ more
@@ -74,12 +74,12 @@ pub record Gives (old : List Row) (before after : List Out) (new : List Row) : T
 
 -- ---- What is kept with the held connects
 
--- The places of the answered connects, in order.
+-- The places of the answered connects, in the order of the rows.
 abbrev pub answered_places : List Row → List ℕ
 answered_places rows = map (λ (row : Row). row.0) (filter is_answered rows)
 
--- The places ascend, the answered ones are marked in any order, and there is room to mark the
--- others.
+-- The places ascend. Those of answered connects are in `answered`, in any order. It has room for
+-- the others.
 pub record IsMarked (rows : List Row) (answered : List ℕ) (capacity : ℕ) : Type 0 where
   pub ordered : IsStrictlySortedBy nat_cmp (keys_of rows)
   pub marked : (n : ℕ) → has n answered ≡ has n (answered_places rows)

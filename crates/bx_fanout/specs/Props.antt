@@ -1,4 +1,4 @@
--- `Stands` is a proposition: a round's state determines all data in it.
+-- The invariant of a round's state is a proposition: the state determines all data in it.
 use Rattle.std.specs.Prelude.{ℕ, ◌+◌, ◌≡◌, List, [], ◌∷◌, ◌++◌, Some}
 use Rattle.std.specs.Coded.{×_prop, Unit-prop}
 use Rattle.std.proofs.Common.{refl, sym, ap, ◌∙◌}
@@ -60,7 +60,7 @@ slots-prop setup list place (slot ∷ slots) = ×_prop (slot-prop setup list pla
 
 -- ---- The last input
 
--- A list has only one last element, with only one list before it.
+-- A list determines its last element and the elements before it.
 same-ends : (xs ys : List ReadInput) (x y : ReadInput) → xs ++ x ∷ [] ≡ ys ++ y ∷ [] → ◌≡◌ {A = List ReadInput × ReadInput} (xs, x) (ys, y)
 same-ends xs ys x y e = let same = same_from_push xs ys x y e in λ i. (same.0 i, same.1 i)
 

@@ -1,4 +1,4 @@
--- The state of a round between two calls.
+-- The state of a round between the steps of a run.
 use Rattle.std.specs.Prelude.{ℕ, ◌≡◌, ◌≤◌, List, ◌++◌, false, filter, length, map, slice_get, Some}
 use Rattle.bx_entry.specs.declared.Placing.{Ghosts}
 use Rattle.bx_entry.specs.Requests.{read_input}
@@ -10,7 +10,7 @@ use Rattle.bx_fanout.specs.declared.{out.Out.Out, round_state.RoundState.RoundSt
 use Rattle.bx_fanout.specs.declared.stage.Stage.TheVariants.{Idle}
 
 module _ {P : Type 0} {g : Ghosts P} where
-  -- The number of inputs, and the progress of the last one.
+  -- The invariant: `intake` counts the inputs, and the stage is that of the last one.
   pub record Stands (p : RoundState P g) : Type 0 where
     pub counted : p.intake ≡ length p.inputs
     pub staged : IsStaged (setup_of p.world) (map read_input p.inputs) (world_of p.world) p.held p.stage (map seen_out p.added)
@@ -21,7 +21,7 @@ module _ {P : Type 0} {g : Ghosts P} where
     pub level : IsLevel (world_of p.world)
     pub within : (k n : ℕ) → slice_get (world_of p.world).applied k ≡ Some n → n ≤ length (world_of p.world).list
 
-  -- No answer is left to collect and no out to append; the shards may lag.
+  -- No answer is left to collect, and no out to append. The shards may lag.
   pub record IsCalm (p : RoundState P g) : Type 0 where
     pub idle : p.stage ≡ Idle
     pub held : p.held ≡ filter waits p.held

@@ -1,4 +1,4 @@
--- What a round has taken in, and what its runs have appended.
+-- The inputs and outs of a round, and the outcome of a run.
 use Rattle.std.specs.Prelude.{ℕ, Bool, List, Result}
 use Rattle.bx_entry.specs.Inputs.{ReadInput}
 use Rattle.bx_entry.specs.Runs as runs
@@ -16,11 +16,11 @@ module _ {P : Type 0} {g : Ghosts P} where
   abbrev pub workers_in : Round P g → ℕ
   workers_in r = r.workers
 
-  -- The inputs that all runs took in.
+  -- The inputs started in all runs.
   abbrev pub inputs_of : Round P g → List ReadInput
   inputs_of r = state.inputs_of r.state
 
-  -- The outs that all runs appended.
+  -- The outs appended in all runs.
   abbrev pub added_by : Round P g → List runs.Out
   added_by r = state.added_by r.state
 
@@ -28,11 +28,11 @@ module _ {P : Type 0} {g : Ghosts P} where
   abbrev pub is_collecting : Round P g → Bool
   is_collecting r = state.is_collecting r.state
 
-  -- Every shard has applied the inputs' whole list, and holds what the definitions' shard holds.
+  -- Every shard has applied the whole list, and has the state that the definitions give it.
   abbrev pub IsLevel : Round P g → Type 0
   IsLevel r = state.IsLevel r.state
 
-  -- A run took in all inputs, appended all outs and advanced every shard, or memory ran out after
-  -- `admitted` inputs.
+  -- A run started all inputs, appended all outs and advanced every shard, or memory ran out after
+  -- `admitted` inputs were started.
   abbrev pub IsRun : Round P g → List Input → List Out → List Out → Round P g → Result (Unit {0}) RoundFault → Type 0
   IsRun old inputs before after new result = state.IsRun old.state inputs before after new.state result

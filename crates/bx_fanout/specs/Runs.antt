@@ -1,4 +1,4 @@
--- The outcome of a run, by the round's state.
+-- The inputs and outs of a round's state, and the outcome of a run.
 use Rattle.std.specs.Prelude.{ℕ, ◌≡◌, ◌≤◌, ◌++◌, Bool, List, [], ◌∷◌, map, length, take, slice_get, Some, Result, Ok, Err}
 use Rattle.bx_advice.specs.declared.config.Config.{Config}
 use Rattle.bx_entry.specs.declared.{Placing.Ghosts, input.Input.Input}
@@ -12,7 +12,7 @@ use Rattle.bx_fanout.specs.declared.out.RoundFault.TheVariants.{Memory}
 use Rattle.bx_entry.specs.Placings.{Setup}
 use Rattle.bx_world.specs.Seen.{ShardsRefine, setup_of, world_of}
 
--- The numbers of the inputs that were incomplete before the last one, and then its own.
+-- These are the numbers of the inputs that were incomplete before the last one, and the last one's.
 pub record AreHeldBefore (config : Config) (inputs : List ReadInput) (numbers : List ℕ) : Type 0 where
   pub earlier : List ReadInput
   pub last : ReadInput
@@ -24,11 +24,11 @@ module _ {P : Type 0} {g : Ghosts P} where
   abbrev pub setup_in : RoundState P g → Setup
   setup_in r = setup_of r.world
 
-  -- The inputs that all runs took in.
+  -- The inputs started in all runs.
   abbrev pub inputs_of : RoundState P g → List ReadInput
   inputs_of r = map read_input r.inputs
 
-  -- The outs that all runs appended.
+  -- The outs appended in all runs.
   abbrev pub added_by : RoundState P g → List runs.Out
   added_by r = map seen_out r.added
 
@@ -36,13 +36,13 @@ module _ {P : Type 0} {g : Ghosts P} where
   abbrev pub is_collecting : RoundState P g → Bool
   is_collecting r = stages.is_collecting r.stage
 
-  -- Every shard has applied the inputs' whole list, and holds what the definitions' shard holds.
+  -- Every shard has applied the whole list, and has the state that the definitions give it.
   pub record IsLevel (r : RoundState P g) : Type 0 where
     pub list : (world_of r.world).list ≡ (taken_in (inputs_of r)).list
     pub level : (k n : ℕ) → slice_get (world_of r.world).applied k ≡ Some n → n ≡ length (world_of r.world).list
     pub holds : ShardsRefine r.world
 
-  -- Outs were appended. The outs of all runs are the first ones of the inputs taken in.
+  -- Outs were appended. The outs of all runs are a first part of the inputs' outs.
   pub record Adds (old : RoundState P g) (before after : List Out) (new : RoundState P g) : Type 0 where
     pub more : List Out
     pub behind : after ≡ before ++ more
@@ -51,8 +51,8 @@ module _ {P : Type 0} {g : Ghosts P} where
     pub front : outs (setup_in new).config (inputs_of new) ≡ added_by new ++ rest
     pub setup : setup_in new ≡ setup_in old
 
-  -- A run took in all inputs, appended all outs and advanced every shard, or memory ran out after
-  -- `admitted` inputs.
+  -- A run started all inputs, appended all outs and advanced every shard, or memory ran out after
+  -- `admitted` inputs were started.
   abbrev pub IsRun : RoundState P g → List Input → List Out → List Out → RoundState P g → Result (Unit {0}) RoundFault → Type 0
   IsRun old inputs before after new (Ok tt) =
       Adds old before after new × (inputs_of new ≡ inputs_of old ++ map read_input inputs) × (added_by new ≡ outs (setup_in new).config (inputs_of new)) × IsLevel new

@@ -14,10 +14,10 @@ use bx_history::History;
 use bx_world::World;
 use std::alloc::{AllocError, Global};
 
-/// Collects the filed answers to the last input and to held connects.
+/// Collects the answers to `current`, the last input, and to held connects.
 ///
-/// Every shard must have applied the whole list. Returns `true` if the last input is complete;
-/// otherwise holds it.
+/// Returns `true` if `current` is complete, and otherwise holds it. Every shard must be at the end
+/// of the list.
 ///
 /// # Errors
 ///

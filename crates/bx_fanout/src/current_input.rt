@@ -1,4 +1,4 @@
-//! The last input, until its response is given or it is held.
+//! The last input of a round, until it is held or its out is appended.
 ghost use Rattle.std.specs.Prelude.{◌≡◌, [], IfOk};
 ghost use Rattle.bx_fanout.specs.CurrentInputs.{Collects, IsCollected, IsLevel, IsWhole, Keeps, Next, OthersStay, out_of, response_of};
 ghost use Rattle.bx_world.specs.Seen.{setup_of, world_of};
@@ -11,25 +11,27 @@ use bx_world::World;
 use std::alloc::{AllocError, Global};
 use std::collections::VecDeque;
 
-/// An input that is not held, and whose response is not given yet.
+/// An input in progress: it is not held, and its out is not appended yet.
 #[derive(Drop)]
 pub(crate) struct CurrentInput {
-    /// The input's number.
+    /// The input's number among all inputs of the round, from 0.
     pub(crate) number: usize,
-    /// The length of the list before it was taken in, where its messages begin.
+    /// The length of the list before the input, and so the place of its first entry, if any.
     pub(crate) first: u64,
-    /// Why it was refused, if it was.
+    /// Why the input was rejected, if it was.
     pub(crate) refusal: Option<Refusal>,
-    /// The first items of its response.
+    /// The first items of the response.
     pub(crate) items: Vec<Item>,
-    /// The answers that the next items come from, in order.
+    /// The collected answers that are not converted to items yet, in order.
     pub(crate) answers: VecDeque<Answer>,
-    /// How the remaining messages are answered.
+    /// How the messages without a collected answer are answered, in order.
     pub(crate) slots: VecDeque<Slot>,
 }
 
 impl CurrentInput {
-    /// Collects answers in order until one is missing; returns `true` if none is.
+    /// Collects answers in order, and returns `true` if none is missing.
+    ///
+    /// Stops at the first missing answer. Every shard must be at the end of the list.
     ///
     /// # Errors
     ///
@@ -61,7 +63,7 @@ impl CurrentInput {
     ///
     /// # Errors
     ///
-    /// `AllocError` if memory runs out, perhaps after some answers; the next call continues.
+    /// `AllocError` if memory runs out. Some answers may be converted; the next call continues.
     pub(crate) fn write(&mut self) -> Result<(), AllocError>
         ensures items { response_of self.new ≡ response_of self.old }
         ensures all { IfOk result (λ _. self.new.answers.items ≡ []) }
@@ -76,7 +78,7 @@ impl CurrentInput {
         Ok(())
     }
 
-    /// Converts the input, whose answers must be [written](Self::write), to its out.
+    /// Converts the input to its out. All its answers must be converted by [`write`](Self::write).
     pub(crate) fn into_out(self) -> Out
         requires { self.answers.items ≡ [] }
         ensures { result ≡ out_of self }
@@ -97,7 +99,8 @@ impl CurrentInput {
     }
 }
 
-// Takes the answer to the first slot's message, if it is there, and drops the slot.
+// Takes the answer to the first slot's message, and drops the slot. Returns `None` and keeps the
+// slot if the answer is missing.
 fn next_answer<P: Placing>(
     alloc: Global,
     slots: &mut VecDeque<Slot>,

@@ -9,6 +9,8 @@ use bx_entry::Placing;
 use bx_world::World;
 
 /// Takes all filed answers, and assigns each to the held connect that waits for it.
+///
+/// Every shard must be at the end of the list.
 pub(crate) fn drain<P: Placing>(world: &mut World<P>, held: &mut HeldInputs)
     requires can { CanDrain (setup_of world.old) (world_of world.old) held.old }
     ensures drained { Drained (setup_of world.old) (world_of world.old) held.old (world_of world.new) held.new }
@@ -19,7 +21,7 @@ pub(crate) fn drain<P: Placing>(world: &mut World<P>, held: &mut HeldInputs)
     }
 }
 
-// Does the same for one shard.
+// Takes the filed answers of one shard, as `drain` does.
 fn drain_shard<P: Placing>(world: &mut World<P>, shard: usize, held: &mut HeldInputs)
     ensures draining { (before : List Row) → Draining (setup_of world.old) before (world_of world.old) held.old shard
         → Draining (setup_of world.old) before (world_of world.new) held.new (shard + 1) }

@@ -12,7 +12,7 @@ use std::alloc::{AllocError, Global};
 ///
 /// # Errors
 ///
-/// `AllocError` if memory runs out, perhaps after some outs; the next call continues.
+/// `AllocError` if memory runs out. Some outs may be appended; the next call continues.
 pub(crate) fn give_out(
     alloc: Global,
     held: &mut HeldInputs,

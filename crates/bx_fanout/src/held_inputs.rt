@@ -13,24 +13,24 @@ use std::alloc::{AllocError, Global};
 use std::collections::BTreeMap;
 use std::marker::Model;
 
-/// A held connect.
+/// A held connect, and its answer until the out is appended.
 #[derive(Drop)]
 pub(crate) struct HeldInput {
-    /// The number of its input.
+    /// The number of the connect's input.
     pub(crate) number: usize,
-    /// Its answer, once there is one.
+    /// The answer, or `None` while the connect waits.
     pub(crate) answer: Option<Answer>,
 }
 
-/// The connects of incomplete inputs, by place, and the answers that have arrived for them.
+/// The held connects of a round, by place, and the answers that have arrived for them.
 ///
-/// To assign an answer, or to append the outs of answered connects, does not scan the others.
+/// Assigning an answer, or appending the outs of answered connects, does not scan the others.
 ///
 /// Model: the connects, in ascending order of their places.
 #[derive(Drop)]
 pub(crate) struct HeldInputs {
     held: BTreeMap<u64, HeldInput>,
-    // The places of the answered connects, in any order. There is room for all held connects.
+    // The places of the answered connects, in any order. Has room for the places of all connects.
     answered: Vec<u64>,
 }
 
@@ -46,7 +46,7 @@ impl Model for HeldInputs {
 }
 
 impl HeldInputs {
-    /// Creates an empty collection.
+    /// Creates a collection of no connects.
     pub(crate) fn new(alloc: Global) -> HeldInputs
         ensures { result ≡ [] }
     {
@@ -56,9 +56,9 @@ impl HeldInputs {
         }
     }
 
-    /// Holds the connect at `place`, which must be after all held ones.
+    /// Adds the connect at `place`, which must be after the places of all others.
     ///
-    /// `number`: the number of its input.
+    /// `number`: the number of the connect's input.
     ///
     /// # Errors
     ///
@@ -77,7 +77,7 @@ impl HeldInputs {
         Ok(())
     }
 
-    /// Assigns `answer` to the connect that waits at `place`, or drops it if there is none.
+    /// Assigns `answer` to the connect that waits at `place`, or drops it if none waits there.
     pub(crate) fn answer(&mut self, place: u64, answer: Answer)
         ensures { self.new ≡ answered_at place answer self.old }
     {
@@ -90,7 +90,7 @@ impl HeldInputs {
     ///
     /// # Errors
     ///
-    /// `AllocError` if memory runs out, perhaps after some outs; the next call continues.
+    /// `AllocError` if memory runs out. Some outs may be appended; the next call continues.
     pub(crate) fn give(&mut self, alloc: Global, outs: &mut Vec<Out>) -> Result<(), AllocError>
         ensures gives { Gives self.old outs.old.items outs.new.items self.new }
         ensures all { IfOk result (λ _. self.new ≡ filter waits self.old) }
@@ -127,7 +127,7 @@ impl HeldInputs {
 }
 
 impl HeldInput {
-    // Sets the answer, unless there is one, and returns `true` if it did.
+    // Sets the answer and returns `true`, or returns `false` if there is one already.
     fn put(&mut self, answer: Answer) -> bool
         ensures number { self.new.number ≡ self.old.number }
         ensures answer { self.new.answer ≡ (if is_none self.old.answer then Some answer else self.old.answer) }
@@ -141,7 +141,7 @@ impl HeldInput {
     }
 }
 
-// Sets the answer to the connect that waits at `place`, and returns `true` if there is one.
+// Sets the answer to the connect that waits at `place`. Returns `false` if none waits there.
 fn put(held: &mut BTreeMap<u64, HeldInput>, place: u64, answer: Answer) -> bool
     requires { IsOrdered nat_cmp held.old }
     ensures put { held.new.entries ≡ answered_at place answer held.old.entries }
@@ -154,8 +154,10 @@ fn put(held: &mut BTreeMap<u64, HeldInput>, place: u64, answer: Answer) -> bool
     }
 }
 
-// Removes answered connects in the order of their places, and appends their outs. `answered` has
-// their places, the lowest last, and loses each with its connect.
+// Removes answered connects in the order of their places, and appends their outs.
+//
+// `answered`: the places of the answered connects, the lowest last. Each is removed with its
+// connect.
 fn give_from(
     alloc: Global,
     held: &mut BTreeMap<u64, HeldInput>,
@@ -206,7 +208,7 @@ fn take_out(
     }))
 }
 
-// Returns how many items the response at `place` has, or 0 if there is no answer.
+// Returns how many items the response to the connect at `place` has, or 0 if it has no answer.
 fn room_at(held: &BTreeMap<u64, HeldInput>, place: u64) -> usize
     ensures { result ≡ room_by (get nat_cmp held.now place) }
 {

@@ -9,11 +9,11 @@ use bx_world::World;
 use std::alloc::{AllocError, Global};
 use std::thread::Threads;
 
-/// Advances every shard to the end of the list.
+/// Advances every shard to the end of the list, with `workers` workers.
 ///
 /// # Errors
 ///
-/// `AllocError` if memory runs out. Some shards lag then.
+/// `AllocError` if memory runs out; some shards then lag.
 pub(crate) fn level<R: Threads + Sync, G: Gate + Sync, P: Placing + Send + Sync>(
     rt: &R,
     alloc: Global,

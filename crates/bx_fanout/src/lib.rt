@@ -1,4 +1,4 @@
-//! Rounds: inputs answered in order, as one thread would answer them, by many workers.
+//! Rounds: many workers answer inputs in order, as one thread would.
 #![tactic(auto)]
 
 mod bring_in;

@@ -2,23 +2,23 @@
 use bx_entry::Refusal;
 use bx_message::{Item, Sequence};
 
-/// The result of an input, once it is complete.
+/// The result of a complete input.
 #[derive(Drop)]
 pub struct Out {
-    /// The input's number among all that were taken in, from 0.
+    /// The input's number among all inputs of the round, from 0.
     pub input: usize,
-    /// The response, or why the input was refused.
+    /// The response, or why the input was rejected.
     ///
-    /// For each message in order, a response has the events and then the reply. It is empty for a
+    /// A response has, for each message in order, its events and then its reply. It is empty for a
     /// tick.
     pub result: Result<Sequence<Item>, Refusal>,
 }
 
-/// Why a run ended early.
+/// Why a run of a round ended early.
 #[derive(Clone, Copy, Debug, PartialEq, Eq)]
 pub enum RoundFault {
-    /// Memory ran out after `admitted` of the run's inputs were taken in.
+    /// Memory ran out after `admitted` of the run's inputs were started.
     ///
-    /// Their remaining outs come with the next run.
+    /// The next run appends their remaining outs.
     Memory { admitted: usize },
 }

@@ -1,4 +1,4 @@
-//! Completing inputs without the shards.
+//! Completing an input without the shards, which apply its entries later.
 ghost use Rattle.std.specs.Prelude.{◌≡◌, IsTrue, false, IfOk};
 ghost use Rattle.bx_fanout.specs.RoundStates.{IsCalm, IsSettled, Stands};
 ghost use Rattle.bx_fanout.specs.Stages.{is_collecting};
@@ -13,14 +13,16 @@ use bx_workers::{Gate, WorkerCount};
 use std::alloc::{AllocError, Global};
 use std::thread::Threads;
 
-/// Most entries that the slowest shard may lack while inputs are completed without the shards.
+/// The most entries that the slowest shard may lack if an input is completed without the shards.
 const DEFERRED_LIMIT: u64 = 1_024;
 
-/// Completes the last input if no shard is needed; returns `true` if nothing is left to collect.
+/// Completes the last input if it needs no shard.
 ///
-/// No shard is needed if no connect is held, the slowest shard lacks at most `DEFERRED_LIMIT`
-/// entries, and all messages are answered at once. No client then waits for what the shards would
-/// file.
+/// Returns `true` if no answer to it is left to collect.
+///
+/// An input needs no shard if no connect is held, the slowest shard lacks at most `DEFERRED_LIMIT`
+/// entries, and all its messages are answered at once. Then no client waits for an answer that a
+/// shard would file.
 ///
 /// # Errors
 ///
@@ -59,11 +61,13 @@ pub(crate) fn pass_over<P: Placing>(
     }
 }
 
-/// Advances every shard to the end of the list, when nothing else is left to do.
+/// Advances every shard to the end of the list.
+///
+/// No answer may be left to collect, and no out to append.
 ///
 /// # Errors
 ///
-/// `AllocError` if memory runs out. Some shards lag then.
+/// `AllocError` if memory runs out; some shards then lag.
 pub(crate) fn catch_up<R: Threads + Sync, G: Gate + Sync, P: Placing + Send + Sync>(
     rt: &R,
     alloc: Global,

@@ -1,4 +1,4 @@
-//! The replies that an input has at once.
+//! Collecting the replies that an input has at once.
 ghost use Rattle.std.specs.Prelude.{◌≡◌, [], IsTrue, IfOk};
 ghost use Rattle.bx_fanout.specs.CurrentInputs.{Collects, IsCollected, NextReady};
 ghost use Rattle.bx_entry.specs.Placings.{Setup};
@@ -10,9 +10,9 @@ use bx_message::{Answer, Sequence};
 use std::alloc::{AllocError, Global};
 use std::collections::VecDeque;
 
-/// Collects the replies before the first connect or rider that waits; returns `true` if none waits.
+/// Collects replies up to the first slot that waits, and returns `true` if none waits.
 ///
-/// No shard is needed for that.
+/// Needs no shard.
 ///
 /// # Errors
 ///
@@ -32,7 +32,8 @@ pub(crate) fn collect_ready(alloc: Global, current: &mut CurrentInput) -> Result
     Ok(true)
 }
 
-// Takes the reply of the first slot, if it has one, and drops the slot.
+// Takes the reply in the first slot, and drops the slot. Returns `None` and keeps the slot if it
+// waits.
 fn next_ready(alloc: Global, slots: &mut VecDeque<Slot>) -> Option<Answer>
     ensures { NextReady slots.old.items slots.new.items result }
 {

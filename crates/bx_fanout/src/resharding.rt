@@ -13,8 +13,8 @@ use std::sync::Arc;
 
 /// Redistributes the sessions among `shards` shards, by `placing`.
 ///
-/// Every shard must be at the end of the list, and all answers to the last input collected. What
-/// was taken in and what was appended stay.
+/// Every shard must be at the end of the list, and all answers to the last input collected. The
+/// inputs and outs of the runs before stay.
 ///
 /// # Errors
 ///

@@ -13,9 +13,13 @@ use std::alloc::{AllocError, Global};
 use std::sync::Arc;
 use std::thread::Threads;
 
-/// Inputs that are answered in order, as one thread would answer them, by many workers.
+/// A server that answers inputs in order, as one thread would, by many workers.
 ///
-/// Model: the configuration with its placing, the number of workers, and all runs' inputs and outs.
+/// Inputs come in runs. An input starts when it is admitted or rejected. It is complete once all
+/// its messages are answered; until then, its connect is held.
+///
+/// Model: the configuration, the number of shards, the placing, the number of workers, and the
+/// inputs and outs of all runs.
 #[derive(Drop)]
 pub struct Round<P: Placing> {
     state: RoundState<P>,
@@ -31,7 +35,7 @@ impl<P: Placing> Round<P> {
     ghost use Rattle.bx_fanout.specs.Runs.{AreHeldBefore};
     ghost use Rattle.bx_entry.specs.Placings.{placed_by};
 
-    /// Creates a round with `workers` workers and no inputs.
+    /// Creates a round of `config.shards` shards and `workers` workers, with no inputs.
     ///
     /// # Errors
     ///
@@ -53,24 +57,24 @@ impl<P: Placing> Round<P> {
         Ok(Round { state, workers })
     }
 
-    /// Takes in `inputs` in order, and appends the outs of all inputs that become complete.
+    /// Answers `inputs` in order, and appends the outs of all inputs that become complete.
     ///
-    /// Each input is completed or held before the next one is taken in. Outs that become ready
-    /// together are appended in the order of their numbers.
+    /// Each input is completed or held before the next one starts. Outs that become ready together
+    /// are appended in the order of their numbers.
     ///
-    /// While no connect is held, an input whose messages are all answered at once needs no shard:
-    /// the shards apply its entries later. All shards advance together:
+    /// An input needs no shard if no connect is held and all its messages are answered at once. The
+    /// shards then apply its entries later. All shards advance to the end of the list:
     ///
-    /// - before an input that needs them is completed or held,
-    /// - when the slowest lacks more than 1,024 entries,
+    /// - before any other input is completed or held,
+    /// - when the slowest shard lacks more than 1,024 entries,
     /// - at the end of a run that succeeds.
     ///
-    /// One worker does this alone if it expects few deliveries.
+    /// One worker does this alone if fewer than 1,024 deliveries are expected.
     ///
     /// # Errors
     ///
-    /// `Memory` if memory runs out, with the number of `inputs` that were taken in. The next run,
-    /// even one without inputs, appends their remaining outs; none is appended twice.
+    /// `Memory` if memory runs out, with the number of `inputs` that were started. The next run,
+    /// even one without inputs, appends their remaining outs. No out is appended twice.
     pub fn run<R: Threads + Sync, G: Gate + Sync>(
         &mut self,
         rt: &R,
@@ -90,12 +94,13 @@ impl<P: Placing> Round<P> {
 
     /// Redistributes the sessions among `shards` shards, by `placing`.
     ///
-    /// First, the calling thread advances every shard to the end of the list, with no gate. What
-    /// was taken in and what was appended stay.
+    /// First, the calling thread advances every shard to the end of the list, without a gate. The
+    /// inputs and outs of the runs before stay.
     ///
     /// # Errors
     ///
-    /// The round, with its former shards and placing, and an `AllocError` if memory runs out.
+    /// The round, with the shards and the placing that it had, and an `AllocError` if memory runs
+    /// out.
     pub fn reshard<R: Threads + Sync>(
         self,
         rt: &R,
@@ -123,7 +128,7 @@ impl<P: Placing> Round<P> {
         }
     }
 
-    /// Returns how many inputs all runs took in.
+    /// Returns how many inputs were started in all runs.
     pub fn intake(&self) -> usize
         ensures { result ≡ length (inputs_of self.now) }
     {
@@ -132,9 +137,8 @@ impl<P: Placing> Round<P> {
 
     /// Returns the numbers of the incomplete inputs, in ascending order.
     ///
-    /// After a run that succeeded, or that ran out of memory while it appended outs, each is a held
-    /// connect. If memory ran out before all answers to the last input were collected, they are the
-    /// inputs that were incomplete before it, and the last input itself.
+    /// Usually each is a held connect. If memory ran out before all answers to the last input were
+    /// collected, they are the inputs that were incomplete before it, and the last input itself.
     ///
     /// # Errors
     ///

@@ -1,4 +1,4 @@
-//! The state of a round, and its steps.
+//! The state of a round, and the steps of a run.
 ghost use Rattle.std.specs.Prelude.{ℕ, ◌≡◌, ◌+◌, ◌++◌, ◌≤◌, ◌<◌, ◌^◌, ◌⊎◌, [], ◌∷◌, false, length, slice_get, Some, IfOk, OnErr, OnOk};
 ghost use Rattle.bx_fanout.specs.CurrentInputs.{IsLevel};
 ghost use Rattle.bx_fanout.specs.RoundStates.{AddsOuts, IsCalm, IsDone, Stands};
@@ -25,22 +25,22 @@ use std::alloc::{AllocError, Global};
 use std::sync::Arc;
 use std::thread::Threads;
 
-/// The state of a round.
+/// The shards, the held connects and the last input of a round.
 #[derive(Drop)]
 pub(crate) struct RoundState<P: Placing> {
     pub(crate) world: World<P>,
     pub(crate) held: HeldInputs,
     /// The progress of the last input.
     pub(crate) stage: Stage,
-    /// Number of inputs that were taken in.
+    /// Number of inputs started, and so the number of the next input.
     pub(crate) intake: usize,
-    // Ghost: the inputs that were taken in.
+    // Ghost: the inputs started.
     pub(crate) inputs: History<Input>,
-    // Ghost: the outs that were appended.
+    // Ghost: the outs appended.
     pub(crate) added: History<Out>,
 }
 
-/// Creates a state with no inputs.
+/// Creates a state of `config.shards` shards, with no inputs.
 ///
 /// # Errors
 ///
@@ -67,6 +67,8 @@ pub(crate) fn new_state<P: Placing + Drop>(
 
 /// Advances every shard to the end of the list, and collects the answers to the last input.
 ///
+/// Uses one worker if few deliveries are expected, and otherwise `workers`.
+///
 /// # Errors
 ///
 /// `AllocError` if memory runs out; the next call continues.
@@ -89,10 +91,12 @@ pub(crate) fn finish<R: Threads + Sync, G: Gate + Sync, P: Placing + Send + Sync
     collect_last(alloc, state)
 }
 
-/// How many deliveries make it worthwhile to start and join threads.
+/// The least number of deliveries for which it is worthwhile to start and join threads.
 const SHARED_WORK: u64 = 1_024;
 
-/// Returns one worker if few deliveries are expected of pending entries, and otherwise `workers`.
+/// Returns one worker if fewer than `SHARED_WORK` deliveries are expected, and otherwise `workers`.
+///
+/// Counts the deliveries for all entries that some shard has yet to apply.
 pub(crate) fn workers_for<P: Placing>(world: &World<P>, workers: WorkerCount) -> WorkerCount
     ensures { (result ≡ 1) ⊎ (result ≡ workers) }
 {
@@ -107,9 +111,9 @@ pub(crate) fn workers_for<P: Placing>(world: &World<P>, workers: WorkerCount) ->
     WorkerCount::one()
 }
 
-// Estimates the deliveries of the entry at `place`. A publish has one for each live session, a tick
-// one for each session that it closes, any other entry one. The connects that a tick answers are
-// not known here, and mostly few.
+// Estimates how many deliveries the entry at `place` needs. A publish needs one for each live
+// session, a tick one for each session that it closes, and any other entry one. A tick may also
+// answer held connects; these are usually few.
 fn expected<P: Placing>(world: &World<P>, place: u64) -> u64 {
     match world.entry(place) {
         Some(entry) => match &entry.kind {
@@ -121,7 +125,9 @@ fn expected<P: Placing>(world: &World<P>, place: u64) -> u64 {
     }
 }
 
-/// Collects the answers to the last input, when every shard is at the end of the list.
+/// Collects the answers to the last input, and then completes or holds it.
+///
+/// Every shard must be at the end of the list.
 ///
 /// # Errors
 ///
@@ -162,7 +168,9 @@ pub(crate) fn collect_last<P: Placing>(
     }
 }
 
-/// Appends the outs that are ready.
+/// Appends the outs that are ready to `outs`.
+///
+/// All answers to the last input must be collected.
 ///
 /// # Errors
 ///
@@ -185,7 +193,9 @@ pub(crate) fn add_outs<P: Placing>(
     given
 }
 
-/// Completes or holds the last input, without the shards if they are not needed, and appends outs.
+/// Completes or holds the last input, and appends the outs that are ready to `outs`.
+///
+/// Does not advance the shards if the input needs none.
 ///
 /// # Errors
 ///
@@ -210,11 +220,13 @@ pub(crate) fn settle<R: Threads + Sync, G: Gate + Sync, P: Placing + Send + Sync
     add_outs(alloc, state, outs)
 }
 
-/// Takes in one more input, once nothing is left to do for the last one.
+/// Starts `input`: admits or rejects it.
+///
+/// No answer may be left to collect, and no out to append.
 ///
 /// # Errors
 ///
-/// `AllocError` if memory runs out; the input is not taken in.
+/// `AllocError` if memory runs out; `input` is not started.
 pub(crate) fn take_in_next<P: Placing>(
     alloc: Global,
     state: &mut RoundState<P>,

@@ -11,9 +11,9 @@ use bx_workers::{Gate, WorkerCount};
 use std::alloc::Global;
 use std::thread::Threads;
 
-/// Finishes the former run, takes in `inputs` in order, and advances every shard at the end.
+/// Finishes the run before, answers `inputs` in order, and then advances every shard.
 ///
-/// The outs of each input are appended before the next input is taken in.
+/// All outs that an input makes ready are appended before the next input starts.
 ///
 /// # Errors
 ///

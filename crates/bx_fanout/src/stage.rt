@@ -1,4 +1,4 @@
-//! The progress of the last input.
+//! The stages of a round's last input.
 ghost use Rattle.std.specs.Prelude.{◌≡◌, false, IfNone, IfSome};
 ghost use Rattle.bx_fanout.specs.Stages.{is_collecting, is_complete};
 ghost use Rattle.bx_fanout.specs.declared.stage.Stage.TheVariants.{Collecting, Complete, Idle};
@@ -6,19 +6,19 @@ ghost use Rattle.bx_fanout.specs.declared.stage.Stage.TheVariants.{Collecting, C
 use crate::current_input::CurrentInput;
 use std::mem;
 
-/// The progress of the last input that was taken in.
+/// The progress of the last input.
 #[derive(Drop)]
 pub(crate) enum Stage {
-    /// Nothing is left to do for it, or its connect is held.
+    /// No input is in progress: the last one's out is appended, or it is held.
     Idle,
-    /// Its answers are being collected.
+    /// The input's answers are being collected.
     Collecting(CurrentInput),
-    /// All its answers are collected; its out is not appended yet.
+    /// All the input's answers are collected; its out is not appended yet.
     Complete(CurrentInput),
 }
 
 impl Stage {
-    /// Returns the input whose answers are being collected, if any.
+    /// Returns the input in `Collecting`, or `None` in another stage.
     pub(crate) fn collecting(&self) -> Option<&CurrentInput>
         ensures some { IfSome result (λ current. self.now ≡ Collecting current.now) }
         ensures none { IfNone result (is_collecting self.now ≡ false) }
@@ -29,7 +29,7 @@ impl Stage {
         }
     }
 
-    /// Takes the input whose answers are being collected, if any, and leaves `Idle`.
+    /// Takes the input in `Collecting` and leaves `Idle`, or returns `None` in another stage.
     pub(crate) fn take_collecting(&mut self) -> Option<CurrentInput>
         ensures some { IfSome result (λ current. (self.old ≡ Collecting current) × (self.new ≡ Idle)) }
         ensures none { IfNone result ((is_collecting self.old ≡ false) × (self.new ≡ self.old)) }
@@ -43,7 +43,7 @@ impl Stage {
         }
     }
 
-    /// Takes the input whose out is not appended yet, if any, and leaves `Idle`.
+    /// Takes the input in `Complete` and leaves `Idle`, or returns `None` in another stage.
     pub(crate) fn take_complete(&mut self) -> Option<CurrentInput>
         ensures some { IfSome result (λ current. (self.old ≡ Complete current) × (self.new ≡ Idle)) }
         ensures none { IfNone result ((is_complete self.old ≡ false) × (self.new ≡ self.old)) }

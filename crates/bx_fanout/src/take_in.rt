@@ -1,4 +1,4 @@
-//! Taking in one input.
+//! Starting an input: it is admitted or rejected.
 ghost use Rattle.std.specs.Prelude.{◌≡◌, ◌++◌, [], ◌∷◌, filter, length, map, IfOk, OnErr};
 ghost use Rattle.bx_entry.specs.Requests.{read_input};
 ghost use Rattle.bx_fanout.specs.HeldInputs.{waits};
@@ -17,9 +17,9 @@ use bx_world::World;
 use std::alloc::{AllocError, Global};
 use std::collections::VecDeque;
 
-/// Appends `input` to the list, or finds its refusal.
+/// Admits or rejects `input`, and returns it with no answers collected.
 ///
-/// `number`: how many inputs were taken in before. All their outs that were due must be appended.
+/// `number`: how many inputs were started before. All their outs that are ready must be appended.
 ///
 /// # Errors
 ///
@@ -68,7 +68,7 @@ fn admit<P: Placing>(
     }
 }
 
-// Creates an input with no answers collected.
+// Creates a `CurrentInput` with no answers collected.
 fn current_of(
     alloc: Global,
     number: usize,

@@ -1,4 +1,4 @@
--- What is counted of a request.
+-- Which metric counts a fault or a reply.
 use Rattle.bx_advice.specs.declared.advice.Outcome.{Outcome}
 use Rattle.bx_advice.specs.declared.advice.Outcome.TheVariants as outcomes
 use Rattle.bx_entry.specs.declared.input.BodyError.TheVariants as bodies
@@ -10,7 +10,7 @@ use Rattle.bx_hub.specs.declared.fault.PostFault.{PostFault}
 use Rattle.bx_hub.specs.declared.fault.PostFault.TheVariants as faults
 use Rattle.bx_message.specs.declared.{message_kind.MessageKind.MessageKind, reply.Reply.Reply}
 
--- The reason that is counted for a fault.
+-- The reason that counts a fault.
 abbrev pub reason_of : PostFault → Reason
 reason_of (faults.Refused (refusals.Body bodies.Forbidden)) = reasons.Forbidden
 reason_of (faults.Refused (refusals.Body fault)) = reasons.Body

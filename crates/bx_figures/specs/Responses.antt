@@ -1,4 +1,4 @@
--- What the metrics listener responds.
+-- The responses of the metrics listener.
 use Rattle.std.specs.Prelude.{ℕ, List, [], ◌++◌, Bool, true, false, codes, decimal, length, nat_eq, if◌then◌else◌}
 use Rattle.std.specs.{List.starts_with}
 use Rattle.bx_figures.specs.declared.response.Asked.{Asked}
@@ -15,15 +15,15 @@ asked_of head =
 abbrev pub with_number : List ℕ → ℕ → List ℕ → List ℕ
 with_number before number behind = before ++ decimal number ++ behind
 
--- The fields of every response, for a body of `size` bytes, and their end.
+-- The fields that end the head of every response. `size`: the body's length in bytes.
 abbrev pub fields_text : ℕ → List ℕ
 fields_text size = with_number (codes "\r\ncontent-length: ") size (codes "\r\nconnection: close\r\n\r\n")
 
--- A response: its status, perhaps with a field, and its body.
+-- A response with `status`, which may contain another field, and `body`.
 abbrev pub message_text : List ℕ → List ℕ → List ℕ
 message_text status body = codes "HTTP/1.1 " ++ status ++ fields_text (length body) ++ body
 
--- The response to a request; `listens`: whether the server listens; `page`: its metrics.
+-- The response to a request. `listens`: whether the server listens. `page`: the page of metrics.
 abbrev pub response_text : Asked → Bool → List ℕ → List ℕ
 response_text Metrics listens page = message_text (codes "200 OK\r\ncontent-type: text/plain; version=0.0.4; charset=utf-8") page
 response_text Health true page = message_text (codes "200 OK") (codes "listening\n")

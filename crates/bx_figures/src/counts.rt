@@ -1,4 +1,4 @@
-//! The current values of the metrics, and a copy to read.
+//! The current values of the metrics, and copies of them.
 ghost use Rattle.std.specs.Prelude.{◌≡◌, slice_get, unwrap_or};
 
 use crate::figure::{FIGURES, Figure};
@@ -36,7 +36,7 @@ impl Counts {
         }
     }
 
-    /// Subtracts 1 from `figure`.
+    /// Subtracts 1 from `figure`, which wraps around at 0.
     pub fn remove_one(&self, figure: Figure) {
         if let Some(count) = self.counts.get(figure.place()) {
             count.fetch_sub(1, Ordering::SeqCst);
@@ -82,7 +82,7 @@ impl Counts {
 
     /// Copies all values.
     ///
-    /// They are read one after the other, so others may change in the meantime.
+    /// The values are read one after the other, and may change meanwhile.
     ///
     /// # Errors
     ///
@@ -104,7 +104,7 @@ fn zeros(alloc: Global, count: usize) -> Result<Vec<AtomicU64>, AllocError> {
     Ok(zeros)
 }
 
-// Reads each value.
+// Returns the current value of each of `counts`.
 fn loaded(alloc: Global, counts: &Vec<AtomicU64>) -> Result<Vec<u64>, AllocError> {
     let mut values = Vec::with_capacity(alloc, counts.len())?;
     for count in counts {
@@ -123,14 +123,14 @@ pub struct Figures {
 impl Figures {
     /// Creates a copy from `values`, in the order of the page, and `lags`, by shard.
     ///
-    /// A value that is missing is 0.
+    /// A missing value counts as 0.
     pub fn of(values: Vec<u64>, lags: Vec<u64>) -> Figures
         ensures { (result.values ≡ values) × (result.lags ≡ lags) }
     {
         Figures { values, lags }
     }
 
-    /// Returns the lag of each shard.
+    /// Returns the lag of each shard, in entries.
     pub(crate) fn lags(&self) -> &[u64]
         ensures { result.now ≡ self.now.lags.items }
     {

@@ -6,7 +6,7 @@ ghost use Rattle.bx_figures.specs.declared.figure.TheConstants.{FIGURES};
 use bx_advice::Error;
 use bx_message::{MessageKind, Status};
 
-/// Why a request was not added to the list.
+/// Why a request was not admitted.
 #[derive(Clone, Copy, Debug, PartialEq, Eq)]
 pub enum Reason {
     /// The documents are not messages.
@@ -19,18 +19,18 @@ pub enum Reason {
     Ended,
     /// The hub was closed.
     Closed,
-    /// The window is full, because a shard lags behind.
+    /// The window is full because a shard lags.
     Behind,
     /// The window is full, and no longer has a shard's next entry.
     Overrun,
-    /// The lock of a shard guarded another one.
+    /// A shard's lock guards another shard.
     Misplaced,
     /// Memory ran out.
     Memory,
 }
 
 impl Reason {
-    /// Returns its name in a label.
+    /// Returns its name in a label of the page.
     pub fn name(self) -> &'static str {
         match self {
             Reason::Body => "body",
@@ -59,23 +59,23 @@ pub enum Figure {
     Accepted,
     /// Requests in progress.
     Requests,
-    /// Admitted requests in progress.
+    /// Admitted requests in progress, even if they wait for no answer.
     Held,
-    /// Requests admitted to the list.
+    /// Requests admitted so far.
     Admitted,
-    /// Events in answers to requests.
+    /// Events in answers to requests, counted before the response is created.
     Events,
-    /// Admitted requests whose answers were unavailable.
+    /// Admitted requests for which an answer was unavailable.
     Unanswered,
     /// Requests without a response because memory ran out.
     Missing,
-    /// Length of the list at the last tick.
+    /// Length of the list at the last tick, in entries.
     Entries,
-    /// Ticks added to the list.
+    /// Ticks appended to the list.
     Ticks,
-    /// Ticks refused.
+    /// Ticks that were not appended.
     RefusedTicks,
-    /// Shards behind the last tick.
+    /// Shards that had not applied the last tick.
     ShardsBehind,
     /// Answers dropped because nobody took them.
     Swept,
@@ -91,7 +91,7 @@ pub enum Figure {
     Filed,
     /// Responses with this status.
     Responses(Status),
-    /// Requests refused for this reason.
+    /// Requests that were not admitted, for this reason.
     Refused(Reason),
     /// Successful replies to messages of this kind.
     Replies(MessageKind),
@@ -163,7 +163,7 @@ pub(crate) const FIGURES: [Figure; 59] = [
 ];
 
 impl Figure {
-    /// Returns its place in [`FIGURES`].
+    /// Returns its index in [`FIGURES`].
     pub(crate) fn place(self) -> usize
         ensures { slice_get FIGURES result ≡ Some self }
     {
@@ -194,10 +194,10 @@ impl Figure {
         }
     }
 
-    /// Returns its name, which metrics that differ only in a label share.
+    /// Returns its name. Metrics that differ only in a label share one.
     pub(crate) fn name(self) -> &'static str {
         match self {
-            Figure::Uptime => "bayeux_uptime_seconds",
+            Figure::Uptime => "bayeux_uptime_seconds_total",
             Figure::Connections => "bayeux_connections",
             Figure::Accepted => "bayeux_connections_total",
             Figure::Requests => "bayeux_requests",
@@ -206,7 +206,7 @@ impl Figure {
             Figure::Events => "bayeux_events_total",
             Figure::Unanswered => "bayeux_requests_unanswered_total",
             Figure::Missing => "bayeux_responses_missing_total",
-            Figure::Entries => "bayeux_list_entries",
+            Figure::Entries => "bayeux_list_entries_total",
             Figure::Ticks => "bayeux_ticks_total",
             Figure::RefusedTicks => "bayeux_ticks_refused_total",
             Figure::ShardsBehind => "bayeux_shards_behind",
@@ -255,11 +255,9 @@ impl Figure {
     /// Returns its type in Prometheus' format: `gauge` or `counter`.
     pub(crate) fn type_name(self) -> &'static str {
         match self {
-            Figure::Uptime
-            | Figure::Connections
+            Figure::Connections
             | Figure::Requests
             | Figure::Held
-            | Figure::Entries
             | Figure::ShardsBehind
             | Figure::Sessions
             | Figure::Batches
@@ -283,7 +281,7 @@ impl Figure {
     }
 }
 
-// Returns the place of the responses with `status`.
+// Returns the index of the metric `Responses(status)`.
 fn response_place(status: Status) -> usize
     ensures { slice_get FIGURES result ≡ Some (Responses status) }
 {
@@ -299,7 +297,7 @@ fn response_place(status: Status) -> usize
     }
 }
 
-// Returns the place of the requests refused for `reason`.
+// Returns the index of the metric `Refused(reason)`.
 fn refused_place(reason: Reason) -> usize
     ensures { slice_get FIGURES result ≡ Some (Refused reason) }
 {
@@ -316,7 +314,7 @@ fn refused_place(reason: Reason) -> usize
     }
 }
 
-// Returns the place of the successful replies to messages of `kind`.
+// Returns the index of the metric `Replies(kind)`.
 fn reply_place(kind: MessageKind) -> usize
     ensures { slice_get FIGURES result ≡ Some (Replies kind) }
 {
@@ -331,7 +329,7 @@ fn reply_place(kind: MessageKind) -> usize
     }
 }
 
-// Returns the place of the replies with `error`.
+// Returns the index of the metric `Errors(error)`.
 fn error_place(error: Error) -> usize
     ensures { slice_get FIGURES result ≡ Some (Errors error) }
 {

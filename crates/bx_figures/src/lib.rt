@@ -1,4 +1,4 @@
-//! The server's metrics, and the listener's responses that show them.
+//! The server's metrics, and the HTTP responses that show them.
 #![tactic(auto)]
 
 mod counts;

@@ -1,4 +1,4 @@
-//! Counts connections, requests and answers.
+//! The observer that counts connections, requests and answers.
 ghost use Rattle.std.specs.Prelude.{◌≡◌};
 ghost use Rattle.bx_figures.specs.Outcomes.{figure_of, reason_of};
 
@@ -37,7 +37,7 @@ impl Observer for Counts {
     }
 }
 
-// Counts a request's events and replies, or that its answers are unavailable.
+// Counts the events and replies in `items`, or that they are unavailable.
 fn count_all(counts: &Counts, items: Option<&[Item]>) {
     let Some(items) = items else {
         counts.add(Figure::Unanswered, 1);
@@ -55,7 +55,7 @@ fn count_all(counts: &Counts, items: Option<&[Item]>) {
     }
 }
 
-// Returns the reason for `fault`.
+// Returns the reason that counts `fault`.
 fn reason_of(fault: PostFault) -> Reason
     ensures { result ≡ reason_of fault }
 {

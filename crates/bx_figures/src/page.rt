@@ -4,10 +4,10 @@ use crate::figure::{FIGURES, Figure};
 use bx_message::MessageKind;
 use std::alloc::{AllocError, Global};
 
-// Initial capacity: enough for 64 shards if each value has twenty digits.
+// Initial capacity in bytes: enough for 64 shards if each value has twenty digits.
 const ROOM: usize = 16384;
 
-// Name and help text of the lag of each shard.
+// Name of the lag of each shard.
 const LAG: &str = "bayeux_shard_lag_entries";
 
 const LAG_HELP: &str = "Entries of the list that a shard has not applied.";

@@ -1,4 +1,4 @@
-//! The responses of the listener for metrics.
+//! The responses of the metrics listener.
 ghost use Rattle.std.specs.Prelude.{◌≡◌, ◌++◌, List, ℕ, IfOk, OnOk};
 ghost use Rattle.bx_figures.specs.Responses.{asked_of, fields_text, message_text, response_text, with_number};
 
@@ -16,12 +16,14 @@ pub enum Asked {
     Health,
     /// An unknown target of a GET.
     Other,
-    /// Another method than GET, or none.
+    /// A method other than GET, or none.
     NoGet,
 }
 
 impl Asked {
-    /// Parses the head of a request, of which only the first line matters.
+    /// Returns what the request with this `head` asks for.
+    ///
+    /// Only the method and the target matter.
     pub fn of(head: &[u8]) -> Asked
         ensures { result ≡ asked_of head.now }
     {
@@ -37,7 +39,7 @@ impl Asked {
     }
 }
 
-/// Creates the response to `asked`, after which the connection closes.
+/// Creates the response to `asked`, with the field `connection: close`.
 ///
 /// - `Metrics`: 200 with the page of `figures`
 /// - `Health`: 200 if `listens`, otherwise 503
@@ -62,7 +64,7 @@ pub fn response_text(
     respond(alloc, asked, listens, page.as_str())
 }
 
-// Creates the response to `asked`, given the page.
+// Creates the response to `asked`. `page`: the page of metrics, used only if it is asked for.
 fn respond(alloc: Global, asked: Asked, listens: bool, page: &str) -> Result<Vec<u8>, AllocError>
     ensures { IfOk result (λ text. text.items ≡ response_text asked listens page.now) }
 {
@@ -79,7 +81,7 @@ fn respond(alloc: Global, asked: Asked, listens: bool, page: &str) -> Result<Vec
     }
 }
 
-// Creates a response with a body. `status` may contain another field.
+// Creates a response with `status`, which may contain another field, and `body`.
 fn message(alloc: Global, status: &str, body: &[u8]) -> Result<Vec<u8>, AllocError>
     ensures { IfOk result (λ text. text.items ≡ message_text status.now body.now) }
 {
@@ -91,7 +93,7 @@ fn message(alloc: Global, status: &str, body: &[u8]) -> Result<Vec<u8>, AllocErr
     Ok(text)
 }
 
-// Appends the fields that follow the status in every response.
+// Appends the fields that end the head of every response. `length`: that of the body in bytes.
 fn push_fields(text: &mut Vec<u8>, length: usize) -> Result<(), AllocError>
     ensures { OnOk result (text.new.items ≡ text.old.items ++ fields_text length) }
 {

@@ -4,11 +4,11 @@ use bx_message::{MessageKind, Status};
 use bx_service::{Event, Observer};
 use std::test::Fail;
 
-// The page of 57 values: 1, the greatest number, then 3 to 57; the last two are missing. There are
-// two shards.
-const PAGE: &str = r#"# HELP bayeux_uptime_seconds Seconds since the program began.
-# TYPE bayeux_uptime_seconds gauge
-bayeux_uptime_seconds 1
+// The page of 57 values: 1, the greatest number, and 3 to 57. The last two values are missing.
+// There are two shards.
+const PAGE: &str = r#"# HELP bayeux_uptime_seconds_total Seconds since the program began.
+# TYPE bayeux_uptime_seconds_total counter
+bayeux_uptime_seconds_total 1
 # HELP bayeux_connections Connections that are open.
 # TYPE bayeux_connections gauge
 bayeux_connections 18446744073709551615
@@ -33,9 +33,9 @@ bayeux_requests_unanswered_total 8
 # HELP bayeux_responses_missing_total Requests without a response for want of memory.
 # TYPE bayeux_responses_missing_total counter
 bayeux_responses_missing_total 9
-# HELP bayeux_list_entries Entries of the list at the last tick.
-# TYPE bayeux_list_entries gauge
-bayeux_list_entries 10
+# HELP bayeux_list_entries_total Entries of the list at the last tick.
+# TYPE bayeux_list_entries_total counter
+bayeux_list_entries_total 10
 # HELP bayeux_ticks_total Ticks that were taken into the list.
 # TYPE bayeux_ticks_total counter
 bayeux_ticks_total 11
@@ -158,7 +158,7 @@ fn counts_are_of_their_figure(rt: HostRuntime) -> Result<(), Fail> {
     let page = page_text(alloc, &counts.read(alloc)?)?;
     let text = page.as_str();
     assert!(rt; text.contains("\nbayeux_events_total 5\n"));
-    assert!(rt; text.contains("\nbayeux_list_entries 9\n"));
+    assert!(rt; text.contains("\nbayeux_list_entries_total 9\n"));
     assert!(rt; text.contains("\nbayeux_answers_filed 7\n"));
     assert!(rt; text.contains("{shard=\"1\"} 0\nbayeux_shard_lag_entries{shard=\"2\"} 8\n"));
     assert!(rt; !text.contains("{shard=\"3\"}"));

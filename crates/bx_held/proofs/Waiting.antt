@@ -1,4 +1,4 @@
--- A waker of the task that was left is one that is waited by.
+-- A task that registered a waker waits for the answer.
 use Rattle.std.proofs.Common.{ℕ, ◌≡◌, ◌⊎◌, inl, inr, Bool, true, false, Option, Some, None, ap, subst, true≢false}
 use Rattle.std.specs.Prelude.{IsSomeAnd}
 use Rattle.bx_entry.specs.declared.entry.Ticket.{Ticket}

@@ -1,4 +1,4 @@
--- What the wait for an answer returns.
+-- What a poll for an answer returns.
 use Rattle.std.specs.Prelude.{◌≡◌, ◌≤◌, ◌⊎◌, List, Bool, false, Option, Result, Ok, Err, Some, None}
 use mathlib.Core.List.{IsPrefix}
 use Rattle.bx_entry.specs.declared.entry.Ticket.{Ticket}
@@ -9,7 +9,7 @@ use Rattle.bx_hub.specs.Faults.{IsStopped}
 use Rattle.bx_hub.specs.Held.{IsLevelWithout, answer_over}
 use Rattle.bx_hub.specs.declared.{desk.evidence.Stopped.Stopped, fault.HubFault.HubFault}
 
--- The ticket names no shard, or its shard was at the end of `front` and had no answer for it.
+-- The ticket names no shard, or a possible state of its shard at the end of `front` has no answer.
 abbrev pub HasNone : Setup → Ticket → List LogStep → Type 0
 HasNone setup ticket front = (setup.shards ≤ ticket.shard) ⊎ IsLevelWithout setup ticket front
 

@@ -1,4 +1,4 @@
-//! The pending answer to a connect or a rider.
+//! Pending answers to connects and riders.
 ghost use Rattle.std.specs.Prelude.{◌≡◌, ◌≢◌, ◌<◌, true, false, length, Option, None, Result, Ok, IfErr, IfSome, IfNone};
 ghost use mathlib.Core.List.{IsPrefix};
 ghost use Rattle.futures.specs.Poll.{IfReady, OnPending};
@@ -20,14 +20,14 @@ use std::sync::Wait;
 
 /// The pending answer to a connect or a rider.
 ///
-/// While no answer is filed, each poll registers a waker of its task with the connect, or has the
-/// task polled again if memory runs out. The task that polled last is woken once the connect is
-/// answered.
+/// While no answer is filed, each poll registers a waker of its task with the connect. If memory
+/// runs out for the waker, the task is polled again instead. When the connect is answered, the task
+/// that polled last is woken.
 #[derive(Drop)]
 pub struct PendingAnswer<J: Naming> {
     pass: Pass<J>,
     ticket: Ticket,
-    // Identifies what it waits for: the answer to the connect.
+    // Identifies the answer to the task that waits for it.
     source: Source,
     // A waker that is not registered. It is kept because dropping a waker wakes its task.
     own: Option<Waker>,
@@ -37,7 +37,7 @@ pub struct PendingAnswer<J: Naming> {
 }
 
 impl<J: Naming> PendingAnswer<J> {
-    /// Creates a pending answer for `ticket`, whose connect or rider `pass` has seen.
+    /// Creates a pending answer for `ticket`. `pass` must have seen its connect or rider.
     pub fn new(pass: Pass<J>, ticket: Ticket) -> PendingAnswer<J>
         requires { ticket.place < length (list_of pass) }
         ensures { (result.pass ≡ pass) × (result.ticket ≡ ticket) × (result.is_done ≡ false) }
@@ -51,7 +51,7 @@ impl<J: Naming> PendingAnswer<J> {
         }
     }
 
-    // Polls the hub for the output.
+    // Polls the hub for the output, and records that it was returned.
     fn ask<P: Placing, G: Gate + Drop, H: Wait + Drop, R: Wait>(
         &mut self,
         rt: &R,
@@ -85,12 +85,12 @@ impl<J: Naming> PendingAnswer<J> {
     /// before. While pending, a waker of the polling task is registered with the connect, or the
     /// task is polled again in any case.
     ///
-    /// The second value proves that the waker is registered, or that no connect is known. It is
-    /// `None` otherwise, or if the ticket names no shard.
+    /// The second value is evidence that the waker is registered, or that no connect is known. It
+    /// is `None` in other cases, and if the ticket names no shard.
     ///
     /// # Errors
     ///
-    /// [`Stopped`], with why there is no answer, as in [`Hub::poll_answer`].
+    /// [`Stopped`] with the fault, as in [`Hub::poll_answer`]. It is the last output.
     ///
     /// # Blocking
     ///

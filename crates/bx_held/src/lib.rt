@@ -1,4 +1,4 @@
-//! Waits for the answer to a held connect or a rider.
+//! Waiting for the answer to a held connect or a rider.
 #![tactic(auto)]
 
 mod held;

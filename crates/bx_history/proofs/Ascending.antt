@@ -1,4 +1,4 @@
--- Which numbers a list has, and that ascending lists with the same numbers are the same.
+-- Ascending lists with the same numbers are equal.
 use Rattle.std.proofs.Common.{◌≡◌, ◌≢◌, ℕ, ◌<◌, ◌≤◌, Bool, true, false, List, [], ◌∷◌, refl, sym, ap, subst, ◌∙◌, cond, arith, inl, inr, eqb, eq-eqb, eqb-true, ne_eqb}
 use Rattle.std.specs.Prelude.{◌&&◌, ◌||◌, ◌==◌, ◌⊎◌}
 use Rattle.std.specs.{List.AllByRecursion, List.Contains, List.dedup, List.filter, List.Sorted.IsStrictlySortedBy, Ordering.nat_cmp}
@@ -25,7 +25,7 @@ dedup-has n ns = same-tests (has n (dedup eqb ns)) (has n ns)
     (λ e. contains-has n ns (Contains-from_dedup eqb ns n (has-contains n (dedup eqb ns) e)))
     (λ e. contains-has n (dedup eqb ns) (Contains-dedup_nat ns n (has-contains n ns e)))
 
--- ---- what a filter keeps
+-- ---- filters
 
 filter-has-by : (q : ℕ → Bool) (n x : ℕ) (ns : List ℕ) → has n (filter q ns) ≡ (has n ns && q n) → (b : Bool) → q x ≡ b → (c : Bool) → (x == n) ≡ c →
     has n (cond b (x ∷ filter q ns) (filter q ns)) ≡ ((c || has n ns) && q n)
@@ -43,7 +43,7 @@ pub filter-has : (q : ℕ → Bool) (n : ℕ) (ns : List ℕ) → has n (filter 
 filter-has q n [] = refl
 filter-has q n (x ∷ ns) = filter-has-by q n x ns (filter-has q n ns) (q x) refl (x == n) refl
 
--- ---- ascending lists with the same numbers are the same
+-- ---- ascending lists
 
 abbrev pub AllAbove : ℕ → List ℕ → Type 0
 AllAbove x [] = Unit {0}
@@ -61,7 +61,6 @@ above-has : (x : ℕ) (ys : List ℕ) → AllAbove x ys → has x ys ≡ false
 above-has x [] above = refl
 above-has x (y ∷ ys) above = let ne : y ≢ x = omega (arith, above.0) in ap (λ (b : Bool). b || has x ys) (ne_eqb y x ne) ∙ above-has x ys above.1
 
--- a lower number at the front is missing
 front-has : (x y : ℕ) (xs ys : List ℕ) → x < y → AllAbove y ys → has x (x ∷ xs) ≡ has x (y ∷ ys) → ⊥
 front-has x y xs ys less above same =
     let no : has x (y ∷ ys) ≡ false = above-has x (y ∷ ys) (less, above-lower x y ys (omega arith) above) in

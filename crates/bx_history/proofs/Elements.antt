@@ -1,4 +1,4 @@
--- Lists and options.
+-- Lemmas about lists and options.
 use Rattle.std.proofs.Common.{◌≡◌, ℕ, zero, suc, Option, Some, None, List, [], ◌∷◌, ◌++◌, length, map, option_map, slice_get, subst, refl, sym, ◌∙◌}
 use Rattle.std.proofs.lemmas.Option.{slice_get-map}
 use Rattle.std.specs.Option.{option_or}
@@ -7,7 +7,7 @@ pub or_none : {X : Type 0} (o : Option X) → option_or o None ≡ o
 or_none None = refl
 or_none (Some x) = refl
 
--- an element of a row of values comes of one of the elements that they are made of
+-- `y` is the image of element `k` of `xs`.
 pub record Mapped {X Y : Type 0} (f : X → Y) (xs : List X) (k : ℕ) (y : Y) : Type 0 where
   pub one : X
   pub there : slice_get xs k ≡ Some one
@@ -20,7 +20,6 @@ mapped {X} f xs k y e = by (slice_get xs k) refl (sym (slice_get-map f xs k) ∙
     by None at h = absurd (cc)
     by (Some x) at h = record { one = x; there = at; is = cc }
 
--- what holds of each element by its place, with one more behind
 pub each_push : {X : Type 0} (P : ℕ → X → Type 0) (xs : List X) (y : X) → ((k : ℕ) (x : X) → slice_get xs k ≡ Some x → P k x) → P (length xs) y → (k : ℕ) (x : X) → slice_get (xs ++ y ∷ []) k ≡ Some x → P k x
 each_push P [] y each here zero x e = let same : y ≡ x = cc in subst (P 0) same here
 each_push P [] y each here (suc k) x e = absurd (cc)

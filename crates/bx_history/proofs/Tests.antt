@@ -1,10 +1,9 @@
--- Truth values and tests.
+-- Lemmas about truth values.
 use Rattle.std.proofs.Common.{◌≡◌, ℕ, Bool, true, false, ◌||◌, ◌==◌, ◌<◌, refl, sym, arith}
 use Rattle.std.proofs.lemmas.Bool.Decides.{nat_tests}
 use Rattle.std.specs.Ordering.{nat_cmp}
 use Rattle.std.specs.declared.cmp.Ordering.TheVariants.{Less}
 
--- what holds whether a test is true or false
 pub either : (b : Bool) (P : Type 0) → (b ≡ true → P) → (b ≡ false → P) → P
 either b P at_true at_false = let Q : Bool → Type 0 = λ c. b ≡ c → P in (elim b as Q [ true ↦ at_true | false ↦ at_false ]) refl
 
@@ -12,7 +11,6 @@ pub or_assoc : (a b c : Bool) → ((a || b) || c) ≡ (a || (b || c))
 or_assoc true b c = refl
 or_assoc false b c = refl
 
--- tests that are true together are the same
 pub same-tests : (a b : Bool) → (a ≡ true → b ≡ true) → (b ≡ true → a ≡ true) → a ≡ b
 same-tests true b f g = sym (f refl)
 same-tests false true f g = g refl

@@ -33,10 +33,10 @@ where
     S: Service<Request<Incoming<Wire>>, Response = Response<Pieces<Bytes>>, Error = E> + Clone,
     E: Into<anyhow::Error> + Drop,
 {
-    /// Lets a session publish to itself while its connect is held and another request follows it.
+    /// Publishes to a session while its connect is held, with another request after the connect.
     ///
-    /// Appends what the server wrote to `text`. The publish, on its own connection, comes first,
-    /// because the connect waits for it.
+    /// Appends what the server wrote to `text`. The reply to the publish, on its own connection,
+    /// comes first, because the connect waits for the publish.
     ///
     /// # Errors
     ///

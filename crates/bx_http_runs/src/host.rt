@@ -14,21 +14,21 @@ use hyper::server::conn::http1;
 use hyper::service::Service;
 use std::alloc::{AllocError, Global};
 
-// How often a task that wakes itself is polled.
+// How often a task that wakes itself is polled at most.
 const POLLS: u32 = 100;
 
 /// A service, and the tasks that serve its connections.
 #[derive(Drop)]
 pub struct Host<'a, S> {
-    /// Allocator.
+    /// The allocator of all connections.
     pub alloc: Global,
     /// The service, which each connection clones.
     pub service: &'a S,
-    /// Settings for serving a connection.
+    /// The HTTP settings.
     pub http: &'a http1::Builder,
-    /// Task that serves a connection to its end.
+    /// The task that serves a connection to its end.
     pub task: &'a MockTask,
-    /// Task that serves a connection that waits.
+    /// The task that serves a connection that waits.
     pub waiting: &'a MockTask,
 }
 
@@ -37,7 +37,7 @@ where
     S: Service<Request<Incoming<Wire>>, Response = Response<Pieces<Bytes>>, Error = E> + Clone,
     E: Into<anyhow::Error> + Drop,
 {
-    /// Serves `wire` until its end, which may be an error, and returns what was written to it.
+    /// Serves `wire` until it ends or fails, and returns what was written to it.
     ///
     /// # Errors
     ///
@@ -56,9 +56,9 @@ where
         }
     }
 
-    /// Serves `wire` to its end, and posts `body` on another connection while `wire` waits.
+    /// Serves `wire` until it ends, and posts `body` on another connection while `wire` waits.
     ///
-    /// Returns what was written to `wire`, and appends what was written to the other to `text`.
+    /// Returns what was written to `wire`. Appends what was written to the other one to `text`.
     ///
     /// # Errors
     ///
@@ -142,7 +142,7 @@ pub fn post(alloc: Global, body: &str) -> Result<String, AllocError> {
     )
 }
 
-/// Appends the lines of `written` to `text`, each ended by a line feed alone.
+/// Appends the lines of `written` to `text`, and ends each with only a line feed.
 ///
 /// # Errors
 ///

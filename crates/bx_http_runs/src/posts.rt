@@ -1,4 +1,4 @@
-//! POSTs that end early, which leave the hub's list unchanged.
+//! POSTs that end early and leave the hub's list unchanged.
 use crate::host::{Host, post};
 use crate::wire::Wire;
 use anyhow::{Result, anyhow};
@@ -17,7 +17,7 @@ use std::sync::Wait;
 const HANDSHAKE: &str =
     r#"[{"channel":"/meta/handshake","version":"1.0","supportedConnectionTypes":["long-polling"]}]"#;
 
-/// The type of hub that is served.
+/// The hub that is served.
 pub type Served<J, R> = Hub<J, ByRemainder, OpenGate, R>;
 
 // Creates a request without messages.
@@ -30,7 +30,7 @@ fn nothing(alloc: Global) -> Result<Arrival, AllocError> {
     })
 }
 
-// Returns the length of the hub's list.
+// Returns the length of the hub's list, in entries.
 fn entries<J: Naming, H: Wait + Drop, R: Wait>(
     rt: &R,
     alloc: Global,
@@ -59,18 +59,18 @@ where
     S: Service<Request<Incoming<Wire>>, Response = Response<Pieces<Bytes>>, Error = E> + Clone,
     E: Into<anyhow::Error> + Drop,
 {
-    /// Sends each proper prefix of a handshake, from no bytes on, and then the whole handshake.
+    /// Sends each proper prefix of a handshake, starting with the empty one, and then all of it.
     ///
     /// Returns a text: after how many prefixes the list was empty, the response's body, and the
-    /// list's length.
+    /// list's length in entries.
     ///
     /// # Errors
     ///
-    /// If memory runs out, the hub refuses a request, or the handshake is not answered.
+    /// If memory runs out, the hub rejects a request, or the handshake is not answered.
     ///
     /// # Blocking
     ///
-    /// Takes the hub's locks.
+    /// Locks as [`Hub::post`] does.
     pub fn posts<J, H, R>(&self, rt: &R, hub: &Served<J, H>) -> Result<String>
     where
         J: Naming,
@@ -86,7 +86,7 @@ where
         Ok(format!(in alloc; "empty behind {empty}\n{body}\n{entries} entries\n")?)
     }
 
-    // Sends each proper prefix, and returns after how many the list was empty.
+    // Sends each proper prefix of `bytes`, and returns after how many the list was empty.
     fn empty_behind<J, H, R>(&self, rt: &R, hub: &Served<J, H>, bytes: &[u8]) -> Result<usize>
     where
         J: Naming,

@@ -44,7 +44,7 @@ impl Nonces for Zeros {
     }
 }
 
-/// Does all runs, and returns what they print.
+/// Runs all requests and returns the text to print.
 ///
 /// # Errors
 ///
@@ -101,7 +101,7 @@ where
     serve_all(&rt, alloc, hub, &service, http)
 }
 
-// Does all runs, with two tasks.
+// Runs all requests with two tasks.
 fn serve_all<J, S, E, H, R>(
     rt: &R,
     alloc: Global,

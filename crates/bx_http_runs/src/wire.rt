@@ -1,4 +1,4 @@
-//! A connection in memory.
+//! Connections in memory.
 ghost use Rattle.std.specs.Prelude.{⊤};
 
 use bytes::{Buf, Bytes};
@@ -7,9 +7,9 @@ use std::alloc::{AllocError, Global};
 use std::{io, mem};
 use tokio::io::{AsyncRead, AsyncWrite};
 
-/// A connection in memory, which keeps what is written to it.
+/// A connection in memory that keeps what is written to it.
 ///
-/// It yields its first bytes, then later ones once something has been written, and then its end.
+/// A read yields the first bytes, the later ones once something has been written, and then the end.
 #[derive(Drop)]
 pub struct Wire {
     coming: Bytes,

@@ -1,4 +1,4 @@
--- How a shard stands after a change.
+-- The state of a shard after a change.
 use Rattle.std.proofs.Common.{ℕ, ◌≡◌, ◌≢◌, Bool, true, false, not, cond, Option, Some, None, refl, sym, ◌∙◌, ap}
 use Rattle.bx_connects.specs.Connects.{is_filed_below, unswept}
 use Rattle.bx_connects.specs.declared.connects.ConnectState.{ConnectState}
@@ -16,7 +16,6 @@ unswept_again before (Some state) = by (not (is_filed_below before state)) refl
     by true e = ap (λ (b : Bool). cond b (Some state) None) e
     by false e = refl
 
--- once swept, nothing is left to be swept
 pub unswept_twice : (before : ℕ) (old new : State) → Swept before old new → (place : ℕ)
     → unswept before (connect_in new place) ≡ connect_in new place
 unswept_twice before old new s place = ap (λ (c : Option ConnectState). unswept before c) (s.connects place)

@@ -1,4 +1,4 @@
--- How many shards stay behind, with one shard more.
+-- How many shards lag, with one more shard.
 use Rattle.std.proofs.Common.{◌≡◌, ◌≤◌, ◌+◌, List, [], ◌∷◌, ◌++◌, length, Option, Some, None, refl, ap, ◌∙◌, arith}
 use Rattle.bx_hub.specs.Faults.{count_of, one_more}
 use Rattle.bx_hub.specs.Lagging.{lagging_of}
@@ -32,13 +32,11 @@ either_first (stops.Misplaced m) (stops.Overrun t q) l = refl
 either_first (stops.Misplaced m) stops.Memory l = refl
 either_first (stops.Misplaced m) (stops.Misplaced n) l = refl
 
--- one shard more that stays behind
 pub lagging-last : (stays : List (Option HubFault)) (f : HubFault) → lagging_of (stays ++ Some f ∷ []) ≡ one_more f (lagging_of stays)
 lagging-last [] f = refl
 lagging-last (None ∷ stays) f = lagging-last stays f
 lagging-last (Some g ∷ stays) f = ap (one_more g) (lagging-last stays f) ∙ either_first g f (lagging_of stays)
 
--- one shard more that does not
 pub level-last : (stays : List (Option HubFault)) → lagging_of (stays ++ None ∷ []) ≡ lagging_of stays
 level-last [] = refl
 level-last (None ∷ stays) = level-last stays
@@ -48,7 +46,6 @@ counted : (f : HubFault) (l : Lagging) → count_of (one_more f l) ≡ count_of 
 counted stops.Closed l = omega arith
 counted _ l = omega arith
 
--- no more stay behind than there are
 pub few_lag : (stays : List (Option HubFault)) → count_of (lagging_of stays) ≤ length stays
 few_lag [] = omega arith
 few_lag (None ∷ stays) = let e = few_lag stays in omega (arith, e)

@@ -1,4 +1,4 @@
--- What lies under a shard's lock, as it learns, goes on and gives.
+-- What a shard's lock guards stays right when the shard learns, advances and returns answers.
 use Rattle.std.proofs.Common.{◌≡◌, ℕ, ◌+◌, ◌-◌, ◌<◌, ◌≤◌, List, [], ◌∷◌, ◌++◌, length, take, drop, slice_get, option_map, Option, Some, None, refl, ap, sym, ◌∙◌, subst, arith, take-append-drop}
 use Rattle.std.specs.Prelude.{Result, Ok, Err, OnOk, OnErr, IfSome, IfNone, Bool, true, false, nat_eq, if◌then◌else◌}
 use Rattle.std.specs.Option.{IsSome}
@@ -26,7 +26,6 @@ held seen told taken state = record { seen = seen; told = told; taken = taken; s
 refines_over : (setup : Setup) (xs ys : List Listed) (taken : List ℕ) (k n : ℕ) (s : State) → IsPrefix xs ys → Refines setup xs taken k n s → Refines setup ys taken k n s
 refines_over setup xs ys taken k n s p h = subst (λ (l : List Listed). Refines setup l taken k n s) p.1 (refines_longer setup xs p.0 taken k n s h)
 
--- the reader has seen more, and a longer note was brought
 pub stands_grown : (setup : Setup) (seen told seen' told' : List LogStep) (taken : List ℕ) (s : State) → Stands setup (held seen told taken s) → IsPrefix seen seen' → IsPrefix told told' → IsPrefix told' seen' → Stands setup (held seen' told' taken s)
 stands_grown setup seen told seen' told' taken s h p q r =
     let a = list_length told told' q in
@@ -36,22 +35,18 @@ stands_grown setup seen told seen' told' taken s h p q r =
       holds = refines_over setup (list_of seen) (list_of seen') taken s.index s.place s (list_of-prefix seen seen' p) h.holds;
     }
 
--- the reader alone has seen more
 pub stands_seen : (setup : Setup) (seen told seen' : List LogStep) (taken : List ℕ) (s : State) → Stands setup (held seen told taken s) → IsPrefix seen seen' → Stands setup (held seen' told taken s)
 stands_seen setup seen told seen' taken s h p = stands_grown setup seen told seen' told taken s h p (prefix_self told) (prefix_trans told seen seen' h.learnt p)
 
--- the list does not end at a place below the note
 pub not_level : (setup : Setup) (seen told seen' : List LogStep) (taken : List ℕ) (s : State) → Stands setup (held seen told taken s) → IsPrefix seen seen' → s.place < length (list_of told) → ¬ (length (list_of seen') ≤ s.place)
 not_level setup seen told seen' taken s h p lt le =
     let a = list_length told seen h.learnt in
     let b = list_length seen seen' p in
     absurd (omega (arith, a, b, lt, le))
 
--- the entry of a batch is the one of its place
 pub entry_here : (config : Config) (seen : List LogStep) (b : Batch) (place : ℕ) (e : Entry) → IsOf b place × StandsIn config (list_of seen) b → slice_get b.entries (place - b.first) ≡ Some e → e.place ≡ place
 entry_here config seen b place e right is = entry_placed config (list_of seen) place e (got config (list_of seen) b place e right.1 right.0 is)
 
--- the shard is the same but for what is not seen of it
 pub stands_still : (setup : Setup) (seen told : List LogStep) (taken : List ℕ) (s t : State) → Stands setup (held seen told taken s) → IsAsBefore s t → IsSound t → Stands setup (held seen told taken t)
 stands_still setup seen told taken s t h b sound =
     let on : Refines setup (list_of seen) taken s.index s.place t = refines_still setup (list_of seen) taken s.index s.place s t h.holds b sound in
@@ -61,7 +56,6 @@ stands_still setup seen told taken s t h b sound =
       holds = subst (λ (i : ℕ). Refines setup (list_of seen) taken i t.place t) (sym b.index) (subst (λ (n : ℕ). Refines setup (list_of seen) taken s.index n t) (sym b.place) on);
     }
 
--- the next entry was applied
 pub stands_stepped : (setup : Setup) (seen told : List LogStep) (taken : List ℕ) (s t : State) (b : Batch) (e : Entry) → 0 < setup.config.limits.batch → Stands setup (held seen told taken s) → s.place < length (list_of told)
     → IsOf b s.place × StandsIn setup.config (list_of seen) b → slice_get b.entries (s.place - b.first) ≡ Some e → Applied s e t → IsSound t → Stands setup (held seen told taken t)
 stands_stepped setup seen told taken s t b e room h lt right is applied sound =
@@ -75,13 +69,11 @@ stands_stepped setup seen told taken s t b e room h lt right is applied sound =
       holds = subst (λ (i : ℕ). Refines setup (list_of seen) taken i t.place t) (sym applied.index) (subst (λ (n : ℕ). Refines setup (list_of seen) taken s.index n t) (sym next) on);
     }
 
--- the next entry was applied, or there was no memory
 pub stands_applied : {X Y : Type 0} (setup : Setup) (seen told : List LogStep) (taken : List ℕ) (s t : State) (b : Batch) (e : Entry) (r : Result X Y) → 0 < setup.config.limits.batch → Stands setup (held seen told taken s) → s.place < length (list_of told)
     → IsOf b s.place × StandsIn setup.config (list_of seen) b → slice_get b.entries (s.place - b.first) ≡ Some e → OnOk r (Applied s e t) → OnErr r (IsAsBefore s t) → IsSound t → Stands setup (held seen told taken t)
 stands_applied setup seen told taken s t b e (Ok x) room h lt right is done refused sound = stands_stepped setup seen told taken s t b e room h lt right is done sound
 stands_applied setup seen told taken s t b e (Err x) room h lt right is done refused sound = stands_still setup seen told taken s t h refused sound
 
--- an answer was taken
 pub stands_taken : (setup : Setup) (seen told : List LogStep) (taken : List ℕ) (place : ℕ) (s t : State) → 0 < setup.config.limits.batch → Stands setup (held seen told taken s) → IsSome (filed_answer (connect_in s place)) → Took place s t → IsSound t
     → Stands setup (held seen told (taken ++ place ∷ []) t)
 stands_taken setup seen told taken place s t room h some took sound =
@@ -92,7 +84,7 @@ stands_taken setup seen told taken place s t room h some took sound =
       holds = subst (λ (i : ℕ). Refines setup (list_of seen) (taken ++ place ∷ []) i t.place t) (sym took.index_is) (subst (λ (n : ℕ). Refines setup (list_of seen) (taken ++ place ∷ []) s.index n t) (sym took.place_is) on);
     }
 
--- what is filed is what one thread gives over the longest note that was brought
+-- A filed answer is what one thread gives over the longest note.
 pub filed_told : (setup : Setup) (h : Held) (place : ℕ) (a : Answer) → 0 < setup.config.limits.batch → Stands setup h → filed_answer (connect_in h.state place) ≡ Some a → answer_over setup.config h.told place ≡ Some a
 filed_told setup h place a room s e =
     let n : ℕ = h.state.place in
@@ -101,13 +93,11 @@ filed_told setup h place a room s e =
     let there : option_map given_of (answer setup.config (take n (list_of h.told)) place) ≡ Some a = subst (λ (l : List Listed). option_map given_of (answer setup.config l place) ≡ Some a) same short in
     given_longer setup.config (take n (list_of h.told)) (list_of h.told) place a room (drop n (list_of h.told), take-append-drop n (list_of h.told)) there
 
--- and over every longer front
 pub over_longer : (config : Config) (xs ys : List LogStep) (place : ℕ) (a : Answer) → 0 < config.limits.batch → IsPrefix xs ys → answer_over config xs place ≡ Some a → answer_over config ys place ≡ Some a
 over_longer config xs ys place a room p e = given_longer config (list_of xs) (list_of ys) place a room (list_of-prefix xs ys p) e
 
--- ---- a taking
+-- ---- Taking an answer
 
--- what is given is what is filed, in the shard that the ticket names
 pub own_filed : (b : Bool) (o r : Option Answer) (a : Answer) → r ≡ (if b then o else None) → r ≡ Some a → (b ≡ true) × (o ≡ Some a)
 own_filed true o r a e is = (refl, sym e ∙ is)
 own_filed false o r a e is = let no : None ≡ Some a = sym e ∙ is in cc
@@ -119,13 +109,11 @@ none_own false o r e is t = cc
 pub some_filed : (o : Option Answer) (a : Answer) → o ≡ Some a → IsSome o
 some_filed o a e = subst IsSome (sym e) refl
 
--- where none was taken, the shard is the same
 pub stands_untaken : (setup : Setup) (seen told : List LogStep) (taken : List ℕ) (place : ℕ) (s t : State) (b : Bool) (r : Option Answer) → Stands setup (held seen told taken s) → r ≡ (if b then filed_answer (connect_in s place) else None) → r ≡ None →
     (b ≡ true → Took place s t) → (b ≡ false → t ≡ s) → IsSound t → Stands setup (held seen told taken t)
 stands_untaken setup seen told taken place s t true r h e is took same sound = stands_still setup seen told taken s t h (as_before place s t (sym e ∙ is) (took refl)) sound
 stands_untaken setup seen told taken place s t false r h e is took same sound = subst (λ (u : State). Stands setup (held seen told taken u)) (sym (same refl)) h
 
--- none was filed at the end of a front
 pub level_without : (setup : Setup) (h : Held) (t : Ticket) (front : List LogStep) (r : Option Answer) → r ≡ (if nat_eq t.shard h.state.index then filed_answer (connect_in h.state t.place) else None) → t.shard ≡ h.state.index → Stands setup h → h.told ≡ front →
     h.state.place ≡ length (list_of h.told) → IfNone r (IsLevelWithout setup t front)
 level_without setup h t front None filed here s told level =
@@ -139,14 +127,13 @@ level_without setup h t front None filed here s told level =
     }
 level_without setup h t front (Some a) filed here s told level = tt
 
--- what was filed is given at the first look
 pub filed_first : {F : Type 0} (i j : ℕ) (o r : Option Answer) (given : Result (Option Answer) F) → r ≡ (if nat_eq i j then o else None) → i ≡ j → IfSome r (λ a. given ≡ Ok (Some a)) → IfSome o (λ a. given ≡ Ok (Some a))
 filed_first i j None r given filed here at = tt
 filed_first {F} i j (Some a) r given filed here at =
     let own : r ≡ Some a = filed ∙ ap (λ (b : Bool). if b then Some a else None) (eq-eqb i j here) in
     subst (λ (x : Option Answer). IfSome x (λ (y : Answer). given ≡ Ok (Some y))) own at
 
--- ---- the other calls
+-- ---- Other calls
 
 pub stands_watched : (setup : Setup) (seen told : List LogStep) (taken : List ℕ) (place : ℕ) (waker : Waker) (s t : State) (b : Bool) → Stands setup (held seen told taken s) → (b ≡ true → Watched place waker s t) → (b ≡ false → t ≡ s) → IsSound t → Stands setup (held seen told taken t)
 stands_watched setup seen told taken place waker s t true h own other sound =
@@ -181,7 +168,7 @@ stands_shut setup seen told taken s t h w sound =
       holds = subst (λ (i : ℕ). Refines setup (list_of seen) taken i t.place t) (sym w.index) (subst (λ (n : ℕ). Refines setup (list_of seen) taken s.index n t) (sym w.place) on);
     }
 
--- ---- which shard it is
+-- ---- The shard's index
 
 pub applied_index : {X Y : Type 0} (s t : State) (e : Entry) (r : Result X Y) → OnOk r (Applied s e t) → OnErr r (IsAsBefore s t) → t.index ≡ s.index
 applied_index s t e (Ok x) done refused = done.index
@@ -191,7 +178,7 @@ pub untaken_index : (place : ℕ) (s t : State) (b : Bool) → (b ≡ true → T
 untaken_index place s t true took same = (took refl).index_is
 untaken_index place s t false took same = ap (λ (u : State). u.index) (same refl)
 
--- ---- the fields of a desk
+-- ---- The fields of a desk
 
 pub prefix_taken : {A : Type 0} (xs ys : List A) → IsPrefix xs ys → take (length xs) ys ≡ xs
 prefix_taken [] ys p = refl

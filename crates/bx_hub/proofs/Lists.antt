@@ -1,4 +1,4 @@
--- Beginnings of lists, and what a batch has at a place.
+-- Prefixes of lists, and the entry of a batch at a place.
 use Rattle.std.proofs.Common.{◌≡◌, ℕ, zero, suc, ◌+◌, ◌-◌, ◌≤◌, List, [], ◌∷◌, length, take, drop, slice_get, Some, refl, subst, arith}
 use mathlib.Core.List.{IsPrefix}
 use Rattle.bx_advice.specs.declared.config.Config.{Config}
@@ -9,7 +9,6 @@ use Rattle.bx_window.specs.Steps.{list_of}
 use Rattle.bx_window.specs.Places.{IsOf, StandsIn}
 use Rattle.bx_window.proofs.{Fronts.prefix_length, Lists.list_of-prefix}
 
--- a longer list begins with as many elements
 pub takes_same : {A : Type 0} (n : ℕ) (xs ys : List A) → IsPrefix xs ys → n ≤ length xs → take n ys ≡ take n xs
 takes_same zero xs ys p le = refl
 takes_same (suc n) [] ys p le = absurd (omega arith)
@@ -28,7 +27,6 @@ got_from xs es zero k e h g = let z : 0 + k ≡ k = omega arith in rw z (got_fir
 got_from [] es (suc f) k e h g = absurd (cc (got_first [] es k e h g))
 got_from (x ∷ xs) es (suc f) k e h g = let z : suc f + k ≡ suc (f + k) = omega arith in rw z (got_from xs es f k e h g)
 
--- the entry that a batch has at a place is the list's
 pub got : (config : Config) (list : List Listed) (b : Batch) (place : ℕ) (e : Entry) → StandsIn config list b → IsOf b place → slice_get b.entries (place - b.first) ≡ Some e → slice_get (entries config list) place ≡ Some e
 got config list b place e h of g =
     let z : b.first + (place - b.first) ≡ place = omega (arith, of.0) in

@@ -1,4 +1,4 @@
--- The least place at which shards stand, and what a window that was trimmed there begins with.
+-- The lowest position of the shards, and a window that was trimmed there.
 use Rattle.std.proofs.Common.{ℕ, suc, ◌≡◌, ◌+◌, ◌≤◌, List, [], ◌∷◌, ◌++◌, length, drop, nat_le, cond, slice_index_or, Bool, true, false, refl, ap, subst, arith}
 use Rattle.std.specs.List.{All}
 use Rattle.std.proofs.lemmas.List.Elements.{All-push}
@@ -6,14 +6,12 @@ use Rattle.bx_window.specs.Steps.{below, firsts_of, list_of}
 use Rattle.bx_window.specs.declared.law.LogStep.{LogStep}
 use Rattle.bx_hub.specs.Posts.{IsUntrimmable}
 
--- it is below the place of one shard more
 pub all_lower : (low place : ℕ) (ps : List ℕ) → place ≤ low → All (λ q. low ≤ q) ps → All (λ q. place ≤ q) (ps ++ place ∷ [])
 all_lower low place ps lower h = All-push (λ q. place ≤ q) ps place (λ k d lt. let a = h k d lt in omega (arith, a, lower)) (omega arith)
 
 pub all_kept : (low place : ℕ) (ps : List ℕ) → low ≤ place → All (λ q. low ≤ q) ps → All (λ q. low ≤ q) (ps ++ place ∷ [])
 all_kept low place ps higher h = All-push (λ q. low ≤ q) ps place h higher
 
--- behind what lies wholly below a place stands nothing that does
 below_dropped : (n end : ℕ) (fs : List ℕ) → below n end (drop (below n end fs) fs) ≡ 0
 below_dropped n end [] = refl
 below_dropped n end (f ∷ fs) = by (below_dropped n end fs) (nat_le (slice_index_or fs 0 end) n) refl
@@ -24,6 +22,5 @@ below_dropped n end (f ∷ fs) = by (below_dropped n end fs) (nat_le (slice_inde
         subst (λ (k : ℕ). below n end (drop k (f ∷ fs)) ≡ 0) one rest
     by rest false e = ap (λ (b : Bool). cond b (1 + below n end fs) 0) e
 
--- so it is with a window that was trimmed there
 pub untrimmable : (place : ℕ) (old new : List LogStep) → list_of new ≡ list_of old → firsts_of new ≡ drop (below place (length (list_of old)) (firsts_of old)) (firsts_of old) → IsUntrimmable place new
 untrimmable place old new same trimmed = cc (same, trimmed, below_dropped place (length (list_of old)) (firsts_of old))

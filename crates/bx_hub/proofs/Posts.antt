@@ -1,4 +1,4 @@
--- What a request or a tick adds to the front of a pass, and why it is refused.
+-- What a request or a tick adds to the front of a pass, and why it is not admitted.
 use Rattle.std.proofs.Common.{◌≡◌, ℕ, ◌+◌, ◌<◌, ◌≤◌, Bool, true, false, Option, Some, None, List, [], ◌∷◌, ◌++◌, length, take, drop, refl, sym, ap, ◌∙◌, subst, arith, inl, inr, length-append}
 use Rattle.std.specs.Prelude.{Result, Ok, Err, IfOk, IfErr, IfSome, IsErrAnd, IsOkUnless, OnOk, OnErr, nat_lt, if◌then◌else◌}
 use Rattle.std.proofs.lemmas.{Grind.common_steps, List.drop_at}
@@ -32,7 +32,7 @@ use Rattle.bx_hub.specs.declared.fault.PostFault.TheVariants.{Refused, Closed, B
 use Rattle.bx_window.proofs.Fronts.{prefix_self, prefix_trans}
 use Rattle.bx_hub.proofs.Lists.{list_length}
 
--- ---- what is published
+-- ---- Planned batches
 
 pub entries_many : (l : Standing) (p : Plan) → Continues l p → length p.batch.entries ≡ length p.elements
 entries_many l p c =
@@ -40,7 +40,6 @@ entries_many l p c =
     let old = entries_length l.config l.list in
     omega (arith, all, old, ap (λ (es : List Entry). length es) c.entries, length-append (entries l.config l.list) p.batch.entries, length-append l.list p.elements)
 
--- a plan continues the list of the window
 pub continues : (config : Config) (list : List Listed) (l : Standing) (p : Plan) (inputs : List Input) → l.config ≡ config → l.list ≡ list → Continues l p → 0 < length p.batch.entries →
     places.Continues config list (record { batch = p.batch; elements = p.elements; inputs = inputs })
 continues config list l p inputs same is c some =
@@ -48,11 +47,10 @@ continues config list l p inputs same is c some =
     (subst (λ (xs : List Listed). places.Continues l.config xs (record { batch = p.batch; elements = p.elements; inputs = inputs })) is
     (record { first = c.first; some = some; entries = c.entries }))
 
--- the list with the batch has its end
 pub places_end : (list : List Listed) (l : Standing) (p : Plan) → l.list ≡ list → Continues l p → length list + length p.batch.entries ≤ greatest_length
 places_end list l p is c = omega (arith, ap (λ (xs : List Listed). length xs) is, c.change.bounded, length-append l.list p.elements, entries_many l p c)
 
--- ---- where it stands
+-- ---- The place in the list
 
 pub none_added : (xs : List Listed) → length xs ≡ 0 → xs ≡ []
 none_added [] e = refl
@@ -62,7 +60,6 @@ take_front : {A : Type 0} (xs ys : List A) → take (length xs) (xs ++ ys) ≡ x
 take_front [] ys = refl
 take_front (x ∷ xs) ys = ap (λ l. x ∷ l) (take_front xs ys)
 
--- the front that is then seen ends with what the input adds
 pub admitted_by : (input : ReadInput) (l : Standing) (p : Plan) (old whole new : List LogStep) → l.list ≡ list_of whole → Continues l p → p.elements ≡ added_by input → refusal_of (length l.list) input ≡ None →
     IsPrefix old whole → list_of new ≡ list_of whole ++ p.elements → IsAdmittedAt input p.batch.first old new
 admitted_by input l p old whole new is c added allowed pre grown =
@@ -75,7 +72,6 @@ admitted_by input l p old whole new is c added allowed pre grown =
       end = omega (arith, first, ap (λ (xs : List Listed). length xs) more, length-append (list_of whole) (added_by input));
     }
 
--- the slots are what the places of the front give
 pub slots_by : (setup : Setup) (input : ReadInput) (p : Plan) (whole new : List LogStep) → p.batch.first ≡ length (list_of whole) → p.slots ≡ admitted_slots setup (list_of whole) p.elements → p.elements ≡ added_by input →
     list_of new ≡ list_of whole ++ p.elements → AreSlotsAt setup input p.batch.first new p.slots
 slots_by setup input p whole new first slots added grown =
@@ -83,11 +79,10 @@ slots_by setup input p whole new first slots added grown =
     ap (λ (xs : List Listed). take p.batch.first xs) grown ∙ ap (λ (n : ℕ). take n (list_of whole ++ p.elements)) first ∙ take_front (list_of whole) p.elements in
     slots ∙ ap (admitted_slots setup (list_of whole)) added ∙ ap (λ (xs : List Listed). admitted_slots setup xs (added_by input)) (sym front)
 
--- it stands there for whoever had seen less before
 pub admitted_before : (input : ReadInput) (first : ℕ) (old mid new : List LogStep) → IsPrefix old mid → IsAdmittedAt input first mid new → IsAdmittedAt input first old new
 admitted_before input first old mid new p a = record { allowed = a.allowed; fresh = omega (arith, list_length old mid p, a.fresh); there = a.there; end = a.end }
 
--- ---- what it comes to
+-- ---- The results of plans
 
 pub slots_planned : (config : Config) (placing place_of : ℕ → ℕ → ℕ) (s : Standing) (list : List Listed) (r : Result Plan AdmitFault) → s.config ≡ config → s.shards ≡ config.shards → place_of ≡ placing → s.list ≡ list →
     IfOk r (λ p. p.slots ≡ admitted_slots (placed_by s.config s.shards place_of) s.list p.elements)
@@ -98,24 +93,21 @@ slots_planned config placing place_of s list (Ok p) same many is at slots =
     slots ∙ ap (λ (x : Setup). admitted_slots x s.list p.elements) one
     ∙ ap (λ (xs : List Listed). admitted_slots (setup_of config placing) xs p.elements) at
 
--- a tick is not answered
 pub tick_planned : (setup : Setup) (list : List Listed) (moment : ℕ) (r : Result Plan AdmitFault) → IfOk r (λ p. p.elements ≡ messages.Tick moment ∷ []) → IfOk r (λ p. p.slots ≡ []) →
     IfOk r (λ p. p.slots ≡ admitted_slots setup list p.elements)
 tick_planned setup list moment (Err f) elements slots = tt
 tick_planned setup list moment (Ok p) elements slots = slots ∙ sym (tick_slots setup list moment) ∙ ap (admitted_slots setup list) (sym elements)
 
--- what is planned is not refused
 pub allowed_planned : (refusal : Option Refusal) (r : Result Plan AdmitFault) → IfSome refusal (λ x. r ≡ Err (admissions.Refused x)) → OnOk r (refusal ≡ None)
 allowed_planned refusal (Ok p) some = planned_taken refusal (Ok p) p refl some
 allowed_planned refusal (Err f) some = tt
 
--- what is not planned is refused so, or memory was
 pub fault_planned : (refusal : Option Refusal) (r : Result Plan AdmitFault) → IfSome refusal (λ x. r ≡ Err (admissions.Refused x)) → (refusal ≡ None → IsOkUnless r admissions.Memory) →
     IfErr r (λ f. IsFault refusal f)
 fault_planned refusal (Ok p) some memory = tt
 fault_planned refusal (Err f) some memory = fault_told refusal (Err f) f refl some memory
 
--- ---- why it is refused
+-- ---- Faults
 
 beyond_body : (b c : Bool) (fault : BodyError) → (if b then Some refusals.BadMoment else (if c then Some refusals.Ended else None)) ≡ Some (refusals.Body fault) → ⊥
 beyond_body true c fault e = cc
@@ -133,13 +125,11 @@ refused_by input (admissions.Refused refusals.BadMoment) front is = is
 refused_by input (admissions.Refused refusals.Ended) front is = inl is
 refused_by input admissions.Memory front is = tt
 
--- a request that is not read is refused so, whatever the pass has seen
 pub unread_by : (moment nonce : ℕ) (messages : Result (List Message) BodyError) (f : AdmitFault) (front : List LogStep) → IsUnread messages f → IsRefused (read_by moment nonce messages) (of_admission f) front
 unread_by moment nonce messages (admissions.Refused (refusals.Body fault)) front is = ap (read_by moment nonce) is
 unread_by moment nonce messages (admissions.Refused _) front is = absurd is
 unread_by moment nonce messages admissions.Memory front is = tt
 
--- what is not planned is not refused by the window
 pub whole_planned : (f : AdmitFault) (front log : List LogStep) → IsWhole (of_admission f) front log
 whole_planned (admissions.Refused refusal) front log = tt
 whole_planned admissions.Memory front log = tt
@@ -162,7 +152,6 @@ unpublished_result input list writer unchanged whole new (Err e) allowed is some
     let there : list ≡ list_of new = is ∙ ap list_of (sym (same.1)) in
     unpublished input e new (subst (λ (xs : List Listed). refusal_of (length xs) input ≡ None) there allowed) some u
 
--- where it was full, and there is no room now
 pub without_room : (input : ReadInput) (f : PostFault) (before front : List LogStep) → IsPrefix before front → WasFullFor input before → IsWithoutRoom f front → IsRefused input f front
 without_room input (Overrun shard place) before front p was o =
     (record { before = was.before; first = was.first; begins = prefix_trans was.before before front was.begins p; full = was.full }, o)
@@ -171,7 +160,6 @@ without_room input (Misplaced shard found) before front p was o =
 without_room input Memory before front p was o = tt
 without_room input _ before front p was o = absurd o
 
--- what was refused since the window is full
 pub was_full : {T : Type 0} (input : ReadInput) (first : ℕ) (front : List LogStep) (r : Result T PostFault) → r ≡ Err (Behind first) → IfErr r (λ e. IsRefused input e front) → WasFullFor input front
 was_full {T} input first front r is refused =
     let full : IsFullFor input first front = subst (λ (x : Result T PostFault). IfErr x (λ e. IsRefused input e front)) is refused in

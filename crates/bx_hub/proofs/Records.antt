@@ -1,4 +1,4 @@
--- What a record has of what is listed.
+-- What is recorded of an input results in exactly what the input adds to the list.
 use Rattle.std.proofs.Common.{◌≡◌, List, [], ◌∷◌, ◌++◌, Ok, length, refl, ap, sym, ◌∙◌, arith, append_assoc, append-nil}
 use Rattle.std.specs.List.{AllByRecursion}
 use Rattle.bx_message.specs.declared.message.Message.{Message}
@@ -13,12 +13,10 @@ use Rattle.bx_hub.specs.Records.{inputs_by, list_by, where_any}
 use Rattle.bx_hub.specs.declared.listable.Listable.{Listable}
 use Rattle.bx_hub.specs.declared.listable.Listable.TheVariants as listable
 
--- with one input more
 pub all_recordable : (inputs : List Input) (input : Input) → AllByRecursion CanRecord inputs → CanRecord input → AllByRecursion CanRecord (inputs ++ input ∷ [])
 all_recordable [] input all one = (one, tt)
 all_recordable (x ∷ xs) input all one = (all.0, all_recordable xs input all.1 one)
 
--- the list of inputs and of others behind them
 pub list_by-append : (xs ys : List Input) → list_by (xs ++ ys) ≡ list_by xs ++ list_by ys
 list_by-append [] ys = refl
 list_by-append (x ∷ xs) ys = ap (λ l. added_by (read_input x) ++ l) (list_by-append xs ys) ∙ sym (append_assoc (added_by (read_input x)) (list_by xs) (list_by ys))
@@ -27,7 +25,6 @@ by_any : (a : Arrival) (ms : List Message) → arrival_messages a ≡ Ok ms → 
 by_any a [] is = refl
 by_any a (m ∷ ms) is = append-nil (added_by (read_input (Post a))) ∙ ap (λ r. added_by (read_by a.moment a.nonce r)) is
 
--- what a record has of what is listed makes just what that adds to the list
 pub list_by_one : (wanted : Listable) → list_by (inputs_by wanted) ≡ added_by (input_of wanted)
 list_by_one (listable.Request r) = by_any r.arrival r.messages.items r.read
 list_by_one (listable.Tick moment) = refl
@@ -36,7 +33,6 @@ no_request : (a : Arrival) (ms : List Message) → request a.moment a.nonce ms �
 no_request a [] is = refl
 no_request a (m ∷ ms) is = absurd (omega (arith, ap length is))
 
--- so it has nothing of what adds nothing
 pub none_by : (wanted : Listable) → added_by (input_of wanted) ≡ [] → inputs_by wanted ≡ []
 none_by (listable.Request r) is = no_request r.arrival r.messages.items is
 none_by (listable.Tick moment) is = absurd (omega (arith, ap length is))

@@ -1,4 +1,4 @@
--- Which wakers lie beside the connects of a shard, and which were put into a list.
+-- The wakers of a shard's connects, and which wakers a call added to a list.
 use Rattle.std.proofs.Common.{◌≡◌, ℕ, nat_eq, ◌++◌, Bool, true, false, cond, Option, Some, None, List, length, drop, refl, sym, ap, ◌∙◌, eqb-true}
 use Rattle.std.proofs.Math.Seq.{drop-append_seam}
 use Rattle.futures.specs.declared.task.waker.Waker.{Waker}
@@ -13,7 +13,6 @@ taken_waker None = refl
 taken_waker (Some (Held session deadline waker)) = refl
 taken_waker (Some (Filed session place answer)) = refl
 
--- no waker lies beside an answer that is taken
 took_none : (place : ℕ) (old new : State) → Took place old new → (p : ℕ) → waker_of (connect_in new p) ≡ waker_of (connect_in old p)
 took_none place old new t p = ap waker_of (t.connects p) ∙ by (nat_eq place p) refl
   where
@@ -21,23 +20,19 @@ took_none place old new t p = ap waker_of (t.connects p) ∙ by (nat_eq place p)
     by true e = taken_waker (connect_in old place) ∙ ap (λ (q : ℕ). waker_of (connect_in old q)) (eqb-true place p e)
     by false e = refl
 
--- whether the shard has the answer or another one
 pub taking_wakes_none : (place : ℕ) (old new : State) (own : Bool) → (own ≡ true → Took place old new) → (own ≡ false → new ≡ old) → (p : ℕ) → waker_of (connect_in new p) ≡ waker_of (connect_in old p)
 taking_wakes_none place old new true took same p = took_none place old new (took refl) p
 taking_wakes_none place old new false took same p = ap (λ (s : State). waker_of (connect_in s p)) (same refl)
 
--- what was put into a list is what it has behind the older one
 pub put_behind : (before after : ℕ → Option ConnectState) (old new : List Waker) → AreWoken before after old new → new ≡ old ++ drop (length old) new
 put_behind before after old new w =
     w.behind ∙ ap (λ (xs : List Waker). old ++ xs) (sym (ap (λ (xs : List Waker). drop (length old) xs) w.behind ∙ drop-append_seam old w.added))
 
--- the wakers that a call put, where calls before and behind it took none away
 pub woken_between : (first before after last : ℕ → Option ConnectState) (old new : List Waker) → ((p : ℕ) → waker_of (before p) ≡ waker_of (first p)) → AreWoken before after old new →
     ((p : ℕ) → waker_of (last p) ≡ waker_of (after p)) → AreWoken first last old new
 woken_between first before after last old new h w k =
     woken_onwards first after last old new new (woken_onwards first before after old old new (woken_still first before old h) w) (woken_still after last new k)
 
--- a call between two that take wakers away leaves the connects as they are
 pub woken_along : (first before between after : ℕ → Option ConnectState) (old mid new : List Waker) → AreWoken first before old mid → ((p : ℕ) → between p ≡ before p) → AreWoken between after mid new →
     AreWoken first after old new
 woken_along first before between after old mid new a h b =

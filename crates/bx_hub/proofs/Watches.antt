@@ -1,4 +1,4 @@
--- What a shard says of a waker holds of what then became of the connect.
+-- The result of registering a waker is true of the connect afterwards.
 use Rattle.std.proofs.Common.{ℕ, ◌≡◌, Bool, true, false, nat_eq, if◌then◌else◌, Option, Some, None, refl, sym, ◌∙◌, ap, subst}
 use Rattle.std.proofs.lemmas.Bool.{eq-eqb}
 use Rattle.bx_connects.specs.Words.{watched, with_waker}
@@ -8,7 +8,6 @@ use Rattle.bx_shard.specs.States.{State, Watched, connect_in}
 use Rattle.bx_hub.specs.Watches.{HoldsOf, IsBack}
 use Rattle.futures.specs.declared.task.waker.Waker.{Waker}
 
--- a ticket of its own
 pub own_ticket : (shard index : ℕ) → shard ≡ index → nat_eq shard index ≡ true
 own_ticket shard index same = eq-eqb shard index same
 
@@ -42,6 +41,5 @@ back false waker (Some (Held session deadline older)) = tt
 back true waker (Some (Filed session place answer)) = refl
 back false waker (Some (Filed session place answer)) = refl
 
--- what is said of a waker that is not stored has that waker
 pub back_of : (shut : Bool) (waker : Waker) (c : Option ConnectState) (said : Watch) → said ≡ watched shut waker c → IsBack waker said
 back_of shut waker c said is = subst (λ (w : Watch). IsBack waker w) (sym is) (back shut waker c)

@@ -1,4 +1,4 @@
--- Why posts are refused, and how many shards lag.
+-- Why posts are not admitted, and how many shards lag.
 use Rattle.std.specs.Prelude.{ℕ, ◌≡◌, ◌≢◌, ◌+◌, ◌<◌, List}
 use Rattle.bx_entry.specs.declared.input.AdmitFault.{AdmitFault}
 use Rattle.bx_entry.specs.declared.input.AdmitFault.TheVariants as admissions
@@ -18,7 +18,7 @@ of_admission admissions.Memory = Memory
 abbrev pub count_of : Lagging → ℕ
 count_of l = l.memory + l.overrun + l.paused + l.closed + l.misplaced
 
--- The counts with one more shard, stopped by this fault.
+-- The counts with one more shard, which this fault stopped.
 abbrev pub one_more : HubFault → Lagging → Lagging
 one_more stops.Closed l = record l { closed = l.closed + 1 }
 one_more stops.Paused l = record l { paused = l.paused + 1 }
@@ -32,7 +32,7 @@ IsStopped (stops.Overrun shard place) index front = (shard ≡ index) × (place 
 IsStopped (stops.Misplaced found) index front = found ≢ index
 IsStopped _ index front = Unit {0}
 
--- `Overrun` reports the shard's own place.
+-- `Overrun` reports the shard's position.
 abbrev pub IsAt : HubFault → ℕ → Type 0
 IsAt (stops.Overrun shard place) stood = place ≡ stood
 IsAt _ stood = Unit {0}

@@ -41,7 +41,7 @@ taken_by (Err e) place taken = taken
 abbrev pub answer_over : Config → List LogStep → ℕ → Option Answer
 answer_over config log place = option_map given_of (answer config (list_of log) place)
 
--- Under its lock, the ticket's shard was at the end of `front` and had no answer for the ticket.
+-- A possible state of the ticket's shard: at the end of `front`, without an answer for the ticket.
 pub record IsLevelWithout (setup : Setup) (ticket : Ticket) (front : List LogStep) : Type 0 where
   pub held : Held
   pub stands : Stands setup held

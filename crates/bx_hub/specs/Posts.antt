@@ -1,4 +1,4 @@
--- What a post or a tick returns, and why it is refused.
+-- What a post or a tick returns, and why it is not admitted.
 use Rattle.std.specs.Prelude.{ℕ, ◌≡◌, ◌≢◌, ◌+◌, ◌<◌, ◌≤◌, ◌⊎◌, ◌^◌, List, length, take, drop, Some, None}
 use mathlib.Core.List.{IsPrefix}
 use Rattle.bx_registry.specs.Slots.{admitted_slots}
@@ -28,7 +28,7 @@ AreSlotsAt setup input first front slots = slots ≡ admitted_slots setup (take 
 abbrev pub IsFull : ℕ → List LogStep → Type 0
 IsFull first front = (length (firsts_of front) ≡ MAX_BATCHES) × (begin_of front ≡ first) × (first + MAX_BATCHES ≤ length (list_of front))
 
--- The input adds messages or a tick, and only the full window refuses it at the end of `front`.
+-- The input is allowed at the end of `front` and adds entries, but the window is full.
 pub record IsFullFor (input : ReadInput) (first : ℕ) (front : List LogStep) : Type 0 where
   pub allowed : refusal_of (length (list_of front)) input ≡ None
   pub some : 0 < length (added_by input)

@@ -39,6 +39,7 @@ abbrev pub input_by : Result (List Message) BodyError → Input → List Input
 input_by (Ok ms) input = where_any ms input
 input_by (Err fault) input = []
 
+-- What is recorded of an input, as it arrived.
 abbrev pub inputs_from : Input → List Input
 inputs_from (Post a) = input_by (arrival_messages a) (Post a)
 inputs_from (Tick moment) = Tick moment ∷ []
@@ -48,7 +49,7 @@ pub record EndsIn (all last : List Input) : Type 0 where
   pub before : List Input
   pub is : all ≡ before ++ last
 
--- The list that `inputs` make, in order.
+-- The list that `inputs` result in.
 abbrev pub list_by : List Input → List Listed
 list_by inputs = flat_map (λ input. added_by (read_input input)) inputs
 

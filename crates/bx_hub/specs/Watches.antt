@@ -1,4 +1,4 @@
--- What becomes of a waker, and which waker a call returns.
+-- The results of registering a waker, and which waker a call returns.
 use Rattle.std.specs.Prelude.{ℕ, ◌≡◌, ◌≤◌, Bool, true, Option, Some, None, is_some}
 use Rattle.bx_connects.specs.Connects.{filed_answer}
 use Rattle.bx_connects.specs.Waking.{waker_of}
@@ -10,7 +10,7 @@ use Rattle.futures.specs.declared.task.waker.Waker.{Waker}
 
 -- What each result claims about the connect, and about the shard before the call.
 -- `Stored`: the waker is registered with the connect. The others return it. `Ready`: an answer is
--- filed. `Unknown`: no connect is known. `Shut`: the shard was shut, and no answer is filed.
+-- filed. `Unknown`: no connect is known. `Shut`: the shard is closed, and no answer is filed.
 abbrev pub HoldsOf : Bool → Waker → Option ConnectState → Watch → Type 0
 HoldsOf shut waker connect (Stored older) = waker_of connect ≡ Some waker
 HoldsOf shut waker connect (Ready given) = (is_some (filed_answer connect) ≡ true) × (given ≡ waker)

@@ -1,4 +1,4 @@
-//! Whether a shard applies entries.
+//! The activity of a shard.
 
 /// Whether a shard applies entries.
 #[derive(Clone, Copy)]
@@ -7,6 +7,6 @@ pub(crate) enum Activity {
     Active,
     /// The shard applies nothing until it is resumed.
     Paused,
-    /// The hub is closed.
+    /// The hub is closed, and the shard applies nothing any more.
     Closed,
 }

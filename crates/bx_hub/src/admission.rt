@@ -1,4 +1,4 @@
-//! The state guarded by the admission lock.
+//! The state that the admission lock guards.
 ghost use Rattle.std.specs.Prelude.{◌≡◌, ◌<◌, ◌≤◌, ◌++◌, ◌⊎◌, drop, length, [], None, Some, true, false, is_some, IfOk, IfErr, IfSome, IfNone, MatchOption, OnOk, OnErr};
 ghost use Rattle.std.specs.Option.{ForSome};
 ghost use Rattle.std.specs.List.{All};
@@ -63,6 +63,10 @@ impl<J: Naming, R: Wait + Drop> Admission<J, R> {
     ghost use Rattle.bx_hub.specs.Recordings.{EndsBefore, GoesOn};
 
     /// Creates an open admission with an empty list.
+    ///
+    /// # Errors
+    ///
+    /// `AllocError` if memory runs out.
     pub(crate) fn new(
         alloc: Global,
         config: Config,
@@ -83,13 +87,18 @@ impl<J: Naming, R: Wait + Drop> Admission<J, R> {
 
     /// Appends a request or a tick to the list and to the record.
     ///
-    /// Returns what is left of `wanted`, to be dropped after admission is unlocked. A request
+    /// Also returns what is left of `wanted`, to be dropped after admission is unlocked. A request
     /// without messages appends nothing.
     ///
     /// # Errors
     ///
-    /// `wanted`, with `Closed`, `Refused` (its moment, or the length of the list or its log) or
-    /// `Behind` (the window is full), tested in this order; or with `Memory`. Nothing is appended.
+    /// `wanted`, with the first of these that applies; nothing is appended:
+    ///
+    /// - `Closed`: admission is closed.
+    /// - `Refused`: the moment is too large, or the list or its log too long.
+    /// - `Behind`: the window is full.
+    /// - `Memory`: memory ran out, at any step, or an earlier change still cannot be shown to
+    ///   readers.
     pub(crate) fn admit<P: Placing>(
         &mut self,
         alloc: Global,
@@ -132,7 +141,7 @@ impl<J: Naming, R: Wait + Drop> Admission<J, R> {
         }
     }
 
-    // Adds what was just listed to the record. If that fails, the record ends at `before`.
+    // Records what was just admitted. If that fails, the record ends at `before`.
     fn record(
         &mut self,
         alloc: Global,
@@ -195,7 +204,7 @@ impl<J: Naming, R: Wait + Drop> Admission<J, R> {
         self.record_end = None;
     }
 
-    /// Returns how many bytes of an active record wait to be written, or 0 without one.
+    /// Returns how many bytes wait to be written, or 0 if there is no record or it has ended.
     pub(crate) fn record_waiting(&self) -> usize
         ensures { MatchOption self.now.recording (result ≡ 0) (λ r. result ≡ length r.waiting) }
     {
@@ -413,7 +422,7 @@ impl<J: Naming, R: Wait + Drop> Admission<J, R> {
         self.closed
     }
 
-    /// Closes admission, and returns evidence of that, with no shard closed yet.
+    /// Closes admission, and returns evidence of that. No shard is closed yet.
     pub(crate) fn close(&mut self) -> AllChanged<J>
         ensures closed { self.new.closed ≡ true }
         ensures none { (result.change.value ≡ changes.Shut) × (result.done ≡ []) }

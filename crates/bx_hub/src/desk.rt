@@ -1,4 +1,4 @@
-//! A shard's state, guarded by its lock.
+//! The state that a shard's lock guards.
 ghost use Rattle.std.specs.Prelude.{◌≡◌, ◌+◌, ◌<◌, ◌≤◌, ◌⊎◌, ◌++◌, ◌∷◌, [], length, take, nat_eq, ℕ, if◌then◌else◌, is_some, true, Ok, Some, None, OnOk, IfOk, IfErr, IfSome, IfNone};
 ghost use Rattle.std.specs.Arc.{arc_value};
 ghost use mathlib.Core.List.{IsPrefix};
@@ -94,7 +94,7 @@ impl<J: Naming, P: Placing> Desk<J, P> {
         self.shard.place()
     }
 
-    /// Returns what the reader has seen, of which the longest note is a prefix.
+    /// Returns what the reader has seen. The longest note is a prefix of it.
     pub(crate) fn front(&self) -> Front<J>
         ensures all { result ≡ self.now.reader }
         ensures longer { IsPrefix self.now.note result }
@@ -109,7 +109,8 @@ impl<J: Naming, P: Placing> Desk<J, P> {
         self.shard.index()
     }
 
-    // Advances the shard as `bring_to` does, and returns the fault that stopped it, if any.
+    // Advances the shard as `bring_to` does. Fails if the shard is closed or paused, or if it stops
+    // before the end of the longest note.
     fn bring<G: Gate>(
         &mut self,
         alloc: Global,
@@ -173,7 +174,7 @@ impl<J: Naming, P: Placing> Desk<J, P> {
     /// Advances the shard as [`bring_to`](Self::bring_to) does, and returns its position.
     ///
     /// Also returns which wakers it added to `wakers`. Only an overrun is an error. After any other
-    /// fault, the shard stays at the position that is returned.
+    /// fault, the returned position is where the shard stopped.
     ///
     /// # Errors
     ///
@@ -210,7 +211,7 @@ impl<J: Naming, P: Placing> Desk<J, P> {
         }
     }
 
-    // Learns `note`, and keeps the longer note.
+    // Learns `note`, and stores it if it is the longest.
     fn learn(&mut self, note: &Front<J>)
         ensures old { IsPrefix self.old.note self.new.note }
         ensures told { IsPrefix note.now self.new.note }
@@ -340,7 +341,7 @@ impl<J: Naming, P: Placing> Desk<J, P> {
     /// # Errors
     ///
     /// If no answer is filed: `Closed`, `Paused`, `Overrun` or `Memory`, whichever stopped the
-    /// shard.
+    /// shard. No answer is taken.
     #[tactic(auto, using(crate::proofs::Held::over_longer))]
     pub(crate) fn poll<G: Gate>(
         &mut self,
@@ -501,7 +502,7 @@ impl<J: Naming, P: Placing> Desk<J, P> {
     }
 }
 
-// Ghost: the places of the messages whose answers a sweep drops.
+// Ghost: the places of the messages that lose their answers in a sweep.
 struct SweptPlaces;
 
 impl<'a, P: Placing> Lists<(u64, &'a Shard<P>), u64> for SweptPlaces {

@@ -29,7 +29,7 @@ pub struct TickReceipt<J: Naming> {
     pub brought: AllBrought<J>,
 }
 
-/// Number of shards that lag, by what stopped them.
+/// How many shards lag, by what stopped them.
 #[derive(Clone, Copy, Debug, PartialEq, Eq)]
 pub struct Lagging {
     /// Memory ran out.
@@ -89,16 +89,18 @@ impl Lagging {
     }
 }
 
-/// The reason why a post or a tick is refused.
+/// The reason why a post or a tick was not admitted.
 #[derive(Clone, Copy, Debug, PartialEq, Eq)]
 pub enum PostFault {
-    /// A rule refuses the post or tick.
+    /// The post or tick is rejected by a rule.
     ///
     /// `Ended` also means that the window's log has no room for another step.
     Refused(Refusal),
     /// The hub is closed.
     Closed,
-    /// The window is full: some shard has not applied the oldest batch, which begins at `first`.
+    /// The window is full: a shard has not applied all of the oldest batch.
+    ///
+    /// `first`: the place at which that batch begins.
     Behind { first: u64 },
     /// The window is full, and begins after `place`, the position of `shard`.
     Overrun { shard: usize, place: u64 },

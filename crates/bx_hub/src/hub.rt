@@ -28,8 +28,8 @@ use std::alloc::{AllocError, Global};
 use std::snapshot::Snapshot;
 use std::sync::{Arc, Mutex, MutexGuard, Wait};
 
-// Posts trim the window at each multiple of this place, so that its memory is reused while it is in
-// a processor's cache. Policy of this server.
+// Posts trim the window when the list's length reaches or passes a multiple of this. The window's
+// memory is then reused while it is in a processor's cache. Policy of this server.
 const TRIM_EVERY: u64 = 64;
 
 /// The part of a hub's list that a caller has seen.
@@ -121,7 +121,7 @@ impl<J: Naming, P: Placing, G: Gate + Drop, R: Wait + Drop> Hub<J, P, G, R> {
     /// Appends a request to the list and advances every shard.
     ///
     /// Consumes `arrival` on success and returns it on error. A request without messages appends
-    /// nothing. Trims the window at each multiple of `TRIM_EVERY`.
+    /// nothing. Trims the window when the list's length reaches or passes a multiple of 64.
     ///
     /// # Errors
     ///

@@ -1,12 +1,12 @@
-//! Requests and ticks that can be listed.
+//! Requests and ticks that can be admitted.
 ghost use Rattle.std.specs.Prelude.{◌≡◌, ◌∷◌, [], MatchBool};
 
 use crate::reading::Reading;
 use bx_entry::Arrival;
 
-/// A request whose documents were read, or a tick.
+/// A request with its messages, or a tick.
 ///
-/// Appending it to the list consumes it, so it is listed at most once.
+/// Admission consumes it, so it is appended to the list at most once.
 #[derive(Drop)]
 pub(crate) enum Listable {
     Request(Reading),
@@ -14,9 +14,9 @@ pub(crate) enum Listable {
     Tick(u64),
 }
 
-/// What is left of a listed request or tick, to be dropped without a lock.
+/// What is left of an admitted request or tick, to be dropped after unlocking.
 ///
-/// It cannot be listed again.
+/// It cannot be admitted again.
 #[derive(Drop)]
 pub(crate) struct Spent {
     listed: Listable,
@@ -26,7 +26,7 @@ impl Listable {
     ghost use Rattle.bx_hub.specs.Listables.{arrival_of};
     ghost use Rattle.bx_hub.specs.Records.{input_in, inputs_by};
 
-    /// Returns `true` unless it is a request without messages, which adds nothing to the list.
+    /// Returns `true` unless `self` is a request without messages, which appends nothing.
     pub(crate) fn adds(&self) -> bool
         ensures { MatchBool result (inputs_by self.now ≡ input_in self.now ∷ []) (inputs_by self.now ≡ []) }
     {
@@ -36,7 +36,7 @@ impl Listable {
         }
     }
 
-    /// Converts it after it was listed.
+    /// Converts `self` after its admission.
     pub(crate) fn into_spent(self) -> Spent
         ensures { result.listed ≡ self }
     {

@@ -1,4 +1,4 @@
-//! A request whose documents have been read.
+//! Requests with their messages.
 ghost use Rattle.std.specs.Prelude.{◌≡◌, List, Ok, IfOk, IfErr};
 ghost use Rattle.bx_entry.specs.Requests.{arrival_messages};
 
@@ -12,7 +12,7 @@ pub use unlisted::Unlisted;
 
 /// A request with its messages, which its listener allows.
 ///
-/// Appending it to the list consumes it, so it is listed at most once.
+/// Admission consumes it, so it is appended to the list at most once.
 #[derive(Drop)]
 pub(crate) struct Reading {
     arrival: Arrival,
@@ -31,8 +31,8 @@ impl Reading {
     ///
     /// # Errors
     ///
-    /// `arrival`, with the reason: its documents are not messages, its listener forbids them, or
-    /// memory ran out.
+    /// `arrival`, with the reason: its documents are not messages, its listener forbids the
+    /// messages, or memory ran out.
     pub(crate) fn of<J: Naming>(
         alloc: Global,
         arrival: Arrival,
@@ -61,7 +61,7 @@ impl Reading {
         self.messages.as_slice()
     }
 
-    /// Converts it back to the request.
+    /// Converts `self` back to the request.
     pub(crate) fn into_arrival(self) -> Arrival
         ensures { result ≡ self.arrival }
     {

@@ -1,4 +1,4 @@
-//! The record of what is listed, until it is written.
+//! The record of admitted requests and ticks, until it is written.
 ghost use Rattle.std.specs.Prelude.{◌≡◌, ◌≢◌, ◌+◌, ◌<◌, ◌++◌, ◌∷◌, [], None, false, length, OnErr, OnOk, IfErr, IfOk};
 ghost use Rattle.std.specs.List.{AllByRecursion};
 ghost use Rattle.bx_hub.specs.Records.{documents_in, input_in, inputs_by, list_by, record_props};
@@ -19,9 +19,9 @@ use std::marker::PhantomData;
 use std::mem;
 use std::sync::Wait;
 
-/// A front of the hub's list, up to which a record goes.
+/// A front of the hub's list that a record has reached.
 ///
-/// Its requests and ticks result in exactly its list, and each of them can be recorded.
+/// Its requests and ticks result in exactly its list, and all of them can be recorded.
 #[derive(Drop)]
 pub struct RecordFront<J: Naming> {
     front: Front<J>,
@@ -39,7 +39,7 @@ impl<J: Naming> RecordFront<J> {
         RecordFront { front }
     }
 
-    /// Returns the length of its list.
+    /// Returns how many entries its list has.
     pub fn place(&self) -> u64
         ensures { result ≡ length (list_of self.now.front) }
     {
@@ -92,13 +92,13 @@ impl<J: Naming> Unrecorded<J> {
     }
 }
 
-/// A record: the lines that wait to be written.
+/// The lines of a record that wait to be written.
 ///
-/// They follow the text of the record up to `from`, where lines were last taken.
+/// They follow the record's text up to `from`, which was taken before.
 #[derive(Drop)]
 pub(crate) struct Recording<J: Naming> {
     from: RecordFront<J>,
-    // Ghost: what was listed since the record began.
+    // Ghost: all requests and ticks recorded since the record began.
     inputs: History<Input>,
     waiting: Waiting,
     ghost whole: { record_of (inputs_of from.front) ++ waiting ≡ record_of inputs },
@@ -129,8 +129,11 @@ impl<J: Naming> Recording<J> {
     ///
     /// # Errors
     ///
-    /// `Unsayable` if no line can hold the request, `Full` if more than 64 MiB would wait, or
-    /// `Memory`. Nothing has changed.
+    /// The first of these that applies; nothing has changed:
+    ///
+    /// - `Unsayable`: no line can hold the request.
+    /// - `Full`: more than 64 MiB would wait.
+    /// - `Memory`: memory ran out, at any step.
     #[tactic(auto, using(crate::proofs::Records::all_recordable))]
     pub(crate) fn add(&mut self, alloc: Global, listed: &Listable) -> Result<(), RecordFault>
         requires { inputs_by listed.now ≡ input_in listed.now ∷ [] }
@@ -147,7 +150,8 @@ impl<J: Naming> Recording<J> {
 
     /// Takes all bytes that wait, and leaves the empty buffer `empty` in their place.
     ///
-    /// They are the record's text from the last call up to `upto`. Does not allocate or copy.
+    /// They are the record's text from where the last call ended up to `upto`. Does not allocate or
+    /// copy.
     pub(crate) fn take(&mut self, upto: Front<J>, empty: Vec<u8>) -> Chunk<RecordFront<J>>
         requires inputs { self.old.inputs ≡ inputs_of upto }
         requires listed { list_by self.old.inputs ≡ list_of upto }
@@ -162,7 +166,9 @@ impl<J: Naming> Recording<J> {
     }
 }
 
-/// Returns the ghost list of what a record has of `wanted`: nothing for a request without messages.
+/// Returns the ghost list of what is recorded of `wanted`.
+///
+/// It is empty for a request without messages, and otherwise has the request or tick.
 pub(crate) fn inputs_by(wanted: &Listable) -> History<Input>
     ensures { result ≡ inputs_by wanted.now }
 {
@@ -186,7 +192,7 @@ fn text_of(alloc: Global, listed: &Listable) -> Result<Vec<u8>, RecordFault>
     }
 }
 
-// Ghost: what a record has of a request or tick.
+// Ghost: what is recorded of a request or a tick.
 struct Recorded;
 
 impl<'a> Lists<&'a Listable, Input> for Recorded {

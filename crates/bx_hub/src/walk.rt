@@ -61,7 +61,9 @@ impl<J: Naming> Least<J> {
     }
 }
 
-/// The result of advancing all shards to a note, in a circle that starts at `first`.
+/// The result of advancing all shards to a note.
+///
+/// The first shard to advance is `first`. After the last shard, shard 0 follows.
 #[derive(Drop)]
 pub struct AllBrought<J: Naming> {
     note: Snapshot<Front<J>>,
@@ -77,8 +79,8 @@ pub struct AllBrought<J: Naming> {
 impl<J: Naming> AllBrought<J> {
     /// Creates the result before any of `shards` shards has advanced to `note`.
     ///
-    /// The first shard to advance is at the list's length modulo `shards`, so that threads that
-    /// advance them at the same time mostly start at different ones.
+    /// The index of the first shard to advance is the length of the note's list modulo `shards`.
+    /// Threads that advance shards at the same time therefore mostly start at different ones.
     pub(crate) fn new(note: &Front<J>, shards: usize) -> AllBrought<J>
         ensures { (result.note.value ≡ note.now) × (result.shards ≡ shards) × (result.stays ≡ []) }
     {
@@ -91,7 +93,7 @@ impl<J: Naming> AllBrought<J> {
         }
     }
 
-    /// Returns the index of the shard to advance at `step`.
+    /// Returns the index of the shard to advance at `step`, counted from 0.
     pub(crate) fn index_at(&self, step: usize) -> usize
         requires { step < self.now.shards }
         ensures { (result ≡ walked_at self.now.first self.now.shards step) × (result < self.now.shards) }
@@ -131,11 +133,11 @@ impl<J: Naming> AllBrought<J> {
 
 /// Evidence that a change was applied to all shards in turn, as [`Changed`] is for one.
 ///
-/// Admission is closed before any shard is.
+/// For [`Change::Shut`], admission was closed before.
 #[derive(Drop)]
 pub struct AllChanged<J: Naming> {
     change: Snapshot<Change>,
-    // Ghost: how many answers each shard dropped.
+    // Ghost: how many answers each shard dropped, in the order of the shards.
     done: History<usize>,
     dropped: usize,
     of: PhantomData<J>,

@@ -17,7 +17,7 @@ use std::sync::atomic::{AtomicBool, AtomicU64, Ordering};
 use std::sync::{Arc, Wait};
 use std::test::*;
 
-/// One of the two tasks.
+/// One of the two waiting tasks.
 #[derive(Clone, Copy, Debug)]
 pub enum Task {
     First,
@@ -33,14 +33,18 @@ pub struct Waiting {
     pub second: MockTask,
     /// Whether the first task was woken while a call held the lock of shard `home`.
     pub woken_under_lock: AtomicBool,
-    /// Calls of the gate before an advance.
+    /// How often the gate was called before an advance.
     pub before: AtomicU64,
-    /// Calls of the gate after an advance.
+    /// How often the gate was called after an advance.
     pub after: AtomicU64,
 }
 
 impl Waiting {
     /// Creates two tasks that are not woken, and counters at 0.
+    ///
+    /// # Errors
+    ///
+    /// [`Fail`] if memory runs out.
     pub fn new<R: Wait + AllocGlobal + RandomSource>(rt: &R, home: usize) -> Result<Waiting, Fail> {
         let first = MockTask::new(rt)?;
         let second = MockTask::new(rt)?;
@@ -105,7 +109,7 @@ pub enum Watched {
     Shut,
 }
 
-/// Returns a count of `paused` paused shards that lag, and no others.
+/// Returns the counts if only `paused` shards lag, because they are paused.
 pub fn behind(paused: usize) -> Lagging {
     Lagging {
         paused,
@@ -120,7 +124,7 @@ pub struct Bench<J: Naming, H: Wait + Drop> {
     pub hub: Hub<J, ByTable, Looking, H>,
     pub pass: Pass<J>,
     pub waiting: Arc<Waiting, Global>,
-    /// The last request that was refused.
+    /// The last request that was not admitted.
     pub back: Option<Arrival>,
     /// The older waker that the hub returned last.
     pub older: Option<Waker>,
@@ -136,6 +140,10 @@ impl<J: Naming, H: Wait + Drop> Bench<J, H> {
     }
 
     /// Posts `body`, and checks that it gets `place` and that its answer is pending.
+    ///
+    /// # Errors
+    ///
+    /// [`Refused`] if the post fails.
     pub fn wait<R: Wait + Abort>(&mut self, rt: &R, body: &str, place: u64) -> Result<(), Refused> {
         let posted = post(rt, self.alloc, &self.hub, &mut self.pass, body)?;
         same(rt, posted, (place, Some(self.ticket(place))), body);
@@ -143,6 +151,10 @@ impl<J: Naming, H: Wait + Drop> Bench<J, H> {
     }
 
     /// Opens three sessions, and subscribes and connects the first and third, at places 5 and 6.
+    ///
+    /// # Errors
+    ///
+    /// [`Refused`] if a post fails.
     pub fn hold_two<R: Wait + Abort>(&mut self, rt: &R) -> Result<(), Refused> {
         for body in [HANDSHAKE, HANDSHAKE, HANDSHAKE, SUBSCRIBE, SUBSCRIBE_THIRD] {
             post(rt, self.alloc, &self.hub, &mut self.pass, body)?;
@@ -152,6 +164,10 @@ impl<J: Naming, H: Wait + Drop> Bench<J, H> {
     }
 
     /// Opens the second session and publishes with another pass, then extends `self.pass` to it.
+    ///
+    /// # Errors
+    ///
+    /// [`Refused`] if a post fails.
     pub fn publish_apart<R: Wait>(&mut self, rt: &R) -> Result<(), Refused> {
         let mut other = self.hub.pass();
         publish(rt, self.alloc, &self.hub, &mut other)?;
@@ -161,7 +177,11 @@ impl<J: Naming, H: Wait + Drop> Bench<J, H> {
 
     /// Posts `arrival`, and returns its first place and how many shards lag.
     ///
-    /// A refused request must come back with `body`, and is stored in `back`.
+    /// A request that is not admitted must come back with `body`, and is stored in `back`.
+    ///
+    /// # Errors
+    ///
+    /// The hub's fault.
     pub fn post<R: Wait + Abort>(
         &mut self,
         rt: &R,
@@ -179,6 +199,10 @@ impl<J: Naming, H: Wait + Drop> Bench<J, H> {
     }
 
     /// Posts pings and checks each, as described at `Step::Pings`.
+    ///
+    /// # Errors
+    ///
+    /// [`Fail`] if memory runs out for a ping.
     pub fn pings<R: Wait + Abort>(
         &mut self,
         rt: &R,
@@ -196,6 +220,12 @@ impl<J: Naming, H: Wait + Drop> Bench<J, H> {
     }
 
     /// Appends a tick, and returns its place.
+    ///
+    /// `moment`: milliseconds since the server started.
+    ///
+    /// # Errors
+    ///
+    /// The hub's fault.
     pub fn tick<R: Wait>(&mut self, rt: &R, moment: u64) -> Result<u64, PostFault> {
         match self.hub.tick(rt, self.alloc, &mut self.pass, moment) {
             Ok(ticked) => Ok(ticked.place),
@@ -204,6 +234,10 @@ impl<J: Naming, H: Wait + Drop> Bench<J, H> {
     }
 
     /// Registers a waker of `task`, and stores an older one that the hub returns.
+    ///
+    /// # Errors
+    ///
+    /// [`Fail`] if memory runs out for the waker.
     pub fn watch<R: Wait>(&mut self, rt: &R, ticket: Ticket, task: Task) -> Result<Watched, Fail> {
         let waker = waker(self.waiting.task(task))?;
         let (said, _watching) = self.hub.watch(rt, ticket, waker);
@@ -218,9 +252,13 @@ impl<J: Naming, H: Wait + Drop> Bench<J, H> {
         }
     }
 
-    /// Takes `length` bytes out of the record, and checks them and `fault`.
+    /// Takes `length` bytes of the record, and checks their number and `fault`.
     ///
-    /// As many bytes must be pending before, or none if the record has a fault.
+    /// Before, `length` bytes must wait, or none if the record has a fault.
+    ///
+    /// # Errors
+    ///
+    /// [`Fail`] if nothing is recorded.
     pub fn take_record<R: Wait + Abort>(
         &self,
         rt: &R,
@@ -239,7 +277,11 @@ impl<J: Naming, H: Wait + Drop> Bench<J, H> {
         }
     }
 
-    /// Takes the record's pending bytes, and checks that they are `lines`.
+    /// Takes all bytes of the record that wait, and checks that they are `lines`.
+    ///
+    /// # Errors
+    ///
+    /// [`Fail`] if nothing is recorded or memory runs out.
     pub fn take_lines<R: Wait + Abort>(
         &self,
         rt: &R,

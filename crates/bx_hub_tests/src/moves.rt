@@ -1,4 +1,4 @@
-//! Test that types may move to other threads.
+//! Test that types can move to other threads.
 use bx_entry::{Batch, Entry};
 use bx_window::{Bundle, Front, LogReader, LogWriter, Naming, Next, Opened, PublishedBatch, Ring};
 use std::alloc::Global;
@@ -23,7 +23,7 @@ fn values_move() {
     moves::<Opened>();
 }
 
-// Shows that the window's types are `Send`, by compiling.
+// Checks, by compiling, that the window's types are `Send`.
 #[test]
 fn types_move(rt: HostRuntime) {
     let _ = rt.alloc();

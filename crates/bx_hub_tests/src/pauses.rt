@@ -16,8 +16,8 @@ const PUBLISHED: Survey = Survey {
 
 // Each run has its own hub.
 const RUNS: [&[Step]; 2] = [
-    // A paused shard that has the whole list does not lag. Later the window fills up, and posts are
-    // refused until the shard resumes. An index past the last shard is unknown.
+    // A paused shard that has the whole list does not lag. Later the window fills up, and posts
+    // fail until the shard resumes. An index past the last shard is unknown.
     &[
         Step::NoShard(2),
         Step::Pause,
@@ -29,7 +29,7 @@ const RUNS: [&[Step]; 2] = [
         Step::Resume,
         Step::Again(PING, Ok(4_096)),
     ],
-    // Of two paused shards one resumes, and the other still lags. Resuming twice does no harm.
+    // Two shards are paused. If one resumes, the other still lags. Resuming twice has no effect.
     &[
         Step::PauseShard(0),
         Step::PauseShard(1),
@@ -96,7 +96,7 @@ const RUNS_RIDING: [&[Step]; 1] = [
     ],
 ];
 
-// Shows that a paused shard applies nothing, and continues when resumed.
+// Checks that a paused shard applies nothing, and continues when it is resumed.
 #[test]
 fn a_shard_stands_still(rt: HostRuntime) -> Result<(), Fail> {
     check_runs(&rt, &[0, 1], false, &RUNS)?;

@@ -15,16 +15,16 @@ const PING_LINE: &str = "0 P [{\"channel\":\"/meta/ping\"}]\n";
 
 const TICK_LINE: &str = "5 T\n";
 
-// Length of 63 lines, each with the longest ping that a line can hold.
+// Length in bytes of 63 lines, each with the longest ping that a line can hold.
 const WAITING: usize = 63 * (BODY_LIMIT + 5);
 
-// Length of a ping whose line would then exceed the limit of 64 MiB by one byte.
+// Length in bytes of a ping with a line that would then exceed the limit of 64 MiB by one byte.
 const TOO_LONG: usize = 67_108_864 - WAITING - 4;
 
 // Each run has its own hub.
 const RUNS: [&[Step]; 4] = [
-    // The record has what was appended, once and in order, without refused or empty requests. It
-    // cannot start again.
+    // The record has what was appended, once and in order, without rejected ticks and empty
+    // requests. It cannot start again.
     &[
         Step::Starts(true),
         Step::Lines(&[], None),
@@ -49,7 +49,7 @@ const RUNS: [&[Step]; 4] = [
         Step::NoRecord,
         Step::Post(PING, 3, 0),
     ],
-    // The record ends when more than 64 MiB would be pending, here by one byte.
+    // The record ends when more than 64 MiB would wait to be written, here by one byte.
     &[
         Step::Starts(true),
         Step::Pings(0, 63, BODY_LIMIT, 0),
@@ -71,7 +71,7 @@ const RUNS: [&[Step]; 4] = [
     ],
 ];
 
-// Shows that the record has what was appended to the list, and when it ends.
+// Checks that the record has what was appended to the list, and when it ends.
 #[test]
 fn a_record_has_what_is_listed(rt: HostRuntime) -> Result<(), Fail> {
     check_runs(&rt, &[1], false, &RUNS)

@@ -31,22 +31,23 @@ pub enum Step {
     HoldTwo,
     /// Opens the second session and publishes an event that the first one gets.
     Publish,
-    /// Publishes likewise with another pass, then extends the caller's pass to it.
+    /// Does the same with another pass, then extends the caller's pass to it.
     PublishApart,
-    /// Posts a request, which gets this place, or would with messages. This many paused shards lag.
+    /// Posts a request, which gets this place, or would get it if it had messages. This many paused
+    /// shards lag.
     Post(&'static str, u64, usize),
     /// Posts a connect or rider, which gets this place. Its answer is pending.
     Wait(&'static str, u64),
-    /// Posts pings from the first place to before the second, in bodies of at least this length.
-    /// This many paused shards lag.
+    /// Posts pings from the first place to before the second. Their bodies have at least this many
+    /// bytes. This many paused shards lag.
     Pings(u64, u64, usize, usize),
-    /// Posts a request that is refused and comes back.
+    /// Posts a request that is not admitted and comes back.
     Refused(&'static str, PostFault),
-    /// Posts the request that came back. It gets this place, and no shard lags, or is refused.
+    /// Posts the request that came back. It gets this place, and no shard lags, or it fails again.
     Again(&'static str, Result<u64, PostFault>),
-    /// Appends a tick of this moment at this place, or is refused.
+    /// Posts a tick of this moment. It gets this place, or is not admitted.
     Tick(u64, Result<u64, PostFault>),
-    /// Checks the window's beginning and the list's length, as the caller's pass has them.
+    /// Checks where the window begins and where the list ends, in the caller's pass.
     Seen(u64, u64),
     /// Checks the survey of the list.
     List(Survey),
@@ -54,17 +55,20 @@ pub enum Step {
     Finds(u64, &'static str, Found),
     /// Polls and watches in vain at shard 2, which does not exist or has no session.
     Elsewhere,
-    /// Pauses or resumes the first session's shard.
+    /// Pauses the first session's shard.
     Pause,
+    /// Resumes the first session's shard.
     Resume,
-    /// Pauses or resumes the shard with this index.
+    /// Pauses the shard with this index.
     PauseShard(usize),
+    /// Resumes the shard with this index.
     ResumeShard(usize),
     /// Checks that no shard has this index.
     NoShard(usize),
-    /// Checks the first session's shard: its place, its held connects and its filed answers.
+    /// Checks the first session's shard: its position, and how many connects are held and answers
+    /// filed.
     Stands(u64, usize, usize),
-    /// Sweeps the answers filed by entries below this place, and checks their number.
+    /// Sweeps the answers filed by entries before this place, and checks how many were dropped.
     Sweep(u64, usize),
     Close,
     /// Registers a waker of this task at this place, and checks the result.
@@ -74,7 +78,7 @@ pub enum Step {
     /// Starts a record, and checks whether it started.
     Starts(bool),
     Stops,
-    /// Checks how many bytes of the record are pending.
+    /// Checks how many bytes wait to be written to the record.
     Waits(usize),
     /// Takes this many bytes of the record, with its fault if it ended.
     Takes(usize, Option<RecordFault>),
@@ -84,7 +88,7 @@ pub enum Step {
     NoRecord,
 }
 
-// Does a step that appends to the list or is refused, and passes others to `ask`.
+// Runs a step that posts or ticks, and passes other steps to `ask`.
 fn take<J: Naming, H: Wait + Drop, R: Wait + Abort>(
     rt: &R,
     bench: &mut Bench<J, H>,
@@ -120,7 +124,7 @@ fn take<J: Naming, H: Wait + Drop, R: Wait + Abort>(
     Ok(())
 }
 
-// Does a step that polls, watches, sweeps, closes or pauses, and passes others to `look`.
+// Runs a step that polls, watches, sweeps, closes, pauses or resumes, and passes others to `look`.
 fn ask<J: Naming, H: Wait + Drop, R: Wait + Abort>(
     rt: &R,
     bench: &mut Bench<J, H>,
@@ -155,7 +159,7 @@ fn ask<J: Naming, H: Wait + Drop, R: Wait + Abort>(
     Ok(())
 }
 
-// Does a step that inspects the hub or uses its record.
+// Runs a step that inspects the hub or uses its record.
 fn look<J: Naming, H: Wait + Drop, R: Wait + Abort>(
     rt: &R,
     bench: &mut Bench<J, H>,
@@ -196,7 +200,7 @@ fn look<J: Naming, H: Wait + Drop, R: Wait + Abort>(
     Ok(())
 }
 
-// Does all steps. The gate must be called, and as often after advances as before them.
+// Runs all steps, and checks that the gate is called as often after advances as before them.
 fn take_all<J: Naming, H: Wait + Drop, R: Wait + Abort>(
     rt: &R,
     bench: &mut Bench<J, H>,
@@ -240,7 +244,7 @@ fn run_in_hub<J: Naming, R: Wait + Abort>(
     take_all(rt, &mut bench, steps)
 }
 
-// Does a run over a new hub. `home`: the first session's shard; `ride`: whether events ride.
+// Runs all steps with a new hub. `home`: the first session's shard; `ride`: whether events ride.
 fn check_run<R: Wait + Abort + AllocGlobal + RandomSource>(
     rt: &R,
     home: usize,
@@ -263,7 +267,13 @@ fn check_run<R: Wait + Abort + AllocGlobal + RandomSource>(
     run_in_hub::<Brand, _>(rt, alloc, Opened::new(), config, placing, gates, steps)
 }
 
-/// Does each run once for each of `homes`, the first session's shard, with a new hub.
+/// Runs each of `runs` with a new hub, once for each of `homes`, the first session's shard.
+///
+/// `ride`: whether replies of riders carry waiting events.
+///
+/// # Errors
+///
+/// [`Fail`] if memory runs out, or a call fails unexpectedly.
 pub fn check_runs<R: Wait + Abort + AllocGlobal + RandomSource>(
     rt: &R,
     homes: &[usize],

@@ -9,7 +9,7 @@ const TWO_PINGS: &str = r#"[{"channel":"/meta/ping"},{"channel":"/meta/ping"}]"#
 
 // Each run has its own hub.
 const RUNS: [&[Step]; 8] = [
-    // Refuses a truncated body and a late tick. A request without messages adds nothing.
+    // A truncated body and a late tick are rejected. A request without messages appends nothing.
     &[
         Step::Refused("[", PostFault::Refused(Refusal::Body(BodyError::NotJson))),
         Step::Seen(0, 0),
@@ -29,7 +29,7 @@ const RUNS: [&[Step]; 8] = [
         Step::Sweep(5, 0),
         Step::Elsewhere,
     ],
-    // An answer that nobody took is swept once, by the place of the entry that filed it.
+    // An answer that was not taken is swept once, by the place of the entry that filed it.
     &[
         Step::Hold,
         Step::Publish,
@@ -48,7 +48,7 @@ const RUNS: [&[Step]; 8] = [
         Step::Sweep(6, 2),
         Step::Sweep(6, 0),
     ],
-    // A tick trims the window to what some shard lacks. The caller sees that with its next call.
+    // A tick trims the window up to the lowest position of a shard. The caller's next call sees it.
     &[
         Step::Post(HANDSHAKE, 0, 0),
         Step::Post(HANDSHAKE, 1, 0),
@@ -68,7 +68,7 @@ const RUNS: [&[Step]; 8] = [
         Step::Tick(0, Ok(8)),
         Step::Seen(8, 9),
     ],
-    // A post trims the window if any of its messages reaches a multiple of 64 places.
+    // A post trims the window if its messages make the list reach or pass a multiple of 64 entries.
     &[
         Step::Pings(0, 63, 0, 0),
         Step::Post("[]", 63, 0),
@@ -87,14 +87,14 @@ const RUNS: [&[Step]; 8] = [
         Step::Post("[]", 193, 0),
         Step::Seen(193, 193),
     ],
-    // A filed answer outlives a trim.
+    // A filed answer can be taken after a trim.
     &[
         Step::Hold,
         Step::Publish,
         Step::Pings(5, 64, 0, 0),
         Step::Finds(2, ANSWER, Found::Wanted),
     ],
-    // A closed hub refuses requests and ticks, and still returns a filed answer, once.
+    // A closed hub admits no requests and ticks, and still returns a filed answer, once.
     &[
         Step::Hold,
         Step::Publish,
@@ -110,7 +110,7 @@ const RUNS: [&[Step]; 8] = [
     ],
 ];
 
-// Shows the results of posts, ticks, polls and sweeps, and when the window is trimmed.
+// Checks the results of posts, ticks, polls and sweeps, and when the window is trimmed.
 #[test]
 fn one_thread(rt: HostRuntime) -> Result<(), Fail> {
     check_runs(&rt, &[1], false, &RUNS)

@@ -1,4 +1,4 @@
-//! Tests of held connects' wakers.
+//! Tests of the wakers of held connects.
 use crate::bench::{Task, Watched};
 use crate::steps::{Step, check_runs};
 use bx_calls::{ANSWER, ANSWER_THIRD, Found, PING, PUBLISH, TICKED};
@@ -29,7 +29,7 @@ const RUNS: [&[Step]; 4] = [
         Step::Finds(5, ANSWER, Found::Wanted),
         Step::Finds(6, ANSWER_THIRD, Found::Wanted),
     ],
-    // A poll advances a shard that was paused, and so wakes the task of another connect in it.
+    // A poll advances a shard that was paused. This wakes the task of another connect in the shard.
     &[
         Step::HoldTwo,
         Step::Watch(5, Task::First, Watched::Stored(false)),
@@ -42,8 +42,8 @@ const RUNS: [&[Step]; 4] = [
         Step::Woken(Task::Second, true),
         Step::Finds(6, ANSWER_THIRD, Found::Wanted),
     ],
-    // A post to a full window advances a shard that was paused, and so wakes the task. The post is
-    // still refused, because the other shard lags.
+    // A post to a full window advances a shard that was paused, and so wakes the task. The post
+    // still fails, because the other shard lags.
     &[
         Step::Hold,
         Step::Watch(2, Task::First, Watched::Stored(false)),
@@ -62,7 +62,7 @@ const RUNS: [&[Step]; 4] = [
 
 const RUNS_ANYWHERE: [&[Step]; 2] = [
     // A newer waker returns the older one. The publish that answers the connect wakes the task, and
-    // the answer is there until it is taken. A ticket of no shard or of another one is unknown.
+    // the answer is filed until it is taken. A ticket of a missing or another shard is unknown.
     &[
         Step::Hold,
         Step::Elsewhere,
@@ -86,7 +86,7 @@ const RUNS_ANYWHERE: [&[Step]; 2] = [
     ],
 ];
 
-// Shows which calls wake a task, and that the shard's lock is free then.
+// Checks which calls wake a task, and that its shard is not locked then.
 #[test]
 fn a_task_is_woken(rt: HostRuntime) -> Result<(), Fail> {
     check_runs(&rt, &[0, 1], false, &RUNS)?;

@@ -1,4 +1,4 @@
-//! Tests of what readers of a window find, as tables of steps.
+//! Tests of what the readers of a window find, as tables of steps.
 ghost use Rattle.std.specs.Prelude.{◌≡◌, [], IfOk};
 
 use crate::same::same;
@@ -20,8 +20,8 @@ enum Found {
     Memory,
 }
 
-// A step of a run by one writer, with its expected result. The first of two readers looks,
-// unless the step names the other.
+// A step of a run with one writer and two readers, with its expected result. Steps look with the
+// first reader, unless they name the other.
 #[derive(Clone, Copy, Debug)]
 enum Step {
     // Publishes a batch of this many ticks.
@@ -32,7 +32,7 @@ enum Step {
     Trim(u64),
     // The first reader looks at this place.
     Finds(u64, Found),
-    // Each place from the first to before the second has a batch of its own.
+    // Each place from the first to before the second has its own batch.
     FindsEach(u64, u64),
     // The other reader looks at this place.
     OtherFinds(u64, Found),
@@ -40,11 +40,12 @@ enum Step {
     Begin(u64),
     // The first place of the window for the writer.
     WriterBegin(u64),
-    // The other reader, which has seen nothing, learns the first one's note of this many entries.
+    // The other reader, which has seen nothing, learns the first reader's note, with this many
+    // entries.
     Told(u64),
-    // The other reader learns the writer's front of this many steps.
+    // The other reader learns the writer's front, which has this many steps.
     ToldByWriter(u64),
-    // The writer's front of this many entries and steps covers the first reader's shorter one.
+    // The writer's front, with this many entries and steps, covers the first reader's shorter one.
     Covers(u64, u64),
 }
 
@@ -102,7 +103,8 @@ const RUNS: [&[Step]; 6] = [
         Step::FindsEach(1, 4_096),
         Step::Finds(4_098, Found::Level),
     ],
-    // A reader that learns a note has seen as much, without looking. An older note has no effect.
+    // A reader that learns a note has seen what the note has, without looking. An older note has no
+    // effect.
     &[
         Step::Publish(3, Taken::Published),
         Step::Finds(3, Found::Level),
@@ -233,7 +235,7 @@ fn ask<J: Naming, R: Wait + Abort>(
     take_all(rt, alloc, &mut writer, &mut reader, &mut other, steps)
 }
 
-// Shows what readers find while one writer publishes and trims.
+// Checks what readers find while one writer publishes and trims.
 #[test]
 fn one_writer(rt: HostRuntime) -> Result<(), Fail> {
     for steps in RUNS {

@@ -1,4 +1,4 @@
--- What an answer gives is the event of an accepted publish of the list, which the session got.
+-- Each event in an answer is that of an accepted publish that reached the session.
 use Rattle.std.proofs.Common.{◌≡◌, ℕ, ◌<◌, Option, Some, None, List, [], ◌∷◌, ◌++◌, length, drop, find, option_map, slice_get, ◌==◌, refl, sym, ap, ◌∙◌, subst, arith}
 use Rattle.bx_advice.specs.declared.config.Config.{Config}
 use Rattle.bx_message.specs.declared.{event.Event.Event, message_kind.MessageKind.MessageKind}
@@ -13,7 +13,7 @@ use Rattle.bx_theory.specs.Events.{GetsPublish, EachEvent, WasPublished, GivenWa
 use Rattle.bx_theory.proofs.{Counts.unopened_in_step, Moves.each_map, Rising.each_of_take, Rising.each_of_drop, Lists.find_each, Gained.events_were_published}
 use Rattle.bx_theory.proofs.Runs.{Grown, run_grown, all_places}
 
--- ---- a publish entry stands where the list has a publish
+-- ---- The entry of a publish is at its place in the list
 
 pub record FromPost (x : Listed) (e : Event) : Type 0 where
   pub message : Posted
@@ -41,7 +41,7 @@ of_post config r x = each_verdict config r (λ y v. OfPost y v.kind) (record {
   ticks = λ moment e k. cc;
 }) x
 
--- ---- an answer's events are the session's
+-- ---- The events of an answer are events of its session
 
 slice_each : (P : Publication → Type 0) (events : List Publication) (f : Filed) → EachOf P events → Slice events 0 f.publications → EachOf P f.publications
 slice_each P events f d s = subst (EachOf P) (sym s.is) (each_of_take P s.count (drop s.from events) (each_of_drop P s.from events d))
@@ -56,9 +56,8 @@ each_event : (P : Publication → Type 0) (Q : Event → Type 0) (ps : List Publ
 each_event P Q [] h d = tt
 each_event P Q (p ∷ ps) h d = (h p d.0, each_event P Q ps h d.1)
 
--- ---- the law
+-- ---- The law
 
--- where the publish stands of which a publication is
 pub record Source (list : List Listed) (p : Publication) : Type 0 where
   pub before : List Listed
   pub element : Listed

@@ -1,4 +1,4 @@
--- A held connect stays held until the first entry that ends it, and is answered there.
+-- A held connect stays held until the first entry that ends the hold, which answers it.
 use Rattle.std.proofs.Common.{◌≡◌, ℕ, Bool, true, false, Option, Some, List, [], ◌∷◌, ◌++◌, fold, ◌==◌, refl, sym, ap, ◌∙◌, subst, append_assoc, arith}
 use Rattle.std.proofs.lemmas.{Bool.cond-true, Grind.common_steps}
 use Rattle.bx_advice.specs.declared.{config.Config.Config, advice.Outcome.Outcome}
@@ -11,12 +11,11 @@ use Rattle.bx_entry.specs.Sessions.{Session, Publication, Pending, Filed, ack_gi
 use Rattle.bx_theory.specs.Readings.{ends_by, ending_events, ending_outcome, HeldReading, EndingReading}
 use Rattle.bx_theory.proofs.{Counts.ride_both, Keeps.Keeps, Keeps.freed_k, Keeps.ride_k}
 
--- ---- what doesn't end it
+-- ---- Entries that do not end the hold
 
 step_by_held : (config : Config) (place moment : ℕ) (s : Session) (p : Pending) (k : EntryKind) → s.held ≡ Some p → ends_by config s p moment k ≡ false → (step_by config place moment s k).held ≡ Some p
 step_by_held config place moment s p k h e = grind (arith, common_steps)
 
--- a rider leaves it
 ride_held : (config : Config) (place : ℕ) (s : Session) (rides : Option Rider) (p : Option Pending) → s.held ≡ p → (ridden_by config place s rides).held ≡ p
 ride_held config place s rides p h = grind (arith, common_steps)
 
@@ -24,9 +23,8 @@ pub held_reading : HeldReading
 held_reading config s p [] h n = h
 held_reading config s p (e ∷ es) h n = held_reading config (step config s e) p es (ride_held config e.place (step_by config e.place e.moment s e.kind) (rider_of e.kind e.rides) (Some p) (step_by_held config e.place e.moment s p e.kind h n.0)) n.1
 
--- ---- what ends it
+-- ---- Entries that end it
 
--- the connect is answered at this place, before anything else, with these events and so
 record Ends (config : Config) (p : Pending) (now : ℕ) (given : List Publication) (outcome : Outcome) (s t : Session) : Type 0 where
   answer : Filed
   others : List Filed
@@ -58,12 +56,10 @@ connected_here config q acked s p h =
     answered_then config p q.place [] (Failed SupersededConnect) s (released config q.place (Failed SupersededConnect) s) (connected config q acked s)
     (released_here config q.place (Failed SupersededConnect) s p h) (freed_k config q acked s) refl
 
--- an entry of any other kind than a connect answers it alone
 abbrev is_connecting : EntryKind → Bool
 is_connecting (Connect n client id acked hold) = true
 is_connecting _ = false
 
--- the answer, behind which the session is as t
 abbrev answer_in : Config → Pending → ℕ → EntryKind → Session → Filed
 answer_in config p place k t = record { connect = p.place; place = place; publications = ending_events place k; reply = connect_reply config p.client p.id (ending_outcome k) (ack_given t.ack t.num (ending_outcome k)) }
 

@@ -16,19 +16,15 @@ use Rattle.bx_message.specs.Texts.{array as array_text}
 use Rattle.bx_laws.specs.ReadBack.{ReadsAs, Row, members_in, count, advice_rows, ext_data, error_data, succeeds, for_handshake, connection_types, AdviceFits, AckFits, reply_rows, event_rows, RepliesReadBack, EventsReadBack, BodiesReadBack}
 use Rattle.bx_laws.proofs.Written.{Value, deeper, read_value, value_read, text_value, count_value, Written, written_more, written_one, object_value, object_is, array_value}
 
--- these texts of members are those of the rows
 record Rows (levels : ℕ) (ms : List (List ℕ)) (rows : List Row) : Type 0 where
   are : Written levels ms rows
 
--- so with one row
 abbrev OneRow : ℕ → List (List ℕ) → List ℕ → Option Data → Type 0
 OneRow levels ms name d = Rows levels ms ((name, d) ∷ [])
 
--- a row in front of others
 more : {levels : ℕ} {row : Row} {rows : List Row} {a b : List (List ℕ)} → Rows levels a (row ∷ []) → Rows levels b rows → Rows levels (a ++ b) (row ∷ rows)
 more {levels} {row} {rows} {a} {b} h w = record { are = written_more levels row rows a b h.are w.are }
 
--- a row whose member is there
 one : (levels : ℕ) (name text : List ℕ) (d : Data) → Value levels text d → OneRow levels (member name text ∷ []) name (Some d)
 one levels name text d x = record { are = written_one levels name text d x }
 
@@ -91,7 +87,7 @@ version_row : (levels : ℕ) (message_kind : MessageKind) → OneRow levels (ver
 version_row levels MessageKind.Handshake = text_row levels (codes "version") (Some (codes "1.0"))
 version_row levels _ = record { are = refl }
 
--- ---- the laws
+-- ---- The laws
 
 nested : (a b c d e f g h i : List (List ℕ)) → a ++ (b ++ (c ++ (d ++ (e ++ (f ++ (g ++ (h ++ i))))))) ≡ a ++ b ++ c ++ d ++ e ++ f ++ g ++ h ++ i
 nested a b c d e f g h i = simp append_assoc

@@ -1,4 +1,4 @@
--- What comes by the readers' door alone is no session's event.
+-- Requests through the read-only listener give no session an event.
 use Rattle.std.proofs.Common.{◌≡◌, ℕ, ◌+◌, ◌||◌, ◌==◌, Bool, true, false, cond, List, [], ◌∷◌, ◌++◌, length, map, Option, Some, None, Result, Ok, Err, refl, sym, ap, ◌∙◌, subst}
 use Rattle.std.specs.Prelude.{fold}
 use Rattle.std.specs.List.{AllByRecursion}
@@ -20,7 +20,7 @@ use Rattle.bx_theory.proofs.Gained.{events_were_published}
 use Rattle.bx_laws.specs.Readers.{IsOfReaders, IsQuiet, ReadersPublishNothing}
 use Rattle.bx_laws.proofs.Given.{Source, source_of}
 
--- ---- the list
+-- ---- The list
 
 abbrev AreQuiet : List Listed → Type 0
 AreQuiet xs = AllByRecursion IsQuiet xs
@@ -63,7 +63,7 @@ all_quiet t (input ∷ inputs) h k =
     let read : ReadInput = read_input input in
     all_quiet (take_in t read) inputs (taken_quiet t read (refusal_of (length t.list) read) h (input_quiet input k.0)) k.1
 
--- ---- events
+-- ---- Events
 
 no_source : (list : List Listed) (p : Publication) → AreQuiet list → is_broadcast p.event.channel ≡ true → Source list p → ⊥
 no_source list p h loud s =

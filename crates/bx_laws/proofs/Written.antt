@@ -1,4 +1,4 @@
--- Texts that are written from values read back as them.
+-- Texts that are written from values read back as those values.
 use Rattle.std.proofs.Common.{◌≡◌, ℕ, suc, ◌^◌, ◌<◌, ◌≤◌, Bool, true, false, ◌&&◌, List, [], ◌∷◌, ◌++◌, map, decimal, Some, None, option_map, option_and_then, refl, sym, ap, ◌∙◌, subst, arith}
 use Rattle.std.proofs.lemmas.{List.append-nil, List.append_assoc, List.drop_all, Bool.and_parts}
 use Rattle.std.specs.{List.join_with_byte, List.list_all, List.prefix_len, Ordering.nat_cmp, Ordering.match_ordering, Cmp.Lexicographic.slice_cmp}
@@ -28,12 +28,11 @@ use Rattle.bx_message.specs.Texts as texts
 use Rattle.bx_laws.specs.ReadBack.{read_within, Row, members_in, names_in, keys, stands_behind, Ascend, IsObjectOf, AllReadAs}
 use Rattle.bx_message.proofs.ObjectLemmas.{joined}
 
--- ---- a value wherever it stands
+-- ---- A value anywhere in a text
 
 abbrev pub Reads : List ℕ → Json → Type 0
 Reads v j = (b : Bool) (z : List ℕ) → Fits z → punctuate (start b) (lex between (v ++ z)) ≡ json_tokens j ++ punctuate after_value (lex between z)
 
--- the text of a value, with what the grammar has for it
 pub record Value (levels : ℕ) (v : List ℕ) (d : Data) : Type 0 where
   pub tree : Json
   pub reads : Reads v tree
@@ -60,7 +59,6 @@ blank_of w h =
     let same : w ≡ blanks w = split_blanks w ∙ ap (λ (t : List ℕ). blanks w ++ t) nothing ∙ append-nil (blanks w) in
     subst Blank (sym same) (Blank-blanks w)
 
--- what reads as a value does so wherever it stands
 pub read_value : (levels : ℕ) (v : List ℕ) (d : Data) → read_within levels v ≡ Some d → Value levels v d
 read_value levels v d e =
     let w = whole_within levels v d e in
@@ -79,7 +77,7 @@ read_value levels v d e =
       shallow = w.shallow;
     }
 
--- ---- texts and numbers
+-- ---- Texts and numbers
 
 string_reads : (b : Bool) (s : List ℕ) (ls : List Lexeme) → begins_colon ls ≡ false → punctuate (start b) (lexeme.token (token.string s) ∷ ls) ≡ token.string s ∷ punctuate after_value ls
 unfolding punctuate
@@ -115,13 +113,12 @@ count_value n h = record {
   shallow = omega arith;
 }
 
--- ---- what commas separate
+-- ---- Elements that commas separate
 
 abbrev pub after_commas : List (List ℕ) → List ℕ
 after_commas [] = []
 after_commas (m ∷ ms) = 44 ∷ (m ++ after_commas ms)
 
--- a closing bracket, or a comma, may stand behind a value
 brace_fits : (ms : List (List ℕ)) (z : List ℕ) → Fits (after_commas ms ++ (125 ∷ z))
 unfolding lex
 brace_fits [] z = (refl, refl)
@@ -136,15 +133,13 @@ comma_lex : (b : ℕ) (m rest z : List ℕ) → punctuate after_value (lex betwe
 unfolding lex punctuate
 comma_lex b m rest z = ap (λ (t : List ℕ). punctuate after_comma (lex between t)) (append_assoc m rest z)
 
--- ---- objects
+-- ---- Objects
 
--- these texts of members are those of the rows that are there
 abbrev pub Written : ℕ → List (List ℕ) → List Row → Type 0
 Written levels ms [] = ms ≡ []
 Written levels ms ((name, None) ∷ rows) = Written levels ms rows
 Written levels ms ((name, Some d) ∷ rows) = (text : List ℕ) × (rest : List (List ℕ)) × (ms ≡ texts.member name text ∷ rest) × Value levels text d × Written levels rest rows
 
--- the rows one after another go into an object
 abbrev pub put_all : List Row → Members → Members
 put_all [] found = found
 put_all ((name, None) ∷ rows) found = put_all rows found
@@ -204,7 +199,7 @@ listed levels ms ((name, None) ∷ rows) w =
 listed levels ms ((name, Some d) ∷ rows) w =
     subst (λ (l : List (List ℕ)). Listed levels l ((name, Some d) ∷ rows)) (sym w.2) (listed_more levels name w.0 d w.1 rows w.3 (listed levels w.1 rows w.4))
 
--- ---- ascending names stay in their order
+-- ---- Ascending names keep their order
 
 abbrev joined_members : Members → Members → Members
 joined_members no_members ns = ns
@@ -252,7 +247,7 @@ put_rows before ((name, Some d) ∷ rows) found above rise =
     rise.1
     ∙ ap (λ (ms : Members). joined_members ms (members_in rows)) (put_last name d found (above name rise.0)) ∙ joined-assoc found one (members_in rows)
 
--- ---- whole objects
+-- ---- Whole objects
 
 opened : (b : Bool) (xs : List ℕ) → punctuate (start b) (lex between (123 ∷ xs)) ≡ begin_object ∷ punctuate fresh (lex between xs)
 unfolding lex punctuate
@@ -282,16 +277,14 @@ module _ (levels : ℕ) (ms : List (List ℕ)) (rows : List Row) (w : Written le
     ascend = rise;
   }
 
--- one more row in front of others
 pub written_more : (levels : ℕ) (row : Row) (rows : List Row) (a b : List (List ℕ)) → Written levels a (row ∷ []) → Written levels b rows → Written levels (a ++ b) (row ∷ rows)
 written_more levels (name, None) rows a b h w = subst (λ (l : List (List ℕ)). Written levels (l ++ b) rows) (sym h) w
 written_more levels (name, Some d) rows a b h w = (h.0, b, ap (λ (l : List (List ℕ)). l ++ b) (h.2 ∙ ap (λ (l : List (List ℕ)). texts.member name h.0 ∷ l) h.4), h.3, w)
 
--- a member that is there
 pub written_one : (levels : ℕ) (name text : List ℕ) (d : Data) → Value levels text d → Written levels (texts.member name text ∷ []) ((name, Some d) ∷ [])
 written_one levels name text d x = (text, [], refl, x, refl)
 
--- ---- arrays
+-- ---- Arrays
 
 pub record ListedItems (levels : ℕ) (vs : List (List ℕ)) (ds : Items) : Type 0 where
   pub trees : json.Items

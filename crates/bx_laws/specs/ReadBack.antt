@@ -27,7 +27,7 @@ ReadsAs levels None (Some d) = ⊥
 ReadsAs levels (Some text) None = ⊥
 ReadsAs levels (Some text) (Some d) = read_within levels text ≡ Some d
 
--- The texts read as the items, one by one.
+-- Each text reads as the item at its position.
 abbrev pub AllReadAs : ℕ → List (List ℕ) → Items → Type 0
 AllReadAs levels [] no_items = ⊤
 AllReadAs levels [] (item d ds) = ⊥
@@ -57,7 +57,7 @@ abbrev pub keys : json.Members → List (List ℕ)
 keys json.no_members = []
 keys (json.member k j ms) = k ∷ keys ms
 
--- Whether name `n` comes after `m` in byte order.
+-- Whether the name `n` comes after `m` in byte order.
 abbrev pub stands_behind : List ℕ → List ℕ → Bool
 stands_behind n m = match_ordering (slice_cmp nat_cmp n m) false false true
 
@@ -83,7 +83,7 @@ count n = number (unsigned n)
 abbrev pub advice_rows : Advice → List Row
 advice_rows a = (codes "interval", Some (count a.interval)) ∷ (codes "reconnect", Some (string (reconnect_text a.reconnect))) ∷ (codes "timeout", option_map count a.timeout) ∷ []
 
--- An object whose only member is `ack`.
+-- An object with the only member `ack`.
 abbrev pub ack_object : Data → Data
 ack_object d = object (members_in ((codes "ack", Some d) ∷ []))
 
@@ -103,7 +103,7 @@ abbrev pub succeeds : Outcome → Bool
 succeeds (Failed error) = false
 succeeds _ = true
 
--- Only a reply to a handshake has the connection types and the version.
+-- A value that only the reply to a handshake has.
 abbrev pub for_handshake : MessageKind → Data → Option Data
 for_handshake MessageKind.Handshake d = Some d
 for_handshake _ d = None
@@ -112,7 +112,7 @@ for_handshake _ d = None
 abbrev pub connection_types : Data
 connection_types = array (item (string (codes "long-polling")) (item (string (codes "callback-polling")) no_items))
 
--- The members of a reply whose `id` and `subscription` read as these values. Bayeux 1.0, the
+-- The members of a reply, if its `id` and `subscription` read as these values. Bayeux 1.0, the
 -- responses of the meta messages and of publish; CometD's acknowledgement extension.
 abbrev pub reply_rows : Reply → Option Data → Option Data → List Row
 reply_rows r id subscription =
@@ -138,7 +138,7 @@ AckFits NoAck = ⊤
 AckFits AckTrue = ⊤
 AckFits (AckNumber n) = n < 2 ^ 64
 
--- What the sender wrote reads as these values, and the numbers fit their types.
+-- The parts of a reply that a client wrote read as these values, and its numbers fit in 64 bits.
 pub record ReplyParts (levels : ℕ) (r : Reply) (id subscription : Option Data) : Type 0 where
   pub id_reads : ReadsAs levels r.id id
   pub subscription_reads : ReadsAs levels r.subscription subscription
@@ -151,7 +151,7 @@ RepliesReadBack = (levels : ℕ) (r : Reply) (id subscription : Option Data) →
 
 -- ---- Events and responses
 
--- The members of an event whose `data` and `id` read as these values. Bayeux 1.0, event messages.
+-- The members of an event, if its `data` and `id` read as these values. Bayeux 1.0, event messages.
 abbrev pub event_rows : Event → Data → Option Data → List Row
 event_rows e payload id = (codes "channel", Some (string e.channel)) ∷ (codes "data", Some payload) ∷ (codes "id", id) ∷ []
 

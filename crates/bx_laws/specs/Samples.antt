@@ -19,7 +19,7 @@ use Rattle.std.specs.List.{join_with_byte}
 
 -- ---- Messages
 
--- A message with nothing but a channel.
+-- A message with only a channel.
 abbrev pub blank : List ℕ → Message
 blank channel = record { channel = channel; id = None; client = Absent; version = Absent; supported = []; connection = Absent; subscription = None; texts = []; listed = false; payload = None; ack = NoAck; timeout = None }
 
@@ -27,7 +27,7 @@ blank channel = record { channel = channel; id = None; client = Absent; version 
 abbrev pub id_of : ℕ → List ℕ
 id_of k = client_id 0 k
 
--- A message by session `k`.
+-- A message of session `k`.
 abbrev pub of_session : List ℕ → ℕ → Message
 of_session channel k = record (blank channel) { client = Text (id_of k) }
 
@@ -158,7 +158,7 @@ failed message_kind channel client error = ReplyItem (reply message_kind channel
 abbrev pub many : ReadInput
 many = post 0 (replicate 256 (publish 1 (codes "/a/b") (codes "1")))
 
--- A session with 1,024 waiting events.
+-- A run after which a session has 1,024 waiting events.
 abbrev pub four_batches : List ReadInput
 four_batches = post 0 (handshake ∷ []) ∷ post 0 (subscribe 1 (codes "/a/b") ∷ []) ∷ many ∷ many ∷ many ∷ many ∷ []
 
@@ -168,7 +168,7 @@ full_batch = replicate 256 (event (codes "/a/b") (codes "1")) ++ connected 1 ∷
 
 -- ---- Texts
 
--- A response's body, or the empty text for a refusal.
+-- The body of a response, or the empty text for a refusal.
 abbrev pub text_by : Result (List Item) Refusal → List ℕ
 text_by (Ok items) = body_text items
 text_by (Err refusal) = []
@@ -179,7 +179,7 @@ texts config inputs = map (λ (o : Out). text_by o.result) (outs config inputs)
 
 -- ---- More messages
 
--- Messages with one fault each, and one without a fault.
+-- A request of messages with one fault each, and one without a fault.
 abbrev pub refused_messages : List ReadInput
 refused_messages = post 0 (handshake ∷ []) ∷ post 0 (
     blank (codes "/meta/ping") ∷ blank (codes "/meta/connect") ∷ record (blank (codes "/meta/disconnect")) { client = Text (codes "nobody") }
@@ -209,7 +209,7 @@ riding = record standard { ride = true; anonymous = true }
 abbrev pub crowded : ℕ → Config
 crowded room = record standard { limits = record standard_limits { sessions = room } }
 
--- Publishes by a subscriber, by another session and by none.
+-- Publishes of a subscriber, of another session and of none.
 abbrev pub ridden_publishes : List ReadInput
 ridden_publishes =
     post 0 (handshake ∷ []) ∷ post 0 (handshake ∷ []) ∷ post 0 (subscribe 1 (codes "/a/*") ∷ []) ∷ post 0 (publish 2 (codes "/a/x") (codes "1") ∷ [])
@@ -217,13 +217,13 @@ ridden_publishes =
     ∷ post 0 (publish 1 (codes "/a/z") (codes "5") ∷ publish 2 (codes "/b") (codes "6") ∷ []) ∷ post 0 (anonymous (codes "/a/w") (codes "8") ∷ [])
     ∷ post 0 (connect_now 1 ∷ []) ∷ post 0 (disconnect 1 ∷ []) ∷ []
 
--- Two publishes in one request by a session with a held connect.
+-- A request with two publishes of a session that has a held connect.
 abbrev pub ridden_hold : List ReadInput
 ridden_hold =
     post 0 (handshake ∷ []) ∷ post 0 (subscribe 1 (codes "/a/*") ∷ []) ∷ post 0 (connect 1 ∷ [])
     ∷ post 0 (publish 1 (codes "/a/x") (codes "1") ∷ publish 1 (codes "/a/y") (codes "2") ∷ []) ∷ []
 
--- `ms` and then a publish by session 1, a subscriber, in one request; then its connect.
+-- A request with `ms` and then a publish of session 1, a subscriber, followed by its connect.
 abbrev pub ridden_behind : List Message → List ReadInput
 ridden_behind ms =
     post 0 (handshake ∷ []) ∷ post 0 (handshake ∷ []) ∷ post 0 (subscribe 1 (codes "/a/*") ∷ [])

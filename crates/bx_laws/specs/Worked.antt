@@ -68,14 +68,14 @@ HandshakeWithId =
     outs standard (post 0 (record handshake { id = Some (codes "\"1\"") } ∷ []) ∷ [])
     ≡ out 0 (ReplyItem (record (reply MessageKind.Handshake (codes "/meta/handshake") (Some (id_of 1)) Opened AckReply.NoAck) { id = Some (codes "\"1\"") }) ∷ []) ∷ []
 
--- A handshake that is refused for its version takes no session number.
+-- A handshake that is rejected for its version uses no session number.
 abbrev pub RefusedHandshake : Type 0
 RefusedHandshake =
     outs standard (post 0 (versioned (codes "2.0") ∷ []) ∷ post 0 (handshake ∷ []) ∷ [])
     ≡ out 0 (ReplyItem (reply MessageKind.Handshake (codes "/meta/handshake") None (Failed UnsupportedVersion) AckReply.NoAck) ∷ [])
     ∷ out 1 (handshaken 1 ∷ []) ∷ []
 
--- A request's second handshake is refused and takes no session number.
+-- The second handshake of a request is rejected and uses no session number.
 abbrev pub TwoHandshakes : Type 0
 TwoHandshakes =
     outs standard (post 0 (handshake ∷ handshake ∷ []) ∷ post 0 (handshake ∷ []) ∷ [])
@@ -110,7 +110,7 @@ SessionlessPublish =
     outs open_to_all (post 0 (handshake ∷ []) ∷ post 0 (subscribe 1 (codes "/a/*") ∷ []) ∷ post 10 (connect 1 ∷ []) ∷ post 20 (anonymous (codes "/a/b") (codes "7") ∷ []) ∷ [])
     ≡ out 0 (handshaken 1 ∷ []) ∷ out 1 (subscribed 1 (codes "/a/*") ∷ []) ∷ out 2 (event (codes "/a/b") (codes "7") ∷ connected 1 ∷ []) ∷ out 3 (published (codes "/a/b") ∷ []) ∷ []
 
--- Without `--anonymous`, a sessionless publish is refused.
+-- Without `--anonymous`, a sessionless publish is rejected.
 abbrev pub SessionlessRefused : Type 0
 SessionlessRefused =
     outs standard (post 0 (anonymous (codes "/a/b") (codes "7") ∷ []) ∷ []) ≡ out 0 (failed MessageKind.Publish (codes "/a/b") None NoClientId ∷ []) ∷ []
@@ -126,13 +126,13 @@ MatchedTwice =
     ∷ out 1 (subscribed 1 (codes "/a/*") ∷ subscribed 1 (codes "/a/**") ∷ published (codes "/a/b") ∷ published (codes "/a") ∷ [])
     ∷ out 2 (event (codes "/a/b") (codes "1") ∷ connected 1 ∷ []) ∷ []
 
--- A publish to a service channel succeeds but reaches nobody, even if a pattern matches.
+-- A publish to a service channel succeeds but reaches no session, even if a pattern matches.
 abbrev pub ServicePublish : Type 0
 ServicePublish =
     outs standard (post 0 (handshake ∷ []) ∷ post 0 (subscribe 1 (codes "/**") ∷ publish 1 (codes "/service/x") (codes "1") ∷ []) ∷ post 0 (connect_now 1 ∷ []) ∷ [])
     ≡ out 0 (handshaken 1 ∷ []) ∷ out 1 (subscribed 1 (codes "/**") ∷ published (codes "/service/x") ∷ []) ∷ out 2 (connected 1 ∷ []) ∷ []
 
--- Data and id are repeated byte for byte.
+-- The data and the id of a publish are repeated byte for byte.
 abbrev pub SenderBytes : Type 0
 SenderBytes =
     outs standard (post 0 (handshake ∷ []) ∷ post 0 (subscribe 1 (codes "/a/b") ∷ []) ∷ post 0 (record (publish 1 (codes "/a/b") (codes "{\"a\" : 1.50}")) { id = Some (codes "\"q\"") } ∷ []) ∷ post 0 (connect_now 1 ∷ []) ∷ [])
@@ -142,8 +142,8 @@ SenderBytes =
 
 -- ---- Riders
 
--- Waiting events are sent before a request's last reply if all its messages are from their session.
--- Otherwise they wait on.
+-- Waiting events are sent before the last reply of a request if all messages of the request come
+-- from their session. Otherwise they still wait.
 abbrev pub EventsRide : Type 0
 EventsRide =
     outs riding ridden_publishes
@@ -175,7 +175,7 @@ NothingRides =
     ∷ out 8 (event (codes "/a/x") (codes "1") ∷ event (codes "/a/y") (codes "3") ∷ event (codes "/a/z") (codes "5") ∷ event (codes "/a/w") (codes "8") ∷ connected 1 ∷ [])
     ∷ out 9 (disconnected 1 ∷ []) ∷ []
 
--- A request with a refused message has no rider.
+-- A request with a rejected message has no rider.
 abbrev pub NothingRidesBehindRefused : Type 0
 NothingRidesBehindRefused =
     outs riding (ridden_behind (publish 1 (codes "/a/*") (codes "0") ∷ [])) ≡ waits_behind (failed MessageKind.Publish (codes "/a/*") None InvalidChannel ∷ [])
@@ -226,7 +226,7 @@ BatchesRepeat =
     ∷ out 7 (event (codes "/a/y") (codes "2") ∷ event (codes "/a/z") (codes "3") ∷ ack_connected 1 2 ∷ [])
     ∷ out 8 (ack_connected 1 2 ∷ []) ∷ []
 
--- A number above the last batch's acknowledges all that was sent, however often it comes.
+-- A number above that of the last batch acknowledges all that was sent, however often it comes.
 abbrev pub GreatNumber : Type 0
 GreatNumber =
     outs standard (
@@ -297,7 +297,7 @@ HoldExtends =
     ≡ out 0 (handshaken 1 ∷ []) ∷ out 1 (subscribed 1 (codes "/a/b") ∷ []) ∷ out 2 (event (codes "/a/b") (codes "1") ∷ connected 1 ∷ []) ∷ out 3 (published (codes "/a/b") ∷ []) ∷ out 4 []
     ∷ out 5 (published (codes "/a/b") ∷ []) ∷ out 6 [] ∷ out 7 [] ∷ out 8 (unknown_client MessageKind.Connect (codes "/meta/connect") ∷ []) ∷ []
 
--- A moment below an earlier one counts as that one. A moment above the limit is refused.
+-- A moment below an earlier one counts as that one. A moment above the limit is rejected.
 abbrev pub MomentsRise : Type 0
 MomentsRise =
     outs standard (
@@ -315,13 +315,13 @@ SessionExpires =
     ≡ out 0 (handshaken 1 ∷ []) ∷ out 1 (handshaken 2 ∷ []) ∷ out 2 (subscribed 2 (codes "/a/*") ∷ []) ∷ out 3 [] ∷ out 4 []
     ∷ out 5 (unknown_client MessageKind.Publish (codes "/a/b") ∷ []) ∷ out 6 (connected 2 ∷ []) ∷ []
 
--- A message after its session's disconnect is refused.
+-- A message after the disconnect of its session is rejected.
 abbrev pub GoneWithinARequest : Type 0
 GoneWithinARequest =
     outs standard (post 0 (handshake ∷ []) ∷ post 1 (disconnect 1 ∷ publish 1 (codes "/a/b") (codes "1") ∷ []) ∷ [])
     ≡ out 0 (handshaken 1 ∷ []) ∷ out 1 (disconnected 1 ∷ unknown_client MessageKind.Publish (codes "/a/b") ∷ []) ∷ []
 
--- ---- Refused messages
+-- ---- Rejected messages
 
 -- Each fault has its own error.
 abbrev pub EachRefusal : Type 0
@@ -337,7 +337,7 @@ EachRefusal =
     ∷ failed MessageKind.Publish (codes "/a/*") None InvalidChannel
     ∷ failed MessageKind.Publish (codes "/a") None MissingData ∷ []) ∷ []
 
--- A connect with an unsupported connection type is refused.
+-- A connect with an unsupported connection type is rejected.
 abbrev pub UnknownType : Type 0
 UnknownType =
     drop 1 (outs standard (post 0 (handshake ∷ []) ∷ post 1 (record (connect 1) { connection = Text (codes "websocket") } ∷ []) ∷ []))
@@ -362,7 +362,7 @@ FullQueue =
     ≡ out 0 (handshaken 1 ∷ []) ∷ out 1 (subscribed 1 (codes "/a/b") ∷ published (codes "/a/b") ∷ published (codes "/a/b") ∷ []) ∷ out 2 (published (codes "/a/b") ∷ [])
     ∷ out 3 (connected_as 1 (Failed QueueOverflow) AckReply.NoAck ∷ []) ∷ out 4 (published (codes "/a/b") ∷ []) ∷ []
 
--- A queue for two events takes two.
+-- A queue for two events has room for two.
 abbrev pub QueueWithRoom : Type 0
 QueueWithRoom =
     outs (small 2 8) (
@@ -371,8 +371,8 @@ QueueWithRoom =
     ≡ out 0 (handshaken 1 ∷ []) ∷ out 1 (subscribed 1 (codes "/a/b") ∷ published (codes "/a/b") ∷ published (codes "/a/b") ∷ [])
     ∷ out 2 (event (codes "/a/b") (codes "1") ∷ event (codes "/a/b") (codes "2") ∷ connected 1 ∷ []) ∷ []
 
--- The outstanding batch counts toward the limit. After the overflow, a connect that would
--- acknowledge it fails.
+-- The outstanding batch counts toward the limit. After the overflow, a connect with the number of
+-- that batch fails.
 abbrev pub FullWithBatch : Type 0
 FullWithBatch =
     outs (small 2 8) (
@@ -412,7 +412,7 @@ HandshakeText =
     texts standard (post 0 (record handshake { id = Some (codes "\"1\"") } ∷ []) ∷ [])
     ≡ codes "[{\"advice\":{\"interval\":0,\"reconnect\":\"retry\",\"timeout\":30000},\"channel\":\"/meta/handshake\",\"clientId\":\"000000000000000000000000000000000000000000000001\",\"id\":\"1\",\"successful\":true,\"supportedConnectionTypes\":[\"long-polling\",\"callback-polling\"],\"version\":\"1.0\"}]" ∷ []
 
--- A refused handshake's reply.
+-- A rejected handshake's reply.
 abbrev pub RefusedText : Type 0
 RefusedText =
     texts standard (post 0 (versioned (codes "2.0") ∷ []) ∷ [])
@@ -428,7 +428,8 @@ BatchText =
     ∷ codes "[{\"channel\":\"/a/x\",\"data\":[1, 2]},{\"advice\":{\"interval\":0,\"reconnect\":\"retry\",\"timeout\":30000},\"channel\":\"/meta/connect\",\"clientId\":\"000000000000000000000000000000000000000000000001\",\"ext\":{\"ack\":1},\"successful\":true}]"
     ∷ []
 
--- An event comes before the reply to the held connect that it ends. The publish's reply is next.
+-- An event comes before the reply to the held connect that it answers. The reply to the publish
+-- follows.
 abbrev pub DeliveryText : Type 0
 DeliveryText =
     drop 3 (texts standard (
@@ -449,7 +450,7 @@ EmptyCallback =
 
 -- ---- What is easily mistaken
 
--- A message after its session's disconnect, in bytes.
+-- A message after the disconnect of its session, in bytes.
 abbrev pub GoneText : Type 0
 GoneText =
     drop 1 (texts standard (post 0 (handshake ∷ []) ∷ post 1 (disconnect 1 ∷ publish 1 (codes "/a/b") (codes "1") ∷ []) ∷ []))
@@ -485,19 +486,19 @@ RefusalsText =
     drop 1 (texts standard refused_messages)
     ≡ codes "[{\"channel\":\"/meta/ping\",\"error\":\"404::Unknown meta channel\",\"successful\":false},{\"advice\":{\"interval\":0,\"reconnect\":\"handshake\"},\"channel\":\"/meta/connect\",\"error\":\"401::No client id\",\"successful\":false},{\"advice\":{\"interval\":0,\"reconnect\":\"handshake\"},\"channel\":\"/meta/disconnect\",\"error\":\"402::Unknown client\",\"successful\":false},{\"channel\":\"/meta/subscribe\",\"clientId\":\"000000000000000000000000000000000000000000000001\",\"error\":\"403::Subscription denied\",\"subscription\":\"/meta/*\",\"successful\":false},{\"channel\":\"/meta/subscribe\",\"clientId\":\"000000000000000000000000000000000000000000000001\",\"subscription\":\"/service/x\",\"successful\":true},{\"channel\":\"/meta/subscribe\",\"clientId\":\"000000000000000000000000000000000000000000000001\",\"error\":\"400::Missing subscription\",\"successful\":false},{\"channel\":\"/a/*\",\"error\":\"400::Invalid channel\",\"successful\":false},{\"channel\":\"/a\",\"error\":\"400::Missing data\",\"successful\":false}]" ∷ []
 
--- A refused message advances the clock.
+-- A rejected message moves the clock.
 abbrev pub RefusedMovesClock : Type 0
 RefusedMovesClock =
     drop 2 (outs standard (post 0 (handshake ∷ []) ∷ post 20000 (blank (codes "/meta/ping") ∷ []) ∷ Tick 5 ∷ post 5 (connect_now 1 ∷ []) ∷ []))
     ≡ out 2 [] ∷ out 3 (unknown_client MessageKind.Connect (codes "/meta/connect") ∷ []) ∷ []
 
--- An empty or unreadable request does not advance the clock.
+-- An empty or unreadable request does not move the clock.
 abbrev pub EmptyKeepsClock : Type 0
 EmptyKeepsClock =
     drop 1 (outs standard (post 0 (handshake ∷ []) ∷ post 20000 [] ∷ Unread NotJson ∷ Tick 5 ∷ post 5 (connect_now 1 ∷ []) ∷ []))
     ≡ out 1 [] ∷ record { input = 2; result = Err (Body NotJson) } ∷ out 3 [] ∷ out 4 (connected 1 ∷ []) ∷ []
 
--- A refused message does not extend its session.
+-- A rejected message does not put off the due moment of its session.
 abbrev pub RefusedKeepsDue : Type 0
 RefusedKeepsDue =
     drop 2 (outs standard (post 0 (handshake ∷ []) ∷ post 9000 (record (connect 1) { connection = Text (codes "websocket") } ∷ []) ∷ Tick 10001 ∷ post 10001 (connect_now 1 ∷ []) ∷ []))
@@ -510,25 +511,25 @@ HoldBeforeEnd =
     drop 1 (outs standard (post 0 (handshake ∷ []) ∷ post 1 (connect 1 ∷ []) ∷ Tick 50000 ∷ post 50000 (connect_now 1 ∷ []) ∷ []))
     ≡ out 1 (connected 1 ∷ []) ∷ out 2 [] ∷ out 3 (unknown_client MessageKind.Connect (codes "/meta/connect") ∷ []) ∷ []
 
--- With acknowledgement, the reply to a held connect that a disconnect ends has the batch number.
+-- In an acknowledging session, a held connect that a disconnect ends gets the last batch's number.
 abbrev pub EndedWithNumber : Type 0
 EndedWithNumber =
     drop 1 (outs standard (post 0 (ack_handshake ∷ []) ∷ post 1 (ack_connect 1 0 ∷ []) ∷ post 2 (disconnect 1 ∷ []) ∷ []))
     ≡ out 1 (connected_as 1 Disconnected (AckReply.AckNumber 0) ∷ []) ∷ out 2 (disconnected 1 ∷ []) ∷ []
 
--- The reply to a superseded connect has no batch number.
+-- A superseded connect gets no batch number.
 abbrev pub SupersededWithoutNumber : Type 0
 SupersededWithoutNumber =
     drop 1 (outs standard (post 0 (ack_handshake ∷ []) ∷ post 1 (ack_connect 1 0 ∷ []) ∷ post 2 (ack_connect_now 1 0 ∷ []) ∷ []))
     ≡ out 1 (connected_as 1 (Failed SupersededConnect) AckReply.NoAck ∷ []) ∷ out 2 (ack_connected 1 0 ∷ []) ∷ []
 
--- If `subscription` is not all strings, errors in the strings are reported first.
+-- If `subscription` has something that is not a string, errors of its strings are reported first.
 abbrev pub MixedArrays : Type 0
 MixedArrays =
     drop 1 (outs standard (post 0 (handshake ∷ []) ∷ post 0 (mixed (codes "a") ∷ mixed (codes "/meta/x") ∷ mixed (codes "/x") ∷ []) ∷ []))
     ≡ out 1 (mixed_failed (codes "a") InvalidPattern ∷ mixed_failed (codes "/meta/x") SubscriptionDenied ∷ mixed_failed (codes "/x") MissingSubscription ∷ []) ∷ []
 
--- A full server refuses a handshake, unless a disconnect before it makes room.
+-- A full server rejects a handshake. A disconnect before it, in the same request, makes room.
 abbrev pub FullServer : Type 0
 FullServer =
     outs (crowded 1) (post 0 (handshake ∷ []) ∷ post 0 (handshake ∷ []) ∷ post 0 (disconnect 1 ∷ handshake ∷ []) ∷ [])
@@ -554,7 +555,8 @@ ScriptLines =
     lines_of (codes "a" ++ 10 ∷ 10 ∷ codes "b") ∷ lines_of (codes "a" ++ 10 ∷ []) ∷ lines_of [] ∷ []
     ≡ (codes "a" ∷ [] ∷ codes "b" ∷ []) ∷ (codes "a" ∷ []) ∷ [] ∷ []
 
--- A tick, a change of the number of shards, and bad lines, such as those that only records have.
+-- A tick, a change of the number of shards, and bad lines. In a script, the lines that only records
+-- have are bad.
 abbrev pub LineForms : Type 0
 LineForms =
     map (line_of Script) (codes "7 F message=%5B%5D" ∷ codes "7 N 000000000000000000000000000000ff" ∷ codes "A 7 4f53cda18c2baa0c0354bb5f9a3ecbe5ed12ab4d8e11ba873c2f11161202b945" ∷ codes "007 T" ∷ codes "7 T " ∷ codes "x" ∷ codes "0 P" ∷ codes "18446744073709551616 T" ∷ codes "0 S 64" ∷ codes "0 S 65" ∷ [] ∷ [])
@@ -572,7 +574,7 @@ NoteForms =
     map (line_of Recorded) (codes "A 7 4f53cda18c2baa0c0354bb5f9a3ecbe5ed12ab4d8e11ba873c2f11161202b945" ∷ codes "A 18446744073709551615 4F53CDA18C2BAA0C0354BB5F9A3ECBE5ED12AB4D8E11BA873C2F11161202B945" ∷ codes "A 007 4f53cda18c2baa0c0354bb5f9a3ecbe5ed12ab4d8e11ba873c2f11161202b945" ∷ codes "A 18446744073709551616 4f53cda18c2baa0c0354bb5f9a3ecbe5ed12ab4d8e11ba873c2f11161202b945" ∷ codes "A 7 4f53cda18c2baa0c0354bb5f9a3ecbe5ed12ab4d8e11ba873c2f11161202b94" ∷ codes "A 7 4f53cda18c2baa0c0354bb5f9a3ecbe5ed12ab4d8e11ba873c2f11161202b9450" ∷ codes "A 7 4f53cda18c2baa0c0354bb5f9a3ecbe5ed12ab4d8e11ba873c2f11161202b94g" ∷ codes "A 7" ∷ codes "A  4f53cda18c2baa0c0354bb5f9a3ecbe5ed12ab4d8e11ba873c2f11161202b945" ∷ codes "A 4f53cda18c2baa0c0354bb5f9a3ecbe5ed12ab4d8e11ba873c2f11161202b945" ∷ codes "A 7  4f53cda18c2baa0c0354bb5f9a3ecbe5ed12ab4d8e11ba873c2f11161202b945" ∷ codes "A -7 4f53cda18c2baa0c0354bb5f9a3ecbe5ed12ab4d8e11ba873c2f11161202b945" ∷ codes "7 A 7 4f53cda18c2baa0c0354bb5f9a3ecbe5ed12ab4d8e11ba873c2f11161202b945" ∷ codes "a 7 4f53cda18c2baa0c0354bb5f9a3ecbe5ed12ab4d8e11ba873c2f11161202b945" ∷ [])
     ≡ Noted ∷ Noted ∷ Noted ∷ Bad ∷ Bad ∷ Bad ∷ Bad ∷ Bad ∷ Bad ∷ Bad ∷ Bad ∷ Bad ∷ Bad ∷ Bad ∷ []
 
--- A nonce waits for the next request, which takes it, unless a later nonce replaces it.
+-- A nonce waits for the next request, unless a later nonce replaces it.
 abbrev pub NoncesWait : Type 0
 NoncesWait =
     with_nonces 0 (Accepted None (post 0 []) ∷ Announced 5 ∷ Announced 6 ∷ Accepted None (Tick 0) ∷ Bad ∷ Rejected 400 ∷ Resharded 2 ∷ Accepted None (post 7 []) ∷ Accepted None (post 8 []) ∷ Announced 9 ∷ Accepted None (Unread NotJson) ∷ Accepted None (post 10 []) ∷ [])

@@ -1,4 +1,6 @@
 //! Laws that hold for every configuration and every list.
+//!
+//! Some suppose that a batch may have at least one event: `limits.batch` is not 0.
 ghost use Rattle.bx_theory.specs.Laws.{DoneNeverFalls, CountsAgree, EntriesInOrder, AnswersStay, BatchRepeats, NeverGivenAgain, NoEventTwice, GivenOnce, NoRidersUnasked, RidersArePlain};
 ghost use Rattle.bx_theory.specs.Readings.{LiveReading, InForceReading, HeldReading, EndingReading, OverflowReading, QueueBounded, DueReading, ClockReading, SameLive, AcceptedWhileLive, PublishesOfNone, ClosedIsOver};
 ghost use Rattle.bx_theory.specs.Riding.{RiderReading, NothingRidesBeside, OthersNeverRide, RiderGiven};
@@ -18,7 +20,7 @@ pub fn done_never_falls()
     ensures { DoneNeverFalls }
 {}
 
-/// Proves that a session's queue, batch and counts always agree.
+/// Proves that the queue, the batch and the counts of a session always agree.
 pub fn counts_agree()
     ensures { CountsAgree }
 {}
@@ -28,7 +30,7 @@ pub fn entries_in_order()
     ensures { EntriesInOrder }
 {}
 
-/// Proves that an answer depends only on the elements up to the place where it is given.
+/// Proves that an answer depends only on the elements up to the one that gives it.
 pub fn answers_stay()
     ensures { AnswersStay }
 {}
@@ -38,17 +40,21 @@ pub fn batch_repeats()
     ensures { BatchRepeats }
 {}
 
-/// Proves that an event is never sent again once acknowledged, or sent by a plain session.
+/// Proves that an event is never sent again after it is acknowledged, or sent by a plain session.
 pub fn never_given_again()
     ensures { NeverGivenAgain }
 {}
 
-/// Proves that an answer's events have greater places than those that are never sent again.
+/// Proves that an answer has only events at later places than those that are done before it.
+///
+/// Done events are never sent again.
 pub fn no_event_twice()
     ensures { NoEventTwice }
 {}
 
-/// Proves that a plain session sends its events in order, each once, to connects and riders.
+/// Proves that a plain session sends its events in order, each once.
+///
+/// It sends them in answers to connects and riders.
 pub fn given_once()
     ensures { GivenOnce }
 {}
@@ -58,33 +64,33 @@ pub fn no_riders_unasked()
     ensures { NoRidersUnasked }
 {}
 
-/// Proves that a rider's session does not acknowledge.
+/// Proves that the session of a rider does not acknowledge.
 pub fn riders_are_plain()
     ensures { RidersArePlain }
 {}
 
 /// Proves when a message is a rider of a session.
 ///
-/// It is one exactly if `--ride` is set, the session does not acknowledge, and the message ends a
-/// request of accepted messages of that session, with no handshake. It must also be a subscription,
-/// an unsubscription or a publish.
+/// It is one exactly if `--ride` is set, the session does not acknowledge, and the message ends its
+/// request. All messages of the request must be accepted, come from the session, and be no
+/// handshake. The rider must be a subscription, an unsubscription or a publish.
 pub fn rider_reading()
     ensures { RiderReading }
 {}
 
-/// Proves that a request with a refused or sessionless message has no rider.
+/// Proves that a request with a rejected or sessionless message has no rider.
 pub fn nothing_rides_beside()
     ensures { NothingRidesBeside }
 {}
 
-/// Proves that ticks, refused messages, handshakes, connects and disconnects are no riders.
+/// Proves that ticks, rejected messages, handshakes, connects and disconnects are no riders.
 pub fn others_never_ride()
     ensures { OthersNeverRide }
 {}
 
 /// Proves that a rider gets the first waiting events in one answer, up to one batch.
 ///
-/// These wait after the entry's own effect. The others wait on.
+/// They are those that wait after the entry has taken effect. The others still wait.
 pub fn rider_given()
     ensures { RiderGiven }
 {}
@@ -94,7 +100,9 @@ pub fn live_reading()
     ensures { LiveReading }
 {}
 
-/// Proves that a pattern is active if a subscription named it last, without an overflow.
+/// Proves that a pattern is active exactly if a subscription mentioned it last.
+///
+/// After an overflow, no pattern is active.
 pub fn in_force_reading()
     ensures { InForceReading }
 {}
@@ -106,23 +114,23 @@ pub fn held_reading()
 
 /// Proves that a held connect is answered at the first entry that ends it.
 ///
-/// A publish gives its event, a newer connect an error, a disconnect or a tick success without
-/// events.
+/// A publish that reaches the session answers with its event, and a newer connect with an error. A
+/// disconnect or a tick answers with success and no events.
 pub fn ending_reading()
     ensures { EndingReading }
 {}
 
-/// Proves that a session has overflowed if some earlier entry found no room.
+/// Proves that a session has overflowed exactly if some earlier entry found no room.
 pub fn overflow_reading()
     ensures { OverflowReading }
 {}
 
-/// Proves that a queue never exceeds its limits.
+/// Proves that a queue never exceeds its limits of events and bytes.
 pub fn queue_bounded()
     ensures { QueueBounded }
 {}
 
-/// Proves that a session's due moment is the greatest that its accepted messages set.
+/// Proves that the due moment of a session is the greatest that its accepted messages set.
 pub fn due_reading()
     ensures { DueReading }
 {}
@@ -132,36 +140,38 @@ pub fn clock_reading()
     ensures { ClockReading }
 {}
 
-/// Proves that the registry and the entries agree on who is live.
+/// Proves that the registry and the entries agree on which sessions are live.
 pub fn same_live()
     ensures { SameLive }
 {}
 
 /// Proves that each event of a session is an accepted publish that reached it.
 ///
-/// The session was live and not overflowed, with room and an active pattern that matched.
+/// The session was live and had not overflowed. It had room and an active pattern that matched.
 pub fn events_were_published()
     ensures { EventsWerePublished }
 {}
 
-/// Proves that each publish that reaches a session is its event, after the earlier ones.
+/// Proves that each publish that reaches a session is one of its events, after the earlier ones.
 pub fn publishes_are_events()
     ensures { PublishesAreEvents }
 {}
 
-/// Proves that a session's events are at rising places, so a publish is at most one of them.
+/// Proves that the events of a session are at rising places.
+///
+/// So a publish is at most one of them.
 pub fn events_rise()
     ensures { EventsRise }
 {}
 
 /// Proves that each event in an answer is byte for byte that of an accepted publish.
 ///
-/// The session received it at the publish's place.
+/// The publish reached the session of the connect or rider that is answered.
 pub fn given_was_published()
     ensures { GivenWasPublished }
 {}
 
-/// Proves that no session has events if all requests come by the read-only listener.
+/// Proves that no session has events if all requests come through the read-only listener.
 ///
 /// The list then has no message to a broadcast channel.
 pub fn readers_publish_nothing()
@@ -173,7 +183,7 @@ pub fn outs_grow()
     ensures { OutsGrow }
 {}
 
-/// Proves that what is kept of a session suffices to apply an entry and give its answers.
+/// Proves that what is kept of a session is enough to apply an entry and give its answers.
 pub fn kept_steps()
     ensures { KeptSteps }
 {}
@@ -183,44 +193,44 @@ pub fn kept_runs()
     ensures { KeptRuns }
 {}
 
-/// Proves that the session of an accepted message, except a handshake, is live at its place.
+/// Proves that the session of an accepted message, except a handshake, is live before it.
 pub fn accepted_while_live()
     ensures { AcceptedWhileLive }
 {}
 
-/// Proves that a publish without a client id has no session, extends none and is no rider.
+/// Proves that a publish without a client id has no session, sets no due moment and is no rider.
 ///
-/// It is accepted if `--anonymous` is set, its channel is a name and it has data.
+/// It is accepted exactly if `--anonymous` is set, its channel is a name and it has data.
 pub fn publishes_of_none()
     ensures { PublishesOfNone }
 {}
 
-/// Proves that what is kept is within its limits, and the queue is empty during a hold.
+/// Proves that the kept queue and batch are within their limits, and empty during a hold.
 pub fn kept_in_bounds()
     ensures { KeptInBounds }
 {}
 
-/// Proves that a closed session holds no connect, and that its events and answers stay.
+/// Proves that a closed session holds no connect, and that its events and answers stay as they are.
 pub fn closed_is_over()
     ensures { ClosedIsOver }
 {}
 
-/// Proves that a reply's text is an object with the members of a reply, sorted by name.
+/// Proves that the text of a reply is an object with the members of a reply, sorted by name.
 pub fn replies_read_back()
     ensures { RepliesReadBack }
 {}
 
-/// Proves that an event's text is an object with its channel, data and id.
+/// Proves that the text of an event is an object with its channel, data and id.
 pub fn events_read_back()
     ensures { EventsReadBack }
 {}
 
-/// Proves that a response's text is the array of its items.
+/// Proves that the text of a response is the array of its items.
 pub fn bodies_read_back()
     ensures { BodiesReadBack }
 {}
 
-/// Proves that an input adds the outs of all inputs that it makes whole, in order.
+/// Proves that an input appends the outs of all inputs that it makes whole, in order.
 pub fn outs_add()
     ensures { OutsAdd }
 {}
@@ -230,42 +240,42 @@ pub fn opens_go_on()
     ensures { OpensGoOn }
 {}
 
-/// Proves that the open inputs are the held ones.
+/// Proves that the inputs that are open at the end of a run are its held ones.
 pub fn open_is_held()
     ensures { OpenIsHeld }
 {}
 
-/// Proves that an open input is a held connect, its request's only message and no rider.
+/// Proves that an open input is a request with just one message, a held connect.
 pub fn open_are_sole()
     ensures { OpenAreSole }
 {}
 
-/// Proves that open inputs have rising numbers, and their connects rising places.
+/// Proves that the open inputs are in the order of their numbers and of their connects' places.
 pub fn opens_ascend()
     ensures { OpensAscend }
 {}
 
-/// Proves that a script's next line adds its input, if any, after all earlier inputs.
+/// Proves that the next line of a script appends its input, if any, to the earlier inputs.
 pub fn inputs_go_on()
     ensures { InputsGoOn }
 {}
 
-/// Proves that a script's next line prints after all earlier lines.
+/// Proves that what the next line of a script prints is appended to what the earlier lines print.
 pub fn lines_go_on()
     ensures { LinesGoOn }
 {}
 
-/// Proves that a script's held lines are printed last.
+/// Proves that the held lines of a script are printed last.
 pub fn held_come_last()
     ensures { HeldComeLast }
 {}
 
-/// Proves that a script's next line gets the waiting nonce and changes no earlier line's.
+/// Proves that the next line of a script gets the waiting nonce, and earlier lines keep theirs.
 pub fn nonces_go_on()
     ensures { NoncesGoOn }
 {}
 
-/// Proves that without nonces lines stay as they are read, and that a script's lines have none.
+/// Proves that lines without nonces stay as they are read, and that scripts have only such lines.
 pub fn nonces_stay()
     ensures lines { NoncesStay }
     ensures scripts { ScriptsSayNone }

@@ -1,6 +1,6 @@
-//! Laws of the server's definitions, in the subject's own words, and worked runs.
+//! Laws of the server's definitions, in a user's terms, and worked runs.
 //!
-//! Each is the contract of a function with an empty body, so that the gate checks it.
+//! Each is the contract of a function with an empty body, so that the prover checks it.
 #![tactic(auto)]
 
 mod laws;

@@ -12,7 +12,7 @@ pub fn channels()
     ensures plain_match { PlainMatch }
 {}
 
-/// Shows handshakes, accepted and refused.
+/// Shows handshakes, accepted and rejected.
 pub fn handshakes()
     ensures handshake_with_id { HandshakeWithId }
     ensures refused_handshake { RefusedHandshake }
@@ -31,7 +31,7 @@ pub fn deliveries()
     ensures sender_bytes { SenderBytes }
 {}
 
-/// Shows riders, messages whose replies carry waiting events.
+/// Shows riders, which are messages with replies that carry waiting events.
 pub fn riders()
     ensures events_ride { EventsRide }
     ensures ride_behind_hold { RideBehindHold }
@@ -74,7 +74,7 @@ pub fn endings()
     ensures hold_before_end { HoldBeforeEnd }
 {}
 
-/// Shows refused messages.
+/// Shows rejected messages.
 pub fn refusals()
     ensures each_refusal { EachRefusal }
     ensures unknown_type { UnknownType }

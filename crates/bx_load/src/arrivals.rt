@@ -1,4 +1,4 @@
-//! Which events of one publisher a session received.
+//! The events of one publisher that a session received.
 ghost use Rattle.std.specs.Prelude.{◌≡◌, ◌≢◌, ◌+◌, ◌<◌, ◌≤◌, ◌↔◌, length, slice_index_or, slice_set, count_by, not, true, false, vec_len, IfOk, replicate};
 
 use std::alloc::{AllocError, Global};
@@ -6,13 +6,13 @@ use std::alloc::{AllocError, Global};
 /// How an event arrived.
 #[derive(Clone, Copy)]
 pub enum Reception {
-    /// For the first time, and not after a later one.
+    /// It arrived for the first time, and before any later event of its publisher.
     InOrder,
-    /// For the first time, but after a later one.
+    /// It arrived for the first time, but after a later event of its publisher.
     OutOfOrder,
-    /// Once more.
+    /// It arrived before.
     Doubled,
-    /// The publisher has no event of this number.
+    /// The publisher has no event with this number.
     Unknown,
 }
 
@@ -26,7 +26,7 @@ pub struct Arrivals {
 }
 
 impl Arrivals {
-    /// Creates a record of `count` events, none of which arrived.
+    /// Creates a record of `count` events that have not arrived.
     ///
     /// # Errors
     ///
@@ -41,7 +41,7 @@ impl Arrivals {
         })
     }
 
-    /// Records the arrival of event `number`, and returns how it arrived.
+    /// Records the arrival of event `number`, counted from 0, and returns how it arrived.
     pub fn take(&mut self, number: usize) -> Reception
         ensures unknown { (result ≡ Reception.Unknown) ↔ (vec_len self.old.seen ≤ number) }
         ensures doubled { (result ≡ Reception.Doubled) ↔ (slice_index_or self.old.seen.items number false ≡ true) }

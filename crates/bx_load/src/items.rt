@@ -1,27 +1,27 @@
-//! The items of a response.
+//! What the items of a response mean.
 use serde_json::Value;
 
-/// The data of an event of the load.
+/// The data of an event that a load publishes.
 #[derive(Clone, Copy)]
 pub struct Stamp {
-    /// The number of its publisher.
+    /// The number of its publisher, counted from 0.
     pub publisher: u64,
     /// The number of earlier events of that publisher.
     pub number: u64,
-    /// When it was sent, in nanoseconds since the load began.
+    /// When it was sent, in nanoseconds since the load started.
     pub moment: u64,
 }
 
-/// What an item of a response means.
+/// The meaning of an item of a response.
 #[derive(Clone, Copy)]
 pub enum Received {
-    /// An event of the load.
+    /// An event that a load published.
     Event(Stamp),
-    /// The message succeeded. Holds the batch to acknowledge, if any.
+    /// A reply: the message succeeded. Has the number of the batch to acknowledge, if any.
     Success(Option<u64>),
-    /// The message failed.
+    /// A reply: the message was rejected.
     Refusal,
-    /// Something else.
+    /// Any other item.
     Unknown,
 }
 
@@ -43,7 +43,7 @@ pub fn item_of(item: &Value) -> Received {
     }
 }
 
-// Parses the data of an event.
+// Parses the data of an event, or returns `None` if it is not that of a load.
 fn stamp_of(data: &Value) -> Option<Stamp> {
     Some(Stamp {
         publisher: data.get("publisher")?.as_u64()?,
@@ -52,12 +52,12 @@ fn stamp_of(data: &Value) -> Option<Stamp> {
     })
 }
 
-// Returns a reply's batch number, if any.
+// Returns the batch number in a reply, if any.
 fn acknowledgement_of(reply: &Value) -> Option<u64> {
     reply.get("ext")?.get("ack")?.as_u64()
 }
 
-/// Returns the client id in a handshake's reply, if it has only ASCII letters and digits.
+/// Returns the client id in the reply to a handshake, if it has only ASCII letters and digits.
 pub fn client_of(reply: &Value) -> Option<&str> {
     let client = reply.get("clientId")?.as_str()?;
     if is_plain(client) { Some(client) } else { None }

@@ -1,16 +1,16 @@
-//! Latencies of events, kept as counts.
+//! Counts of the latencies of events.
 ghost use Rattle.std.specs.Prelude.{◌≡◌, ◌+◌, ◌*◌, ◌^◌, ◌<◌, ◌≤◌, ◌↔◌, sum_by, slice_index, slice_set, vec_len, IfOk, IfSome, IsNone};
 ghost use Rattle.bx_load.specs.Places.{greatest_of, IsReachedAt};
 
 use std::alloc::{AllocError, Global};
 
-// Below this, each microsecond has its own count.
+// In microseconds. Each shorter latency has its own count.
 const EXACT: u64 = 65_536;
 
-// Microseconds per count from there on.
+// Microseconds per count for longer latencies.
 const WIDTH: u64 = 1024;
 
-// Number of counts, up to 67 seconds. The last also has all longer latencies.
+// Number of counts. They reach to 67 seconds; the last one also counts all longer latencies.
 const COUNTS: usize = 131_072;
 
 /// How often each latency occurred.
@@ -18,16 +18,16 @@ const COUNTS: usize = 131_072;
 /// Exact to the microsecond below 65 ms, and to one part in 64 up to 67 seconds.
 #[derive(Drop)]
 pub struct Latencies {
-    /// The counts.
+    /// The counts, from the shortest latency to the longest.
     pub counts: Vec<u64>,
-    /// Their sum.
+    /// The sum of the counts.
     pub total: u64,
     ghost places: { vec_len counts ≡ 131072 },
     ghost counted: { sum_by (λ n. n) counts.items ≡ total },
 }
 
 impl Latencies {
-    /// Creates counts of 0.
+    /// Creates the counts, all of them 0.
     ///
     /// # Errors
     ///
@@ -41,7 +41,7 @@ impl Latencies {
         })
     }
 
-    /// Counts a latency `times` times.
+    /// Counts a latency of `microseconds`, `times` times.
     ///
     /// Does nothing if the total would reach 2^64.
     pub fn record(&mut self, microseconds: u64, times: u64)
@@ -55,7 +55,7 @@ impl Latencies {
         self.total = total;
     }
 
-    /// Adds the counts of `other`.
+    /// Adds the counts of `other`, except those with which the total would reach 2^64.
     pub fn add(&mut self, other: &Latencies)
         ensures { self.old.total + other.now.total < 2 ^ 64 → self.new.total ≡ self.old.total + other.now.total }
     {
@@ -64,9 +64,10 @@ impl Latencies {
         }
     }
 
-    /// Returns the latency, in microseconds, that `percent` percent of all do not exceed.
+    /// Returns the latency in microseconds that `percent` percent of all latencies do not exceed.
     ///
-    /// `percent`: 1 to 100. As exact as the counts. Returns `None` if there are no latencies.
+    /// `percent`: 1 to 100. The result is as exact as the counts, and rounded up. Returns `None` if
+    /// there are no latencies.
     pub fn at(&self, percent: u64) -> Option<u64>
         requires some { 0 < percent }
         requires within { percent ≤ 100 }
@@ -88,7 +89,8 @@ impl Latencies {
     }
 }
 
-// Returns the place of a latency. Below 67 seconds, this rounds it up by at most one part in 64.
+// Returns the place of the count for a latency. Below 67 seconds, `greatest_of` that place is the
+// latency rounded up by at most one part in 64.
 fn place_of(microseconds: u64) -> usize
     ensures room { result < COUNTS }
     ensures near { microseconds < 67107840 → (microseconds ≤ greatest_of result) × (64 * greatest_of result ≤ 65 * microseconds) }
@@ -101,7 +103,7 @@ fn place_of(microseconds: u64) -> usize
     place as usize
 }
 
-// Returns the greatest latency at `place`.
+// Returns the greatest latency in microseconds that is counted at `place`, except at the last.
 fn greatest_of(place: usize) -> u64
     requires { place < 131072 }
     ensures { result ≡ greatest_of place }

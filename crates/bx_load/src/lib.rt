@@ -1,4 +1,4 @@
-//! Load tests of a server: settings, requests, responses, and which events came and how late.
+//! Load tests of a server: settings, requests, responses, and the arrivals of events.
 #![tactic(auto)]
 
 mod arrivals;

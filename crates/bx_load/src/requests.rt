@@ -1,9 +1,9 @@
-//! The requests of a client, as it writes them.
+//! The requests that a client writes.
 use crate::items::Stamp;
 use crate::settings::Target;
 use std::alloc::{AllocError, Global};
 
-/// Formats a handshake, with `ext.ack` if the session acknowledges.
+/// Formats a handshake, which asks for acknowledgement if `acknowledges` is `true`.
 ///
 /// # Errors
 ///
@@ -20,7 +20,7 @@ pub fn handshake(alloc: Global, target: &Target, acknowledges: bool) -> Result<S
     post(alloc, target, body.as_str())
 }
 
-/// Formats a subscription to channel number `channel`.
+/// Formats a subscription of `client` to channel `/load/{channel}`.
 ///
 /// # Errors
 ///
@@ -37,7 +37,7 @@ pub fn subscribe(
     post(alloc, target, body.as_str())
 }
 
-/// Formats a connect that acknowledges batch `acknowledged`, if any.
+/// Formats a connect of `client` that acknowledges batch `acknowledged`, if any.
 ///
 /// # Errors
 ///
@@ -58,7 +58,7 @@ pub fn connect(
     post(alloc, target, body.as_str())
 }
 
-/// Formats a connect that the server answers at once.
+/// Formats a connect of `client` that the server answers at once.
 ///
 /// # Errors
 ///
@@ -70,7 +70,7 @@ pub fn touch(alloc: Global, target: &Target, client: &str) -> Result<String, All
     post(alloc, target, body.as_str())
 }
 
-/// Formats a publish of `stamp` to channel number `channel`.
+/// Formats a publish of `stamp` by `client` to channel `/load/{channel}`.
 ///
 /// # Errors
 ///

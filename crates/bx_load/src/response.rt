@@ -1,17 +1,17 @@
-//! Responses as a client reads them.
+//! The responses that a client reads.
 ghost use Rattle.std.specs.Prelude.{◌+◌, ◌≤◌, length, IfOk, IfSome};
 
-// The most bytes read without finding the end of a head.
+// The greatest length in bytes of an input that has no end of a head yet.
 const MAX_HEAD: usize = 16_384;
 
-/// A complete response, and where its body is in the bytes read.
+/// The status of a complete response, and the position of its body in the input.
 #[derive(Clone, Copy)]
 pub struct Response {
-    /// The HTTP status.
+    /// The HTTP status, such as 200.
     pub status: u16,
-    /// Where the body begins.
+    /// The index of the first byte of the body.
     pub start: usize,
-    /// Where the body ends.
+    /// The index after the last byte of the body.
     pub end: usize,
 }
 
@@ -23,7 +23,8 @@ pub struct Malformed;
 ///
 /// # Errors
 ///
-/// `Malformed` if `input` does not begin with one, or over 16 KiB contain no end of a head.
+/// `Malformed` if more than 16 KiB contain no end of a head, or the head is not one of an HTTP/1.1
+/// response with a `content-length`.
 pub fn read_response(input: &[u8]) -> Result<Option<Response>, Malformed>
     ensures start { IfOk result (λ found. IfSome found (λ r. r.start ≤ r.end)) }
     ensures end { IfOk result (λ found. IfSome found (λ r. r.end ≤ length input.now)) }
@@ -52,7 +53,7 @@ pub fn read_response(input: &[u8]) -> Result<Option<Response>, Malformed>
     }))
 }
 
-// Returns where the line end before the empty line begins.
+// Returns the index of the line end that the first empty line follows.
 fn end_of_head(input: &[u8]) -> Option<usize>
     ensures { IfSome result (λ at. at + 4 ≤ length input.now) }
 {

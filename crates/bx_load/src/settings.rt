@@ -7,7 +7,7 @@ use std::fmt::{self, Display, Formatter, Write};
 /// The URL of the server.
 #[derive(Drop)]
 pub struct Target {
-    /// The host name or address, and the port.
+    /// The host name or the IP address, and the port if the URL has one.
     pub host: String,
     /// The path, with its leading `/`.
     pub path: String,
@@ -29,15 +29,16 @@ pub struct LoadSettings {
     pub target: Target,
     /// Number of sessions that receive events.
     pub sessions: u32,
-    /// Number of channels that sessions and publishers share, at least 1.
+    /// Number of channels among which sessions and publishers are divided, at least 1.
     pub channels: u32,
     /// Number of clients that publish, at least 1.
     pub publishers: u32,
-    /// Number of events to publish in all.
+    /// Number of events that all publishers together publish.
     pub events: u32,
-    /// Events per second. If 0, each publisher sends an event once the previous one is answered.
+    /// Events per second of all publishers together. If 0, each publisher sends its next event as
+    /// soon as the previous one is answered.
     pub rate: u32,
-    /// Whether the sessions acknowledge.
+    /// Whether the sessions acknowledge batches.
     pub is_acknowledging: bool,
     ghost some_channel: { 0 < channels },
     ghost some_publisher: { 0 < publishers },
@@ -50,19 +51,19 @@ pub enum SettingsFault {
     Memory,
     /// There are fewer than five arguments, or more than seven.
     Count,
-    /// The URL.
+    /// The URL is wrong.
     Url,
-    /// The number of sessions.
+    /// The number of sessions is wrong.
     Sessions,
-    /// The number of channels.
+    /// The number of channels is wrong or 0.
     Channels,
-    /// The number of publishers.
+    /// The number of publishers is wrong or 0.
     Publishers,
-    /// The number of events.
+    /// The number of events is wrong or 0.
     Events,
-    /// The rate.
+    /// The rate is wrong or 0.
     Rate,
-    /// The last of seven arguments, which must be `ack`.
+    /// The last of seven arguments is not `ack`.
     Ack,
 }
 
@@ -90,12 +91,17 @@ impl Display for SettingsFault {
 }
 
 impl LoadSettings {
-    /// Parses a URL, a number of sessions, three positive numbers, and optionally a rate and `ack`.
+    /// Parses the arguments: URL, sessions, channels, publishers, events, optional rate and `ack`.
     ///
     /// # Errors
     ///
-    /// The fault of the first wrong argument; `Ack` before `Rate`. `Count` comes first if there are
-    /// too few arguments, and last if there are too many. `Memory` if memory runs out.
+    /// The first of these that applies:
+    ///
+    /// - `Count`: there are fewer than five arguments.
+    /// - `Url`, `Sessions`, `Channels`, `Publishers`, `Events`: this argument is wrong.
+    /// - `Ack`, `Rate`: an optional argument is wrong.
+    /// - `Count`: there are more than seven arguments.
+    /// - `Memory`: memory ran out.
     pub fn read(alloc: Global, words: &[String]) -> Result<LoadSettings, SettingsFault> {
         let [url, sessions, channels, publishers, events, options @ ..] = words else {
             return Err(SettingsFault::Count);
@@ -157,7 +163,7 @@ fn place_of(url: &str) -> Option<(&str, &str)> {
     }
 }
 
-// Returns `true` if `text` has only visible ASCII characters, so that it may be in a head.
+// Returns `true` if `text` has only visible ASCII characters, which the head of a request may have.
 fn is_plain(text: &str) -> bool {
     for byte in text.bytes() {
         if !byte.is_ascii_graphic() {

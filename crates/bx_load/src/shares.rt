@@ -1,9 +1,10 @@
-//! Which events a publisher sends, and when each is due.
+//! The events that each publisher sends, and when each is due.
 ghost use Rattle.std.specs.Prelude.{◌≡◌, ℕ, ◌+◌, ◌*◌, ◌/◌, ◌^◌, ◌<◌, ◌≤◌, ◌↔◌};
 
-/// Returns how many of all `events` a publisher sends.
+/// Returns how many of all `events` the publisher with number `publisher` sends.
 ///
-/// Its event number `own` is number `own * publishers + publisher` of all.
+/// Numbers count from 0. Event `own` of this publisher is event `own * publishers + publisher` of
+/// all.
 pub fn events_of(publisher: u32, publishers: u32, events: u32) -> u32
     requires { publisher < publishers }
     ensures { (own : ℕ) → (own * publishers + publisher < events) ↔ (own < result) }
@@ -15,9 +16,9 @@ pub fn events_of(publisher: u32, publishers: u32, events: u32) -> u32
     }
 }
 
-/// Returns when an event is due, in nanoseconds after the first.
+/// Returns when event `event` of all is due, in nanoseconds after the first.
 ///
-/// `rate`: events per second.
+/// `event`: counted from 0, below 2^32. `rate`: events per second, at least 1.
 pub fn due(event: u64, rate: u32) -> u64
     requires some { 0 < rate }
     requires few { event < 2 ^ 32 }

@@ -1,4 +1,4 @@
-//! Tests of settings, responses and items.
+//! Tests of the settings, of when a response is complete, and of events.
 use crate::{LoadSettings, Received, SettingsFault, Stamp, item_of, publish, read_response};
 use serde_json::Value;
 use std::alloc::Global;

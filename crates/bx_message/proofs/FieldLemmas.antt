@@ -1,4 +1,4 @@
--- What the fields of a message are made of.
+-- Lemmas about the fields of a message.
 use Rattle.std.proofs.Common.{◌≡◌, ℕ, ◌<◌, ◌^◌, ◌&&◌, Bool, true, false, ltb, cond, List, [], ◌∷◌, length, Result, Ok, Err, Some, None, refl, sym, ◌∙◌}
 use Rattle.std.specs.{List.list_all, Result.OkIff, Result.result_ok, Str.all_ascii_digits, Str.IsUtf8, Str.Parse.ParsesUnsigned, Str.Parse.digits_value, Char.is_ascii_digit}
 use Rattle.std.proofs.lemmas.{Str.IsUtf8-from_ascii, Str.Parse.IsNumeralModel, Str.Parse.parse_digits, Str.Parse.numerals_by_value, Str.Parse.tells_all_ascii_digits, Fmt.IsAscii-from_digits, Bool.lt-ltb, Bool.ltb-true}
@@ -32,7 +32,6 @@ number_by_parts bs digits (Err e) h =
     none_by_tests (ltb 0 (length bs)) (all_ascii_digits bs) (ltb (digits_value 10 bs) (2 ^ 64)) (digits_value 10 bs)
     (λ some all low. h (ltb-true _ _ some, ltb-true _ _ low))
 
--- what `parse` reads of digits is the number
 pub number_from_parse : {E : Type 0} (bs : List ℕ) (r : Result ℕ E) → ParsesUnsigned 64 10 bs r → list_all is_ascii_digit bs ≡ true → result_ok r ≡ number_of bs
 number_from_parse bs r h all =
     let digits = sym (each_digit bs) ∙ all in

@@ -1,4 +1,4 @@
--- Objects and arrays that are written piece by piece, and what they are when they are ended.
+-- Objects and arrays that are written piece by piece.
 use Rattle.std.proofs.Common.{◌≡◌, ℕ, ◌+◌, ◌<◌, List, [], ◌∷◌, ◌++◌, length, take, map, get_or, refl, sym, ap, ◌∙◌, arith, append_assoc}
 use Rattle.std.proofs.Common.{cond, Result, Ok, Err, OnOk, is_ok, Bool, true, false, not, ◌||◌, ◌==◌, nat_lt, eq-eqb}
 use Rattle.std.proofs.lemmas.Bool.{true≢false, ltb-false, and_parts}
@@ -31,7 +31,6 @@ print-number digits = append-nil digits
 
 -- ---- members
 
--- a value behind its name
 pub with_name-value : (o : OpenObject) (name value : List ℕ) → with_name o name ++ value ≡ (with_member o (member name value)).text
 with_name-value o name value = simp append_assoc
 
@@ -42,7 +41,7 @@ pub with_members-append : (o : OpenObject) (xs ys : List (List ℕ)) → with_me
 with_members-append o [] ys = refl
 with_members-append o (x ∷ xs) ys = with_members-append (with_member o x) xs ys
 
--- members with a comma in front of each
+-- Members, each after a comma.
 abbrev after_commas : List (List ℕ) → List ℕ
 after_commas [] = []
 after_commas (m ∷ ms) = 44 ∷ (m ++ after_commas ms)
@@ -55,13 +54,12 @@ text-with_members : (before : List ℕ) (ms : List (List ℕ)) → (with_members
 text-with_members before [] = sym (append-nil before)
 text-with_members before (m ∷ ms) = text-with_members (before ++ (44 ∷ m)) ms ∙ append_assoc before (44 ∷ m) (after_commas ms)
 
--- what is opened, filled and ended is the object
 pub closed-with_members : (before : List ℕ) (ms : List (List ℕ)) → closed (with_members (opened before) ms) ≡ before ++ object ms
 closed-with_members before [] = append_assoc before (123 ∷ []) (125 ∷ [])
 closed-with_members before (m ∷ ms) =
     rw (text-with_members ((before ++ 123 ∷ []) ++ m) ms, joined m ms) (simp append_assoc)
 
--- an object that began behind these bytes has these members so far
+-- The object begins after the bytes `before`, and has these members so far.
 pub record Holds (before : List ℕ) (members : List (List ℕ)) (o : OpenObject) : Type 0 where
   pub same : o ≡ with_members (opened before) members
 
@@ -83,7 +81,6 @@ joined-push (v ∷ []) value h = refl
 joined-push (v ∷ w ∷ vs) value h =
     ap (λ t. v ++ (44 ∷ t)) (joined-push (w ∷ vs) value (omega arith)) ∙ sym (append_assoc v (44 ∷ join_with_byte 44 (w ∷ vs)) (44 ∷ value))
 
--- one more value of a list
 values-more : {X : Type 0} (f : X → List ℕ) (xs : List X) (i : ℕ) (x : X) → i < length xs → x ≡ get_or xs i x → map f (take (i + 1) xs) ≡ map f (take i xs) ++ f x ∷ []
 values-more f xs i x h e =
     rw (take_more xs i x h, map-append) (ap (λ y. map f (take i xs) ++ f y ∷ []) (sym e))
@@ -98,7 +95,7 @@ array-more f xs i x before some h e b =
     let pushed = joined-push values (f x) (omega arith) in
     rw (values-more f xs i x h e, b, pushed) (simp append_assoc)
 
--- ---- texts that need no escape
+-- ---- texts that need no escapes
 
 not_stop : (a b c : Bool) → not (a || b || c) ≡ true → (a ≡ false) × (b ≡ false) × (c ≡ false)
 not_stop true b c e = cc
@@ -120,21 +117,18 @@ escape-plain (x ∷ xs) e =
 pub quoted_plain : (s : List ℕ) → list_all is_plain s ≡ true → quoted s ≡ 34 ∷ (s ++ 34 ∷ [])
 quoted_plain s e = ap (λ t. 34 ∷ (t ++ 34 ∷ [])) (escape-plain s e)
 
--- such a text between quotation marks, behind others
 pub plain_pushed : (out s : List ℕ) → list_all is_plain s ≡ true → ((out ++ 34 ∷ []) ++ s) ++ 34 ∷ [] ≡ out ++ quoted s
 plain_pushed out s e =
     append_assoc (out ++ 34 ∷ []) s (34 ∷ []) ∙ append_assoc out (34 ∷ []) (s ++ 34 ∷ []) ∙ ap (λ t. out ++ t) (sym (quoted_plain s e))
 
--- ---- the texts of errors
+-- ---- the texts of errors need no escapes
 
--- none of them needs an escape
 pub error_plain : (error : Error) → list_all is_plain (error_text error) ≡ true
 error_plain UnknownMetaChannel = refl
 error_plain _ = refl
 
 -- ---- appending
 
--- what was appended to a list, where that succeeded
 pub extended : {X E : Type 0} {now more xs : List X} (was : List X) (r : Result (Unit {0}) E) → more ≡ xs → now ≡ cond (is_ok r) (was ++ more) was → OnOk r (now ≡ was ++ xs)
 extended was (Ok u) e h = h ∙ ap (λ t. was ++ t) e
 extended was (Err x) e h = tt

@@ -1,4 +1,4 @@
--- How many bytes the text of an event has whose channel wants no escape.
+-- The size of an event's text if its channel needs no escapes.
 use Rattle.std.proofs.Common.{◌≡◌, ℕ, ◌+◌, true, List, [], ◌∷◌, ◌++◌, length, codes, Option, Some, None, ap, ◌∙◌, arith}
 use Rattle.std.specs.List.{list_all}
 use Rattle.std.proofs.lemmas.Grind.{common_steps}
@@ -9,7 +9,6 @@ use Rattle.bx_message.specs.declared.event.Event.{Event}
 use Rattle.bx_message.specs.Events.{member, object, raw_member, event_size}
 use Rattle.bx_message.proofs.ObjectLemmas.{quoted_plain}
 
--- the size where the channel is written as this text
 abbrev sized : List ℕ → List ℕ → Option (List ℕ) → ℕ
 sized channel payload id = length (object (member (codes "channel") channel ∷ (member (codes "data") payload ∷ raw_member (codes "id") id)))
 

@@ -34,7 +34,7 @@ is_digits json = nat_lt 0 (length json) && all_ascii_digits json
 abbrev pub number_of : List ℕ → Option ℕ
 number_of json = if is_digits json && nat_lt (digits_value 10 json) (2 ^ 64) then Some (digits_value 10 json) else None
 
--- The acknowledgement in a value: `true`, a number or, otherwise, none.
+-- The acknowledgement in a value, which is `true` or a number. Any other value has none.
 abbrev pub ack_field : Option (List ℕ) → AckMember
 ack_field None = NoAck
 ack_field (Some json) = if bytes_eq json (codes "true") then AckTrue else option_map_or AckNumber (number_of json) NoAck
@@ -48,7 +48,7 @@ is_text json = is_some (spelled json)
 abbrev pub texts_among : List (List ℕ) → List (List ℕ)
 texts_among values = filter_map spelled values
 
--- The texts among an array's elements; none if there is no array.
+-- The texts among an array's elements. Any other value has none.
 abbrev pub listed_texts : Option (List ℕ) → List (List ℕ)
 listed_texts None = []
 listed_texts (Some json) = texts_among (elements json)
@@ -69,7 +69,7 @@ is_listed (Some json) = is_text json || (is_array json && list_all is_text (elem
 
 -- ---- Messages
 
--- The value of `inner` in the object that is the value of `outer`.
+-- The value of member `inner` in the object that is the value of member `outer`.
 abbrev pub nested_in : List ℕ → List ℕ → List Member → Option (List ℕ)
 nested_in outer inner members = option_and_then (member_text inner) (last_member outer members)
 
@@ -94,6 +94,6 @@ fields_of members channel = record {
 abbrev pub channel_in : List Member → Option (List ℕ)
 channel_in members = option_and_then spelled (last_member (codes "channel") members)
 
--- The message with these members, or `None` without a channel.
+-- The message with these members, or `None` if they have no channel.
 abbrev pub message_in : List Member → Option Message
 message_in members = option_map (fields_of members) (channel_in members)

@@ -1,11 +1,11 @@
--- What a message is for, by its channel.
+-- The kinds of messages, by their channels.
 use Rattle.std.specs.Prelude.{Bool, List, ℕ, codes, if◌then◌else◌}
 use Rattle.std.specs.Str.{bytes_eq}
 use Rattle.bx_names.specs.Kinds.{is_meta}
 use Rattle.bx_message.specs.declared.{message.Message.Message, message_kind.MessageKind.MessageKind}
 use Rattle.bx_message.specs.declared.message_kind.MessageKind.TheVariants.{Handshake, Connect, Subscribe, Unsubscribe, Disconnect, Publish, UnknownMeta}
 
--- The kind of a message: one of five meta messages, one to another meta channel, or a publish.
+-- The kind of a message to a channel.
 abbrev pub message_kind_of : List ℕ → MessageKind
 message_kind_of channel =
     if bytes_eq channel (codes "/meta/handshake") then Handshake

@@ -23,11 +23,11 @@ opened before = record { text = before ++ 123 ∷ []; is_empty = true }
 abbrev pub separator : OpenObject → List ℕ
 separator o = if o.is_empty then [] else 44 ∷ []
 
--- The bytes with another member's name and colon, before its value.
+-- The bytes through the name and colon of the next member, before its value.
 abbrev pub with_name : OpenObject → List ℕ → List ℕ
 with_name o name = o.text ++ (separator o ++ (quoted name ++ 58 ∷ []))
 
--- The object after a member's value.
+-- The object after the value of a member, with the bytes `text` so far.
 abbrev pub resumed : List ℕ → OpenObject
 resumed text = record { text = text; is_empty = false }
 

@@ -5,19 +5,19 @@ use Rattle.bx_advice.specs.Advice.{advice_of}
 use Rattle.bx_message.specs.declared.{message.Message.Message, message_kind.MessageKind.MessageKind, reply.AckReply.AckReply, reply.Reply.Reply}
 use Rattle.bx_message.specs.declared.message_kind.MessageKind.TheVariants.{Connect, Subscribe, Unsubscribe, Publish, UnknownMeta}
 
--- The client ID in a reply; a publish and an unknown meta channel get none.
+-- The client id in a reply. Replies to publishes and unknown meta channels have none.
 abbrev pub client_for : MessageKind → Option (List ℕ) → Option (List ℕ)
 client_for Publish client = None
 client_for UnknownMeta client = None
 client_for _ client = client
 
--- The subscription in a reply to a subscribe or unsubscribe, even if refused.
+-- The subscription in a reply. Only subscribes and unsubscribes have it, even if they are rejected.
 abbrev pub subscription_for : MessageKind → Option (List ℕ) → Option (List ℕ)
 subscription_for Subscribe subscription = subscription
 subscription_for Unsubscribe subscription = subscription
 subscription_for _ subscription = None
 
--- The reply to a message at its own place; `client` is its session's client ID, if any.
+-- The reply that a message gets at once. `client`: the client id of its session, if any.
 abbrev pub reply_to : Config → MessageKind → Message → Option (List ℕ) → Outcome → AckReply → Reply
 reply_to config message_kind m client outcome ack = record {
   message_kind = message_kind;
@@ -30,7 +30,7 @@ reply_to config message_kind m client outcome ack = record {
   ack = ack;
 }
 
--- The reply to a connect, at once or after it was held.
+-- The reply to a connect, whether it was held or not.
 abbrev pub connect_reply : Config → List ℕ → Option (List ℕ) → Outcome → AckReply → Reply
 connect_reply config client id outcome ack = record {
   message_kind = Connect;

@@ -1,4 +1,4 @@
--- Compact JSON of replies, responses and callbacks, with members in byte order of their names.
+-- The JSON of replies, responses and callbacks, with members in byte order of their names.
 use Rattle.std.specs.Prelude.{ℕ, List, [], ◌∷◌, ◌++◌, map, drop, nat_eq, codes, decimal, if◌then◌else◌, Option, Some, None}
 use Rattle.std.specs.List.{starts_with}
 use Rattle.json.specs.Print.{quoted}
@@ -90,7 +90,7 @@ abbrev pub item_text : Item → List ℕ
 item_text (EventItem e) = event_text e
 item_text (ReplyItem r) = reply_text r
 
--- The text of a response: one array.
+-- The text of a response: the array of its items.
 abbrev pub body_text : List Item → List ℕ
 body_text items = array (map item_text items)
 
@@ -102,7 +102,7 @@ line_separator = 226 ∷ 128 ∷ 168 ∷ []
 abbrev pub paragraph_separator : List ℕ
 paragraph_separator = 226 ∷ 128 ∷ 169 ∷ []
 
--- The text with a line or paragraph separator at its start, if any, escaped.
+-- The text with the separator at its start escaped, if there is one.
 abbrev pub guarded : List ℕ → List ℕ
 guarded xs =
     if starts_with nat_eq xs line_separator then codes "\\u2028" ++ drop 3 xs
@@ -113,6 +113,6 @@ abbrev pub script_safe : List ℕ → List ℕ
 script_safe [] = []
 script_safe (x ∷ xs) = guarded (x ∷ script_safe xs)
 
--- The body of a callback: `name`, and the array in parentheses.
+-- The response to a callback: `name`, and the array in parentheses.
 abbrev pub callback_text : List ℕ → List Item → List ℕ
 callback_text name items = name ++ (40 ∷ (script_safe (body_text items) ++ 41 ∷ []))

@@ -1,4 +1,4 @@
-//! Events, and the handles that their receivers share.
+//! Events, and the handles with which their receivers share them.
 ghost use Rattle.std.specs.Prelude.{◌≡◌, IfOk, IfSome};
 ghost use Rattle.bx_names.specs.Segments.{segments};
 ghost use Rattle.bx_message.specs.Events.{event_size};
@@ -36,9 +36,9 @@ const EVENT_BYTES: usize = 22;
 
 const ID_BYTES: usize = 6;
 
-/// A handle to an event that all its receivers share.
+/// A handle to an event. All receivers of the event share it.
 ///
-/// The channel name is parsed once, and the size is computed once.
+/// The channel's name is parsed only once, and the size is computed only once.
 ///
 /// Model: the event.
 #[derive(Drop)]
@@ -64,7 +64,7 @@ impl Model for SharedEvent {
 impl SharedEvent {
     /// Creates the first handle to `event`.
     ///
-    /// `name`: the parsed name of its channel.
+    /// `name`: the event's channel, parsed.
     ///
     /// # Errors
     ///
@@ -85,7 +85,7 @@ impl SharedEvent {
         &self.named.event
     }
 
-    /// Returns the event's channel name.
+    /// Returns the event's channel, parsed.
     pub fn name(&self) -> &ChannelName
         ensures { result.now ≡ segments self.now.channel }
     {
@@ -111,7 +111,8 @@ fn size_of(alloc: Global, event: &Event) -> Result<usize, AllocError>
     }
 }
 
-// Computes the size without formatting; `None` if the channel needs escapes or on overflow.
+// Computes the size without formatting. Returns `None` if the channel needs escapes, or if the size
+// overflows.
 #[tactic(auto, using(crate::proofs::Sizes::size_without_id, crate::proofs::Sizes::size_with_id))]
 fn plain_size(event: &Event) -> Option<usize>
     ensures { IfSome result (λ size. size ≡ event_size event.now) }

@@ -1,4 +1,4 @@
-//! A message after parsing.
+//! Parsed messages.
 use crate::sequence::Sequence;
 use crate::text::{RawJson, Text};
 
@@ -28,7 +28,7 @@ pub enum AckMember {
 
 /// The fields of a message.
 ///
-/// If a name occurs more than once, the last member counts. Other members are ignored.
+/// If a name occurs more than once, the last member counts. Members of other names are ignored.
 ///
 /// Bayeux 1.0, message fields, and CometD's acknowledgement extension.
 #[derive(Drop)]

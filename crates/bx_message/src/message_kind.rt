@@ -4,10 +4,10 @@ ghost use Rattle.bx_message.specs.MessageKinds.{message_kind_of};
 
 use bx_names::{ChannelKind, kind_of};
 
-/// The purpose of a message, by its channel.
+/// The kind of a message, by its channel.
 ///
-/// The first five are the meta messages of Bayeux 1.0, named after their channels:
-/// `/meta/handshake` and so on. `docs/MODEL.md` lists the members of the reply to each kind.
+/// The first five are the meta messages of Bayeux 1.0, named after their channels, such as
+/// `/meta/handshake`. `docs/MODEL.md` lists the members of the reply to each kind.
 #[derive(Clone, Copy, Debug, PartialEq, Eq)]
 pub enum MessageKind {
     Handshake,

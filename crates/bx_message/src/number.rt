@@ -6,8 +6,8 @@ ghost use Rattle.bx_message.specs.Fields.{number_of};
 
 /// Parses a number of at most 2^64-1, written in digits only.
 ///
-/// Leading zeros are allowed. Returns `None` if `digits` is empty, the number is larger, or another
-/// character occurs, such as a sign, a point or an exponent.
+/// Leading zeros are allowed. Returns `None` if `digits` is empty, if the number is larger, or if
+/// there is another character, such as a sign or a point.
 ///
 /// Policy of this server.
 pub fn number_of(digits: &[u8]) -> Option<u64>

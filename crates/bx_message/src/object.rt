@@ -1,4 +1,4 @@
-//! A writer of JSON objects.
+//! Writing of JSON objects.
 ghost use Rattle.std.specs.Prelude.{◌≡◌, [], ◌∷◌, ◌++◌, IfOk, OnOk, decimal, true};
 ghost use Rattle.std.specs.List.{list_all};
 ghost use Rattle.json.specs.Run.{is_plain};
@@ -58,9 +58,7 @@ impl Name {
     }
 }
 
-/// Appends the members of an object to a buffer, without white space.
-///
-/// A method fails only if memory runs out; the buffer may then be incomplete.
+/// A writer that appends one JSON object to a buffer, without whitespace.
 #[derive(Drop)]
 pub struct ObjectWriter {
     out: Vec<u8>,
@@ -79,6 +77,10 @@ impl Model for ObjectWriter {
 
 impl ObjectWriter {
     /// Begins an object at the end of `out`.
+    ///
+    /// # Errors
+    ///
+    /// `AllocError` if memory runs out; `out` is dropped.
     pub fn begin(mut out: Vec<u8>) -> Result<ObjectWriter, AllocError>
         ensures { IfOk result (λ w. w ≡ opened out.items) }
     {
@@ -90,6 +92,10 @@ impl ObjectWriter {
     }
 
     /// Ends the object and returns the buffer.
+    ///
+    /// # Errors
+    ///
+    /// `AllocError` if memory runs out; the buffer is dropped.
     pub fn end(self) -> Result<Vec<u8>, AllocError>
         ensures { IfOk result (λ out. out.items ≡ closed self) }
     {
@@ -98,7 +104,11 @@ impl ObjectWriter {
         Ok(out)
     }
 
-    /// Begins a nested object, the value of the next member `name`.
+    /// Begins a nested object as the value of member `name`.
+    ///
+    /// # Errors
+    ///
+    /// `AllocError` if memory runs out; the member may be incomplete.
     pub fn open(&mut self, name: Name) -> Result<(), AllocError>
         ensures { OnOk result (self.new ≡ opened (with_name self.old (name_text name))) }
     {
@@ -109,6 +119,10 @@ impl ObjectWriter {
     }
 
     /// Ends the object that [`open`](Self::open) began, and returns to the outer one.
+    ///
+    /// # Errors
+    ///
+    /// `AllocError` if memory runs out; the nested object is not ended.
     pub fn close(&mut self) -> Result<(), AllocError>
         ensures { OnOk result (self.new ≡ resumed (closed self.old)) }
     {
@@ -117,7 +131,11 @@ impl ObjectWriter {
         Ok(())
     }
 
-    /// Appends a member whose value is `json`, the text of a JSON value.
+    /// Appends member `name` with `json`, the text of a JSON value.
+    ///
+    /// # Errors
+    ///
+    /// `AllocError` if memory runs out; the member may be incomplete.
     pub fn raw(&mut self, name: Name, json: &str) -> Result<(), AllocError>
         ensures { OnOk result (self.new ≡ with_member self.old (member (name_text name) json.now)) }
     {
@@ -125,7 +143,11 @@ impl ObjectWriter {
         self.out.extend_from_slice(json.as_bytes())
     }
 
-    /// Appends a member whose value is a string.
+    /// Appends member `name` with the string `text`, with escapes if it needs them.
+    ///
+    /// # Errors
+    ///
+    /// `AllocError` if memory runs out; the member may be incomplete.
     pub fn text(&mut self, name: Name, text: &Text) -> Result<(), AllocError>
         ensures { OnOk result (self.new
             ≡ with_member self.old (member (name_text name) (quoted text.now))) }
@@ -138,7 +160,11 @@ impl ObjectWriter {
         }
     }
 
-    /// Appends a member whose value is `word`, a string that needs no escapes.
+    /// Appends member `name` with the string `word`, which must need no escapes.
+    ///
+    /// # Errors
+    ///
+    /// `AllocError` if memory runs out; the member may be incomplete.
     pub fn word(&mut self, name: Name, word: &str) -> Result<(), AllocError>
         requires { list_all is_plain word.now ≡ true }
         ensures { OnOk result (self.new
@@ -148,7 +174,11 @@ impl ObjectWriter {
         push_plain(&mut self.out, word)
     }
 
-    /// Appends a member whose value is a number.
+    /// Appends member `name` with the number `n`, in decimal digits.
+    ///
+    /// # Errors
+    ///
+    /// `AllocError` if memory runs out; the member may be incomplete.
     pub fn number(&mut self, name: Name, n: u64) -> Result<(), AllocError>
         ensures { OnOk result (self.new ≡ with_member self.old (member (name_text name) (decimal n))) }
     {
@@ -182,7 +212,7 @@ fn push_plain(out: &mut Vec<u8>, text: &str) -> Result<(), AllocError>
     Ok(())
 }
 
-// Appends a string with escapes. `Writer` fills its buffer's spare room, so it gets its own buffer.
+// Appends a string with escapes. `Writer` fills the spare room of its buffer, so it gets its own.
 fn push_escaped(out: &mut Vec<u8>, text: &str) -> Result<(), AllocError>
     ensures { OnOk result (out.new.items ≡ out.old.items ++ quoted text.now) }
 {

@@ -1,4 +1,4 @@
-//! Parses a message from an object of a document.
+//! Parsing of a message from an object of a document.
 ghost use Rattle.std.specs.Prelude.{◌≡◌, IfOk, IfErr, Some, None, codes, option_map, option_and_then};
 ghost use Rattle.std.specs.List.{list_all};
 ghost use Rattle.bx_cut.specs.Pieces.{last_member, elements};
@@ -22,7 +22,7 @@ pub enum MessageError {
 }
 
 impl Message {
-    /// Parses a message from an object, and copies its texts.
+    /// Parses a message from the object `piece`, and copies its texts.
     ///
     /// # Errors
     ///
@@ -85,7 +85,7 @@ fn text_member(alloc: Global, piece: &Piece<'_>, name: &str) -> Result<TextMembe
     }
 }
 
-// Copies an `id` that is a JSON string or number.
+// Copies `id` if it is a JSON string or number.
 fn id_member(alloc: Global, piece: &Piece<'_>) -> Result<Option<RawJson>, AllocError>
     ensures { IfOk result (λ id. id ≡ id_field (last_member (codes "id") piece.now.1)) }
 {
@@ -114,7 +114,7 @@ fn is_array(json: &str) -> bool
     }
 }
 
-// Parses the strings among the elements of an array. For any other value, the result is empty.
+// Parses the strings among the elements of an array. Any other value has none.
 fn listed_texts(alloc: Global, array: Option<&str>) -> Result<Sequence<Text>, AllocError>
     ensures { IfOk result (λ texts. texts ≡ listed_texts (option_map (λ t. t.now) array.entry)) }
 {
@@ -162,7 +162,7 @@ fn subscription_texts(
     Ok((texts, is_array(json) && all_texts))
 }
 
-// Returns a member of a member that is an object.
+// Returns the value of member `inner` in the object that is the value of member `outer`.
 fn nested_member<'a>(piece: &Piece<'a>, outer: &str, inner: &str) -> Option<&'a str>
     ensures { option_map (λ t. t.now) result ≡ nested_in outer.now inner.now piece.now.1 }
 {

@@ -20,14 +20,14 @@ pub enum AckReply {
     NoAck,
     /// `true`, in the reply to a handshake that turned acknowledgement on.
     AckTrue,
-    /// A batch number, in the reply to a connect.
+    /// The number of the last batch, in the reply to a connect.
     AckNumber(u64),
 }
 
 /// The reply to one message.
 #[derive(Clone, Drop)]
 pub struct Reply {
-    /// The kind of the message, which decides the reply's members.
+    /// The kind of the message. Replies to handshakes have more members.
     pub message_kind: MessageKind,
     /// The message's channel.
     pub channel: Text,
@@ -37,7 +37,7 @@ pub struct Reply {
     pub id: Option<RawJson>,
     /// The message's `subscription`, as the sender wrote it, if the reply repeats it.
     pub subscription: Option<RawJson>,
-    /// Success of some kind, or an error.
+    /// How the message succeeded, or its error.
     pub outcome: Outcome,
     /// The advice for the client, if the reply has one.
     pub advice: Option<Advice>,
@@ -80,9 +80,9 @@ impl Reply {
         })
     }
 
-    /// Creates the reply to a connect that is answered at once or later.
+    /// Creates the reply to a connect, whether it was held or not.
     ///
-    /// `client`: the session's client id. `id`: the connect's. Does not allocate.
+    /// `client`: the session's client id. `id`: the `id` of the connect. Does not allocate.
     ///
     /// Bayeux 1.0, connect response.
     pub fn to_connect(
@@ -139,7 +139,7 @@ fn share_text(text: Option<&Text>) -> Result<Option<Text>, AllocError>
     }
 }
 
-/// Clones the handle `json`, if there is one.
+/// Clones `json`, if there is one. The clone shares its bytes.
 ///
 /// # Errors
 ///
@@ -153,7 +153,7 @@ pub fn share_json(json: Option<&RawJson>) -> Result<Option<RawJson>, AllocError>
     }
 }
 
-/// The answer to a connect or a rider.
+/// The answer to a connect or a rider: its events and its reply.
 #[derive(Drop)]
 pub struct Answer {
     /// The events, oldest first, which precede the reply in the response.
@@ -165,6 +165,8 @@ pub struct Answer {
 /// An element of a response.
 #[derive(Drop)]
 pub enum Item {
+    /// An event that a connect or a rider gets.
     EventItem(SharedEvent),
+    /// The reply to a message of the request.
     ReplyItem(Reply),
 }

@@ -1,12 +1,12 @@
-//! A list that contracts compare by its elements.
+//! A vector that contracts compare by its elements alone.
 ghost use Rattle.std.specs.Prelude.{◌≡◌, [], ◌∷◌, ◌++◌, length, OnOk, OnErr};
 
 use std::alloc::{AllocError, Global};
 use std::marker::Model;
 
-/// A list that grows at its end.
+/// A vector that contracts compare by its elements, not by its capacity.
 ///
-/// Model: the elements, regardless of the capacity.
+/// Model: the elements, in order.
 #[derive(Drop)]
 pub struct Sequence<T> {
     items: Vec<T>,
@@ -21,7 +21,7 @@ impl<T> Model for Sequence<T> {
 }
 
 impl<T> Sequence<T> {
-    /// Creates an empty list.
+    /// Creates an empty sequence. Does not allocate.
     pub fn new(alloc: Global) -> Sequence<T>
         ensures { result ≡ [] }
     {
@@ -30,14 +30,14 @@ impl<T> Sequence<T> {
         }
     }
 
-    /// Converts a vector to a list without copying.
+    /// Converts a vector without copying its elements.
     pub fn from_vec(items: Vec<T>) -> Sequence<T>
         ensures { result ≡ items.items }
     {
         Sequence { items }
     }
 
-    /// Converts the list to a vector without copying.
+    /// Converts the sequence to a vector without copying its elements.
     pub fn into_vec(self) -> Vec<T>
         ensures { result.items ≡ self }
     {
@@ -59,11 +59,11 @@ impl<T> Sequence<T> {
         self.items.len()
     }
 
-    /// Appends an element.
+    /// Appends `item`.
     ///
     /// # Errors
     ///
-    /// `AllocError` if memory runs out; the list is unchanged.
+    /// `AllocError` if memory runs out; `self` is unchanged and `item` is dropped.
     pub fn push(&mut self, item: T) -> Result<(), AllocError>
     where
         T: Drop,

@@ -4,9 +4,9 @@ ghost use Rattle.bx_message.specs.Statuses.{code_of};
 
 /// An HTTP status that this server responds with.
 ///
-/// Each error type maps its errors to statuses.
+/// Each type of errors has a function that returns their statuses.
 ///
-/// HTTP; the choice of statuses is a policy of this server.
+/// The choice of statuses is a policy of this server.
 #[derive(Clone, Copy, Debug, PartialEq, Eq)]
 pub enum Status {
     /// 200

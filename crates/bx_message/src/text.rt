@@ -22,8 +22,8 @@ enum Stored {
 #[derive(Drop)]
 pub struct Text {
     stored: Stored,
-    // Whether JSON needs no escapes for it. Stored, because an event's channel is written once for
-    // each session that gets it.
+    // Whether the text needs no escapes in JSON. It is stored, because the channel of an event is
+    // written once for each session that gets it.
     plain: bool,
 }
 
@@ -136,9 +136,9 @@ impl Clone for Text {
     }
 }
 
-/// The text of a JSON value, as the sender wrote it, which shares its bytes with its clones.
+/// The text of a JSON value, as its sender wrote it.
 ///
-/// [`new`](Self::new) does not check that it is JSON.
+/// Its clones share its bytes. [`new`](Self::new) does not check that the text is JSON.
 ///
 /// Model: its bytes.
 #[derive(Drop)]
@@ -168,7 +168,7 @@ impl RawJson {
         Ok(RawJson { json })
     }
 
-    /// Returns the sender's text.
+    /// Returns the text as a string slice.
     pub fn as_str(&self) -> &str
         ensures { result.now ≡ self.now }
     {

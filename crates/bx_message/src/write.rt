@@ -1,6 +1,7 @@
 //! The JSON text of replies, events and responses.
 //!
-//! It is compact. The members of each object are in ascending byte order of their names.
+//! The text has no whitespace. The members of each object are in ascending byte order of their
+//! names.
 ghost use Rattle.std.specs.Prelude.{◌≡◌, ◌++◌, IfOk, OnOk, Some, true};
 ghost use Rattle.std.specs.List.{list_all};
 ghost use Rattle.json.specs.Run.{is_plain};
@@ -22,8 +23,8 @@ const SUPPORTED_TYPES: &str = "[\"long-polling\",\"callback-polling\"]";
 
 const VERSION: &str = "1.0";
 
-// Room in bytes for a reply and an event without the texts that they repeat: for all member names,
-// and the longest advice, error and numbers.
+// Room for a reply and for an event in bytes, without the texts that they repeat. It is enough for
+// all member names, and for the longest advice, error and numbers.
 const REPLY_ROOM: usize = 384;
 
 const EVENT_ROOM: usize = 64;
@@ -118,11 +119,11 @@ fn raw_len(json: &Option<RawJson>) -> usize {
     }
 }
 
-/// Appends the JSON text of `item` to `out`.
+/// Appends the JSON text of `item` to `out`, and returns `out`.
 ///
 /// # Errors
 ///
-/// `AllocError` if memory runs out.
+/// `AllocError` if memory runs out; `out` is dropped.
 pub fn write_item(out: Vec<u8>, item: &Item) -> Result<Vec<u8>, AllocError>
     ensures { IfOk result (λ text. text.items ≡ out.items ++ item_text item.now) }
 {
@@ -158,7 +159,7 @@ fn write_reply(out: Vec<u8>, reply: &Reply) -> Result<Vec<u8>, AllocError>
     object.end()
 }
 
-// Appends a member with the sender's JSON text, if there is one.
+// Appends member `name` with the sender's text `json`, if there is one.
 fn write_raw(
     object: &mut ObjectWriter,
     name: Name,
@@ -173,7 +174,7 @@ fn write_raw(
     }
 }
 
-// Appends a member with a string, if there is one.
+// Appends member `name` with the string `text`, if there is one.
 fn write_text(object: &mut ObjectWriter, name: Name, text: &Option<Text>) -> Result<(), AllocError>
     ensures { OnOk result (object.new
         ≡ with_members object.old (text_member (name_text name) text.now)) }
@@ -197,7 +198,7 @@ fn write_advice(object: &mut ObjectWriter, advice: Option<Advice>) -> Result<(),
     object.close()
 }
 
-// Appends a member with a number, if there is one.
+// Appends member `name` with `number`, if there is one.
 fn write_number(
     object: &mut ObjectWriter,
     name: Name,
@@ -212,7 +213,7 @@ fn write_number(
     }
 }
 
-// Returns the `reconnect` value of an advice.
+// Returns the value of `reconnect` in an advice.
 //
 // Bayeux 1.0, the advice field `reconnect`.
 fn reconnect_text(reconnect: Reconnect) -> &'static str

@@ -1,4 +1,4 @@
--- What the segments of a text make of its pattern, and which names it then matches.
+-- The pattern in a text, by the text's segments.
 use Rattle.std.proofs.Common.{◌≡◌, ◌≢◌, ℕ, ◌-◌, ◌<◌, Bool, true, false, IsTrue, List, [], ◌∷◌, ◌++◌, length, take, cond, refl, sym, ap, ◌∙◌, arith, append-nil, codes}
 use Rattle.std.specs.{Bool.Decides, List.list_any, Str.bytes_eq}
 use Rattle.std.specs.Prelude.{◌||◌}
@@ -21,7 +21,6 @@ ends_in_last : (s : List ℕ) (ss : List (List ℕ)) → (front : List (List ℕ
 ends_in_last s [] = ([], refl)
 ends_in_last s (t ∷ ts) = let rest = ends_in_last t ts in (s ∷ rest.0, ap (λ us. s ∷ us) rest.1)
 
--- all but the last, and the last
 pub front_and_last : (ss : List (List ℕ)) → 0 < length ss → ss ≡ take (length ss - 1) ss ++ last_segment ss ∷ []
 front_and_last [] some = absurd (omega arith)
 front_and_last (s ∷ ss) some =
@@ -46,7 +45,6 @@ glob_of-one_text own = rw (segments-append own (codes "*")) (glob_of-one (segmen
 glob_exact_by : (ss : List (List ℕ)) (one many : Bool) → (one ≡ true → ⊥) → (many ≡ true → ⊥) → ending_in (cond one One (cond many Many Exact)) ss ≡ record { segments = ss; tail = Exact }
 glob_exact_by ss one many h1 h2 = grind (arith, common_steps)
 
--- a text that ends in a segment ends in a slash and that segment
 ends_in_segment : (text s : List ℕ) → IsTrue (is_path text) → 0 < length s → last_segment (segments text) ≡ s → text ≡ path_of (take (length (segments text) - 1) (segments text)) ++ 47 ∷ s
 ends_in_segment [] s path some is = absurd (omega (arith, ap length is))
 ends_in_segment (x ∷ xs) s path some is =
@@ -77,12 +75,11 @@ glob_text_by ss one many h1 h2 = grind (arith, common_steps, cut_by_tail, append
 pub glob_text-glob_of : (ss : List (List ℕ)) → glob_text (glob_of ss) ≡ path_of ss
 glob_text-glob_of ss = grind (arith, common_steps, glob_text_by, bytes_eq-Decides)
 
--- ---- equality by texts
+-- ---- patterns with equal texts are equal
 
 pub glob_text_back : (text : List ℕ) → IsTrue (is_path text) → glob_text (glob_of (segments text)) ≡ text
 glob_text_back text path = glob_text-glob_of (segments text) ∙ path_of-segments text path
 
--- two patterns are one where their texts are
 pub texts-decide : (s t : List ℕ) (p q : Glob) (same : Bool) → same ≡ bytes_eq s t → IsTrue (is_path s) → IsTrue (is_path t) → glob_of (segments s) ≡ p → glob_of (segments t) ≡ q → Decides same (p ≡ q)
 texts-decide s t p q same is s_path t_path s_is t_is =
     let by = bytes_eq-Decides s t in (
@@ -90,7 +87,7 @@ texts-decide s t p q same is s_path t_path s_is t_is =
       λ h. is ∙ by.1 (sym (glob_text_back s s_path) ∙ ap glob_text (s_is ∙ h ∙ sym t_is) ∙ glob_text_back t t_path),
     )
 
--- ---- a pattern without a star
+-- ---- a pattern without a wildcard
 
 or_none : (a b : Bool) → (a || b) ≡ false → (a ≡ false) × (b ≡ false)
 or_none a b h1 = grind (arith, common_steps)

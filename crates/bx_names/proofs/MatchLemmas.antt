@@ -1,4 +1,4 @@
--- Matching by texts: which names a pattern matches is told by what stands in the name's text behind the pattern's own.
+-- Matching by texts: the name must begin with the pattern's text, and the rest decides.
 use Rattle.std.proofs.Common.{◌≡◌, ◌≢◌, ℕ, ◌+◌, ◌<◌, ◌==◌, ◌&&◌, Bool, true, false, nat_lt, eqb, IsTrue, List, [], ◌∷◌, ◌++◌, length, take, drop, refl, sym, ap, ◌∙◌, arith, append-nil, cond, get_or, zero, suc, ◌≤◌, Option, Some, None, MatchOption}
 use Rattle.std.specs.{Bool.Decides, Bool.one_answer, List.starts_with, Str.bytes_eq, List.onto_first, Option.option_eq}
 use Rattle.std.proofs.lemmas.{Bool.Decides.Decides-eqb, Bool.Decides.Decides-ltb, Slice.Eq.bytes_eq-Decides, Slice.Eq.starts_is, List.append_cancel_left, List.nil_from_length, Bool.false≢true, Bool.and_parts}
@@ -24,14 +24,12 @@ path_of-absolute : (ss : List (List ℕ)) → 0 < length ss → IsTrue (is_absol
 path_of-absolute [] h = absurd (omega arith)
 path_of-absolute (s ∷ ss) h = refl
 
--- what a longer text adds to the segments
 segments-longer : (own rest : List ℕ) → IsTrue (is_absolute rest) → segments (own ++ rest) ≡ segments own ++ segments rest
 segments-longer own rest h1 = grind (arith, common_steps, slash-is, segments-append)
 
 begins_if : (own rest : List (List ℕ)) (name : List (List ℕ)) → name ≡ own ++ rest → starts_with bytes_eq name own ≡ true
 begins_if own rest name h = (starts_is bytes_eq-Decides name own (starts_with bytes_eq name own) refl).1 rest h
 
--- a name that begins with a pattern's own segments: what it has behind them, in segments and in its text
 record Longer (own name : List ℕ) : Type 0 where
   more : List (List ℕ)
   by_segments : segments name ≡ segments own ++ more
@@ -47,7 +45,7 @@ longer own name own_path name_path h =
       by_text = sym (path_of-segments name name_path) ∙ ap path_of e ∙ path_of-append (segments own) more ∙ ap (λ text. text ++ path_of more) (path_of-segments own own_path);
     }
 
--- ---- where the text of the name does not begin with the pattern's own
+-- ---- a name that does not begin with the pattern's text
 
 same_text : (own name : List ℕ) → IsTrue (is_path own) → IsTrue (is_path name) → same_segments (segments own) (segments name) ≡ true → own ≡ name
 same_text own name own_path name_path h = sym (path_of-segments own own_path) ∙ ap path_of ((same_segments-decides (segments own) (segments name)).0 h) ∙ path_of-segments name name_path
@@ -60,7 +58,7 @@ matches-miss own name own_path name_path miss One =
 matches-miss own name own_path name_path miss Many =
     false_if _ (λ h. miss _ (longer own name own_path name_path (and_parts (nat_lt (length (segments own)) (length (segments name))) _ h).1).by_text)
 
--- ---- where it does
+-- ---- a name that begins with the pattern's text
 
 module _ (own name rest : List ℕ) (own_path : IsTrue (is_path own)) (name_path : IsTrue (is_path name)) (is : name ≡ own ++ rest) where
   rest_empty : same_segments (segments own) (segments name) ≡ true → length rest ≡ 0
@@ -107,7 +105,7 @@ module _ (own name rest : List ℕ) (own_path : IsTrue (is_path own)) (name_path
 
 -- ---- a text with one slash, at its start
 
--- the last slash of a text stands at this place
+-- The last slash of a text is at this index.
 abbrev pub IsLastSlash : List ℕ → ℕ → Type 0
 IsLastSlash text k = (k < length text) × (get_or text k 0 ≡ 47) × ((i : ℕ) → k < i → i < length text → get_or text i 0 ≢ 47)
 
@@ -152,12 +150,12 @@ pub one_by_last_slash : (text : List ℕ) (r : Option ℕ) → MatchOption r ((i
 one_by_last_slash text None none = sym (none_if_absent text none)
 one_by_last_slash text (Some k) last = one_by_test text k (eqb k 0) last (Decides-eqb k 0)
 
--- ---- the same, of values
+-- ---- the same, for equal patterns and names
 
 pub matches_at : {s t : Tail} {ss ts : List (List ℕ)} {ms ns : List (List ℕ)} → s ≡ t → ss ≡ ts → ms ≡ ns → matches_by s ss ms ≡ matches_by t ts ns
 matches_at {s} {t} {ss} {ts} {ms} {ns} p q r = ap (λ x. matches_by x ss ms) p ∙ ap (λ x. matches_by t x ms) q ∙ ap (λ x. matches_by t ts x) r
 
--- ---- what matching means, as a fact of lists
+-- ---- matching as a property of lists
 
 pub exact_decides : (own name : List (List ℕ)) → Decides (matches_by Exact own name) (name ≡ own)
 exact_decides own name = let same = same_segments-decides own name in (λ h. sym (same.0 h), λ h. same.1 (sym h))

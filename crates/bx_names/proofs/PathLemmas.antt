@@ -1,4 +1,4 @@
--- Paths as texts and as lists of segments, and the two ways between them.
+-- Paths as texts and as lists of segments, and the conversions between them.
 use Rattle.std.proofs.Common.{◌≡◌, ◌≢◌, ℕ, suc, ◌+◌, ◌<◌, Bool, true, IsTrue, Option, Some, None, MatchOption, List, [], ◌∷◌, ◌++◌, length, cond, not, refl, sym, ap, ◌∙◌, arith, lit<, Bor}
 use Rattle.std.specs.{Option.option_map_or, List.onto_first, List.position_or_len, Bool.Decides, Str.bytes_eq}
 use Rattle.std.proofs.lemmas.{Grind.flat_map-append, Bool.Decides.nat_tests, Slice.Eq.bytes_eq-Decides, List.Splits.slice_split_first, List.Splits.length-slice_split, Str.Pattern.IsSplitOnceResult, Str.Pattern.split_once_first}
@@ -7,7 +7,6 @@ use Rattle.std.proofs.lemmas.Grind.{common_steps}
 
 -- ---- the parts of a text
 
--- a text has a part at least
 pub parts_some : (xs : List ℕ) → 0 < length (parts xs)
 parts_some xs = omega (arith, length-slice_split is_slash xs)
 
@@ -17,7 +16,6 @@ onto_first-append x ps qs h1 = grind (arith, common_steps)
 cond_parts-append : (b : Bool) (x : ℕ) (ps qs : List (List ℕ)) → 0 < length ps → cond b ([] ∷ (ps ++ qs)) (onto_first x (ps ++ qs)) ≡ cond b ([] ∷ ps) (onto_first x ps) ++ qs
 cond_parts-append b x ps qs h1 = grind (arith, common_steps, onto_first-append)
 
--- a slash cuts a text in two
 pub parts-append : (xs ys : List ℕ) → parts (xs ++ 47 ∷ ys) ≡ parts xs ++ parts ys
 parts-append [] ys = refl
 parts-append (x ∷ xs) ys = rw (parts-append xs ys) (cond_parts-append (is_slash x) x (parts xs) (parts ys) (parts_some xs))
@@ -28,7 +26,6 @@ segments-append xs ys = grind (arith, common_steps, parts-append)
 cond_parts_whole : (b : Bool) (x : ℕ) (xs : List ℕ) (ps : List (List ℕ)) (n : ℕ) → (n ≡ length xs → ps ≡ xs ∷ []) → cond (not b) (1 + n) 0 ≡ suc (length xs) → cond b ([] ∷ ps) (onto_first x ps) ≡ (x ∷ xs) ∷ []
 cond_parts_whole b x xs ps n h1 h2 = grind (arith, common_steps)
 
--- a text without a slash is one part
 pub parts_whole : (xs : List ℕ) → position_or_len is_slash xs ≡ length xs → parts xs ≡ xs ∷ []
 parts_whole [] h = refl
 parts_whole (x ∷ xs) h = cond_parts_whole (is_slash x) x xs (parts xs) (position_or_len is_slash xs) (parts_whole xs) h
@@ -43,7 +40,7 @@ parts_at_slash bs x h =
 pub parts_at_end : (bs : List ℕ) → IsSplitOnceResult 47 bs None → parts bs ≡ bs ∷ []
 parts_at_end bs h = parts_whole bs (split_once_first 47 bs None h (lit< tt))
 
--- ---- back to the text
+-- ---- from the parts to the text
 
 pub path_of-append : (ss ts : List (List ℕ)) → path_of (ss ++ ts) ≡ path_of ss ++ path_of ts
 path_of-append ss ts = flat_map-append (λ segment. 47 ∷ segment) ss ts
@@ -57,12 +54,10 @@ cond_path_of x xs ps b h1 h2 h3 = grind (arith, common_steps, path_of-onto_first
 pub slash-is : (x : ℕ) → is_slash x ≡ true → x ≡ 47
 slash-is x h = grind (arith, nat_tests)
 
--- the parts, each led by a slash, are the text led by one
 pub path_of-parts : (xs : List ℕ) → path_of (parts xs) ≡ 47 ∷ xs
 path_of-parts [] = refl
 path_of-parts (x ∷ xs) = cond_path_of x xs (parts xs) (is_slash x) (slash-is x) (parts_some xs) (path_of-parts xs)
 
--- a path is its segments, each led by a slash
 pub path_of-segments : (text : List ℕ) → IsTrue (is_path text) → path_of (segments text) ≡ text
 path_of-segments text h1 = grind (arith, common_steps, path_of-parts, slash-is)
 
@@ -74,9 +69,8 @@ parts_stripped bs r h1 h2 = grind (arith, common_steps, slash-is)
 pub path_from_absolute : (text : List ℕ) → IsTrue (is_absolute text) → IsTrue (is_path text)
 path_from_absolute text h1 = grind (arith, common_steps)
 
--- ---- equality by texts
+-- ---- names with equal texts are equal
 
--- two names are one where their texts are
 pub texts-decide : (s t : List ℕ) (ss ts : List (List ℕ)) (same : Bool) → same ≡ bytes_eq s t → IsTrue (is_path s) → IsTrue (is_path t) → segments s ≡ ss → segments t ≡ ts → Decides same (ss ≡ ts)
 texts-decide s t ss ts same is s_path t_path s_is t_is =
     let by = bytes_eq-Decides s t in (

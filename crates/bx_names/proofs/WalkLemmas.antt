@@ -1,4 +1,4 @@
--- What a walk over the bytes of a path finds, and what that says of its segments.
+-- Results of one pass over the bytes of a path.
 use Rattle.std.proofs.Common.{◌≡◌, ℕ, ◌+◌, ◌<◌, ◌&&◌, ◌||◌, Bool, true, false, cond, IsTrue, List, [], ◌∷◌, length, drop, refl, ap, ◌∙◌, arith}
 use Rattle.std.specs.List.{list_any, count_by, onto_first}
 use Rattle.std.proofs.lemmas.{List.Recursion.is_count_by, List.Splits.length-slice_split, List.at_drop_all, Grind.common_steps}
@@ -6,7 +6,7 @@ use Rattle.bx_history.proofs.Tests.{or_assoc}
 use Rattle.bx_names.specs.Words.{is_slash, parts, segments, is_absolute, is_empty, is_path, is_bad_byte, is_star, has_bad_byte, has_star}
 use Rattle.bx_names.proofs.PathLemmas.{parts_some, path_from_absolute, slash-is}
 
--- whether a segment without bytes ends in a text, before which a slash stands, or does not
+-- Whether a text has an empty segment, given whether a slash precedes it.
 abbrev pub has_gap : Bool → List ℕ → Bool
 has_gap after_slash [] = after_slash
 has_gap after_slash (x ∷ xs) = (is_slash x && after_slash) || has_gap (is_slash x) xs
@@ -52,5 +52,4 @@ slashes-cons x xs slash = rw slash refl
 pub length_segments : (text : List ℕ) → IsTrue (is_path text) → length (segments text) ≡ count_by is_slash text
 length_segments text h1 = grind (arith, common_steps, length-slice_split, slashes-count, slashes-cons)
 
--- what a whole walk found
 pub ruleset walked = (gap_segments, bad_segments, length_segments, path_from_absolute, at_drop_all, common_steps)

@@ -1,4 +1,4 @@
--- Proofs that tests of equality are correct; the laws of `==` on names and patterns need them.
+-- Proofs that the tests of equality are correct. The laws of `==` on names and patterns need them.
 use Rattle.std.proofs.Common.{◌≡◌, List, ℕ, refl, ap}
 use Rattle.std.specs.Bool.{Decides}
 use Rattle.std.proofs.lemmas.{Bool.Decides.Decides-and, Slice.Eq.bytes_eq-Decides, Slice.Eq.slice_eq-Decides}
@@ -17,11 +17,11 @@ same_tail-decides Many Exact = (λ e. cc, λ e. cc)
 same_tail-decides Many One = (λ e. cc, λ e. cc)
 same_tail-decides Many Many = (λ e. refl, λ e. refl)
 
--- The test decides whether two lists of segments are equal.
+-- `same_segments` decides whether two lists of segments are equal.
 pub same_segments-decides : (ss ts : List (List ℕ)) → Decides (same_segments ss ts) (ss ≡ ts)
 same_segments-decides ss ts = slice_eq-Decides bytes_eq-Decides ss ts (same_segments ss ts) refl
 
--- The test decides whether two patterns are equal.
+-- `same_glob` decides whether two patterns are equal.
 pub same_glob-decides : (p q : Glob) → Decides (same_glob p q) (p ≡ q)
 same_glob-decides p q =
     let both = Decides-and (same_segments p.segments q.segments) (same_tail p.tail q.tail) (same_segments-decides p.segments q.segments) (same_tail-decides p.tail q.tail) in (

@@ -7,7 +7,7 @@ use Rattle.bx_names.specs.declared.error.NameError.{NameError}
 use Rattle.bx_names.specs.declared.error.NameError.TheVariants.{NoSlash, EmptySegment, BadByte, Wild, TooLong, TooDeep}
 use Rattle.bx_names.specs.declared.limits.TheConstants.{MAX_NAME_BYTES, MAX_NAME_SEGMENTS}
 
--- The first case of a table whose test holds.
+-- The error of the first case of a table that has a true test.
 abbrev pub first_case : {E : Type 0} → List (Bool × E) → Option E
 first_case [] = None
 first_case (c ∷ cs) = if c.0 then Some c.1 else first_case cs
@@ -28,8 +28,8 @@ is_star byte = byte == 42
 abbrev pub has_star : List ℕ → Bool
 has_star = list_any is_star
 
--- The first fault of a path, in this order. The segments `own` may not contain `*`; those of a
--- pattern leave out its wildcard.
+-- The first fault of a path, in this order. The segments `own` may not contain `*`. They are those
+-- of a name, or those of a pattern without its wildcard.
 abbrev pub path_fault : List ℕ → List (List ℕ) → Option NameError
 path_fault text own = first_case (
     (not (is_absolute text), NoSlash)
@@ -44,19 +44,19 @@ path_fault text own = first_case (
 abbrev pub name_fault : List ℕ → Option NameError
 name_fault text = path_fault text (segments text)
 
--- The first fault of a pattern, whose last segment may also be `*` or `**`.
+-- The first fault of a pattern, an absolute path without `*` except for its wildcard.
 abbrev pub pattern_fault : List ℕ → Option NameError
 pattern_fault text = path_fault text (glob_of (segments text)).segments
 
--- A value, unless there is a fault.
+-- `v`, or the fault if there is one.
 abbrev pub read_by : {V : Type 0} → Option NameError → V → Result V NameError
 read_by None v = Ok v
 read_by (Some fault) v = Err fault
 
--- The segments of a channel name, or its fault.
+-- The segments of the channel name in a text, or the text's fault.
 abbrev pub read_name : List ℕ → Result (List (List ℕ)) NameError
 read_name text = read_by (name_fault text) (segments text)
 
--- The pattern in a text, or its fault.
+-- The pattern in a text, or the text's fault.
 abbrev pub read_pattern : List ℕ → Result Glob NameError
 read_pattern text = read_by (pattern_fault text) (glob_of (segments text))

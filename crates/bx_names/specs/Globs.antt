@@ -18,17 +18,17 @@ last_segment [] = []
 last_segment (s ∷ []) = s
 last_segment (s ∷ t ∷ ts) = last_segment (t ∷ ts)
 
--- The wildcard that a last segment stands for, if any.
+-- The wildcard that a last segment is, if any.
 abbrev pub tail_of : List ℕ → Tail
 tail_of segment = if bytes_eq segment (codes "*") then One else (if bytes_eq segment (codes "**") then Many else Exact)
 
--- The pattern with segments `ss`, of which the last is the wildcard, if there is one.
+-- The pattern with segments `ss` and this wildcard. If there is one, it is the last segment.
 abbrev pub ending_in : Tail → List (List ℕ) → Glob
 ending_in Exact ss = record { segments = ss; tail = Exact }
 ending_in One ss = record { segments = take (length ss - 1) ss; tail = One }
 ending_in Many ss = record { segments = take (length ss - 1) ss; tail = Many }
 
--- The pattern with segments `ss`, of which the last may be a wildcard.
+-- The pattern with segments `ss`. The last one may be a wildcard.
 abbrev pub glob_of : List (List ℕ) → Glob
 glob_of ss = ending_in (tail_of (last_segment ss)) ss
 
@@ -62,14 +62,14 @@ same_glob p q = same_segments p.segments q.segments && same_tail p.tail q.tail
 
 -- ---- Matching
 
--- A pattern without a wildcard matches the name that equals it. With `*`, it matches names that
--- begin with its segments and have one more; with `**`, at least one more.
+-- Whether a pattern with this wildcard and segments `own` matches `name`. Without a wildcard, they
+-- must be equal. With `*`, the name has one more segment, and with `**` at least one more.
 abbrev pub matches_by : Tail → List (List ℕ) → List (List ℕ) → Bool
 matches_by Exact own name = same_segments own name
 matches_by One own name = (length name == length own + 1) && starts_with bytes_eq name own
 matches_by Many own name = nat_lt (length own) (length name) && starts_with bytes_eq name own
 
--- Whether a pattern matches the name with these segments.
+-- Whether a pattern matches the name with segments `name`.
 abbrev pub matches : Glob → List (List ℕ) → Bool
 matches p name = matches_by p.tail p.segments name
 

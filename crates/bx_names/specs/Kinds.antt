@@ -1,4 +1,4 @@
--- The kinds of channels, by how their names begin.
+-- The kinds of channels, by the beginning of their names.
 use Rattle.std.specs.Prelude.{ℕ, ◌&&◌, not, Bool, List, nat_eq, codes, if◌then◌else◌}
 use Rattle.std.specs.List.{starts_with}
 use Rattle.bx_names.specs.declared.kind.ChannelKind.{ChannelKind}
@@ -12,7 +12,7 @@ is_meta text = starts_with nat_eq text (codes "/meta/")
 abbrev pub is_service : List ℕ → Bool
 is_service text = starts_with nat_eq text (codes "/service/")
 
--- The kind of a channel; `/meta` and `/service` themselves are broadcast channels.
+-- The kind of a channel. `/meta` and `/service` themselves are broadcast channels.
 abbrev pub kind_of : List ℕ → ChannelKind
 kind_of text = if is_meta text then Meta else (if is_service text then Service else Broadcast)
 

@@ -6,7 +6,7 @@ use Rattle.std.specs.List.{slice_split, flat_map}
 abbrev pub is_slash : ℕ → Bool
 is_slash byte = byte == 47
 
--- The parts of a text between its slashes; a text without a slash is one part.
+-- The parts of a text between its slashes. A text without a slash is one part.
 abbrev pub parts : List ℕ → List (List ℕ)
 parts = slice_split is_slash
 
@@ -25,7 +25,7 @@ abbrev pub is_empty : List ℕ → Bool
 is_empty [] = true
 is_empty (first ∷ rest) = false
 
--- Whether a text is a path: it begins with a slash, or is empty and has no segments.
+-- Whether a text is empty, or begins with a slash. The empty path has no segments.
 abbrev pub is_path : List ℕ → Bool
 is_path text = is_empty text || is_absolute text
 

@@ -19,7 +19,9 @@ pub enum NameError {
     ///
     /// Policy of this server.
     BadByte,
-    /// The text has a star, other than `*` or `**` as the last segment of a pattern.
+    /// The text has a star that is not a wildcard.
+    ///
+    /// A wildcard is `*` or `**` as the last segment of a pattern.
     Wild,
     /// The text has more than `MAX_NAME_BYTES` bytes.
     TooLong,

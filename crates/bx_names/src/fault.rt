@@ -47,9 +47,10 @@ pub(crate) fn split_tail(text: &str) -> (&str, Tail)
     (text, Tail::Exact)
 }
 
-/// Returns the first error of `path`.
+/// Returns the first error of `path`, if any.
 ///
-/// `own`: the part of `path` that must have no stars.
+/// `own`: the part of `path` that must have no stars, which is all of a name, and all of a pattern
+/// except its wildcard.
 #[tactic(auto, using(crate::proofs::WalkLemmas::star_segments))]
 fn path_fault(path: &str, own: &str) -> Option<NameError>
     requires { IsTrue (is_absolute path.now) → IsTrue (is_path own.now) }
@@ -75,7 +76,7 @@ fn path_fault(path: &str, own: &str) -> Option<NameError>
     }
 }
 
-/// Results of one pass over a path's bytes.
+/// What one pass over a path's bytes finds.
 #[derive(Drop)]
 struct Findings {
     has_empty_segment: bool,

@@ -9,7 +9,7 @@ ghost use Rattle.bx_names.specs.Kinds.{is_broadcast, is_meta, is_service, kind_o
 pub enum ChannelKind {
     /// `/meta/..`: messages of the protocol.
     Meta,
-    /// `/service/..`: messages that are not delivered to other clients.
+    /// `/service/..`: messages to the server, which are not delivered to other clients.
     Service,
     /// All others, including `/meta` and `/service` themselves.
     ///
@@ -17,7 +17,7 @@ pub enum ChannelKind {
     Broadcast,
 }
 
-/// Returns the kind of channel `text`, possibly an invalid name.
+/// Returns the kind of channel `text`, which may be an invalid name.
 pub fn kind_of(text: &str) -> ChannelKind
     ensures { result ≡ kind_of text.now }
 {
@@ -30,7 +30,7 @@ pub fn kind_of(text: &str) -> ChannelKind
     }
 }
 
-/// Returns `true` if `text` begins like the name of a meta channel.
+/// Returns `true` if `text` begins with `/meta/`.
 ///
 /// Bayeux 1.0, meta channels.
 pub fn is_meta(text: &str) -> bool
@@ -39,7 +39,7 @@ pub fn is_meta(text: &str) -> bool
     text.starts_with("/meta/")
 }
 
-/// Returns `true` if `text` begins like the name of a service channel.
+/// Returns `true` if `text` begins with `/service/`.
 ///
 /// Bayeux 1.0, service channels.
 pub fn is_service(text: &str) -> bool
@@ -48,9 +48,9 @@ pub fn is_service(text: &str) -> bool
     text.starts_with("/service/")
 }
 
-/// Returns `true` if `text` begins neither like a meta nor like a service channel.
+/// Returns `true` if `text` begins with neither `/meta/` nor `/service/`.
 ///
-/// Messages to a broadcast channel go to other clients.
+/// Messages to a broadcast channel are delivered to its subscribers.
 ///
 /// Bayeux 1.0, channel names.
 pub fn is_broadcast(text: &str) -> bool

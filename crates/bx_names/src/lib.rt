@@ -1,4 +1,4 @@
-//! Channel names and patterns of Bayeux 1.0: validation, kinds of channels and matching.
+//! Channel names and patterns of Bayeux 1.0: parsing, kinds of channels and matching.
 #![tactic(auto)]
 
 mod error;

@@ -1,4 +1,4 @@
-//! Matching of channel names with patterns.
+//! Matching of patterns with channel names.
 ghost use Rattle.std.specs.Prelude.{◌≡◌, ◌==◌, ◌&&◌, length};
 ghost use Rattle.bx_names.specs.Segments.{is_absolute, segments};
 ghost use Rattle.bx_names.specs.Globs.{matches};
@@ -9,8 +9,8 @@ use crate::tail::Tail;
 
 /// Returns `true` if `pattern` matches `name`.
 ///
-/// A pattern without a wildcard matches the equal name. One that ends in `*` matches names with
-/// exactly one segment in its place, and one that ends in `**` those with one or more.
+/// A pattern without a wildcard matches the name that equals it. `*` matches exactly one segment,
+/// and `**` matches one or more.
 ///
 /// Bayeux 1.0, channel globbing.
 pub fn matches(pattern: &Pattern, name: &ChannelName) -> bool

@@ -54,7 +54,7 @@ impl ChannelName {
         }
     }
 
-    /// Creates a channel name from a copy of `text`, which must be valid.
+    /// Creates a channel name from a copy of `text`, which must be a valid name.
     ///
     /// # Errors
     ///
@@ -77,14 +77,14 @@ impl ChannelName {
         self.text.as_str()
     }
 
-    /// Returns the kind of the channel.
+    /// Returns the kind of the channel, by the beginning of its name.
     pub fn kind(&self) -> ChannelKind
         ensures { result ≡ kind_of (path_of self.now) }
     {
         kind_of(self.as_str())
     }
 
-    /// Returns an iterator over the segments.
+    /// Returns an iterator over the segments, at most [`MAX_NAME_SEGMENTS`].
     pub fn segments(&self) -> Segments<'_>
         ensures segments { result ≡ self.now }
         ensures limit { length self.now ≤ MAX_NAME_SEGMENTS }
@@ -99,7 +99,7 @@ impl ChannelName {
         self.segments().count()
     }
 
-    /// Returns segment `k`, counted from 0.
+    /// Returns segment `k`, counted from 0 and less than [`segment_count`](Self::segment_count).
     pub fn segment(&self, k: usize) -> &str
         requires { k < length self.now }
         ensures { slice_get self.now k ≡ Some result.now }

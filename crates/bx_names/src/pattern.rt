@@ -15,7 +15,9 @@ use std::alloc::{AllocError, Global};
 use std::hash::{Hash, Hasher};
 use std::marker::Model;
 
-/// A pattern of channel names: a name such as `/a/b`, or one whose last segment is `*` or `**`.
+/// A pattern of channel names, such as `/a/b`, `/a/*` or `/a/**`.
+///
+/// Its last segment may be a wildcard, `*` or `**`.
 ///
 /// Model: its segments without the wildcard, and the wildcard.
 ///
@@ -68,7 +70,9 @@ impl Pattern {
         self.text.as_str()
     }
 
-    /// Returns the kind of channel, by the beginning of the pattern.
+    /// Returns the kind of a channel with the same beginning as the pattern.
+    ///
+    /// `/**` is `Broadcast`, although it also matches names of other kinds.
     pub fn kind(&self) -> ChannelKind
         ensures { result ≡ kind_of (glob_text self.now) }
     {
@@ -85,14 +89,14 @@ impl Pattern {
         split_tail(self.text.as_str())
     }
 
-    /// Returns the pattern's wildcard.
+    /// Returns the wildcard, or `Exact` if the pattern has none.
     pub fn tail(&self) -> Tail
         ensures { result ≡ self.now.tail }
     {
         self.split().1
     }
 
-    /// Returns an iterator over the segments, without the wildcard.
+    /// Returns an iterator over the segments without the wildcard, at most [`MAX_NAME_SEGMENTS`].
     pub fn segments(&self) -> Segments<'_>
         ensures segments { result ≡ self.now.segments }
         ensures limit { length self.now.segments ≤ MAX_NAME_SEGMENTS }
@@ -107,7 +111,7 @@ impl Pattern {
         self.segments().count()
     }
 
-    /// Returns segment `k`, counted from 0, which must not be the wildcard.
+    /// Returns segment `k`, counted from 0 and less than [`segment_count`](Self::segment_count).
     pub fn segment(&self, k: usize) -> &str
         requires { k < length self.now.segments }
         ensures { slice_get self.now.segments k ≡ Some result.now }

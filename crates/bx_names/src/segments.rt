@@ -23,7 +23,7 @@ impl<'a> Model for Segments<'a> {
     ghost view = { λ s. option_map_or (λ rest. parts rest.now) s.rest [] };
 }
 
-/// Returns an iterator over the segments of a path, empty for the empty text.
+/// Returns an iterator over the segments of `path`; the empty path has none.
 pub(crate) fn segments_of(path: &str) -> Segments<'_>
     requires { IsTrue (is_path path.now) }
     ensures { result ≡ segments path.now }

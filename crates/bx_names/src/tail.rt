@@ -1,6 +1,6 @@
 //! Wildcards of patterns.
 
-/// The wildcard at the end of a pattern, if any.
+/// The wildcard at the end of a pattern, or its absence.
 ///
 /// Bayeux 1.0, channel globbing.
 #[derive(Clone, Copy, Debug, PartialEq, Eq, Hash)]

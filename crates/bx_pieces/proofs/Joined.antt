@@ -1,4 +1,4 @@
--- The data of pieces, one behind another.
+-- The data of pieces, joined in order.
 use Rattle.std.proofs.Common.{[], ◌∷◌, ◌++◌, sym, ap, ◌∙◌}
 use Rattle.http_body.specs.Frame.{bytes_in, joined_data}
 use Rattle.bx_pieces.specs.Laws.{PiecesJoin}

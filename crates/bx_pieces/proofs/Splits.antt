@@ -1,4 +1,4 @@
--- Parts of a response's text, and how many bytes they have.
+-- Parts of a response's text, and their lengths in bytes.
 use Rattle.std.proofs.Common.{◌≡◌, ℕ, ◌+◌, ◌<◌, Bool, true, false, cond, ◌&&◌, ◌==◌, nat_eq, List, [], ◌∷◌, ◌++◌, length, map, take, drop, get_or, codes, Option, Some, None, refl, sym, ap, ap₂, ◌∙◌, arith}
 use Rattle.std.proofs.lemmas.List.{append_assoc, length-append, take_all, take_more, take-append-drop}
 use Rattle.std.proofs.lemmas.Bool.{eqb-true}
@@ -9,7 +9,7 @@ use Rattle.bx_pieces.specs.Elements.{element_text}
 use Rattle.bx_pieces.specs.Tails.{whole_text, beginning_text, led_text, tail_text, sent_as, end_text, rest_text, left_text, part_text, is_call}
 use Rattle.bx_pieces.specs.declared.element.Element.{Element}
 
--- ---- a byte that no separator has
+-- ---- a byte that occurs in no separator
 
 and_false : (b : Bool) → (b && false) ≡ false
 and_false true = refl
@@ -19,7 +19,7 @@ cond-append : (b : Bool) (x y z : List ℕ) → cond b x y ++ z ≡ cond b (x ++
 cond-append true x y z = refl
 cond-append false x y z = refl
 
--- no separator has this byte
+-- The byte occurs in no separator.
 pub record IsApart (c : ℕ) : Type 0 where
   pub lead : (226 == c) ≡ false
   pub middle : (128 == c) ≡ false
@@ -32,7 +32,6 @@ comma_apart = record { lead = refl; middle = refl; line = refl; paragraph = refl
 pub bracket_apart : IsApart 93
 bracket_apart = record { lead = refl; middle = refl; line = refl; paragraph = refl }
 
--- by both tests, a text is guarded so
 guarded_by : (xs : List ℕ) (a b : Bool) → starts_with nat_eq xs line_separator ≡ a → starts_with nat_eq xs paragraph_separator ≡ b → guarded xs ≡ cond a (codes "\\u2028" ++ drop 3 xs) (cond b (codes "\\u2029" ++ drop 3 xs) xs)
 guarded_by xs a b e f = ap₂ (λ p q. cond p (codes "\\u2028" ++ drop 3 xs) (cond q (codes "\\u2029" ++ drop 3 xs) xs)) e f
 
@@ -49,7 +48,6 @@ module _ (c : ℕ) (apart : IsApart c) (r : List ℕ) where
   short : (x y : ℕ) → (d : ℕ) → starts_with nat_eq (x ∷ y ∷ []) (226 ∷ 128 ∷ d ∷ []) ≡ false
   short x y d = ap (λ t. (226 == x) && t) (and_false (128 == y)) ∙ and_false (226 == x)
 
-  -- a text is guarded as before, with such a byte and more behind it
   guarded-before : (x : ℕ) (s : List ℕ) → guarded (x ∷ (s ++ c ∷ r)) ≡ guarded (x ∷ s) ++ (c ∷ r)
   guarded-before x [] =
       guarded_by (x ∷ c ∷ r) false false (none_at x 168 r apart.middle) (none_at x 169 r apart.middle)
@@ -61,7 +59,6 @@ module _ (c : ℕ) (apart : IsApart c) (r : List ℕ) where
       sym (cond-append (starts_with nat_eq (x ∷ y ∷ z ∷ zs) line_separator) (codes "\\u2028" ++ zs) (cond (starts_with nat_eq (x ∷ y ∷ z ∷ zs) paragraph_separator) (codes "\\u2029" ++ zs) (x ∷ y ∷ z ∷ zs)) (c ∷ r)
       ∙ ap (λ t. cond (starts_with nat_eq (x ∷ y ∷ z ∷ zs) line_separator) (codes "\\u2028" ++ (zs ++ c ∷ r)) t) (cond-append (starts_with nat_eq (x ∷ y ∷ z ∷ zs) paragraph_separator) (codes "\\u2029" ++ zs) (x ∷ y ∷ z ∷ zs) (c ∷ r)))
 
--- a text that is cut before such a byte
 pub safe-cut : (c : ℕ) → IsApart c → (a b : List ℕ) → script_safe (a ++ c ∷ b) ≡ script_safe a ++ (c ∷ script_safe b)
 safe-cut c apart [] b = guarded-apart c apart (script_safe b)
 safe-cut c apart (x ∷ xs) b = ap (λ t. guarded (x ∷ t)) (safe-cut c apart xs b) ∙ guarded-before c apart (script_safe b) x (script_safe xs)
@@ -74,12 +71,11 @@ sent-none : (s : Bool) → sent_as s [] ≡ []
 sent-none true = refl
 sent-none false = refl
 
--- the same, of all that such a byte begins
 sent-split : (s : Bool) (c : ℕ) → IsApart c → (a b : List ℕ) → sent_as s (a ++ c ∷ b) ≡ sent_as s a ++ sent_as s (c ∷ b)
 sent-split s c apart a b =
     sent-cut s c apart a b ∙ ap (λ t. sent_as s a ++ t) (sym (sent-cut s c apart [] b ∙ ap (λ t. t ++ (c ∷ sent_as s b)) (sent-none s)))
 
--- ---- elements behind others
+-- ---- appended elements
 
 led-append : (xs ys : List Element) → led_text (xs ++ ys) ≡ led_text xs ++ led_text ys
 led-append [] ys = refl
@@ -89,14 +85,12 @@ nil-right : (xs : List ℕ) → xs ++ [] ≡ xs
 nil-right [] = refl
 nil-right (x ∷ xs) = ap (λ t. x ∷ t) (nil-right xs)
 
--- one more element
 pub led-more : (i : ℕ) (xs : List Element) (x : Element) → i < length xs → x ≡ get_or xs i x → led_text (take (i + 1) xs) ≡ led_text (take i xs) ++ (44 ∷ element_text x)
 led-more i xs x h e =
     ap led_text (take_more xs i x h ∙ ap (λ y. take i xs ++ y ∷ []) (sym e))
     ∙ led-append (take i xs) (x ∷ [])
     ∙ ap (λ t. led_text (take i xs) ++ (44 ∷ t)) (nil-right (element_text x))
 
--- and how many bytes they have then
 pub led-size : (s : Bool) (i : ℕ) (xs : List Element) (x : Element) → i < length xs → x ≡ get_or xs i x
     → length (sent_as s (led_text (take (i + 1) xs))) ≡ length (sent_as s (led_text (take i xs))) + (1 + length (sent_as s (element_text x)))
 led-size s i xs x h e =
@@ -105,7 +99,6 @@ led-size s i xs x h e =
     ∙ length-append (sent_as s (led_text (take i xs))) (44 ∷ sent_as s (element_text x))
     ∙ ap (λ n. length (sent_as s (led_text (take i xs))) + n) (omega arith)
 
--- how many bytes all that follows has
 pub rest-size : (s : Bool) (xs : List Element) → length (rest_text s xs) ≡ length (sent_as s (led_text xs)) + (1 + length (end_text s))
 rest-size s xs =
     let cut : sent_as s (tail_text xs) ≡ sent_as s (led_text xs) ++ (93 ∷ sent_as s []) = sent-cut s 93 bracket_apart (led_text xs) [] in
@@ -114,12 +107,10 @@ rest-size s xs =
     let none : length (sent_as s []) ≡ 0 = ap length (sent-none s) in
     omega (arith, all, front, none)
 
--- what follows begins with a byte that no separator has
 sent-tail : (s : Bool) (a : List ℕ) (xs : List Element) → sent_as s (a ++ tail_text xs) ≡ sent_as s a ++ sent_as s (tail_text xs)
 sent-tail s a [] = sent-split s 93 bracket_apart a []
 sent-tail s a (x ∷ xs) = sent-split s 44 comma_apart a ((element_text x ++ led_text xs) ++ 93 ∷ [])
 
--- some of the elements, and what follows them
 pub rest-cut : (s : Bool) (n : ℕ) (xs : List Element) → rest_text s xs ≡ sent_as s (led_text (take n xs)) ++ rest_text s (drop n xs)
 rest-cut s n xs =
     let parts : led_text xs ≡ led_text (take n xs) ++ led_text (drop n xs) = ap led_text (sym (take-append-drop n xs)) ∙ led-append (take n xs) (drop n xs) in
@@ -127,7 +118,6 @@ rest-cut s n xs =
     ap (λ t. t ++ end_text s) (ap (sent_as s) tails ∙ sent-tail s (led_text (take n xs)) (drop n xs))
     ∙ append_assoc (sent_as s (led_text (take n xs))) (sent_as s (tail_text (drop n xs))) (end_text s)
 
--- by whether these are all
 part-by : (b s : Bool) (n : ℕ) (xs : List Element) → (n == length xs) ≡ b → rest_text s xs ≡ part_text b s (take n xs) ++ left_text b s (drop n xs)
 part-by true s n xs e = ap (rest_text s) (sym (take_all n xs (omega (arith, eqb-true n (length xs) e)))) ∙ sym (nil-right (rest_text s (take n xs)))
 part-by false s n xs e = rest-cut s n xs
@@ -135,7 +125,7 @@ part-by false s n xs e = rest-cut s n xs
 pub part-cut : (s : Bool) (n : ℕ) (xs : List Element) → rest_text s xs ≡ part_text (n == length xs) s (take n xs) ++ left_text (n == length xs) s (drop n xs)
 part-cut s n xs = part-by (n == length xs) s n xs refl
 
--- ---- from the beginning on
+-- ---- the whole response
 
 joined : (y : List ℕ) (xs : List Element) → join_with_byte 44 (y ∷ map element_text xs) ≡ y ++ led_text xs
 joined y [] = sym (nil-right y)

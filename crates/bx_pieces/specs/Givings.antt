@@ -1,16 +1,16 @@
--- How a text is produced in pieces.
+-- How a text is sent in pieces.
 use Rattle.std.specs.Prelude.{◌≡◌, ◌<◌, ℕ, List, [], ◌∷◌, ◌++◌, length, Some, None, Result, Ok, Err}
 use Rattle.futures.specs.Runs.{Runs}
 use Rattle.http_body.specs.declared.frame.Frame.{Frame}
 use Rattle.http_body.specs.Frame.{data_frame}
 
--- A frame with data made from the text's first piece; `rest` holds for what is left.
+-- The frame has data made from the text's first piece, and `rest` holds for the text after it.
 abbrev pub Leads : {D : Type 0} → (List ℕ → D → Type 0) → List ℕ → Frame D → (List ℕ → Type 0) → Type 0
 Leads {D} made text frame rest =
     (piece : List ℕ) × ((left : List ℕ) × ((it : D) × ((frame ≡ data_frame it) × made piece it × (text ≡ piece ++ left) × rest left)))
 
--- The frames are the pieces of a text in order, and the end comes when nothing is left. An error in
--- place of a frame consumes nothing.
+-- The frames are the pieces of a text, in order. The end comes only after the last piece. An error
+-- comes only before it, and the next frame continues the text.
 abbrev pub InPieces : {D E : Type 0} → (List ℕ → D → Type 0) → List ℕ → Runs (Result (Frame D) E)
 InPieces made text [] None = text ≡ []
 InPieces made text [] (Some (Ok frame)) = Leads made text frame (λ left. Unit {0})

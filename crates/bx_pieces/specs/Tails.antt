@@ -1,4 +1,4 @@
--- What follows the beginning of a response's text.
+-- The parts of a response's text.
 use Rattle.std.specs.Prelude.{ℕ, List, [], ◌∷◌, ◌++◌, Bool, true, false, Option, Some, None, map}
 use Rattle.bx_message.specs.Events.{array}
 use Rattle.bx_message.specs.Texts.{body_text, callback_text, script_safe}
@@ -6,12 +6,12 @@ use Rattle.bx_message.specs.declared.reply.Item.{Item}
 use Rattle.bx_pieces.specs.Elements.{element_text}
 use Rattle.bx_pieces.specs.declared.element.Element.{Element}
 
--- The array of the items, or the call of the callback with it.
+-- The text of a response: the array of the items, or a call of the callback with the array.
 abbrev pub answer_text : Option (List ℕ) → List Item → List ℕ
 answer_text None items = body_text items
 answer_text (Some callback) items = callback_text callback items
 
--- The same for elements.
+-- The same for the elements of the items.
 abbrev pub whole_text : Option (List ℕ) → List Element → List ℕ
 whole_text None elements = array (map element_text elements)
 whole_text (Some callback) elements = callback ++ (40 ∷ (script_safe (array (map element_text elements)) ++ 41 ∷ []))
@@ -25,12 +25,12 @@ led_text (element ∷ elements) = 44 ∷ (element_text element ++ led_text eleme
 abbrev pub tail_text : List Element → List ℕ
 tail_text elements = led_text elements ++ 93 ∷ []
 
--- A part of the array as it is sent, in a script or not.
+-- A part of the array as it is sent, with escapes for a script.
 abbrev pub sent_as : Bool → List ℕ → List ℕ
 sent_as false text = text
 sent_as true text = script_safe text
 
--- What follows the array.
+-- The text after the array.
 abbrev pub end_text : Bool → List ℕ
 end_text false = []
 end_text true = 41 ∷ []
@@ -39,12 +39,12 @@ end_text true = 41 ∷ []
 abbrev pub rest_text : Bool → List Element → List ℕ
 rest_text is_script elements = sent_as is_script (tail_text elements) ++ end_text is_script
 
--- The same, or nothing if all was sent.
+-- The same, or the empty text if everything is written.
 abbrev pub left_text : Bool → Bool → List Element → List ℕ
 left_text true is_script elements = []
 left_text false is_script elements = rest_text is_script elements
 
--- What a response begins with.
+-- The beginning of a response, through its first element.
 abbrev pub beginning_text : Option (List ℕ) → Element → List ℕ
 beginning_text None element = 91 ∷ element_text element
 beginning_text (Some callback) element = callback ++ (40 ∷ script_safe (91 ∷ element_text element))
@@ -54,7 +54,7 @@ abbrev pub is_call : Option (List ℕ) → Bool
 is_call None = false
 is_call (Some callback) = true
 
--- Some more elements as they are sent, with the end of the response if they are the last.
+-- More elements as they are sent, followed by the end of the response if they are the last.
 abbrev pub part_text : Bool → Bool → List Element → List ℕ
 part_text false is_script elements = sent_as is_script (led_text elements)
 part_text true is_script elements = rest_text is_script elements

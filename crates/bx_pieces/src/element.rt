@@ -8,7 +8,7 @@ use std::alloc::{AllocError, Global};
 
 /// An element of a response's array.
 ///
-/// It is far smaller than an [`Item`], since a response can have very many elements.
+/// It takes far less memory than an [`Item`], since a response can have many elements.
 #[derive(Drop)]
 pub(crate) enum Element {
     /// An event, shared with its other receivers.
@@ -31,7 +31,7 @@ impl Element {
         Ok(Element::Written(text))
     }
 
-    /// Returns the size of its text, in bytes.
+    /// Returns the length of the element's text, in bytes.
     #[tactic(auto, unfolding(bx_message::specs::Events::event_size))]
     pub(crate) fn size(&self) -> usize
         ensures { result ≡ length (element_text self.now) }
@@ -42,7 +42,7 @@ impl Element {
         }
     }
 
-    /// Appends its text to `out`.
+    /// Appends the element's text to `out`, and returns `out`.
     pub(crate) fn write(&self, out: Vec<u8>) -> Result<Vec<u8>, AllocError>
         ensures { IfOk result (λ text. text.items ≡ out.items ++ element_text self.now) }
     {

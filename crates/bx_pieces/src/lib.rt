@@ -1,4 +1,4 @@
-//! Response bodies that are written piece by piece.
+//! Bodies of responses, written piece by piece.
 #![tactic(auto)]
 
 mod element;

@@ -1,4 +1,4 @@
-//! A response body that is written on demand.
+//! The body of a response, written on demand.
 ghost use Rattle.std.specs.Prelude.{◌≡◌, ◌<◌, ◌+◌, ◌++◌, [], Some, IfOk, IsTrue, MatchOption, OnErr, drop, length, option_map};
 ghost use Rattle.http_body.specs.SizeHint.{exact};
 ghost use Rattle.bx_pieces.specs.Givings.{InPieces};
@@ -16,20 +16,21 @@ use std::marker::{Model, PhantomData};
 
 /// The body of a response, written piece by piece as frames are requested.
 ///
-/// It shares its events. A short body is written at once. `D` is the type of the frames' data.
+/// It shares its events with their other receivers. A short body is written at once. `D` is the
+/// type of the frames' data.
 ///
-/// Model: the text that remains.
+/// Model: the remaining text, as bytes.
 #[derive(Drop)]
 pub struct Pieces<D> {
     alloc: Global,
-    // The text written but not returned yet.
+    // A piece that is written but not returned yet.
     made: Option<Bytes>,
-    // The elements from `next` on and the end are not written yet, unless `is_written`.
+    // Those from `next` on, and the end of the response, are not written yet, unless `is_written`.
     elements: Vec<Element>,
     next: usize,
     is_script: bool,
     is_written: bool,
-    // Size of the remaining text, in bytes.
+    // Length of the remaining text, in bytes.
     left: u64,
     data: PhantomData<D>,
 }
@@ -47,7 +48,7 @@ impl<D> Model for Pieces<D> {
 }
 
 impl<D> Pieces<D> {
-    /// Creates an empty body.
+    /// Creates an empty body. Does not allocate.
     pub fn none(alloc: Global) -> Pieces<D>
         ensures { result ≡ [] }
     {
@@ -63,7 +64,10 @@ impl<D> Pieces<D> {
         }
     }
 
-    /// Creates the body of a response with `items`, or a script that passes them to `callback`.
+    /// Creates the body of a response with `items`.
+    ///
+    /// `callback`: the name of the function that a script passes the items to. Without it, the body
+    /// is their JSON array.
     ///
     /// # Errors
     ///
@@ -131,7 +135,7 @@ impl<D> Pieces<D> {
         })
     }
 
-    // Removes and returns the next piece, if any. On error, `self` is unchanged.
+    // Takes the next piece, if any. On error, `self` is unchanged.
     fn take_piece(&mut self) -> Result<Option<Bytes>, AllocError>
         ensures ok { IfOk result (λ given. MatchOption given ((self.old ≡ []) × (self.new ≡ [])) (λ piece. self.old ≡ piece ++ self.new)) }
         ensures err { OnErr result ((self.new ≡ self.old) × (0 < length self.old)) }
@@ -158,7 +162,7 @@ fn is_call(callback: Option<&str>) -> bool
     callback.is_some()
 }
 
-// Writes the first piece, through the first element, and returns it with the whole body's size.
+// Writes the first piece, through the first element. Returns it with the length of the whole body.
 fn first_piece(
     alloc: Global,
     callback: Option<&str>,
@@ -180,8 +184,7 @@ fn first_piece(
     }
 }
 
-// Writes the callback with a parenthesis, if there is one, the opening bracket and the first
-// element.
+// Writes the beginning of a response, through its first element.
 fn beginning(
     alloc: Global,
     callback: Option<&str>,

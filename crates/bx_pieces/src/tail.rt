@@ -9,10 +9,10 @@ use bx_transport::push_script_safe;
 use bytes::Bytes;
 use std::alloc::{AllocError, Global};
 
-// Elements are combined up to this size in bytes, before escapes. A larger one is sent alone.
+// Elements are combined up to this length in bytes, before escapes. A larger one is sent alone.
 const PIECE: usize = 65_536;
 
-// Converts a part of the array to its form in the response: with escapes for a script.
+// Converts a part of the array as the response has it, which is with escapes for a script.
 pub(crate) fn sent_as(alloc: Global, is_script: bool, text: Vec<u8>) -> Result<Vec<u8>, AllocError>
     ensures { IfOk result (λ out. out.items ≡ sent_as is_script text.items) }
 {
@@ -24,8 +24,9 @@ pub(crate) fn sent_as(alloc: Global, is_script: bool, text: Vec<u8>) -> Result<V
     Ok(out)
 }
 
-// Returns `true` if `items` should be written at once: their text fits one piece, or takes no more
-// memory than their elements.
+// Returns `true` if `items` should be written at once.
+//
+// Their text then fits one piece, or takes no more memory than their elements.
 pub(crate) fn are_short(items: &[Item]) -> bool {
     let mut room = 0usize;
     for item in items {
@@ -34,8 +35,7 @@ pub(crate) fn are_short(items: &[Item]) -> bool {
     room <= PIECE || room <= items.len().saturating_mul(size_of::<Element>())
 }
 
-// Returns how many elements the next piece takes: those that fit, and at least one if there are
-// any.
+// Returns how many of the first elements the next piece takes: those that fit, but at least one.
 pub(crate) fn fitting(elements: &[Element]) -> usize
     ensures within { result ≤ length elements.now }
     ensures some { 0 < length elements.now → 0 < result }
@@ -50,7 +50,7 @@ pub(crate) fn fitting(elements: &[Element]) -> usize
     elements.len()
 }
 
-// Returns the size of the elements, each with a comma, in bytes.
+// Returns the length of the elements' texts, each with a comma, in bytes.
 fn room_of(elements: &[Element]) -> usize {
     let mut room = 0usize;
     for element in elements {
@@ -59,7 +59,7 @@ fn room_of(elements: &[Element]) -> usize {
     room
 }
 
-// Returns the size of an element with a comma, in bytes.
+// Returns the length of an element's text with a comma, in bytes.
 fn led_room(element: &Element) -> usize {
     element.size().saturating_add(1)
 }
@@ -73,7 +73,7 @@ fn push_led(out: Vec<u8>, element: &Element) -> Result<Vec<u8>, AllocError>
     element.write(out)
 }
 
-// Writes the elements, each after a comma, and leaves room for the end.
+// Writes the elements, each after a comma, and leaves room for the end of the response.
 fn led_text(alloc: Global, elements: &[Element]) -> Result<Vec<u8>, AllocError>
     ensures { IfOk result (λ out. out.items ≡ led_text elements.now) }
 {
@@ -85,7 +85,7 @@ fn led_text(alloc: Global, elements: &[Element]) -> Result<Vec<u8>, AllocError>
 }
 
 // Writes the next piece, and returns it with the number of its elements. The last piece includes
-// the end.
+// the end of the response.
 pub(crate) fn piece_of(
     alloc: Global,
     elements: &[Element],
@@ -104,7 +104,7 @@ pub(crate) fn piece_of(
     }
 }
 
-// Writes the elements as they are sent, followed by the end if they are the last.
+// Writes the elements as they are sent, followed by the end of the response if they are the last.
 fn part_of(
     alloc: Global,
     elements: &[Element],
@@ -121,7 +121,7 @@ fn part_of(
     }
 }
 
-// Closes the array, and returns it as it is sent, with the end of the response.
+// Closes the array, and returns it as it is sent, followed by the end of the response.
 fn ended(alloc: Global, is_script: bool, array: Vec<u8>) -> Result<Vec<u8>, AllocError>
     ensures { IfOk result (λ out. out.items ≡ sent_as is_script (array.items ++ 93 ∷ []) ++ end_text is_script) }
 {
@@ -134,7 +134,7 @@ fn ended(alloc: Global, is_script: bool, array: Vec<u8>) -> Result<Vec<u8>, Allo
     Ok(text)
 }
 
-// Returns the size of the response from these elements to its end, in bytes.
+// Returns the length of the response from these elements to its end, in bytes.
 pub(crate) fn rest_size(
     alloc: Global,
     elements: &[Element],
@@ -149,14 +149,14 @@ pub(crate) fn rest_size(
     }
 }
 
-// Returns the size of the text after the array, in bytes.
+// Returns the length of the text after the array, in bytes.
 fn end_size(is_script: bool) -> u64
     ensures { result ≡ length (end_text is_script) }
 {
     if is_script { 1 } else { 0 }
 }
 
-// Returns the size of the elements as sent, each with a comma, in bytes.
+// Returns the length of the elements as they are sent, each with a comma, in bytes.
 fn led_size(alloc: Global, elements: &[Element], is_script: bool) -> Result<u64, AllocError>
     ensures { IfOk result (λ size. size ≡ length (sent_as is_script (led_text elements.now))) }
 {
@@ -178,7 +178,7 @@ fn with_byte(first: u64, second: u64) -> Option<u64>
     first.checked_add(1)?.checked_add(second)
 }
 
-// Returns the size of an element as sent, in bytes. For a script, writes it to measure it.
+// Returns the length of an element as it is sent, in bytes. For a script, writes it to measure it.
 fn sent_size(alloc: Global, element: &Element, is_script: bool) -> Result<u64, AllocError>
     ensures { IfOk result (λ size. size ≡ length (sent_as is_script (element_text element.now))) }
 {

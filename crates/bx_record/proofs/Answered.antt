@@ -1,4 +1,4 @@
--- The answers that a record says are skipped, and change nothing.
+-- Proves that lines of answers in a record are skipped and change nothing.
 use Rattle.std.proofs.Common.{◌≡◌, ℕ, zero, suc, ◌+◌, ◌/◌, ◌%◌, ◌^◌, ◌<◌, ◌≤◌, ◌&&◌, Bool, true, false, eqb, cond, List, [], ◌∷◌, ◌++◌, length, map, codes, decimal, slice_index, is_some, refl, ap, ◌∙◌, arith, append_assoc, length-append, lit≤, le_trans, eq-eqb}
 use Rattle.std.specs.Prelude.{flat_map}
 use Rattle.std.specs.{List.after_first, List.before_first, List.list_all, List.AllByRecursion, Char.is_ascii_hexdigit}
@@ -22,7 +22,7 @@ use Rattle.bx_record.proofs.Digits.{lacks-append, moment_lacks, moment_reads}
 use Rattle.bx_record.proofs.ReadBack.{first_line, input_lines, inputs_at, inputs_by, said_all, said_by, said_lines}
 use Rattle.bx_record.proofs.Unused.{said_after, same_held, same_outs}
 
--- ---- digits
+-- ---- Digits
 
 at_index : (p : ℕ → Bool) (xs : List ℕ) (i : ℕ) → i < length xs → list_all p xs ≡ true → p (slice_index xs i) ≡ true
 at_index p [] i inside all = absurd (omega arith)
@@ -54,9 +54,8 @@ many_digits digest h = omega (arith, length-encode_with lower_digits digest, h.c
 digest_by : (ds : List ℕ) → length ds ≡ 64 → list_all is_ascii_hexdigit ds ≡ true → is_digest ds ≡ true
 digest_by ds many all = rw (eq-eqb (length ds) 64 many, all) refl
 
--- ---- the line of an answer
+-- ---- The line of an answer
 
--- what it says behind its letter
 abbrev pub note : ℕ → List ℕ → List ℕ
 note place digest = decimal place ++ 32 ∷ encode_lower digest
 
@@ -78,7 +77,6 @@ note_reads place digest fits h =
     ∙ ap (λ d. cond (is_digest d) Noted Bad) (after_it 32 (decimal place) ds lacks)
     ∙ ap (λ b. cond b Noted Bad) (digest_by ds (many_digits digest h) (all_digits digest h.bytes))
 
--- the line without its end
 abbrev pub bare : ℕ → List ℕ → List ℕ
 bare place digest = codes "A " ++ note place digest
 
@@ -100,9 +98,8 @@ skipped place digest rest fits h =
       left = ap (after_first (λ byte. eqb byte 10)) (text_is place digest rest) ∙ after_it 10 (bare place digest) rest lacks;
     }
 
--- ---- a part of a record
+-- ---- One part of a record
 
--- the lines that say it, each request with its nonce
 abbrev pub said_part : Part → List Line
 said_part (Taken input) = said_lines input
 said_part (Given place digest) = Noted ∷ []
@@ -114,7 +111,7 @@ part_lines (Given place digest) rest can =
     ∙ ap (λ ls. with_nonces 0 (map (line_of Recorded) ls)) (first_line (bare place digest) rest (bare_lacks place digest can.0 can.1))
     ∙ ap (λ l. with_nonces 0 (l ∷ lines_in Recorded rest)) (bare_says place digest can.0 can.1)
 
--- ---- all parts
+-- ---- All parts
 
 all_parts : (parts : List Part) → AllByRecursion CanStand parts → record_lines (record_with parts) ≡ flat_map said_part parts
 all_parts [] h = refl

@@ -1,4 +1,4 @@
--- A record that breaks off reads as one of its first inputs.
+-- Proves that a truncated record gives its first inputs.
 use Rattle.std.proofs.Common.{◌≡◌, ℕ, zero, suc, ◌+◌, ◌<◌, ◌^◌, ◌⊎◌, inl, inr, Bool, true, false, eqb, cond, List, [], ◌∷◌, ◌++◌, map, take, codes, decimal, refl, sym, ap, ◌∙◌, arith, append_assoc}
 use Rattle.std.specs.Prelude.{flat_map}
 use Rattle.std.specs.List.{list_all, AllByRecursion}
@@ -20,7 +20,7 @@ use Rattle.bx_record.proofs.Digits.{lacks-append, moment_lacks, nonce_lacks}
 use Rattle.bx_record.proofs.ReadBack.{Says, documents_say, inputs_at, inputs_by, nonce_line, said_all, said_lines}
 use Rattle.bx_record.proofs.ReadBack as records
 
--- ---- lines that have their end
+-- ---- Complete lines
 
 none_ends : (text : List ℕ) → Lacks 10 text → ended_lines text ≡ []
 none_ends [] h = refl
@@ -34,12 +34,10 @@ byte_before : (x : ℕ) (m rest : List ℕ) → ended_by x (m ++ 10 ∷ rest) �
 byte_before x [] rest = refl
 byte_before x (y ∷ m) rest = refl
 
--- the first line and its end stand before those of the rest
 line_ends : (m rest : List ℕ) → Lacks 10 m → ended_lines (m ++ 10 ∷ rest) ≡ m ++ 10 ∷ ended_lines rest
 line_ends [] rest h = end_before (ended_lines rest)
 line_ends (x ∷ m) rest h = ap (ended_by x) (line_ends m rest h.1) ∙ byte_before x m (ended_lines rest)
 
--- a front of a text goes past the end of its first line
 record GoesPast (m front behind rest : List ℕ) : Type 0 where
   next : List ℕ
   front_is : front ≡ m ++ 10 ∷ next
@@ -57,9 +55,8 @@ goes_past (y ∷ m) (x ∷ front) behind rest h e = by_rest (goes_past m front b
     by_rest (inl lacks) = inl (ap (λ z. eqb z 10) first ∙ h.0, lacks)
     by_rest (inr past) = inr (record { next = past.next; front_is = ap (λ z. z ∷ front) first ∙ ap (λ l. y ∷ l) past.front_is; rest_is = past.rest_is })
 
--- ---- one part
+-- ---- One part
 
--- what the lines of a front say: those of so many parts, and then a nonce at most
 record SaysUpTo (parts : List Part) (lines : List Line) : Type 0 where
   count : ℕ
   last : List Line
@@ -69,7 +66,6 @@ record SaysUpTo (parts : List Part) (lines : List Line) : Type 0 where
 says_nothing : (parts : List Part) (front : List ℕ) → Lacks 10 front → SaysUpTo parts (record_lines (ended_lines front))
 says_nothing parts front lacks = record { count = 0; last = []; lines_are = ap record_lines (none_ends front lacks); at_most = inl refl }
 
--- one more part, whose lines the front has
 says_more : (part : Part) (parts : List Part) (front next : List ℕ) → CanStand part → ended_lines front ≡ part_text part ++ ended_lines next → SaysUpTo parts (record_lines (ended_lines next))
     → SaysUpTo (part ∷ parts) (record_lines (ended_lines front))
 says_more part parts front next can ends more = record {
@@ -80,7 +76,6 @@ says_more part parts front next can ends more = record {
   at_most = more.at_most;
 }
 
--- a line with a moment, without its end
 abbrev bare : ℕ → List ℕ → List ℕ
 bare m text = decimal m ++ 32 ∷ text
 
@@ -90,11 +85,9 @@ bare_lacks m text fits lacks = lacks-append 10 (decimal m) (32 ∷ text) (moment
 line_is : (m : ℕ) (text rest : List ℕ) → line_text m text ++ rest ≡ bare m text ++ 10 ∷ rest
 line_is m text rest = simp append_assoc
 
--- a part is one line
 abbrev IsLine : Part → List ℕ → Type 0
 IsLine part line = (rest : List ℕ) → part_text part ++ rest ≡ line ++ 10 ∷ rest
 
--- what a front of one part and of others says, by what a front of the others does
 abbrev GoesOn : List Part → List ℕ → List ℕ → Type 0
 GoesOn parts behind rest = (next : List ℕ) → next ++ behind ≡ rest → SaysUpTo parts (record_lines (ended_lines next))
 
@@ -157,7 +150,7 @@ two_lines a parts front behind can true asks lacks more e =
     by_front (inl none) = says_nothing (Taken (Post a) ∷ parts) front none
     by_front (inr past) = by_second past.next past.front_is (goes_past (bare a.moment documents) past.next behind (record_with parts) second_lacks (past.rest_is ∙ line_is a.moment documents (record_with parts)))
 
--- ---- a record with answers
+-- ---- Records with answers
 
 says_up_to : (parts : List Part) (front behind : List ℕ) → AllByRecursion CanStand parts → front ++ behind ≡ record_with parts → SaysUpTo parts (record_lines (ended_lines front))
 says_up_to [] [] behind h e = record { count = 0; last = []; lines_are = refl; at_most = inl refl }
@@ -173,11 +166,9 @@ says_up_to (Taken (Post a) ∷ parts) front behind h e =
     let says : Says a.moment (command_of (texts_of a.bodies)) (texts_of a.bodies) = documents_say a.moment (texts_of a.bodies) (arrival_utf8 a can.readable) can.sayable in
     two_lines a parts front behind can (asks_for_session (read_input (Post a))) refl says.lacks (λ next same. says_up_to parts next behind h.1 same) e
 
--- a nonce at most
 abbrev IsLast : List Line → Type 0
 IsLast last = (last ≡ []) ⊎ ((nonce : ℕ) × (last ≡ Announced nonce ∷ []))
 
--- which is no input behind all others
 its_first : (number : ℕ) (parts : List Part) (last : List Line) → IsLast last → inputs_at number (flat_map said_part parts ++ last) ≡ said_all (taken_inputs parts)
 its_first number [] last (inl e) = ap (inputs_at number) e
 its_first number [] last (inr (nonce, e)) = ap (inputs_at number) e
@@ -192,7 +183,6 @@ last_is : (p : Line → Bool) (last : List Line) → ((nonce : ℕ) → p (Annou
 last_is p last passes (inl e) = ap (list_all p) e
 last_is p last passes (inr (nonce, e)) = ap (list_all p) e ∙ rw (passes nonce) refl
 
--- nothing else stands in lines behind which a nonce stands at most
 none_else : (p : Line → Bool) (lines first last : List Line) → lines ≡ first ++ last → list_all p first ≡ true → ((nonce : ℕ) → p (Announced nonce) ≡ true) → IsLast last → list_all p lines ≡ true
 none_else p lines first last e all passes at_most = ap (list_all p) e ∙ list_all-append p first last ∙ rw (all, last_is p last passes at_most) refl
 
@@ -206,7 +196,7 @@ answers_broken_off parts front behind h e =
       nothing_else = none_else is_of_either (record_lines (ended_lines front)) (flat_map said_part first) says.last says.lines_are (answers.no_others first) (λ nonce. refl) says.at_most;
     }
 
--- ---- a record without
+-- ---- Records without answers
 
 can_stand : (inputs : List Input) → AllByRecursion CanRecord inputs → AllByRecursion CanStand (map Taken inputs)
 can_stand [] h = tt

@@ -1,4 +1,4 @@
--- Documents that are read are UTF-8, so they are bytes.
+-- Proves that documents that can be read are UTF-8, and so consist of bytes.
 use Rattle.std.proofs.Common.{◌≡◌, ℕ, ◌+◌, ◌/◌, ◌%◌, ◌<◌, ◌||◌, Bool, true, false, ltb, cond, List, [], ◌∷◌, length, map, Option, Some, is_ok, refl, subst, ⊎_elim, arith}
 use Rattle.std.proofs.Math.Utf8.{scalar, scalars, scalar_cases, encode, encodes, next}
 use Rattle.std.proofs.Math.Nat.{mod-lt}
@@ -15,7 +15,7 @@ use Rattle.bx_entry.specs.declared.input.BodyError.TheVariants as bodies
 use Rattle.bx_entry.specs.Requests.{Cut, arrival_messages, cut_by, cut_of, is_not_json, is_not_object, is_too_many, messages_by, objects_of, request_messages}
 use Rattle.bx_cut.specs.declared.document.TheConstants.{MAX_MESSAGES}
 
--- ---- characters
+-- ---- Characters
 
 few : (c : ℕ) → scalar c ≡ true → c < 1114112
 few c h = ⊎_elim (λ low. omega arith) (λ high. high.1) (scalar_cases c h)
@@ -56,7 +56,7 @@ characters_bytes (c ∷ cs) h =
 pub utf8_bytes : (bs : List ℕ) → IsUtf8 bs → All IsByte bs
 utf8_bytes bs (cs, (valid, same)) = subst (All IsByte) same (characters_bytes cs valid)
 
--- ---- documents
+-- ---- Documents
 
 utf8_by : (d : List ℕ) (other : Option CutError) (b : Bool) → is_utf8 d ≡ b → is_not_json (cut_by (cond b other (Some NotJson)) (pieces d)) ≡ false → IsUtf8 d
 utf8_by d other true e h = IsUtf8-from_is_utf8 d e
@@ -72,7 +72,6 @@ each_utf8 (d ∷ ds) h =
     let parts = or_parts (is_not_json (cut_of d)) (list_any is_not_json (map cut_of ds)) h in
     (cut_utf8 d parts.0, each_utf8 ds parts.1)
 
--- the faults that are looked for behind that
 abbrev tail_cases : List Cut → List (Bool × BodyError)
 tail_cases cs = (list_any is_not_object cs, bodies.NotObject) ∷ (list_any is_too_many cs || ltb MAX_MESSAGES (length (objects_of cs)), bodies.TooMany) ∷ []
 

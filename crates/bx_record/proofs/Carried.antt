@@ -1,4 +1,4 @@
--- What a form carries is read of it, and it has no line end.
+-- Proves that the documents in a form are read back from it, and that it has no newline.
 use Rattle.std.proofs.Common.{◌≡◌, ℕ, ◌<◌, true, false, eqb, cond, List, [], ◌∷◌, ◌++◌, length, map, codes, refl, sym, ap, ◌∙◌, subst, ⊎_elim, arith, append_assoc, append-nil, length-append}
 use Rattle.std.specs.Prelude.{filter}
 use Rattle.std.specs.{List.All, List.AllByRecursion, Str.IsAscii, Str.IsUtf8, Str.bytes_eq, Str.Lossy.utf8_lossy}
@@ -11,7 +11,7 @@ use Rattle.bx_record.specs.Record.{form_of, parameter_of}
 use Rattle.bx_record.proofs.Bytes.{utf8_bytes}
 use Rattle.bx_record.proofs.Digits.{lacks-append}
 
--- ---- as `form_urlencoded` writes it
+-- ---- The form as `form_urlencoded` writes it
 
 abbrev message_pair : List ℕ → Pair
 message_pair d = (codes "message", d)
@@ -23,7 +23,6 @@ name_is = refl
 pair_is : (d : List ℕ) → serialize_pair (message_pair d) ≡ parameter_of d
 pair_is d = ap (λ name. name ++ (61 ∷ []) ++ byte_serialize d) name_is
 
--- parameters, each behind an ampersand
 abbrev behind : List (List ℕ) → List ℕ
 behind [] = []
 behind (d ∷ ds) = 38 ∷ (parameter_of d ++ behind ds)
@@ -50,7 +49,7 @@ form_is d ds =
     let some : 0 < length (serialize_pair (message_pair d)) = omega (arith, ap length (pair_is d)) in
     extended (serialize_pair (message_pair d)) ds some ∙ ap (λ t. t ++ behind ds) (pair_is d) ∙ sym (joined d ds)
 
--- ---- what is read of it
+-- ---- Reading the form
 
 name_utf8 : IsUtf8 (codes "message")
 name_utf8 = IsUtf8-from_ascii (codes "message") (subst IsAscii name_is (IsAscii-byte_serialize (codes "message")))
@@ -94,7 +93,7 @@ values (p ∷ ps) (d ∷ ds) h e =
 pub carried : (d : List ℕ) (ds : List (List ℕ)) → AllByRecursion IsUtf8 (d ∷ ds) → values_of (codes "message") (form_of (d ∷ ds)) ≡ d ∷ ds
 carried d ds h = values (raw_pairs (form_of (d ∷ ds))) (d ∷ ds) h (parsed d ds h)
 
--- ---- no line end
+-- ---- No newline
 
 no_end : (b : ℕ) → IsSerializedByte b → eqb b 10 ≡ false
 no_end b h = ne_eqb b 10 (λ e. ⊎_elim (λ kept. grind (arith, nat_tests)) (λ other. grind arith) h.allowed)

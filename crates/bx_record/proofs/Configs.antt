@@ -1,4 +1,4 @@
--- The line of a configuration: a word at a time, and that it reads back.
+-- Proves that the line of a configuration is written one argument at a time, and is read back.
 use Rattle.std.proofs.Common.{◌≡◌, ℕ, ◌^◌, ◌<◌, ◌≤◌, ◌⊎◌, inl, inr, Bool, true, false, eqb, cond, List, [], ◌∷◌, ◌++◌, length, drop, map, codes, decimal, Option, Some, None, refl, sym, ap, ◌∙◌, arith, append_assoc, length-append, lit≤}
 use Rattle.std.specs.List.{join_with_byte, list_any, slice_split, AllByRecursion}
 use Rattle.std.proofs.lemmas.Bool.{cond_both, or_parts}
@@ -13,7 +13,6 @@ use Rattle.bx_record.specs.Laws.{ConfigsReadBack, FitsWords, config_numbers}
 use Rattle.bx_record.proofs.Digits.{lacks-append, moment_lacks, moment_reads}
 use Rattle.bx_record.proofs.Forms.{joined-push}
 
--- a text is these words
 pub record IsLine (words : List (List ℕ)) (text : List ℕ) : Type 0 where
   pub some : 0 < length words
   pub same : text ≡ join_with_byte 32 words
@@ -27,7 +26,7 @@ next_word {words} {before} {text} word line e = record {
   same = e ∙ ap (λ t. t ++ 32 ∷ word) line.same ∙ sym (joined-push 32 words word line.some);
 }
 
--- ---- read back
+-- ---- Reading back
 
 split_joined : (word : List ℕ) (words : List (List ℕ)) → AllByRecursion (Lacks 32) (word ∷ words) → slice_split is_space (join_with_byte 32 (word ∷ words)) ≡ word ∷ words
 split_joined word [] h = split_all 32 word h.0
@@ -47,7 +46,6 @@ options_lack c (inr e) true false = rw e (refl, tt)
 options_lack c (inr e) false true = rw e (refl, tt)
 options_lack c (inr e) true true = rw e (refl, (refl, tt))
 
--- what is no byte of a text, by looking at each
 all_lack : (c : ℕ) (text : List ℕ) → list_any (λ x. eqb x c) text ≡ false → Lacks c text
 all_lack c [] h = tt
 all_lack c (x ∷ xs) h = let parts = or_parts (eqb x c) (list_any (λ x. eqb x c) xs) h in (parts.0, all_lack c xs parts.1)
@@ -71,7 +69,6 @@ is_low c (inr e) = omega arith
 shards_fit : (config : Config) → config.shards < 2 ^ 64
 shards_fit config = let big : 65 ≤ 2 ^ 64 = lit≤ tt in omega (arith, config.shards_in_range)
 
--- no word has a space or a line end
 words_lack : (c : ℕ) (config : Config) → (c ≡ 10) ⊎ (c ≡ 32) → FitsWords config → AllByRecursion (Lacks c) (config_words config)
 words_lack c config which fits =
     let low = is_low c which in
@@ -114,7 +111,7 @@ words_lack c config which fits =
       ),
     )
 
--- ---- the numbers and the options
+-- ---- Numbers and options
 
 same_next : (x y : Option ℕ) (xs ys : List (Option ℕ)) → x ≡ y → xs ≡ ys → x ∷ xs ≡ y ∷ ys
 same_next x y xs ys e f = cc

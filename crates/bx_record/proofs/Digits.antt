@@ -1,4 +1,4 @@
--- The digits of moments and of nonces read back, and have no space and no line end among them.
+-- Proves that digits of moments and nonces are read back, and contain no space or newline.
 use Rattle.std.proofs.Common.{◌≡◌, ℕ, zero, suc, ◌+◌, ◌-◌, ◌*◌, ◌/◌, ◌%◌, ◌^◌, ◌<◌, true, false, eqb, ltb, List, [], ◌∷◌, ◌++◌, length, decimal, Some, refl, sym, ap, ◌∙◌, arith, eq-eqb, append_assoc, length-append}
 use Rattle.std.proofs.lemmas.{Bool.ne_eqb, Bool.lt-ltb, Bool.cond_both, Bool.Decides.nat_tests, Grind.common_steps, Nat.div-add-mod', List.Folds.list_all-append, Int.Digits.digits_value_push, Str.digit_value-digit_char}
 use Rattle.std.proofs.lemmas.{Fmt.decimal_nonempty, Fmt.decimal_by_steps, Fmt.digits_decimal, Fmt.digits_value-decimal, Str.Parse.IsNumeralModel, Str.Parse.numerals_by_value, Str.Parse.tells_all_ascii_digits}
@@ -14,7 +14,7 @@ pub lacks-append : (c : ℕ) (xs ys : List ℕ) → Lacks c xs → Lacks c ys �
 lacks-append c [] ys h k = k
 lacks-append c (x ∷ xs) ys h k = (h.0, lacks-append c xs ys h.1 k)
 
--- ---- moments
+-- ---- Moments
 
 own : IsNumeralModel (λ ds. all_ascii_digits ds ≡ true) (digits_value 10)
 own = numerals_by_value _ tells_all_ascii_digits
@@ -39,7 +39,7 @@ moment_lacks_letter c m high fits = lacks_by c m (λ k small. ne_eqb (48 + k) c 
 pub moment_nonempty : (m : ℕ) → m < 2 ^ 64 → 0 < length (decimal m)
 moment_nonempty m fits = decimal_nonempty m fits
 
--- ---- nonces
+-- ---- Nonces
 
 digit_is_no_end : (d : ℕ) → eqb (digit_char d) 10 ≡ false
 digit_is_no_end d =
@@ -49,7 +49,6 @@ hex_digits_more : (width n : ℕ) → 0 < width → hex_digits width n ≡ hex_d
 hex_digits_more zero n some = absurd (omega arith)
 hex_digits_more (suc width) n some = let less : width ≡ suc width - 1 = omega arith in ap (λ (w : ℕ). hex_digits w (n / 16) ++ digit_char (n % 16) ∷ []) less
 
--- the last digit stands behind those before it, and these behind what stood there
 pub digits_pushed : (old mid new : List ℕ) (width n digit : ℕ) → (width ≡ 0 → ⊥) → mid ≡ old ++ hex_digits (width - 1) (n / 16) → digit ≡ digit_char (n % 16) → new ≡ mid ++ digit ∷ [] → new ≡ old ++ hex_digits width n
 digits_pushed old mid new width n digit some front last whole =
     let more : 0 < width = omega arith in

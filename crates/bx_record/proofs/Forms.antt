@@ -1,4 +1,4 @@
--- The form that carries documents, a document at a time, and how long it is.
+-- Proves that a form is written one document at a time, and how long it is.
 use Rattle.std.proofs.Common.{◌≡◌, ℕ, ◌+◌, ◌-◌, ◌<◌, ◌≤◌, ◌||◌, Bool, true, false, cond, eqb, List, [], ◌∷◌, ◌++◌, length, map, take, drop, get_or, refl, sym, ap, ◌∙◌, subst, arith, append_assoc, append-nil, length-append, take-append-drop, take_all}
 use Rattle.std.proofs.lemmas.List.{take_more, map-append, length-map, length-take-le}
 use Rattle.std.proofs.lemmas.List.Sums.{sum_by-cons, sum_by_more_le}
@@ -9,13 +9,12 @@ use Rattle.form_urlencoded.proofs.FormLemmas.{byte_serialize-nil, byte_serialize
 use Rattle.bx_advice.specs.declared.config.TheConstants.{BODY_LIMIT}
 use Rattle.bx_record.specs.Record.{form_of, parameter_of}
 
--- ---- what it is
+-- ---- The form
 
 pub form_of_none : form_of [] ≡ []
 unfolding form_of
 form_of_none = refl
 
--- one more piece behind others
 pub joined-push : (c : ℕ) (ps : List (List ℕ)) (p : List ℕ) → 0 < length ps → join_with_byte c (ps ++ p ∷ []) ≡ join_with_byte c ps ++ (c ∷ p)
 joined-push c [] p some = absurd (omega arith)
 joined-push c (x ∷ []) p some = refl
@@ -35,7 +34,6 @@ form_of_more ds i within later =
     ∙ ap (join_with_byte 38) (map-append parameter_of (take i ds) (d ∷ []))
     ∙ joined-push 38 (map parameter_of (take i ds)) (parameter_of d) some
 
--- behind what stood there, the first document
 pub first_pushed : (ds : List (List ℕ)) (i : ℕ) (old mid d : List ℕ) → d ≡ get_or ds i [] → i < length ds → i ≤ 0 → mid ≡ old ++ form_of (take i ds) → mid ++ parameter_of d ≡ old ++ form_of (take (i + 1) ds)
 first_pushed ds i old mid d is inside first so_far =
     let start : i ≡ 0 = omega arith in
@@ -44,7 +42,6 @@ first_pushed ds i old mid d is inside first so_far =
     ap (λ t. t ++ parameter_of d) (so_far ∙ ap (λ t. old ++ t) none ∙ append-nil old)
     ∙ ap (λ t. old ++ parameter_of t) (is ∙ ap (λ k. get_or ds k []) start) ∙ ap (λ t. old ++ t) (sym (form_of_first ds some) ∙ ap (λ k. form_of (take (k + 1) ds)) (sym start))
 
--- and one more
 pub next_pushed : (ds : List (List ℕ)) (i : ℕ) (old mid d : List ℕ) → d ≡ get_or ds i [] → i < length ds → 0 < i → mid ≡ old ++ form_of (take i ds) → (mid ++ 38 ∷ []) ++ parameter_of d ≡ old ++ form_of (take (i + 1) ds)
 next_pushed ds i old mid d is inside later so_far =
     append_assoc mid (38 ∷ []) (parameter_of d) ∙ ap (λ t. t ++ (38 ∷ parameter_of d)) so_far ∙ append_assoc old (form_of (take i ds)) (38 ∷ parameter_of d)
@@ -56,9 +53,8 @@ form_is_some [] some = absurd (omega arith)
 form_is_some (d ∷ []) some = omega arith
 form_is_some (d ∷ e ∷ ds) some = omega arith
 
--- ---- how long it is
+-- ---- Its length
 
--- a document's parameter, with what parts it from another
 abbrev pub weight_of : List ℕ → ℕ
 weight_of d = 1 + length (parameter_of d)
 
@@ -72,14 +68,12 @@ weight_of_all : (ds : List (List ℕ)) → 0 < length ds → length (form_of ds)
 weight_of_all [] some = absurd (omega arith)
 weight_of_all (d ∷ ds) some = length-form_of d ds
 
--- where a document has no room, the form has none
 pub too_long : (ds : List (List ℕ)) (i room : ℕ) (d : List ℕ) → d ≡ get_or ds i [] → i < length ds → room + sum_by weight_of (take i ds) ≡ BODY_LIMIT + 1 → room < weight_of d → BODY_LIMIT < length (form_of ds)
 too_long ds i room d is inside counted less =
     let some : 0 < length ds = omega arith in
     let low : room < weight_of (get_or ds i []) = subst (λ t. room < weight_of t) is less in
     omega (arith, weight_of_all ds some, sum_by_more_le weight_of ds i [] inside)
 
--- where all have room, what they took is its length
 pub all_counted : (ds : List (List ℕ)) (i room : ℕ) → 0 < length ds → length ds ≤ i → room + sum_by weight_of (take i ds) ≡ BODY_LIMIT + 1
     → (BODY_LIMIT - room ≡ length (form_of ds)) × (BODY_LIMIT - room ≤ BODY_LIMIT)
 all_counted ds i room some past counted =
@@ -88,7 +82,7 @@ all_counted ds i room some past counted =
     let none : 0 < length (form_of ds) = form_is_some ds some in
     (omega arith, omega arith)
 
--- ---- a byte at a time
+-- ---- The length of a parameter, byte by byte
 
 pub serialized_len : (b : ℕ) → length (serialize_byte b) ≡ cond (is_unchanged b || eqb b 32) 1 3
 unfolding percent_encode_byte
@@ -102,7 +96,6 @@ serialized_len b = by_tests (is_unchanged b) (eqb b 32)
 pub encoded_none : length (byte_serialize []) ≡ 0
 encoded_none = ap length byte_serialize-nil
 
--- one more byte
 pub encoded_more : (bs : List ℕ) (i : ℕ) → i < length bs → length (byte_serialize (take (i + 1) bs)) ≡ length (byte_serialize (take i bs)) + length (serialize_byte (get_or bs i 0))
 encoded_more bs i inside =
     let b = get_or bs i 0 in
@@ -111,13 +104,11 @@ encoded_more bs i inside =
     ap (λ t. length (byte_serialize t)) (take_more bs i 0 inside) ∙ ap length (byte_serialize-append (take i bs) (b ∷ []))
     ∙ length-append front (byte_serialize (b ∷ [])) ∙ ap (λ t. length front + length t) last
 
--- the first bytes have no more than all
 pub encoded_front : (bs : List ℕ) (k : ℕ) → length (byte_serialize (take k bs)) ≤ length (byte_serialize bs)
 encoded_front bs k =
     let whole : length (byte_serialize bs) ≡ length (byte_serialize (take k bs)) + length (byte_serialize (drop k bs)) =
     ap (λ t. length (byte_serialize t)) (sym (take-append-drop k bs)) ∙ ap length (byte_serialize-append (take k bs) (drop k bs)) ∙ length-append (byte_serialize (take k bs)) (byte_serialize (drop k bs)) in
     omega arith
 
--- where a byte has no room, the parameter has none
 pub no_room : (bs : List ℕ) (i left room : ℕ) → i < length bs → left + (9 + length (byte_serialize (take i bs))) ≡ room → left < length (serialize_byte (get_or bs i 0)) → room < 1 + length (parameter_of bs)
 no_room bs i left room inside counted less = omega (arith, encoded_more bs i inside, encoded_front bs (i + 1))

@@ -1,4 +1,4 @@
--- Whether a text has a line end, as a search tells it.
+-- Proves that a search finds out whether a text has a newline.
 use Rattle.std.proofs.Common.{◌≡◌, ℕ, false, List, Option, Some, None, is_some, sym, arith}
 use Rattle.std.specs.List.{list_any}
 use Rattle.std.proofs.lemmas.{Bool.false_from_ne_true, List.Elements.All-from_get_or, List.Folds.list_any_none, List.Folds.list_any_at}

@@ -1,4 +1,4 @@
--- A record reads back.
+-- Proves that the inputs of a record are read back from it.
 use Rattle.std.proofs.Common.{◌≡◌, ℕ, ◌+◌, ◌<◌, ◌^◌, ◌||◌, Bool, true, false, eqb, cond, List, [], ◌∷◌, ◌++◌, drop, length, map, codes, decimal, Some, None, Result, Ok, Err, is_ok, refl, sym, ap, ◌∙◌, subst, arith, append_assoc, length-append}
 use Rattle.std.specs.Prelude.{flat_map, nat_eq, nat_lt, nat_le}
 use Rattle.std.specs.{List.after_first, List.list_all, List.list_any, List.starts_with, List.AllByRecursion, Str.IsUtf8}
@@ -28,14 +28,13 @@ use Rattle.bx_record.proofs.Bytes.{arrival_utf8}
 use Rattle.bx_record.proofs.Carried.{carried, form_lacks}
 use Rattle.bx_record.proofs.Digits.{lacks-append, moment_lacks, moment_lacks_letter, moment_nonempty, moment_reads, nonce_lacks, nonce_reads}
 
--- ---- one line
+-- ---- One line
 
 pub first_line : (line rest : List ℕ) → Lacks 10 line → lines_of (line ++ 10 ∷ rest) ≡ line ∷ lines_of rest
 first_line line rest lacks =
     lines_are (line ++ 10 ∷ rest) (λ e. omega (arith, ap length e, length-append line (10 ∷ rest)))
     ∙ ap (λ l. l ∷ lines_of (after_first is_newline (line ++ 10 ∷ rest))) (before_it 10 line rest lacks) ∙ ap (λ l. line ∷ lines_of l) (after_it 10 line rest lacks)
 
--- what begins otherwise is no note
 no_note : (front rest : List ℕ) → 0 < length front → Lacks 65 front → starts_with nat_eq (front ++ rest) (codes "A ") ≡ false
 no_note [] rest some lacks = absurd (omega arith)
 no_note (x ∷ front) rest some lacks = grind (arith, common_steps, lacks.0)
@@ -54,7 +53,7 @@ one_line m text rest fits lacks =
     let whole : line_text m text ++ rest ≡ (decimal m ++ 32 ∷ text) ++ 10 ∷ rest = simp append_assoc in
     ap (lines_in Recorded) whole ∙ ap (map (line_of Recorded)) (first_line (decimal m ++ 32 ∷ text) rest head) ∙ ap (λ l. l ∷ lines_in Recorded rest) (says m text fits)
 
--- ---- documents
+-- ---- Documents
 
 within : (n : ℕ) → nat_le n BODY_LIMIT ≡ true → nat_lt BODY_LIMIT n ≡ false
 within n h = le-ltb BODY_LIMIT n (leb-true n BODY_LIMIT h)
@@ -67,7 +66,6 @@ lacks_end : (d : List ℕ) → list_any is_newline d ≡ false → Lacks 10 d
 lacks_end [] h = tt
 lacks_end (x ∷ xs) h = lacks_by x xs (eqb x 10) (λ g. lacks_end xs g) refl h
 
--- a command says these documents, in one line
 pub record Says (m : ℕ) (text : List ℕ) (ds : List (List ℕ)) : Type 0 where
   pub lacks : Lacks 10 text
   pub says_them : command Recorded m text ≡ handed_by m (Documents None ds)
@@ -94,14 +92,12 @@ documents_say m (d ∷ []) texts can = by_newline (list_any is_newline d) refl c
     by_newline false e h = plain_says m d e h
 documents_say m (d ∷ e ∷ ds) texts can = form_says m d (e ∷ ds) texts can
 
--- ---- an input
+-- ---- One input
 
--- the lines that say a request
 abbrev pub said_by : Bool → ℕ → ReadInput → List Line
 said_by true nonce input = Announced nonce ∷ Accepted None input ∷ []
 said_by false nonce input = Accepted None input ∷ []
 
--- and those that say an input, each request with its nonce
 abbrev pub said_lines : Input → List Line
 said_lines (Post a) = said_by (asks_for_session (read_input (Post a))) a.nonce (said_of (read_input (Post a)))
 said_lines (inputs.Tick moment) = Accepted None (Tick moment) ∷ []
@@ -140,17 +136,15 @@ input_lines (Post a) rest can = by_result (arrival_messages a) refl can.readable
         let says_all = documents_say a.moment (texts_of a.bodies) (arrival_utf8 a can.readable) can.sayable in
         subst SameLines (sym e) (request_lines a.moment a.nonce (texts_of a.bodies) ms rest can.moment can.nonce read says_all (list_any is_handshake ms))
 
--- ---- a record
+-- ---- A record
 
 all_lines : (inputs : List Input) → AllByRecursion CanRecord inputs → recorded_lines inputs ≡ flat_map said_lines inputs
 all_lines [] h = refl
 all_lines (input ∷ inputs) h = input_lines input (record_of inputs) h.0 ∙ ap (λ ls. said_lines input ++ ls) (all_lines inputs h.1)
 
--- inputs as a record says them
 abbrev pub said_all : List Input → List ReadInput
 said_all inputs = map (λ input. said_of (read_input input)) inputs
 
--- the inputs among lines, of which the first has this number
 abbrev pub inputs_at : ℕ → List Line → List ReadInput
 inputs_at number ls = map (λ (n : Numbered). n.input) (inputs_from number ls)
 

@@ -1,4 +1,4 @@
--- A nonce that is not used changes no answer, so a record is answered as what it records was.
+-- Proves that an unused nonce changes no answer, so a record is answered as its inputs were.
 use Rattle.std.proofs.Common.{◌≡◌, ℕ, ◌+◌, ◌||◌, not, max, Bool, true, false, cond, List, [], ◌∷◌, ◌++◌, length, map, fold, position, Option, Some, None, refl, sym, ap, ◌∙◌, subst, arith, length-append}
 use Rattle.std.specs.Prelude.{◌==◌, ◌&&◌, filter, is_none, nat_lt}
 use Rattle.std.specs.List.{list_any, position_or_len}
@@ -21,9 +21,8 @@ use Rattle.bx_record.specs.Laws.{RecordsAnswerAlike}
 use Rattle.bx_record.specs.Record.{asks_for_session, said_of}
 use Rattle.bx_record.proofs.ReadBack.{records}
 
--- ---- one message
+-- ---- One message
 
--- a message with another nonce
 abbrev with_other : ℕ → Posted → Posted
 with_other nonce p = record p { nonce = nonce }
 
@@ -55,14 +54,13 @@ same_judged config state moment nonce p sender (Some error) h = refl
 same_judged config state moment nonce p None None h = same_unnamed config state moment nonce p (is_handshake p.message) h
 same_judged config state moment nonce p (Some s) None h = same_served config state moment nonce p s _ (message_kind_of p.message.channel)
 
--- only a handshake comes to something else by it
 same_verdict : (config : Config) (state : State) (moment nonce : ℕ) (p : Posted) → is_handshake p.message ≡ false → verdict config state moment (with_other nonce p) ≡ verdict config state moment p
 same_verdict config state moment nonce p h =
     let sender : Option Registered = named_by state.sessions (message_kind_of p.message.channel) p.message in
     ap (λ cases. judged_by config state moment (with_other nonce p) sender (first_case cases)) (same_cases config state.sessions nonce p (message_kind_of p.message.channel))
     ∙ same_judged config state moment nonce p sender _ h
 
--- ---- a request
+-- ---- One request
 
 same_request : (config : Config) (moment nonce other : ℕ) (sole seen : Bool) (ms : List Message) (r : Registry) → list_any is_handshake ms ≡ false
     → fold (judge config) r (listed_from moment nonce sole seen ms) ≡ fold (judge config) r (listed_from moment other sole seen ms)
@@ -75,9 +73,8 @@ same_request config moment nonce other sole seen (m ∷ ms) r h =
     ap (λ (s : Registry). fold (judge config) s (listed_from moment nonce sole (seen || is_handshake m) ms)) first
     ∙ same_request config moment nonce other sole (seen || is_handshake m) ms (judge config r (Post p)) parts.1
 
--- ---- an input
+-- ---- One input
 
--- what holds of it, and of it with the nonce 0, holds of it as it is said
 said_as : (P : ReadInput → Type 0) (input : ReadInput) → P input → P (with_nonce 0 input) → P (said_of input)
 said_as P input here there = cond_both (asks_for_session input) input (with_nonce 0 input) P (λ _. here) (λ _. there)
 
@@ -114,13 +111,11 @@ places_without d (Tick moment) = refl
 same_places : (d : Intake) (input : ReadInput) → places_of d (said_of input) ≡ places_of d input
 same_places d input = said_as (λ x. places_of d x ≡ places_of d input) input refl (places_without d input)
 
--- ---- a run
+-- ---- All inputs
 
--- what became of an input, as it is said
 abbrev said_intake : Intake → Intake
 said_intake d = record d { input = said_of d.input }
 
--- what was taken in as it is said, beside what was taken in
 record Alike (config : Config) (t u : Taking) : Type 0 where
   list : registry config t.list ≡ registry config u.list
   count : length t.list ≡ length u.list
@@ -129,7 +124,6 @@ record Alike (config : Config) (t u : Taking) : Type 0 where
 same_intake : (ds es : List Intake) (d e : Intake) → ds ≡ map said_intake es → d ≡ said_intake e → ds ++ d ∷ [] ≡ map said_intake (es ++ e ∷ [])
 same_intake ds es d e same one = ap (λ xs. xs ++ d ∷ []) same ∙ ap (λ x. map said_intake es ++ x ∷ []) one ∙ sym (map-append said_intake es (e ∷ []))
 
--- an input with its refusal, or without one
 abbrev intake_as : ReadInput → Option Refusal → ℕ → ℕ → Intake
 intake_as input refusal first count = record { input = input; first = first; count = count; refusal = refusal }
 
@@ -155,7 +149,7 @@ all_taken config (input ∷ inputs) t u a =
     let one = one_taken config t u input (refusal_of (length u.list) input) a in
     all_taken config inputs (take_in t (said_of input)) (take_in u input) (subst (λ (o : Option Refusal). Alike config (taken_as t (said_of input) o) (take_in u input)) (sym same) one)
 
--- ---- what comes of it
+-- ---- Outs and held inputs
 
 first_among : (f : Intake → Intake) (p : Intake → Bool) (ds : List Intake) → position_or_len p (map f ds) ≡ position_or_len (λ d. p (f d)) ds
 first_among f p [] = refl
@@ -197,7 +191,7 @@ unused config inputs =
     ∙ ap (λ (ds : List Intake). wholes_from config (registry config u.list) ds 0 ds) a.intake
     ∙ same_wholes config (registry config u.list) u.intake 0 u.intake
 
--- ---- a record
+-- ---- A record
 
 pub same_outs : (config : Config) (inputs : List ReadInput) → outs config (map said_of inputs) ≡ outs config inputs
 same_outs config inputs = ap (λ n. outs_in n (wholes config (map said_of inputs))) (length-map inputs said_of) ∙ ap (λ ws. outs_in (length inputs) ws) (unused config inputs)
@@ -205,7 +199,6 @@ same_outs config inputs = ap (λ n. outs_in n (wholes config (map said_of inputs
 pub same_held : (config : Config) (inputs : List ReadInput) → held config (map said_of inputs) ≡ held config inputs
 same_held config inputs = ap (λ (ws : List Whole). map (λ (w : Whole). w.out.input) (filter (λ (w : Whole). is_none w.at) ws)) (unused config inputs)
 
--- inputs that are read, as they are said
 pub said_after : (inputs : List Input) → map (λ input. said_of (read_input input)) inputs ≡ map said_of (map read_input inputs)
 said_after [] = refl
 said_after (input ∷ inputs) = ap (λ (is : List ReadInput). said_of (read_input input) ∷ is) (said_after inputs)

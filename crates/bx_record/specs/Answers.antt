@@ -1,11 +1,12 @@
--- The line that notes an answer, and records with such lines between their inputs.
+-- The line of an answer, and records with such lines between their inputs.
 use Rattle.std.specs.Prelude.{ℕ, ◌<◌, ◌≡◌, List, [], ◌∷◌, ◌++◌, length, flat_map, codes, decimal}
 use Rattle.std.specs.List.{AllByRecursion}
 use Rattle.hex.specs.Hex.{encode_lower}
 use Rattle.bx_entry.specs.declared.input.Input.{Input}
 use Rattle.bx_record.specs.Record.{input_text}
 
--- The note of the SHA-256 of an answer's items; `place` is that of the request's first message.
+-- The line of an answer. `place` is that of the request's first message. `digest` is the SHA-256 of
+-- the answer's items.
 abbrev pub answer_text : ℕ → List ℕ → List ℕ
 answer_text place digest = codes "A " ++ (decimal place ++ 32 ∷ (encode_lower digest ++ 10 ∷ []))
 
@@ -14,7 +15,7 @@ pub record IsSha256 (digest : List ℕ) : Type 0 where
   pub count : length digest ≡ 32
   pub bytes : AllByRecursion (λ (byte : ℕ). byte < 256) digest
 
--- A part of a record: an input, or the note of an answer.
+-- A part of a record: an input, or the line of an answer.
 pub data Part : Type 0 where
   Taken : (input : Input) → Part
   Given : (place : ℕ) → (digest : List ℕ) → Part
@@ -23,7 +24,7 @@ abbrev pub part_text : Part → List ℕ
 part_text (Taken input) = input_text input
 part_text (Given place digest) = answer_text place digest
 
--- The text of a record with such parts.
+-- The text of a record with these parts.
 abbrev pub record_with : List Part → List ℕ
 record_with parts = flat_map part_text parts
 

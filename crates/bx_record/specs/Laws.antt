@@ -1,4 +1,4 @@
--- How a record reads: its first line, and the others.
+-- What is read from a record: the configuration in its first line, and the inputs in the others.
 use Rattle.std.specs.Prelude.{ℕ, ◌^◌, ◌<◌, ◌==◌, ◌≡◌, Bool, true, false, List, [], ◌∷◌, ◌++◌, map, take, if◌then◌else◌, is_ok, Option, Some, None}
 use Rattle.std.specs.List.{list_all, slice_split, AllByRecursion}
 use Rattle.bx_advice.specs.declared.config.Config.{Config}
@@ -16,8 +16,8 @@ use Rattle.bx_record.specs.Record.{can_say, config_text, config_words, options_w
 
 -- ---- Inputs
 
--- A request whose messages are readable and allowed by its listener, that a line can contain, and
--- whose numbers fit their types.
+-- A request that lines can express: its messages are readable and its listener allows them, its
+-- documents fit in a line, and its numbers fit their types.
 pub record IsRecordable (a : Arrival) : Type 0 where
   pub moment : a.moment < 2 ^ 64
   pub nonce : a.nonce < 2 ^ 128
@@ -48,27 +48,27 @@ pub record ReadsBack (inputs : List Input) : Type 0 where
   pub inputs_are : inputs_in (recorded_lines inputs) ≡ map (λ input. said_of (read_input input)) inputs
   pub nothing_else : list_all is_of_record (recorded_lines inputs) ≡ true
 
--- Every record reads back.
+-- Reading any record gives its inputs.
 abbrev pub RecordsReadBack : Type 0
 RecordsReadBack = (inputs : List Input) → AllByRecursion CanRecord inputs → ReadsBack inputs
 
--- The inputs that are read from the record have the same outs as these, and the same are held.
+-- The inputs read from the record have the same outs as `inputs`, and the same ones are held.
 pub record AnswersAlike (config : Config) (inputs : List Input) : Type 0 where
   pub outs_are : outs config (inputs_in (recorded_lines inputs)) ≡ outs config (map read_input inputs)
   pub held_are : held config (inputs_in (recorded_lines inputs)) ≡ held config (map read_input inputs)
 
--- Every record is answered like the inputs that it records.
+-- Every record is answered as its inputs were.
 abbrev pub RecordsAnswerAlike : Type 0
 RecordsAnswerAlike = (config : Config) (inputs : List Input) → AllByRecursion CanRecord inputs → AnswersAlike config inputs
 
 -- ---- Answers
 
--- The first line notes an answer, and `rest` follows it.
+-- The first line is that of an answer, and `rest` follows it.
 pub record SaysAnswer (text rest : List ℕ) : Type 0 where
   pub noted : line_of Recorded (first_of text) ≡ Noted
   pub left : rest_of text ≡ rest
 
--- The note of an answer is skipped, whatever follows it.
+-- The line of an answer is skipped, whatever follows it.
 abbrev pub AnswersAreSkipped : Type 0
 AnswersAreSkipped = (place : ℕ) (digest rest : List ℕ) → place < 2 ^ 64 → IsSha256 digest → SaysAnswer (answer_text place digest ++ rest) rest
 
@@ -77,20 +77,20 @@ abbrev pub CanStand : Part → Type 0
 CanStand (Taken input) = CanRecord input
 CanStand (Given place digest) = (place < 2 ^ 64) × IsSha256 digest
 
--- Whether a line is one of a record without answers, or notes an answer.
+-- Whether a line is one of a record without answers, or that of an answer.
 abbrev pub is_of_either : Line → Bool
 is_of_either Noted = true
 is_of_either line = is_of_record line
 
--- A record with answers has the same inputs as without them, and otherwise only nonces and notes.
--- The outs are the same, and so are the held inputs.
+-- A record with answers has the same inputs as without them, and its other lines are nonces and
+-- answers. The outs and the held inputs are also the same.
 pub record ReadsWith (parts : List Part) : Type 0 where
   pub inputs_are : inputs_in (record_lines (record_with parts)) ≡ map (λ input. said_of (read_input input)) (taken_inputs parts)
   pub nothing_else : list_all is_of_either (record_lines (record_with parts)) ≡ true
   pub outs_are : (config : Config) → outs config (inputs_in (record_lines (record_with parts))) ≡ outs config (map read_input (taken_inputs parts))
   pub held_are : (config : Config) → held config (inputs_in (record_lines (record_with parts))) ≡ held config (map read_input (taken_inputs parts))
 
--- Notes of answers between inputs change nothing.
+-- Lines of answers between inputs do not change what is read.
 abbrev pub AnswersChangeNothing : Type 0
 AnswersChangeNothing = (parts : List Part) → AllByRecursion CanStand parts → ReadsWith parts
 
@@ -146,6 +146,6 @@ pub record SaysConfig (c : Config) (text rest : List ℕ) : Type 0 where
   pub options_are : options_in (options_word c.ride c.anonymous) ≡ Some (record { ride = c.ride; anonymous = c.anonymous })
   pub left : rest_of text ≡ rest
 
--- The line of a configuration reads back, whatever follows it.
+-- The line of a configuration gives that configuration, whatever follows it.
 abbrev pub ConfigsReadBack : Type 0
 ConfigsReadBack = (c : Config) (rest : List ℕ) → FitsWords c → SaysConfig c (config_text c ++ rest) rest

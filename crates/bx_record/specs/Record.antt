@@ -1,4 +1,4 @@
--- The text of a record: the lines of what a server took in.
+-- The text of a record: the lines of a server's requests and ticks.
 use Rattle.std.specs.Prelude.{ℕ, ◌==◌, Bool, true, false, List, [], ◌∷◌, ◌++◌, length, map, flat_map, nat_le, codes, decimal, if◌then◌else◌, Option, Some, None}
 use Rattle.std.specs.List.{list_any, join_with_byte}
 use Rattle.form_urlencoded.specs.Form.{byte_serialize}
@@ -33,7 +33,7 @@ abbrev pub carrier_by : Option (List ℕ) → List (List ℕ) → List ℕ
 carrier_by (Some d) documents = d
 carrier_by None documents = form_of documents
 
--- What follows a line's moment for these documents.
+-- The rest of a line after its moment, for these documents.
 abbrev pub command_by : Option (List ℕ) → List (List ℕ) → List ℕ
 command_by (Some d) documents = codes "P " ++ d
 command_by None documents = codes "F " ++ form_of documents
@@ -41,7 +41,7 @@ command_by None documents = codes "F " ++ form_of documents
 abbrev pub command_of : List (List ℕ) → List ℕ
 command_of documents = command_by (plain_document documents) documents
 
--- Whether a line can contain them: there are some, and their body has at most `BODY_LIMIT` bytes.
+-- Whether a line can express the documents: at least one, in a body of at most `BODY_LIMIT` bytes.
 abbrev pub can_say : List (List ℕ) → Bool
 can_say [] = false
 can_say documents = nat_le (length (carrier_by (plain_document documents) documents)) BODY_LIMIT
@@ -55,7 +55,7 @@ options_word true false = codes "r"
 options_word false true = codes "a"
 options_word true true = codes "ra"
 
--- The argument for a limit of bytes; `-` is the standard one.
+-- The argument for a limit of bytes; `-` is the standard limit.
 abbrev pub bytes_word : ℕ → List ℕ
 bytes_word bytes = if bytes == STANDARD_BYTES then codes "-" else decimal bytes
 
@@ -64,13 +64,13 @@ abbrev pub config_words : Config → List (List ℕ)
 config_words c = codes "--bytes" ∷ bytes_word c.limits.bytes ∷ codes "--sessions" ∷ decimal c.limits.sessions ∷ codes "--patterns" ∷ decimal c.limits.patterns
     ∷ decimal c.shards ∷ codes "1" ∷ decimal c.timeout ∷ decimal c.interval ∷ decimal c.max_interval ∷ options_word c.ride c.anonymous ∷ decimal c.limits.events ∷ []
 
--- The line of these arguments.
+-- The line with these arguments, separated by spaces.
 abbrev pub config_text : Config → List ℕ
 config_text c = join_with_byte 32 (config_words c) ++ 10 ∷ []
 
 -- ---- Inputs
 
--- Whether an input has a handshake, which makes a client id of the nonce.
+-- Whether an input has a handshake, which makes a client id from the nonce.
 abbrev pub asks_for_session : ReadInput → Bool
 asks_for_session (Request moment nonce ms) = list_any is_handshake ms
 asks_for_session input = false
@@ -79,7 +79,7 @@ asks_for_session input = false
 unfoldable pub nonce_digits : ℕ → List ℕ
 nonce_digits nonce = hex_digits 32 nonce
 
--- The line of the next request's nonce, if that is used.
+-- The line that gives the next request its nonce, if the request uses it.
 abbrev pub nonce_text : Bool → ℕ → ℕ → List ℕ
 nonce_text used moment nonce = if used then line_text moment (codes "N " ++ nonce_digits nonce) else []
 
@@ -92,6 +92,6 @@ input_text (inputs.Tick moment) = line_text moment (codes "T")
 abbrev pub record_of : List Input → List ℕ
 record_of inputs = flat_map input_text inputs
 
--- An input as a record has it: an unused nonce is 0.
+-- An input as it is read from a record: a nonce that it does not use is 0.
 abbrev pub said_of : ReadInput → ReadInput
 said_of input = if asks_for_session input then input else with_nonce 0 input

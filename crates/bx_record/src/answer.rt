@@ -1,17 +1,17 @@
-//! The line of a record for an answer.
+//! The line that records an answer, by its digest.
 ghost use Rattle.std.specs.Prelude.{◌≡◌, IfOk};
 ghost use Rattle.bx_record.specs.Answers.{answer_text};
 
 use itoa::Buffer;
 use std::alloc::{AllocError, Global};
 
-// The most bytes in the line: a letter, a place of up to 20 digits, 64 digits, two spaces and a
-// line end.
+// The most bytes in the line: a letter, a place of up to 20 digits, 64 digits of the digest, two
+// spaces and a newline.
 const ANSWER_LENGTH: usize = 1 + 20 + 64 + 2 + 1;
 
-/// Formats the answer to a request as a line.
+/// Formats the line that records the answer to a request.
 ///
-/// `place`: that of the request's first message. `digest`: the SHA-256 of the answer's items.
+/// `place`: the place of the request's first message. `digest`: the SHA-256 of the answer's items.
 ///
 /// # Errors
 ///

@@ -1,14 +1,14 @@
-//! The parts of a growing text.
+//! Parts of a text that grows at its end.
 ghost use Rattle.std.specs.Prelude.{◌≡◌, ◌++◌, [], IsTrue};
 
-/// A position in a growing text.
+/// A position in a text that grows at its end.
 pub trait Extent: Drop {
     ghost use Rattle.std.specs.Prelude.{ℕ, List};
 
-    /// Ghost: the text up to it.
+    /// Ghost: the text up to the position.
     ghost text: { Self → List ℕ };
 
-    /// Ghost: whether the second extent is a copy of the first.
+    /// Ghost: whether the second position is a copy of the first.
     ghost is_copy: { Self → Self → Type 0 };
 
     /// Returns a copy of `self`.
@@ -16,15 +16,15 @@ pub trait Extent: Drop {
         ensures text { text result ≡ text self.now }
         ensures copy { is_copy self.now result };
 
-    /// Returns `true` only if `other` is the end of the same text.
+    /// Returns `true` only if the texts up to `self` and up to `other` are the same.
     ///
-    /// Always returns `true` for a copy.
+    /// Always returns `true` if `other` is a copy of `self`.
     fn is_same(&self, other: &Self) -> bool
         ensures text { IsTrue result → text self.now ≡ text other.now }
         ensures copy { is_copy self.now other.now → IsTrue result };
 }
 
-/// The bytes of a text from one extent to a later one.
+/// The bytes of a text between two positions.
 #[derive(Drop)]
 pub struct Chunk<F: Extent> {
     pub(crate) from: F,
@@ -34,7 +34,7 @@ pub struct Chunk<F: Extent> {
 }
 
 impl<F: Extent> Chunk<F> {
-    /// Creates a chunk from the text between `from` and `to`.
+    /// Creates a chunk from `bytes`, which must be the text between `from` and `to`.
     pub fn new(from: F, to: F, bytes: Vec<u8>) -> Chunk<F>
         requires { F.text to ≡ F.text from ++ bytes.items }
         ensures { (result.from ≡ from) × (result.to ≡ to) × (result.bytes ≡ bytes) }
@@ -42,21 +42,21 @@ impl<F: Extent> Chunk<F> {
         Chunk { from, to, bytes }
     }
 
-    /// Returns the later extent.
+    /// Returns the position at the end of the chunk.
     pub fn upto(&self) -> &F
         ensures { result.now ≡ self.now.to }
     {
         &self.to
     }
 
-    /// Returns the bytes.
+    /// Returns the chunk's part of the text.
     pub fn bytes(&self) -> &[u8]
         ensures { result.now ≡ self.now.bytes.items }
     {
         self.bytes.as_slice()
     }
 
-    /// Returns the emptied buffer.
+    /// Drops the bytes and returns their buffer, which is then empty.
     pub(crate) fn into_empty(self) -> Vec<u8>
         ensures { result.items ≡ [] }
     {

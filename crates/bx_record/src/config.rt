@@ -6,15 +6,16 @@ use bx_advice::{Config, STANDARD_BYTES};
 use itoa::Buffer;
 use std::alloc::{AllocError, Global};
 
-/// Formats a configuration as a line of arguments for the replay.
+/// Formats `config` as a line of arguments for the replay.
 ///
-/// They are, in order:
+/// The arguments are, in order:
 ///
-/// - `--bytes` (`-` for the standard limit), `--sessions` and `--patterns`, each with its limit;
-/// - the number of shards, and one worker;
-/// - `timeout`, `interval` and `max_interval`, in milliseconds;
-/// - the options;
-/// - the limit of a session's events.
+/// - `--bytes`, `--sessions` and `--patterns`, each followed by its limit; the standard limit of
+///   bytes is `-`
+/// - the number of shards, and 1 as the number of workers
+/// - the timeout, the interval and the longest interval, in milliseconds
+/// - the options
+/// - the number of events that may wait for a session
 ///
 /// # Errors
 ///
@@ -52,7 +53,7 @@ fn options_word(ride: bool, anonymous: bool) -> &'static [u8]
     }
 }
 
-// Appends the argument for a limit of bytes.
+// Appends a space and the argument for a limit of `bytes`.
 fn push_bytes(text: &mut Vec<u8>, bytes: usize) -> Result<(), AllocError>
     ensures { OnOk result (text.new.items ≡ text.old.items ++ 32 ∷ bytes_word bytes) }
 {
@@ -63,14 +64,14 @@ fn push_bytes(text: &mut Vec<u8>, bytes: usize) -> Result<(), AllocError>
     }
 }
 
-// Appends a time.
+// Appends a space and `time`, in milliseconds.
 fn push_time(text: &mut Vec<u8>, time: u32) -> Result<(), AllocError>
     ensures { OnOk result (text.new.items ≡ text.old.items ++ 32 ∷ decimal time) }
 {
     push_number(text, u64::from(time))
 }
 
-// Appends a number.
+// Appends a space and `number` in decimal digits.
 fn push_number(text: &mut Vec<u8>, number: u64) -> Result<(), AllocError>
     ensures { OnOk result (text.new.items ≡ text.old.items ++ 32 ∷ decimal number) }
 {
@@ -78,7 +79,7 @@ fn push_number(text: &mut Vec<u8>, number: u64) -> Result<(), AllocError>
     push_word(text, buffer.format(number).as_bytes())
 }
 
-// Appends an argument after a space.
+// Appends a space and the argument `word`.
 fn push_word(text: &mut Vec<u8>, word: &[u8]) -> Result<(), AllocError>
     ensures { OnOk result (text.new.items ≡ text.old.items ++ 32 ∷ word.now) }
 {

@@ -6,7 +6,9 @@ ghost use Rattle.std.specs.Io.KnownBytes.{WriteAppends};
 use std::io;
 use std::io::Write;
 
-/// A file and the number of bytes written to it, at most `u64::MAX`.
+/// A file, and a count of the bytes written to it.
+///
+/// The count stops at `u64::MAX`.
 #[derive(Drop)]
 pub struct CountedFile<W> {
     file: W,

@@ -1,4 +1,4 @@
-//! A form that carries a request's documents.
+//! The form that carries a request's documents, each in a parameter `message`.
 ghost use Rattle.std.specs.Prelude.{◌≡◌, ◌+◌, ◌<◌, ◌≤◌, ◌++◌, MatchOption, OnOk, length};
 ghost use Rattle.form_urlencoded.specs.Form.{byte_serialize, is_unchanged, serialize_byte};
 ghost use Rattle.bx_advice.specs.declared.config.TheConstants.{BODY_LIMIT};
@@ -10,12 +10,12 @@ use bx_cut::Bodies;
 use form_urlencoded::byte_serialize;
 use std::alloc::AllocError;
 
-// Length of `&message=`.
+// Length of `&message=`, in bytes.
 const LEAD: usize = 9;
 
 /// Returns the length of the form that carries `bodies`, or `None` if it exceeds `BODY_LIMIT`.
 ///
-/// `bodies` must not be empty.
+/// Lengths are in bytes. `bodies` must not be empty.
 #[tactic(auto, using(crate::proofs::Forms::all_counted))]
 pub(crate) fn form_len(bodies: &Bodies) -> Option<usize>
     requires { 0 < length (texts_of bodies.now) }
@@ -30,8 +30,9 @@ pub(crate) fn form_len(bodies: &Bodies) -> Option<usize>
     Some(BODY_LIMIT - room)
 }
 
-// Subtracts from `room` the length of a document's parameter and an `&`. Returns `None` if they do
-// not fit.
+// Subtracts from `room` the length of an `&` and the parameter that carries `document`.
+//
+// Returns `None` if they do not fit.
 #[tactic(auto, using(crate::proofs::Forms::encoded_none, crate::proofs::Forms::encoded_more, crate::proofs::Forms::no_room))]
 fn room_behind(room: usize, document: &[u8]) -> Option<usize>
     ensures { MatchOption result (room < 1 + length (parameter_of document.now))
@@ -44,7 +45,7 @@ fn room_behind(room: usize, document: &[u8]) -> Option<usize>
     Some(left)
 }
 
-// Returns the length of `byte` in a form.
+// Returns how many bytes a form has for `byte`.
 #[tactic(auto, using(crate::proofs::Forms::serialized_len))]
 fn encoded_len(byte: u8) -> usize
     ensures { result ≡ length (serialize_byte byte) }
@@ -56,7 +57,7 @@ fn encoded_len(byte: u8) -> usize
     }
 }
 
-// Returns `true` if a form has `byte` unchanged.
+// Returns `true` if `byte` is the same in a form.
 fn is_unchanged(byte: u8) -> bool
     ensures { result ≡ is_unchanged byte }
 {
@@ -80,7 +81,7 @@ pub(crate) fn push_form(text: &mut Vec<u8>, bodies: &Bodies) -> Result<(), Alloc
     Ok(())
 }
 
-// Appends the parameter that carries a document.
+// Appends the parameter that carries `document`.
 //
 // Bayeux 1.0, long-polling.
 fn push_parameter(text: &mut Vec<u8>, document: &[u8]) -> Result<(), AllocError>
@@ -90,7 +91,7 @@ fn push_parameter(text: &mut Vec<u8>, document: &[u8]) -> Result<(), AllocError>
     push_encoded(text, document)
 }
 
-// Appends `bytes`, encoded for a form.
+// Appends `bytes` in the encoding of a form.
 fn push_encoded(text: &mut Vec<u8>, bytes: &[u8]) -> Result<(), AllocError>
     ensures { OnOk result (text.new.items ≡ text.old.items ++ byte_serialize bytes.now) }
 {

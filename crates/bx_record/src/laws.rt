@@ -1,9 +1,11 @@
-//! Laws of records, for all inputs that lines can express.
+//! Laws of records: what is read from a record is what was written.
+//!
+//! They hold for all inputs that lines can express.
 ghost use Rattle.bx_record.specs.Laws.{AnswersAreSkipped, AnswersBreakOff, AnswersChangeNothing, ConfigsReadBack, RecordsAnswerAlike, RecordsBreakOff, RecordsReadBack};
 
-/// Proves that a record reads as the inputs that it was made from, in order.
+/// Proves that reading a record gives the inputs that it was made from, in order.
 ///
-/// All its other lines are nonces. A request without a handshake uses no nonce, and reads with
+/// All its other lines are nonces. A request without a handshake uses no nonce, and is read with
 /// nonce 0.
 pub fn records_read_back()
     ensures { RecordsReadBack }
@@ -11,27 +13,27 @@ pub fn records_read_back()
 
 /// Proves that the inputs read from a record have the same results as the original ones.
 ///
-/// For every configuration, the responses and refusals are the same, in the same order, and so are
-/// the held inputs.
+/// For every configuration, the responses and rejections are the same, in the same order. The same
+/// inputs are held.
 pub fn records_answer_alike()
     ensures { RecordsAnswerAlike }
 {}
 
-/// Proves that the complete lines of a truncated record read as its first inputs, in order.
+/// Proves that the complete lines of a truncated record give its first inputs, in order.
 ///
 /// All other complete lines are nonces.
 pub fn records_break_off()
     ensures { RecordsBreakOff }
 {}
 
-/// Proves that the line of an answer reads as a note, which is skipped.
+/// Proves that the line of an answer is read as a note, which is skipped.
 ///
-/// This holds for every place below 2^64, every 32 bytes and any text after the line.
+/// This holds for every place below 2^64, every digest of 32 bytes and any text after the line.
 pub fn answers_are_skipped()
     ensures { AnswersAreSkipped }
 {}
 
-/// Proves that lines of answers between inputs do not change what a record reads as.
+/// Proves that lines of answers between inputs do not change what a record gives.
 ///
 /// The inputs and, for every configuration, their results are the same as without them. All other
 /// lines are nonces or answers.
@@ -39,16 +41,16 @@ pub fn answers_change_nothing()
     ensures { AnswersChangeNothing }
 {}
 
-/// Proves that the complete lines of a truncated record with answers read as its first inputs.
+/// Proves that the complete lines of a truncated record with answers give its first inputs.
 ///
 /// All other complete lines are nonces or answers.
 pub fn answers_break_off()
     ensures { AnswersBreakOff }
 {}
 
-/// Proves that the line of a configuration has 13 arguments that describe it.
+/// Proves that the line of a configuration has 13 arguments, which describe it.
 ///
-/// They give all its numbers and options that can be set, whatever text follows.
+/// They give all its numbers and options that can be set. Any text may follow the line.
 pub fn configs_read_back()
     ensures { ConfigsReadBack }
 {}

@@ -1,4 +1,4 @@
-//! Records of a server's inputs: their lines, which the replay reads, and how a file is written.
+//! Records of a server's requests and ticks: the lines of a record, and how they are written.
 #![tactic(auto)]
 
 mod answer;

@@ -6,10 +6,10 @@ ghost use Rattle.bx_record.specs.Record.{nonce_digits};
 
 use std::alloc::AllocError;
 
-// Digits of a nonce, which has 128 bits.
+// Number of digits of a nonce, which has 128 bits.
 const NONCE_DIGITS: usize = 32;
 
-/// Appends the digits of a nonce.
+/// Appends the 32 hexadecimal digits of `nonce`, in lower case.
 ///
 /// # Errors
 ///
@@ -33,7 +33,7 @@ fn push_hex(text: &mut Vec<u8>, number: u128, width: usize) -> Result<(), AllocE
     Ok(())
 }
 
-// Converts a number below 16 to its digit.
+// Converts `number`, below 16, to its hexadecimal digit.
 fn hex_digit(number: u8) -> u8
     requires { number < 16 }
     ensures { result ≡ digit_char number }

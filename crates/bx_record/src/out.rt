@@ -1,4 +1,4 @@
-//! A file with the text written so far.
+//! A file that gets each part of a text once, in order.
 ghost use Rattle.std.specs.Prelude.{◌≡◌, ◌++◌, [], IfErr, IfOk};
 ghost use Rattle.std.specs.Io.KnownBytes.{Appends};
 
@@ -8,18 +8,18 @@ use bx_history::History;
 use std::io;
 use std::io::Write;
 
-/// A failed write.
+/// The error of a failed write, and how far the file was written.
 #[derive(Debug, Drop)]
 pub struct Torn {
-    /// Number of bytes written to the file.
+    /// Number of bytes written to the file, including the first part of the failed write.
     pub count: u64,
-    /// Why it failed.
+    /// Why the write failed.
     pub error: io::Error,
 }
 
-/// A file with the text up to an extent, and notes between its lines.
+/// A file with the text up to a position, and notes between its lines.
 ///
-/// The first write that fails consumes it.
+/// A write that fails consumes the `Out`, so nothing can be written after a gap.
 #[derive(Drop)]
 pub struct Out<F: Extent, W> {
     file: CountedFile<W>,
@@ -32,7 +32,7 @@ pub struct Out<F: Extent, W> {
 impl<F: Extent, W: Write + Drop> Out<F, W> {
     /// Creates an `Out` for a text that begins at `start`.
     ///
-    /// The text up to `start` must be empty.
+    /// The text up to `start` must be empty. Writes nothing.
     pub fn new(file: CountedFile<W>, start: F) -> Out<F, W>
         requires { F.text start ≡ [] }
         ensures { (result.file ≡ file) × (result.written ≡ []) × (result.upto ≡ start) }
@@ -44,19 +44,19 @@ impl<F: Extent, W: Write + Drop> Out<F, W> {
         }
     }
 
-    /// Returns how many bytes were written to the file.
+    /// Returns how many bytes were written to the file, those of notes included.
     pub fn count(&self) -> u64
         ensures { result ≡ self.now.file.count }
     {
         self.file.count()
     }
 
-    /// Writes the next part of the text.
+    /// Writes `chunk`, the next part of the text.
     ///
     /// # Errors
     ///
-    /// `InvalidInput` if `chunk` does not come next; otherwise the error of the file, which may
-    /// then have a part of `chunk`.
+    /// - `InvalidInput`: `chunk` does not follow the text written so far; nothing is written.
+    /// - Any error of the file, which may then have a first part of `chunk`.
     pub fn write(self, chunk: &Chunk<F>) -> Result<Out<F, W>, Torn>
         ensures written { IfOk result (λ out. out.written ≡ self.written ++ chunk.now.bytes.items) }
         ensures file { IfOk result (λ out. Appends (W.contents self.file.file) (W.contents out.file.file) chunk.now.bytes.items) }
@@ -91,7 +91,7 @@ impl<F: Extent, W: Write + Drop> Out<F, W> {
     ///
     /// # Errors
     ///
-    /// The error of the file, which may then have a part of `lines`.
+    /// Any error of the file, which may then have a first part of `lines`.
     pub fn note(self, lines: &[u8]) -> Result<Out<F, W>, Torn>
         ensures written { IfOk result (λ out. (out.written ≡ self.written) × (out.upto ≡ self.upto)) }
         ensures file { IfOk result (λ out. Appends (W.contents self.file.file) (W.contents out.file.file) lines.now) }

@@ -1,4 +1,4 @@
-//! Where the text and the notes to write come from.
+//! The source of a growing text and of notes, to be written to a file.
 ghost use Rattle.std.specs.Prelude.{◌≡◌, []};
 
 use crate::chunk::{Chunk, Extent};
@@ -6,15 +6,15 @@ use crate::chunk::{Chunk, Extent};
 /// Text taken from a source.
 #[derive(Drop)]
 pub struct Taken<F: Extent, E> {
-    /// The text.
+    /// All text that waited.
     pub chunk: Chunk<F>,
-    /// Why the text ends here, if it does.
+    /// Why the text ends after `chunk`, or `None` if it may grow.
     pub fault: Option<E>,
 }
 
-/// Text that waits to be written while others add to it, and notes that are not part of it.
+/// A text that others append to, which waits to be written, and notes that are not part of it.
 pub trait Source {
-    /// How far the text goes.
+    /// A position in the text.
     type Extent: Extent;
 
     /// Why the text ends.
@@ -23,17 +23,19 @@ pub trait Source {
     /// Returns how many bytes of text wait.
     fn waiting(&self) -> usize;
 
-    /// Takes all waiting text, or returns `None` after its end. Leaves the buffer `empty`.
+    /// Takes all waiting text, or returns `None` if the text has ended.
+    ///
+    /// Leaves the empty buffer `empty` in its place.
     fn take(&mut self, empty: Vec<u8>) -> Option<Taken<Self::Extent, Self::Fault>>
         requires empty { empty.items ≡ [] };
 
-    /// Takes all waiting notes, and leaves the buffer `empty`.
+    /// Takes all waiting notes, and leaves the empty buffer `empty` in their place.
     ///
-    /// What a note refers to was taken before or is in the next [`take`](Self::take), unless the
-    /// text ends.
+    /// A note may refer to text that the next [`take`](Self::take) takes, but not to later text.
+    /// If the text ends, it may lack what a note refers to.
     fn take_notes(&mut self, empty: Vec<u8>) -> Vec<u8>
         requires empty { empty.items ≡ [] };
 
-    /// Ends the text and the notes, and drops what waits.
+    /// Ends the text and the notes, and drops all that waits.
     fn stop(&mut self);
 }

@@ -1,3 +1,3 @@
-//! Tests of the texts and of the writer.
+//! Tests of the lines of a record and of the writer.
 mod texts;
 mod writing;

@@ -20,15 +20,17 @@ use itoa::Buffer;
 use memchr::memchr;
 use std::alloc::{AllocError, Global};
 
-// The most bytes in a request's lines without its documents: for each of two lines a moment of up
-// to 20 digits, a letter, two spaces and a line end; and a nonce of 32 digits.
+// The most bytes in a request's lines, without its documents. Each of two lines has a moment of up
+// to 20 digits, a letter, two spaces and a newline. A nonce has 32 digits.
 const BESIDE: usize = 2 * (20 + 4) + 32;
 
-/// Formats a request as lines, or returns `None` if no line can express it.
+/// Formats the request `arrival` as lines, or returns `None` if no line can express it.
 ///
-/// If a message is a handshake, the first line has the nonce. The last line has the documents. No
-/// line can express a request without documents, or documents that need a body of more than
-/// [`BODY_LIMIT`] bytes. `messages`: those of `arrival`.
+/// `messages` must be the messages of `arrival`. If one of them is a handshake, there are two
+/// lines: one with the nonce, and one with the documents. Otherwise there is only the second.
+///
+/// No line can express a request without documents, or documents that need a body of more than
+/// [`BODY_LIMIT`] bytes.
 ///
 /// # Errors
 ///
@@ -94,7 +96,7 @@ fn asks_for_session(messages: &[Message]) -> bool
         .any(|message| message.channel.as_str() == "/meta/handshake")
 }
 
-// Returns the document that a line has unchanged: the only one, without a newline.
+// Returns the document that a line can contain unchanged: the only one, without a newline.
 fn plain_document(bodies: &Bodies) -> Option<&[u8]>
     ensures { option_map (λ d. d.now) result ≡ plain_document (texts_of bodies.now) }
 {
@@ -116,7 +118,9 @@ fn has_newline(document: &[u8]) -> bool
     memchr(b'\n', document).is_some()
 }
 
-// Returns the length of the body that carries `bodies`, or `None` if no line can express them.
+// Returns how many bytes a line needs for `bodies`, or `None` if no line can express them.
+//
+// `plain`: the document that a line can contain unchanged, if any.
 fn carrier_len(plain: Option<&[u8]>, bodies: &Bodies) -> Option<usize>
     requires { option_map (λ d. d.now) plain ≡ plain_document (texts_of bodies.now) }
     ensures sayable { is_some result ≡ can_say (texts_of bodies.now) }
@@ -130,7 +134,7 @@ fn carrier_len(plain: Option<&[u8]>, bodies: &Bodies) -> Option<usize>
     }
 }
 
-// Appends a line with a nonce.
+// Appends the line that gives the next request `nonce`.
 fn push_nonce(text: &mut Vec<u8>, moment: u64, nonce: u128) -> Result<(), AllocError>
     ensures { OnOk result (text.new.items ≡ text.old.items ++ line_text moment (codes "N " ++ nonce_digits nonce)) }
 {
@@ -140,7 +144,7 @@ fn push_nonce(text: &mut Vec<u8>, moment: u64, nonce: u128) -> Result<(), AllocE
     Ok(())
 }
 
-// Appends a line with `bodies`, of which `plain` is the plain document, if any.
+// Appends the line with `bodies`. `plain` is as for `carrier_len`.
 fn push_documents(
     text: &mut Vec<u8>,
     moment: u64,
@@ -164,7 +168,7 @@ fn push_documents(
     Ok(())
 }
 
-// Appends `moment`, a space and `command`.
+// Appends `moment` in decimal digits, a space and `command`.
 fn push_head(text: &mut Vec<u8>, moment: u64, command: &[u8]) -> Result<(), AllocError>
     ensures { OnOk result (text.new.items ≡ text.old.items ++ decimal moment ++ 32 ∷ command.now) }
 {

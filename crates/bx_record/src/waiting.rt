@@ -1,4 +1,4 @@
-//! A bounded buffer of bytes that wait to be written, and why a record ends.
+//! A bounded buffer of bytes that wait to be written, and the faults that end a record.
 ghost use Rattle.std.specs.Prelude.{◌≡◌, ◌≢◌, ◌+◌, ◌<◌, ◌≤◌, ◌++◌, [], length, IfErr, OnErr, OnOk};
 ghost use Rattle.bx_record.specs.declared.waiting.RecordFault.TheVariants.{Full, Memory, Unsayable};
 ghost use Rattle.bx_record.specs.declared.waiting.TheConstants.{MOST_WAITING};
@@ -7,17 +7,17 @@ use std::alloc::{AllocError, Global};
 use std::marker::Model;
 use std::mem;
 
-/// The most bytes that may wait.
+/// The most bytes that may wait to be written: 64 MiB.
 ///
 /// Policy of this server.
 pub const MOST_WAITING: usize = 64 << 20;
 
-/// Why a record, or its lines for answers, ended.
+/// Why a record ended, or only its lines for answers.
 #[derive(Clone, Copy, Debug, PartialEq, Eq)]
 pub enum RecordFault {
     /// More than 64 MiB would wait to be written.
     Full,
-    /// No line can express a request: the body for its documents would be too large.
+    /// No line can express a request, since its documents need a body that is too large.
     Unsayable,
     /// Memory ran out.
     Memory,
@@ -58,7 +58,7 @@ impl Waiting {
         }
     }
 
-    /// Returns how many bytes wait.
+    /// Returns how many bytes wait, at most [`MOST_WAITING`].
     pub fn len(&self) -> usize
         ensures count { result ≡ length self.now }
         ensures bound { result ≤ MOST_WAITING }
@@ -66,12 +66,14 @@ impl Waiting {
         self.bytes.len()
     }
 
-    /// Appends `bytes`.
+    /// Appends `bytes`, all or none.
     ///
     /// # Errors
     ///
-    /// `Full` if more than [`MOST_WAITING`] bytes would wait; `Memory` if memory runs out. On error
-    /// nothing has changed.
+    /// - `Full`: more than [`MOST_WAITING`] bytes would wait.
+    /// - `Memory`: memory ran out.
+    ///
+    /// On error `self` is unchanged.
     pub fn push(&mut self, bytes: &[u8]) -> Result<(), RecordFault>
         ensures added { OnOk result (self.new ≡ self.old ++ bytes.now) }
         ensures same { OnErr result (self.new ≡ self.old) }
@@ -85,7 +87,7 @@ impl Waiting {
         Ok(())
     }
 
-    /// Takes all waiting bytes, and leaves the buffer `empty`.
+    /// Takes all waiting bytes, and leaves the empty buffer `empty` in their place.
     ///
     /// Does not allocate or copy.
     pub fn take(&mut self, empty: Vec<u8>) -> Vec<u8>

@@ -1,4 +1,4 @@
-//! The loop that writes a text and its notes to a file.
+//! The loop that writes a growing text and its notes to a file.
 ghost use Rattle.std.specs.Prelude.{◌≡◌, [], IfOk};
 
 use crate::out::{Out, Torn};
@@ -10,32 +10,32 @@ use std::sync::atomic::{AtomicBool, Ordering};
 use std::time::{Clock, Duration};
 use std::{io, thread};
 
-// Milliseconds between looks at the source, and the number of looks after which all is written.
-// Policy of this server.
+// Milliseconds between two looks at the source. Policy of this server.
 const REST: u64 = 10;
 
+// After this many looks, all waiting bytes are written. Policy of this server.
 const LOOKS: u32 = 10;
 
-// At this many waiting bytes, they are written at the next look.
+// If at least this many bytes wait, the next look writes them. Policy of this server.
 pub(crate) const SOON: usize = 64 << 10;
 
 /// Why writing ended.
 #[derive(Debug, Drop)]
 pub enum End<E> {
-    /// It was told to stop.
+    /// `is_over` was set, and all that waited is written.
     Told,
-    /// The text ended, for this reason.
+    /// The text ended, for this reason; its last part is written.
     Ended(E),
-    /// The source had ended before.
+    /// The source returned no text, since its text had ended before.
     Gone,
-    /// Writing to the file failed, or the text taken did not come next.
+    /// A write to the file failed, or the chunk taken does not follow the text written so far.
     Refused(io::Error),
 }
 
-/// What was written.
+/// How much was written, and why no more.
 #[derive(Debug, Drop)]
 pub struct Written<E> {
-    /// Number of bytes written to the file.
+    /// Number of bytes written to the file, including the first part of a failed write.
     pub count: u64,
     /// Why writing ended.
     pub end: End<E>,
@@ -43,8 +43,10 @@ pub struct Written<E> {
 
 /// Writes what waits in `source` to `out`, until `is_over` is set.
 ///
-/// Writes every 100 ms, or within 10 ms if 64 KiB of text wait, and once more after `is_over` is
-/// set. It also ends if the text ends or cannot be written, and then stops the source.
+/// Writes at once, then every 100 ms, or within 10 ms if 64 KiB of text wait. After `is_over` is
+/// set, writes a last time and does not stop the source.
+///
+/// Ends earlier if the text ends or cannot be written, and then stops the source.
 ///
 /// # Blocking
 ///
@@ -65,7 +67,7 @@ where
     let (mut text, mut notes) = (Vec::new(alloc), Vec::new(alloc));
     let mut looks = 0;
     for _ in rt.forever() {
-        // Read first, so that everything added before the end is written.
+        // Read first, so that all that was appended before `is_over` was set is written.
         let is_last = is_over.load(Ordering::SeqCst);
         if is_last || looks == 0 || source.waiting() >= SOON {
             looks = LOOKS;
@@ -90,10 +92,10 @@ where
     }
 }
 
-// Writes all that waits, and returns the emptied buffers.
+// Writes all that waits, and returns the buffers, which are then empty.
 //
-// Notes are taken first and written last, so that each follows what it refers to. They are dropped
-// if the text ends, since the text may lack that.
+// Notes are taken first and written last, so that each follows what it refers to. If the text ends,
+// it may lack what they refer to. They are then dropped.
 fn write_once<S: Source, W: Write + Drop>(
     source: &mut S,
     out: Out<S::Extent, W>,

@@ -24,11 +24,17 @@ pub type Served<J, R> = Hub<J, ByRemainder, OpenGate, R>;
 
 /// Runs two sessions and a tick over two shards, and then over one.
 ///
-/// One session subscribes and connects; the other publishes. Each has its own pass. Over two shards
-/// the first pass learns what the other has seen; over one shard a task waits for the answer.
+/// One session subscribes and connects, and the other publishes. Each has its own pass. Over two
+/// shards, the first pass learns what the other has seen. Over one shard, a task waits for the
+/// answer. The hub keeps a record. If memory runs out for the record, only the record ends.
 ///
-/// Returns each message's place and reply, the tick's place, and the answer to the connect. The hub
-/// keeps a record. If memory runs out for the record, only the record ends.
+/// Returns the place and the reply of each message, the place of the tick, and the answer to the
+/// connect.
+///
+/// # Errors
+///
+/// `Memory` if memory runs out outside of the hub's calls; `Wrong` for another result than
+/// expected, or if a second attempt fails.
 pub fn run<R>(rt: &R, alloc: Global) -> Result<String, Unlike>
 where
     R: Wait + RandomSource + AllocGlobal,

@@ -1,8 +1,8 @@
-//! Runs in which each call that fails for lack of memory is made once more.
+//! Sample runs that retry each call for which memory runs out.
 //!
-//! If any one allocation fails, the program prints the same as without the failure, or exits with
-//! status 1 if that allocation only prepared a call. An argument names the part to run. Without
-//! one, all parts run in turn.
+//! If one allocation fails, the program prints the same as if none fails, or exits with status 1 if
+//! that allocation only prepared a call. An argument names the part to run. Without one, all parts
+//! run in turn.
 #![tactic(auto)]
 
 mod hubs;
@@ -40,7 +40,7 @@ fn main(rt: HostRuntime) -> Result<()> {
     }
 }
 
-// Prints the result of a part.
+// Prints the result of a part. Fails if memory ran out, or if there is no such part.
 fn print(rt: HostRuntime, said: Option<Result<String, Unlike>>) -> Result<()> {
     match said {
         Some(Ok(text)) => rt.println(text.as_str())?,

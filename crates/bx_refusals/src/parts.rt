@@ -12,19 +12,24 @@ use http_body_util::BodyExt;
 use std::alloc::{AllocGlobal, Global};
 use std::random::RandomSource;
 
-// Number of events.
+// The number of events.
 const EVENTS: usize = 3;
 
-// Characters in each event's data. 64 KiB do not hold two events.
+// The length in bytes of the data of each event. A piece of 64 KiB has no room for two.
 const SIGNS: usize = 40_000;
 
 // The most frames to ask for: three pieces and the end.
 const MOST_FRAMES: usize = 4;
 
-/// Writes a response in three pieces, as an array and as a script.
+/// Writes a response in three pieces, first as an array and then as a script.
 ///
-/// Returns each frame's size and the number of bytes left after it, and that the frames add up to
-/// the events. A frame that fails for lack of memory is asked for once more.
+/// Returns a line for each. It has the length in bytes of each frame, and how many bytes are left
+/// after the frame.
+///
+/// # Errors
+///
+/// `Memory` if memory runs out outside of the calls of `Pieces`, or in a second attempt; `Wrong` if
+/// a frame or the whole text is not as expected.
 pub fn run<R: RandomSource + AllocGlobal>(rt: &R, alloc: Global) -> Result<String, Unlike> {
     let task = MockTask::new(rt).map_err(|_| Unlike::Memory)?;
     let mut text = String::new(alloc);
@@ -35,7 +40,7 @@ pub fn run<R: RandomSource + AllocGlobal>(rt: &R, alloc: Global) -> Result<Strin
     Ok(text)
 }
 
-// Reads a whole response, checks its text and returns its line.
+// Reads a whole response, checks its text, and returns its line.
 fn given(alloc: Global, task: &MockTask, callback: Option<&str>) -> Result<String, Unlike> {
     let wanted = wanted(alloc, callback)?;
     let mut body = answered(alloc, callback)?;
@@ -56,7 +61,7 @@ fn given(alloc: Global, task: &MockTask, callback: Option<&str>) -> Result<Strin
     Ok(line)
 }
 
-// Returns the part of the line for one frame of `size` bytes.
+// Returns the part of the line for one frame of `size` bytes, with `left` bytes after it.
 fn said(alloc: Global, size: usize, left: Option<u64>) -> Result<String, Unlike> {
     let Some(left) = left else {
         return Err(Unlike::Wrong("the length is not known"));
@@ -93,7 +98,7 @@ fn answered(alloc: Global, callback: Option<&str>) -> Result<Pieces<Bytes>, Unli
     }
 }
 
-// Returns the data of each event, as JSON.
+// Returns the data of an event, as JSON.
 fn data(alloc: Global) -> Result<String, Unlike> {
     let mut text = String::new(alloc);
     text.push_str("\"")?;

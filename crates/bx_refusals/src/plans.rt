@@ -9,11 +9,11 @@ use bx_message::Message;
 use bx_registry::{Plan, Registry};
 use std::alloc::Global;
 
-// The second session's subscription.
+// A subscription of the second session.
 const SUBSCRIBE: &str =
     r#"[{"channel":"/meta/subscribe","clientId":"000000000000000000000000000000000000000000000002","subscription":"/a/*"}]"#;
 
-// The first session's publish.
+// A publish of the first session.
 const PUBLISH: &str =
     r#"[{"channel":"/a/b","clientId":"000000000000000000000000000000000000000000000001","data":1}]"#;
 
@@ -24,7 +24,7 @@ enum Deed {
     Tick(u64),
 }
 
-// The second session's last message is later, so the second tick closes only the first session.
+// The second session sends its last message later, so the second tick closes only the first.
 const DEEDS: [Deed; 6] = [
     Deed::Request(0, HANDSHAKE),
     Deed::Request(5, HANDSHAKE),
@@ -34,7 +34,7 @@ const DEEDS: [Deed; 6] = [
     Deed::Request(10_001, PUBLISH),
 ];
 
-// What a registry shows of its state.
+// The state of a registry, as far as it can be read.
 #[derive(Clone, Copy, Debug, PartialEq, Eq)]
 struct Counts {
     entries: u64,
@@ -52,9 +52,14 @@ fn counts_of(registry: &Registry) -> Counts {
     }
 }
 
-/// Admits requests and ticks, in order.
+/// Admits requests and ticks, in order, and returns a line for each.
 ///
-/// Returns a line for each: a request's reply, or the sessions that a tick closes.
+/// The line has the reply to the request, or the sessions that the tick closes.
+///
+/// # Errors
+///
+/// `Memory` if memory runs out outside of `plan` and `plan_tick`; `Wrong` if a second attempt fails
+/// or the first changed the registry.
 pub fn run(alloc: Global) -> Result<String, Unlike> {
     let mut registry = Registry::new(alloc, config(1)?)?;
     let mut text = String::new(alloc);
@@ -109,7 +114,7 @@ fn planned(
     plan.map_err(|_| Unlike::Wrong("not planned"))
 }
 
-// Admits a tick, and returns a line of the sessions that it closes.
+// Admits a tick, and returns a line with the sessions that it closes.
 fn tick(alloc: Global, registry: &mut Registry, moment: u64) -> Result<String, Unlike> {
     let Plan {
         batch,

@@ -14,23 +14,27 @@ pub const HANDSHAKE: &str =
 pub const ACK_HANDSHAKE: &str =
     r#"[{"channel":"/meta/handshake","version":"1.0","supportedConnectionTypes":["long-polling"],"ext":{"ack":true}}]"#;
 
-/// The first session's subscription to `/a/*`.
+/// A subscription of the first session to `/a/*`.
 pub const SUBSCRIBE: &str =
     r#"[{"channel":"/meta/subscribe","clientId":"000000000000000000000000000000000000000000000001","subscription":"/a/*"}]"#;
 
-/// The first session's connect, which is held.
+/// A connect of the first session that is held if it gets no events.
 pub const CONNECT: &str =
     r#"[{"channel":"/meta/connect","clientId":"000000000000000000000000000000000000000000000001","connectionType":"long-polling"}]"#;
 
-/// The first session's connect that acknowledges no batch, held if it gets no events.
+/// A connect of the first session that acknowledges no batch, held if it gets no events.
 pub const HOLD_NONE: &str =
     r#"[{"channel":"/meta/connect","clientId":"000000000000000000000000000000000000000000000001","connectionType":"long-polling","ext":{"ack":0}}]"#;
 
-/// The second session's publish of 7.
+/// A publish of the second session, with the data 7.
 pub const PUBLISH: &str =
     r#"[{"channel":"/a/b","clientId":"000000000000000000000000000000000000000000000002","data":7}]"#;
 
-/// Creates a configuration with `shards` shards, 1 to 64, and at most four sessions.
+/// Creates a configuration with `shards` shards and at most four sessions.
+///
+/// # Errors
+///
+/// `Wrong` if `shards` is not from 1 to 64.
 pub fn config(shards: usize) -> Result<Config, Unlike> {
     let mut config = Config::new(shards, 30_000, 0, 10_000).ok_or(Unlike::Wrong(
         "no configuration",
@@ -40,11 +44,19 @@ pub fn config(shards: usize) -> Result<Config, Unlike> {
 }
 
 /// Creates a request with `body`, at moment 0.
+///
+/// # Errors
+///
+/// `Memory` if memory runs out.
 pub fn arrival(alloc: Global, body: &str) -> Result<Arrival, Unlike> {
     arrival_at(alloc, 0, body)
 }
 
 /// Creates a request with `body`, at `moment`, in milliseconds.
+///
+/// # Errors
+///
+/// `Memory` if memory runs out.
 pub fn arrival_at(alloc: Global, moment: u64, body: &str) -> Result<Arrival, Unlike> {
     Ok(Arrival {
         moment,
@@ -55,6 +67,10 @@ pub fn arrival_at(alloc: Global, moment: u64, body: &str) -> Result<Arrival, Unl
 }
 
 /// Returns the text of an answer: its events, then its reply.
+///
+/// # Errors
+///
+/// `Memory` if memory runs out; `Wrong` if the text is not UTF-8.
 pub fn text_of(alloc: Global, answer: Answer) -> Result<String, Unlike> {
     let Answer { events, reply } = answer;
     let mut items = Vec::new(alloc);
@@ -66,21 +82,37 @@ pub fn text_of(alloc: Global, answer: Answer) -> Result<String, Unlike> {
 }
 
 /// Returns the text of a response with `items`.
+///
+/// # Errors
+///
+/// `Memory` if memory runs out; `Wrong` if the text is not UTF-8.
 pub fn response(alloc: Global, items: &[Item]) -> Result<String, Unlike> {
     string(body_text(alloc, items)?)
 }
 
 /// Returns the text of a reply.
+///
+/// # Errors
+///
+/// `Memory` if memory runs out; `Wrong` if the text is not UTF-8.
 pub fn reply(alloc: Global, reply: &Reply) -> Result<String, Unlike> {
     string(reply_text(alloc, reply)?)
 }
 
 /// Converts bytes to a string.
+///
+/// # Errors
+///
+/// `Wrong` if they are not UTF-8.
 pub fn string(text: Vec<u8>) -> Result<String, Unlike> {
     String::from_utf8(text).map_err(|_| Unlike::Wrong("not a text"))
 }
 
 /// Appends `line` to `text`, after a newline unless `text` is empty.
+///
+/// # Errors
+///
+/// `Memory` if memory runs out.
 pub fn add_line(text: &mut String, line: &str) -> Result<(), Unlike> {
     if !text.is_empty() {
         text.push_str("\n")?;

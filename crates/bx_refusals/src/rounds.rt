@@ -1,4 +1,4 @@
-//! The part `rounds`: rounds that start with two shards, advanced by one worker.
+//! The part `rounds`: rounds that start with two shards, which one worker advances.
 
 use crate::requests::{
     ACK_HANDSHAKE, CONNECT, HANDSHAKE, HOLD_NONE, PUBLISH, SUBSCRIBE, add_line, arrival_at, config,
@@ -19,8 +19,8 @@ const MOST_INPUTS: usize = 1_000;
 // Requests, each with its moment in milliseconds.
 type Requests = &'static [(u64, &'static str)];
 
-// A run: the first requests, the new number of shards if sessions are redistributed after them, the
-// last requests, and whether waiting events ride.
+// A run: the first requests, the new number of shards if its sessions are redistributed after them,
+// the last requests, and whether there are riders.
 #[derive(Clone, Copy, Debug)]
 struct Worked {
     first: Requests,
@@ -29,7 +29,7 @@ struct Worked {
     ride: bool,
 }
 
-// The first session subscribes, and publishes an event to itself.
+// The first session subscribes, and publishes an event that it receives itself.
 const SUBSCRIBE_AND_PUBLISH: &str =
     r#"[{"channel":"/meta/subscribe","clientId":"000000000000000000000000000000000000000000000001","subscription":"/a/*"},{"channel":"/a/x","clientId":"000000000000000000000000000000000000000000000001","data":1}]"#;
 
@@ -40,7 +40,7 @@ const PUBLISH_TWO: &str =
 const UNSUBSCRIBE: &str =
     r#"[{"channel":"/meta/unsubscribe","clientId":"000000000000000000000000000000000000000000000001","subscription":"/a/*"}]"#;
 
-// Connects of the first session that are never held, named by the batch that they acknowledge.
+// Connects of the first session that are never held, by the batch that they acknowledge.
 
 const ACKNOWLEDGE_NONE: &str =
     r#"[{"channel":"/meta/connect","clientId":"000000000000000000000000000000000000000000000001","connectionType":"long-polling","ext":{"ack":0},"advice":{"timeout":0}}]"#;
@@ -51,7 +51,7 @@ const ACKNOWLEDGE_FIRST: &str =
 const ACKNOWLEDGE_SECOND: &str =
     r#"[{"channel":"/meta/connect","clientId":"000000000000000000000000000000000000000000000001","connectionType":"long-polling","ext":{"ack":2},"advice":{"timeout":0}}]"#;
 
-// The first session's connect that acknowledges the first batch, held if it gets no events.
+// A connect of the first session that acknowledges the first batch, held if it gets no events.
 const HOLD_FIRST: &str =
     r#"[{"channel":"/meta/connect","clientId":"000000000000000000000000000000000000000000000001","connectionType":"long-polling","ext":{"ack":1}}]"#;
 
@@ -160,9 +160,15 @@ const WORKED: [Worked; 6] = [
     RIDDEN,
 ];
 
-/// Makes all runs, and returns the lines of their responses.
+/// Makes all runs, and returns a line for each response.
 ///
-/// Each line has the number of its request, from 1. The connects held at a run's end follow.
+/// Each line begins with the number of its request in its run, from 1. The connects that are held
+/// at the end of a run follow.
+///
+/// # Errors
+///
+/// `Memory` if memory runs out outside of the calls that are retried; `Wrong` for another result
+/// than expected, or if a second attempt fails.
 pub fn run<R: Threads + Sync>(rt: &R, alloc: Global) -> Result<String, Unlike> {
     let mut text = String::new(alloc);
     for worked in WORKED {
@@ -222,8 +228,7 @@ fn placing(alloc: Global) -> Result<Arc<ByRemainder>, Unlike> {
     Ok(Arc::new(alloc, ByRemainder)?)
 }
 
-// Redistributes the sessions among `shards` shards. Retries with the returned round if memory
-// runs out.
+// Redistributes the sessions to `shards` shards. Retries once with the returned round on error.
 fn redistributed<R: Threads + Sync>(
     rt: &R,
     alloc: Global,
@@ -268,7 +273,7 @@ fn ended<R: Threads + Sync>(
     Ok(text)
 }
 
-// Runs requests. If memory runs out, goes on with those that were not admitted.
+// Runs requests. If memory runs out, continues with those that were not admitted.
 fn deal<R: Threads + Sync>(
     rt: &R,
     alloc: Global,
@@ -292,7 +297,7 @@ fn inputs(alloc: Global, requests: Requests) -> Result<Vec<Input>, Unlike> {
     Ok(inputs)
 }
 
-// Runs the inputs after the first `admitted`, and checks that earlier outputs stay.
+// Runs the inputs after the first `admitted`, and checks that the earlier outs stay.
 fn go_on<R: Threads + Sync>(
     rt: &R,
     alloc: Global,

@@ -24,7 +24,7 @@ use std::marker::Brand;
 use std::random::RandomSource;
 use std::sync::{Arc, Wait};
 
-// A clock that always returns 0.
+// A clock that always shows 0.
 #[derive(Clone, Copy)]
 struct Still;
 
@@ -44,7 +44,12 @@ impl Nonces for Zeros {
     }
 }
 
-/// Makes all exchanges with a new service, and returns their responses.
+/// Makes all exchanges with a new service, and returns the lines of their responses.
+///
+/// # Errors
+///
+/// `Memory` if memory runs out outside of the exchanges; `Wrong` for another result than expected,
+/// or if an exchange fails again.
 pub fn run<R>(rt: R) -> Result<String, Unlike>
 where
     R: Wait + RandomSource + AllocGlobal + Copy + Drop,

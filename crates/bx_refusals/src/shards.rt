@@ -1,4 +1,4 @@
-//! The part `shard`: a server's only shard, to which entries are applied one by one.
+//! The part `shard`: the only shard of a server, to which entries are applied one by one.
 use crate::requests::{add_line, config, reply, text_of};
 use crate::unlike::Unlike;
 use bx_entry::{ByRemainder, Entry, EntryKind, Ticket};
@@ -14,7 +14,7 @@ const MOST_ENTRIES: u64 = 10_000;
 // The most events that may wait for a session.
 const MOST_EVENTS: usize = 1_024;
 
-// What an entry does; sessions are given by their numbers.
+// What an entry does. Sessions are given by their numbers.
 #[derive(Clone, Copy, Debug)]
 enum Deed {
     Open(u64),
@@ -61,13 +61,14 @@ const HEARS: [Deed; 2] = [Deed::Open(1), Deed::Subscribe(1, "/a/b")];
 
 const EVENT: Deed = Deed::Publish("/a/b", "1");
 
-// One event too many: the session overflows.
+// After a full queue: one more event, so the session overflows, and its connect fails.
 const OVERFLOW: [Deed; 3] = [EVENT, Deed::ConnectAtOnce(1), EVENT];
 
-// Without an overflow, four connects get all events.
+// After a full queue: four connects get all events.
 const GIVEN: [Deed; 4] = [Deed::ConnectAtOnce(1); 4];
 
-// What a new shard gets: entries, publishes that fill a queue if `is_filled`, and further entries.
+// What is applied to a new shard: entries, publishes that fill a queue if `is_filled`, and more
+// entries.
 #[derive(Clone, Copy, Debug)]
 struct Worked {
     first: &'static [Deed],
@@ -100,8 +101,13 @@ const WORKED: [Worked; 4] = [
 
 /// Applies the entries of each run to a new shard, and returns a line for each answered connect.
 ///
-/// The runs: a held connect, batches that are acknowledged, and two full queues, one of which
-/// overflows.
+/// The runs are a held connect, batches that are acknowledged, a full queue that overflows, and a
+/// full queue that connects empty.
+///
+/// # Errors
+///
+/// `Memory` if memory runs out outside of `Shard::apply`; `Wrong` if an entry is not applied by a
+/// second attempt, or the first one moved the shard.
 pub fn run(alloc: Global) -> Result<String, Unlike> {
     let mut text = String::new(alloc);
     for worked in WORKED {
@@ -133,7 +139,7 @@ fn shard(alloc: Global) -> Result<Shard<ByRemainder>, Unlike> {
     Ok(Shard::new(alloc, 0, config(1)?, placing))
 }
 
-// Applies entries, and adds a line whenever the last connect is answered.
+// Applies entries, and appends a line when the last connect is answered.
 fn apply_all(
     alloc: Global,
     shard: &mut Shard<ByRemainder>,
@@ -191,7 +197,7 @@ fn apply(alloc: Global, shard: &mut Shard<ByRemainder>, kind: EntryKind) -> Resu
         .map_err(|_| Unlike::Wrong("not applied"))
 }
 
-// Returns an answer's text, or from four events on their number and the reply's text.
+// Returns the text of an answer. For four or more events, it has their count and the reply.
 fn told(alloc: Global, answer: Answer) -> Result<String, Unlike> {
     let count = answer.events.len();
     if count < 4 {

@@ -1,12 +1,12 @@
-//! Why a run fails.
+//! The error of a run.
 use std::alloc::{AllocError, AllocFailed};
 
 /// Why a run does not end as expected.
 #[derive(Clone, Copy, Debug)]
 pub enum Unlike {
-    /// Memory ran out while a call was prepared, or in its second attempt.
+    /// Memory ran out in a call that is not retried, for example one that prepares another.
     Memory,
-    /// A call had another result than expected.
+    /// A call, or its second attempt, had another result than expected.
     Wrong(&'static str),
 }
 

@@ -32,10 +32,15 @@ const DEEDS: [Deed; 7] = [
     Deed::Publish(2),
 ];
 
-/// Publishes and trims batches.
+/// Publishes and trims batches, and returns a line for each.
 ///
-/// Returns what a reader finds at each place after each change, and last what another reader finds
-/// at its first look.
+/// The line has what a reader finds at each place. The last line has what another reader finds,
+/// which looks for the first time.
+///
+/// # Errors
+///
+/// `Memory` if memory runs out outside of the window's calls; `Wrong` for another result than
+/// expected, or if a second attempt fails.
 pub fn run<R: Wait>(rt: &R, alloc: Global) -> Result<String, Unlike> {
     worked::<Brand, R>(rt, alloc, Opened::new())
 }
@@ -64,7 +69,7 @@ fn told<J: Naming, R: Wait + Drop>(
     Ok(text)
 }
 
-// Makes all changes, and adds a line after each of what the reader finds.
+// Makes all changes. After each, appends a line with what the reader finds.
 fn work<J: Naming, R: Wait + Drop>(
     alloc: Global,
     writer: &mut Ticker<J, R>,
@@ -83,7 +88,7 @@ fn work<J: Naming, R: Wait + Drop>(
     Ok(())
 }
 
-// Publishes a batch of `count` ticks. If memory runs out, checks that the reader finds the same as
+// Publishes a batch of `count` ticks. If memory runs out, checks that the reader still finds
 // `before`, and publishes the returned batch.
 fn publish<J: Naming, R: Wait + Drop>(
     alloc: Global,
@@ -106,8 +111,8 @@ fn publish<J: Naming, R: Wait + Drop>(
     }
 }
 
-// Trims the window. If memory runs out, checks that the reader finds the same as `before`, and
-// trims again.
+// Trims the window. If memory runs out, checks that the reader still finds `before`, and trims
+// again.
 fn trim<J: Naming, R: Wait + Drop>(
     alloc: Global,
     writer: &mut Ticker<J, R>,
@@ -125,7 +130,7 @@ fn trim<J: Naming, R: Wait + Drop>(
     Err(Unlike::Wrong("not trimmed"))
 }
 
-// Checks that the reader finds the same as `before`, and has seen all of the writer's steps.
+// Checks that the reader still finds `before`, and has seen all steps of the writer.
 fn check_same<J: Naming, R: Wait + Drop>(
     alloc: Global,
     writer: &Ticker<J, R>,

@@ -11,9 +11,14 @@ use std::thread::Threads;
 
 const SHARDS: usize = 2;
 
-/// Returns the answer to one session's connect after another session has published.
+/// Returns the answer to the connect of one session after another session has published.
 ///
 /// All requests are admitted first. Then one worker advances the shards.
+///
+/// # Errors
+///
+/// `Memory` if memory runs out outside of the calls that are retried; `Wrong` for another result
+/// than expected, or if a second attempt fails.
 pub fn run<R: Threads + Sync>(rt: &R, alloc: Global) -> Result<String, Unlike> {
     let placing = Arc::new(alloc, ByRemainder)?;
     let mut world = World::new(alloc, config(SHARDS)?, placing)?;
@@ -55,8 +60,8 @@ fn admit(alloc: Global, world: &mut World<ByRemainder>, body: &str) -> Result<Ad
     admitted.map_err(|_| Unlike::Wrong("not admitted"))
 }
 
-// Advances the shards. If one of them lacks memory, checks that exactly that one is reported as
-// behind, and that a second attempt advances it to the end.
+// Advances the shards. If memory runs out for one of them, checks that just one is reported to lag,
+// and that a second attempt advances it to the end.
 fn bring_up<R: Threads + Sync>(
     rt: &R,
     alloc: Global,

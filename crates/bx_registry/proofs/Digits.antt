@@ -1,4 +1,4 @@
--- The number behind a client id's nonce is read back.
+-- The number in a client id is read back.
 use Rattle.std.proofs.Common.{◌≡◌, ℕ, zero, suc, ◌+◌, ◌*◌, ◌/◌, ◌%◌, ◌^◌, ◌<◌, ◌≤◌, Bool, true, false, List, [], ◌∷◌, length, drop, refl, sym, ap, ◌∙◌, arith, length-append}
 use Rattle.std.specs.Prelude.{if◌then◌else◌, ◌==◌, ◌&&◌, Option, Some, None}
 use Rattle.std.specs.{Str.bytes_eq, Char.digit_char}
@@ -36,11 +36,10 @@ hex_value-digits (suc width) n fits small =
 pub number_in-named : (r : Registered) → IsNamed r → r.number < 2 ^ 64 → number_in r.client ≡ r.number
 number_in-named r named small = ap hex_value named ∙ hex_value-digits 16 r.number (omega arith) small
 
--- a client id ends in its number's digits
 pub drop-client_id : (nonce number : ℕ) → drop 32 (client_id nonce number) ≡ hex_digits 16 number
 drop-client_id nonce number = grind (arith, common_steps, length-hex_digits, drop-append_seam)
 
--- ---- a client id names its session
+-- ---- A client id names its session
 
 number-of : (low high : ℕ) (r : Registered) (rs : List Registered) (text : List ℕ) → IsTable low high (r ∷ rs) → high < 2 ^ 64 → bytes_eq r.client text ≡ true → number_in text ≡ r.number
 number-of low high r rs text t small e =
@@ -57,13 +56,11 @@ not-same client text e same = grind (arith, common_steps, bytes_eq-Decides)
 of-some : (known k : List ℕ × Bool) → Some known ≡ Some k → known ≡ k
 of-some known k e = cc
 
--- none of the sessions with greater numbers has the id
 pub found-none : (low high : ℕ) (rs : List Registered) (text : List ℕ) → IsTable low high rs → high < 2 ^ 64 → AllLive rs → number_in text ≤ low → live_with_id rs text ≡ None
 found-none low high [] text t small all le = refl
 found-none low high (r ∷ rs) text t small all le =
     grind (arith, common_steps, found-none r.number high rs text t.2 small all.1, number-of low high r rs text t small)
 
--- what the number at the end of an id finds, if it has that id
 abbrev pub Finds : List Registered → List ℕ → Option (List ℕ × Bool) → Type 0
 Finds rs text known = ((k : List ℕ × Bool) → known ≡ Some k → k.0 ≡ text → IsSender (live_with_id rs text) (number_in text) text k.1)
     × (((k : List ℕ × Bool) → known ≡ Some k → k.0 ≡ text → ⊥) → live_with_id rs text ≡ None)

@@ -1,4 +1,4 @@
--- The sessions behind the edits of a request.
+-- The sessions after the edits of a request.
 use Rattle.std.proofs.Common.{◌≡◌, ℕ, ◌+◌, ◌-◌, Bool, false, List, [], ◌∷◌, ◌++◌, length, length-append, map, fold, refl, sym, ap, subst, ◌∙◌, cond, arith}
 use Rattle.std.specs.Prelude.{◌==◌, max, Option, Some, None, IsSome, if◌then◌else◌}
 use Rattle.std.proofs.lemmas.{Grind.common_steps, List.length-map, List.take_all, List.Sums.fold-append}
@@ -11,7 +11,7 @@ use Rattle.bx_roster.specs.declared.edit.Edit.TheVariants.{Open, Extend, Close}
 use Rattle.bx_roster.proofs.Tables.{IsTable-filter, IsTable-map, IsTable-push, IsTable-absent, map-absent, live_in-all, AllLive-live, changed-number, changed-client, closing-number, closing-client}
 use Rattle.bx_registry.specs.Drafts.{IsDrafted, known_after}
 
--- ---- each edit
+-- ---- Each edit
 
 pub can-more : (ms : Members) (es : List Edit) (e : Edit) → CanEditEach ms es → CanEdit (fold edited ms es) e → CanEditEach ms (es ++ e ∷ [])
 can-more ms [] e can one = (one, tt)
@@ -67,7 +67,6 @@ closed-drafted base es n {count} {opened} d some =
       all = rw now (AllLive-live (closed n ms.live));
     }
 
--- one more edit, by what it is
 pub pushed-open : (base : Members) (es new : List Edit) (e : Edit) (s : Registered) (k n : ℕ) {count opened : ℕ} → IsDrafted base es count opened → new ≡ es ++ e ∷ [] → e ≡ Open s →
     CanEdit (fold edited base es) e → k ≡ count + 1 → n ≡ s.number → IsDrafted base new k n
 pushed-open base es new e s k n {count} {opened} d is what can f g =
@@ -91,7 +90,7 @@ pub limit-same : (ms : Members) (es : List Edit) → (fold edited ms es).limit �
 limit-same ms [] = refl
 limit-same ms (e ∷ es) = limit-same (edited ms e) es ∙ limit-edited ms e
 
--- ---- what is known of the session with a number
+-- ---- The data of one session
 
 known_at-push : (n : ℕ) (rs : List Registered) (s : Registered) → known_at n (rs ++ s ∷ []) ≡ option_or (known_at n rs) (if s.number == n then Some (known_of s) else None)
 known_at-push n [] s = refl
@@ -107,7 +106,6 @@ changed-known due r b = grind (arith, common_steps)
 none-either : (b : Bool) (o : Option (List ℕ × Bool)) → o ≡ (if b then o else o)
 none-either b o = grind (arith, common_steps)
 
--- a closed session is passed over, another one is not
 known_at-closed : (n m : ℕ) (rs : List Registered) → AllLive rs → known_at n (live_in (closed m rs)) ≡ (if m == n then None else known_at n rs)
 known_at-closed n m [] all = none-either (m == n) None
 known_at-closed n m (r ∷ rs) all = grind (arith, common_steps, known_at-closed n m rs all.1)
@@ -125,7 +123,7 @@ known_at-all n ms [] all can = refl
 known_at-all n ms (e ∷ es) all can =
     known_at-all n (edited ms e) es (AllLive-edited ms e all can.0) can.1 ∙ ap (λ (o : Option (List ℕ × Bool)). fold (known_after n) o es) (known_at-edited n ms e all)
 
--- ---- what a draft's functions are proved by
+-- ---- Lemmas for the functions of a draft
 
 pub ruleset counting = (live_in-all, common_steps)
 

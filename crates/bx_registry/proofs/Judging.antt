@@ -1,4 +1,4 @@
--- What a message comes to, by the edit, the entry and the slot that are made for it.
+-- The judgement of a message has the edit, the entry and the slot of its verdict.
 use Rattle.std.proofs.Common.{◌≡◌, ℕ, ◌+◌, ◌<◌, ◌^◌, Bool, true, false, List, [], ◌∷◌, ◌++◌, length, refl, sym, ap, subst, arith, Result, Ok, Err, not, get_or}
 use Rattle.std.specs.Prelude.{nat_le, Option, Some, None, IsSome, IfOk, MatchOption, is_some, option_map, if◌then◌else◌}
 use Rattle.std.proofs.lemmas.{Bool.cond-true, Bool.leb-false, Grind.common_steps, List.Folds.list_any_at}
@@ -29,7 +29,6 @@ pub all_four : {T E : Type 0} (r : Result T E) (P Q R S X : T → Type 0) → ((
 all_four (Ok x) P Q R S X f p q r s = f x p q r s
 all_four (Err e) P Q R S X f p q r s = tt
 
--- the code's finding, by its number, its client id and whether it acknowledges
 abbrev pub IsFound : Option Sender → Option Registered → Type 0
 IsFound o r = MatchOption o (r ≡ None) (λ s. IsSender r s.number s.client.now s.ack)
 
@@ -39,9 +38,8 @@ found-known o r e = grind (arith, common_steps)
 pub found-client : (o : Option Sender) (r : Option Registered) → IsFound o r → option_map (λ (s : Sender). s.client.now) o ≡ option_map (λ (s : Registered). s.client) r
 found-client o r e = grind (arith, common_steps)
 
--- ---- a refused message
+-- ---- A rejected message
 
--- the sessions of a table are as they were where nothing comes of them
 same-members : (ms : Members) → AllLive ms.live → ms ≡ record ms { live = live_in ms.live }
 same-members ms all = ap (λ (live : List Registered). record ms { live = live }) (sym (live_in-all ms.live all))
 
@@ -53,9 +51,8 @@ pub refused-verdict : (setup : Setup) (ms : Members) (senders : Senders) (moment
 refused-verdict setup ms senders moment place p message_kind error o j k all is found e f behind g =
     grind (arith, common_steps, same-members, found-client)
 
--- ---- a handshake
+-- ---- A handshake
 
--- where nothing refuses a handshake, there is room for one more session
 room : (config : Config) (live : List Registered) (p : Posted) → first_case (cases_of config live p Handshake) ≡ None → nat_le config.limits.sessions (count_live live) ≡ false
 room config live p h = grind (arith, common_steps)
 
@@ -81,7 +78,7 @@ opened-verdict setup ms senders moment place n p message_kind j k all limit numb
     } in
     rw (is, ← k, who) (subst (λ (b : Bool). IsVerdict setup ms place (unnamed setup.config (state_of ms senders) moment p b) j) (sym opens) one)
 
--- ---- a message of no session
+-- ---- A message without a session
 
 pub sessionless-verdict : (setup : Setup) (ms : Members) (senders : Senders) (moment place : ℕ) (p : Posted) (message_kind : MessageKind) (j : Judgement) →
     message_kind ≡ message_kind_of p.message.channel → AllLive ms.live → is_handshake p.message ≡ false → refusal setup.config ms.live p ≡ None → named_by ms.live message_kind p.message ≡ None →
@@ -90,7 +87,7 @@ pub sessionless-verdict : (setup : Setup) (ms : Members) (senders : Senders) (mo
     IsVerdict setup ms place (verdict setup.config (state_of ms senders) moment p) j
 sessionless-verdict setup ms senders moment place p message_kind j k all other is who e f behind g = grind (arith, common_steps, same-members)
 
--- ---- the session that is named
+-- ---- The session that a message names
 
 found-at : (r : Registered) (rs : List Registered) (text : List ℕ) → live_with_id rs text ≡ Some r → IsSome (known_at r.number rs)
 found-at r [] text e = cc
@@ -102,7 +99,7 @@ sender-at r rs client h1 = grind (arith, common_steps, found-at)
 named-at : (r : Registered) (rs : List Registered) (message_kind : MessageKind) (m : Message) → named_by rs message_kind m ≡ Some r → IsSome (known_at r.number rs)
 named-at r rs message_kind m h1 = grind (arith, common_steps, sender-at)
 
--- ---- an accepted message of a session
+-- ---- An accepted message of a session
 
 closed-extended : (n due : ℕ) (rs : List Registered) → live_in (closed n (extended n due rs)) ≡ live_in (closed n rs)
 closed-extended n due [] = refl
@@ -141,13 +138,12 @@ pub served-verdict : (setup : Setup) (ms : Members) (senders : Senders) (moment 
 served-verdict setup ms senders moment place p message_kind s j k is who e f behind g =
     rw (is, ← k) (served-by setup ms senders moment place _ p message_kind s (named_by ms.live message_kind p.message) j k refl who refl e f behind g)
 
--- ---- patterns
+-- ---- Patterns
 
 none_of : {A : Type 0} (o : Option A) → is_some o ≡ false → o ≡ None
 none_of None h = refl
 none_of (Some x) h = cc
 
--- where no text has a fault, none has one at any index
 pub no_fault_at : (texts : List (List ℕ)) (i : ℕ) (d : List ℕ) → i < length texts → has_fault texts ≡ false → pattern_fault (get_or texts i d) ≡ None
 no_fault_at texts i d within none = grind (arith, common_steps, none_of, list_any_at)
 

@@ -1,4 +1,4 @@
--- A list with the elements of a plan behind it: who is live by it, and its entries.
+-- A list, followed by the elements of a plan: its live sessions and its entries.
 use Rattle.std.proofs.Common.{◌≡◌, ℕ, Bool, ◌≤◌, List, ◌++◌, length, sym, ap, ◌∙◌, subst}
 use Rattle.std.specs.Prelude.{fold}
 use Rattle.std.proofs.lemmas.{List.map-append, List.Sums.fold-append}
@@ -11,12 +11,12 @@ use Rattle.bx_registry.specs.Words.{Amendment, CanCommit, Continues, GoesOn, Lea
 use Rattle.bx_registry.specs.declared.plan.Plan.{Plan}
 use Rattle.bx_registry.proofs.Steps.{runs_agree}
 
--- ---- how long the list is
+-- ---- The length of the list
 
 pub roll_length : (config : Config) (list : List Listed) (roll : Roll) → roll ≡ roll_at config list → roll.length ≡ length list
 roll_length config list roll is = ap (λ (r : Roll). r.length) is ∙ judged_length config list
 
--- ---- a longer list
+-- ---- The longer list
 
 pub roll_on : (config : Config) (list added : List Listed) → after (roll_at config list) added ≡ roll_at config (list ++ added)
 roll_on config list added =
@@ -29,13 +29,11 @@ judged_on config list added =
     let go : GoesOn config r (fold (judge config) r added) added = runs_agree config r added in
     ap (λ (s : Registry). s.judged) (fold-append (judge config) empty_registry list added) ∙ go.judged
 
--- what is found stands behind the entries
 pub entries_on : (config : Config) (list added : List Listed) → entries config (list ++ added) ≡ entries config list ++ entries_in (found (roll_at config list) added)
 entries_on config list added =
     ap entries_in (judged_on config list added)
     ∙ map-append (λ (j : Judged). j.entry) (registry config list).judged (found (roll_at config list) added)
 
--- a change that was planned for these elements leads to the longer list
 leads_to : (s : Standing) (change : Amendment) (added : List Listed) →
     CanCommit (roll_at s.config s.list) s.ready change → changed (roll_at s.config s.list) change ≡ after (roll_at s.config s.list) added → LeadsTo s change added
 leads_to s change added planned made =
@@ -43,7 +41,6 @@ leads_to s change added planned made =
     let long : change.length ≡ length (s.list ++ added) = ap (λ (r : Roll). r.length) there ∙ judged_length s.config (s.list ++ added) in
     record { planned = planned; registered = there; long = long; bounded = subst (λ (n : ℕ). n ≤ greatest_length) long planned.planned.length }
 
--- a plan that was made at the roll of a list continues it
 pub continues : (s : Standing) (roll : Roll) (added : List Listed) (p : Plan) → roll ≡ roll_at s.config s.list → p.elements ≡ added → p.batch.first ≡ length s.list →
     p.batch.entries ≡ entries_in (found roll added) → CanCommit roll s.ready p.change → changed roll p.change ≡ after roll added → Continues s p
 continues s roll added p at elements first entered planned made =

@@ -13,11 +13,10 @@ use Rattle.bx_roster.specs.declared.edit.Edits.TheVariants.{Each}
 use Rattle.bx_registry.specs.Words.{Roll, after, next, state_of, changed}
 use Rattle.bx_registry.proofs.Judging.{handshake-kind}
 
--- how many sessions may be opened behind the messages of which it is said whether a handshake was seen
 abbrev left : Bool → ℕ
 left seen = if seen then 0 else 1
 
--- ---- a message
+-- ---- A message
 
 second-refused : (config : Config) (sessions : List Registered) (p : Posted) → is_handshake p.message ≡ true → p.second ≡ true → refusal config sessions p ≡ Some SecondHandshake
 second-refused config sessions p h second = grind (arith, common_steps, handshake-kind)
@@ -27,7 +26,7 @@ judged-once : (config : Config) (state : State) (moment : ℕ) (p : Posted) (see
     (judged_by config state moment p sender fault).state.opened + left (seen || is_handshake p.message) ≤ state.opened + left seen
 judged-once config state moment p seen second sender fault is = grind (arith, common_steps, second-refused config state.sessions p)
 
--- ---- a request
+-- ---- A request
 
 after-once : (roll : Roll) (moment nonce : ℕ) (sole seen : Bool) (ms : List Message) → (after roll (listed_from moment nonce sole seen ms)).members.opened ≤ roll.members.opened + left seen
 after-once roll moment nonce sole seen [] = omega arith
@@ -37,7 +36,7 @@ after-once roll moment nonce sole seen (m ∷ ms) =
     let one = judged-once roll.config (state_of roll.members roll.senders) (max roll.clock moment) p seen refl (named_by live (message_kind_of m.channel) m) (refusal roll.config live p) refl in
     omega (arith, after-once (next roll (Post p)) moment nonce sole (seen || is_handshake m) ms, one)
 
--- ---- the edits that were planned for it
+-- ---- The planned edits of a request
 
 opened-edit : (ms : Members) (e : Edit) → CanEdit ms e → (edited ms e).opened ≡ ms.opened + opened_by e
 opened-edit ms e h1 = grind (arith, common_steps)

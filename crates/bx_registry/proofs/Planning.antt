@@ -1,4 +1,4 @@
--- One message of a request after another.
+-- The messages of a request, one after another.
 use Rattle.std.proofs.Common.{◌≡◌, ℕ, ◌+◌, ◌≤◌, Bool, true, false, List, [], ◌∷◌, ◌++◌, length, fold, refl, sym, ap, subst, ◌∙◌, arith, append_assoc, append-nil}
 use Rattle.std.specs.Prelude.{Ok, ◌&&◌, ◌||◌, ◌==◌, max, Option}
 use Rattle.std.proofs.lemmas.Grind.{common_steps}
@@ -20,7 +20,6 @@ use Rattle.bx_entry.specs.Placings.{Setup}
 judged-opened : (config : Config) (state : State) (moment : ℕ) (p : Posted) (sender : Option Registered) (fault : Option Error) → (judged_by config state moment p sender fault).state.opened ≤ state.opened + 1
 judged-opened config state moment p sender fault = grind (arith, common_steps)
 
--- behind a request's last message the senders are none
 judged-last : (config : Config) (state : State) (moment : ℕ) (p : Posted) (sender : Option Registered) (fault : Option Error) → p.last ≡ true → (judged_by config state moment p sender fault).state.senders ≡ NoneYet
 judged-last config state moment p sender fault last = grind (arith, common_steps)
 
@@ -30,12 +29,10 @@ after-last roll moment nonce sole seen m (n ∷ ms) =
     let p : Posted = record { message = m; moment = moment; nonce = nonce; sole = sole; last = length (n ∷ ms) == 0; second = seen && is_handshake m } in
     after-last (next roll (Post p)) moment nonce sole (seen || is_handshake m) n ms
 
--- so they are behind a request where they were before it
 pub after-request : (roll : Roll) (moment nonce : ℕ) (ms : List Message) → roll.senders ≡ NoneYet → (after roll (request moment nonce ms)).senders ≡ NoneYet
 after-request roll moment nonce [] none = none
 after-request roll moment nonce (m ∷ ms) none = after-last roll moment nonce (length (m ∷ ms) == 1) false m ms
 
--- what was planned so far, and what is left of the list
 pub record SoFar (setup : Setup) (before base : Members) (clock first : ℕ) (list rest : List Listed) (d : Drafted) (senders : Senders) (now place : ℕ) (es : List Entry) (ss : List Slot) : Type 0 where
   pub roll : after (roll_with setup.config (members_of d) senders now place) rest ≡ after (roll_between setup.config before clock first) list
   pub entries : es ++ entries_in (found (roll_with setup.config (members_of d) senders now place) rest) ≡ entries_in (found (roll_between setup.config before clock first) list)
@@ -78,7 +75,6 @@ one_next {setup} {before} {base} {clock} {first} {list} {rest} {d} {e} {senders}
       end = omega (arith, so.end);
     }
 
--- nothing is left of a list behind which the senders are none
 pub all_planned : {setup : Setup} {before base : Members} {clock first : ℕ} {list : List Listed} {d : Drafted} {senders : Senders} {now place : ℕ} {es : List Entry} {ss : List Slot} →
     SoFar setup before base clock first list [] d senders now place es ss → (after (roll_between setup.config before clock first) list).senders ≡ NoneYet →
     IsPlannedBy setup before (members_of d) clock first list es ss now
@@ -93,7 +89,7 @@ all_planned {setup} {before} {base} {clock} {first} {list} {d} {senders} {now} {
       moment = so.moment;
     }
 
--- ---- what is planned at a registry
+-- ---- Plans and commits of a registry
 
 pub admitted : (moment end : ℕ) (x : Unit {0}) → Ok x ≡ checked (refused_beyond moment end) → (moment ≤ greatest_moment) × (end ≤ greatest_length)
 admitted moment end x e = (grind (arith, common_steps), grind (arith, common_steps))

@@ -1,4 +1,4 @@
--- What is planned for the messages of a request is what their places give.
+-- The planned slots of a request are those of its places.
 use Rattle.std.proofs.Common.{◌≡◌, ℕ, List, [], ◌∷◌, ◌++◌, length, map, drop, refl, sym, ap, ◌∙◌, subst}
 use Rattle.std.proofs.Math.Seq.{drop-append_seam}
 use Rattle.std.proofs.lemmas.List.{length-map, map-append}
@@ -16,7 +16,6 @@ all_answered setup roll [] = refl
 all_answered setup roll (Post p ∷ added) = ap (λ (slots : List Slot). given_by setup roll.length (step roll (Post p)).found.slot ++ slots) (all_answered setup (next roll (Post p)) added)
 all_answered setup roll (Tick moment ∷ added) = all_answered setup (next roll (Tick moment)) added
 
--- what is planned at the roll of a list is answered so
 pub slots_given : (setup : Setup) (list added : List Listed) → slots_in setup (found (roll_at setup.config list) added) ≡ admitted_slots setup list added
 slots_given setup list added =
     let config : Config = setup.config in
@@ -30,6 +29,5 @@ slots_given setup list added =
     ap (λ (js : List Judged). drop (length list) (map slot js)) (judged_on config list added) ∙ ap (drop (length list)) (map-append slot before more) ∙ behind in
     all_answered setup (roll_at config list) added ∙ ap (λ (n : ℕ). given_from setup n (map slot more)) (judged_length config list) ∙ ap (given_from setup (length list)) (sym last)
 
--- a tick is not answered
 pub tick_slots : (setup : Setup) (list : List Listed) (moment : ℕ) → admitted_slots setup list (Tick moment ∷ []) ≡ []
 tick_slots setup list moment = sym (slots_given setup list (Tick moment ∷ []))

@@ -1,4 +1,4 @@
--- What is judged by the sessions is judged by the live ones.
+-- A registry and its roll judge alike.
 use Rattle.std.proofs.Common.{◌≡◌, ℕ, ◌+◌, Bool, true, false, List, [], ◌∷◌, ◌++◌, length, map, refl, sym, ap, ◌∙◌, fold, append_assoc, append-nil, length-append}
 use Rattle.std.specs.Prelude.{max, Option, Some, None}
 use Rattle.std.proofs.lemmas.{List.length-map, List.Elements.filter-append}
@@ -45,7 +45,7 @@ left_by-live : (message_kind : MessageKind) (number due : ℕ) (sessions : List 
     live_in (left_by message_kind number (extended number due (live_in sessions))) ≡ live_in (left_by message_kind number (extended number due sessions))
 left_by-live message_kind number due sessions = grind (arith, common_steps, live_in-extended, live_in-closed, live_in-live)
 
--- ---- one element
+-- ---- One element
 
 length-left_by : (message_kind : MessageKind) (number due : ℕ) (sessions : List Registered) → length (left_by message_kind number (extended number due sessions)) ≡ length sessions
 length-left_by message_kind number due sessions = grind (arith, common_steps, length-map)
@@ -58,12 +58,10 @@ same_roll config limit moment senders e f g = cc
 one_more : (js : List Judged) (j : Judged) → length (js ++ j ∷ []) ≡ length js + 1
 one_more js j = length-append js (j ∷ [])
 
--- the registry after an element, as a verdict on its roll says it
 pub record Went (config : Config) (r : Registry) (moment : ℕ) (o : Verdict) (s : Registry) : Type 0 where
   pub roll : (rolls.noted (roll_of config r) moment o).roll ≡ roll_of config s
   pub judged : s.judged ≡ r.judged ++ (rolls.noted (roll_of config r) moment o).found ∷ []
 
--- what a rule asks of a registry's roll
 abbrev asked : Config → Registry → State
 asked config r = rolls.state_of (roll_of config r).members r.senders
 

@@ -1,4 +1,4 @@
--- What a request or a tick changes of a roll.
+-- What a request or a tick changes in a roll.
 use Rattle.std.specs.Prelude.{ℕ, Bool, ◌≡◌, ◌≤◌}
 use Rattle.bx_advice.specs.declared.config.Config.{Config}
 use Rattle.bx_advice.specs.Limits.{greatest_moment, greatest_length}
@@ -23,12 +23,12 @@ pub record IsPlannedAt (roll : Roll) (c : Amendment) : Type 0 where
   pub clock : c.clock ≤ greatest_moment
   pub length : c.length ≤ greatest_length
 
--- The change was planned at `roll`, and a record is ready for the session that it opens, if any.
+-- The change was planned at `roll`, and a record is reserved for the session that it opens, if any.
 pub record CanCommit (roll : Roll) (ready : Bool) (c : Amendment) : Type 0 where
   pub planned : IsPlannedAt roll c
   pub room : opens c.edits ≤ room_of ready
 
--- A registry keeps its limits.
+-- The sessions, the clock and the list's length are within their limits.
 pub record IsWithin (config : Config) (ms : Members) (clock length : ℕ) : Type 0 where
   pub limit : ms.limit ≡ config.limits.sessions
   pub opened : ms.opened ≤ length

@@ -16,7 +16,7 @@ pub record Drafted : Type 0 where
 abbrev pub members_of : Drafted → Members
 members_of d = fold edited d.base d.edits
 
--- What is known of session `number` after one more edit.
+-- The data of live session `number` after one more edit, if any.
 abbrev pub known_after : ℕ → Option (List ℕ × Bool) → Edit → Option (List ℕ × Bool)
 known_after number known (Open s) = option_or known (if s.number == number then Some (known_of s) else None)
 known_after number known (Extend n due) = known
@@ -33,11 +33,11 @@ pub record IsDrafted (base : Members) (edits : List Edit) (count opened : ℕ) :
   pub table : IsTable 0 (fold edited base edits).opened (fold edited base edits).live
   pub all : AllLive (fold edited base edits).live
 
--- A session is there, with this number, client id and choice to acknowledge.
+-- There is a session, and it has this number, client id and `ack`.
 abbrev pub IsSender : Option Registered → ℕ → List ℕ → Bool → Type 0
 IsSender None number client ack = ⊥
 IsSender (Some r) number client ack = (r.number ≡ number) × (r.client ≡ client) × (r.ack ≡ ack)
 
--- A live session with the sender's number, client id and choice to acknowledge.
+-- A live session with the sender's number, client id and `ack`.
 abbrev pub named : Sender → Registered
 named s = record { number = s.number; client = s.client.now; ack = s.ack; due = 0; live = true }

@@ -5,11 +5,11 @@ use Rattle.std.specs.Prelude.{ℕ, ◌+◌, ◌-◌, ◌*◌, ◌%◌, ◌^◌, 
 abbrev pub digit_value : ℕ → ℕ
 digit_value byte = if nat_lt byte 58 then byte - 48 else byte - 87
 
--- The number with one more digit, in 64 bits.
+-- The number with one more digit appended, modulo 2^64.
 abbrev pub with_digit : ℕ → ℕ → ℕ
 with_digit number byte = (number * 16 % 2 ^ 64 + digit_value byte) % 2 ^ 64
 
--- The number that digits give, in 64 bits.
+-- The value of these digits, modulo 2^64.
 abbrev pub hex_value : List ℕ → ℕ
 hex_value digits = fold with_digit 0 digits
 

@@ -1,4 +1,4 @@
--- A roll changes as its registry does.
+-- A registry and its roll judge alike.
 use Rattle.std.specs.Prelude.{◌≡◌, List, [], ◌∷◌, ◌++◌, fold}
 use Rattle.bx_advice.specs.declared.config.Config.{Config}
 use Rattle.bx_entry.specs.Words.{Listed, Registry, judge}

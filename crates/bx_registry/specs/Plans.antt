@@ -1,4 +1,4 @@
--- What a plan has for the messages of a request.
+-- The entries and the slots of a plan, and the error if nothing is planned.
 use Rattle.std.specs.Prelude.{List, map, flat_map, Option, Some, None, Result, Ok, Err}
 use Rattle.bx_entry.specs.declared.entry.{Entry.Entry, Slot.Slot}
 use Rattle.bx_entry.specs.Placings.{Setup}
@@ -15,7 +15,7 @@ entries_in found = map (λ (j : Judged). j.entry) found
 abbrev pub slots_in : Setup → List Judged → List Slot
 slots_in setup found = flat_map (λ (j : Judged). given_by setup j.entry.place j.slot) found
 
--- An error if there is a refusal.
+-- The error for a refusal, if there is one.
 abbrev pub checked : Option Refusal → Result (Unit {0}) AdmitFault
 checked None = Ok tt
 checked (Some refusal) = Err (Refused refusal)

@@ -1,5 +1,5 @@
--- The registry without what is over: only live sessions, and the list's length. The verdict on an
--- element is the registry's own.
+-- A roll: a registry reduced to its live sessions and the list's length. It judges elements as the
+-- registry does.
 use Rattle.std.specs.Prelude.{ℕ, ◌+◌, max, List, [], ◌∷◌, length, fold}
 use Rattle.bx_advice.specs.declared.config.Config.{Config}
 use Rattle.bx_entry.specs.declared.senders.Senders.{Senders}
@@ -39,7 +39,7 @@ pub record Step : Type 0 where
   pub roll : Roll
   pub found : Judged
 
--- A verdict's step: the roll has one more place.
+-- The step of a verdict, which makes the roll one place longer.
 abbrev pub noted : Roll → ℕ → Verdict → Step
 noted roll moment v = record {
   roll = record { config = roll.config; members = members_after roll.members v; clock = moment; length = roll.length + 1; senders = v.state.senders };

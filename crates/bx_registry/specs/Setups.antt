@@ -1,4 +1,4 @@
--- The setup under which a request is judged, in the definitions' form.
+-- The setup in which a request is judged, in the definitions' form.
 use Rattle.std.specs.Prelude.{ℕ}
 use Rattle.bx_entry.specs.Placings as placings
 use Rattle.bx_registry.specs.declared.setup.Setup.{Setup}

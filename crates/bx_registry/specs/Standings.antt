@@ -1,4 +1,4 @@
--- The list with its live sessions, and what is planned to follow it.
+-- The registry as contracts see it, and the plans that continue its list.
 use Rattle.std.specs.Prelude.{ℕ, Bool, ◌≡◌, ◌≤◌, List, ◌++◌, length}
 use Rattle.bx_advice.specs.declared.config.Config.{Config}
 use Rattle.bx_advice.specs.Limits.{greatest_length}
@@ -8,7 +8,7 @@ use Rattle.bx_registry.specs.Rolls.{Roll, roll_of}
 use Rattle.bx_registry.specs.declared.plan.Plan.{Plan}
 
 -- A registry as contracts see it: the configuration, the number of shards, the list, and whether a
--- vacant record is ready for the next session.
+-- record is reserved for the next session.
 pub record Standing : Type 0 where
   pub config : Config
   pub shards : ℕ

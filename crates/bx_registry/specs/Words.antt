@@ -1,4 +1,4 @@
--- The names of this crate's definitions, for files that import several.
+-- Names of this crate's definitions, for files that import several.
 pub use Rattle.bx_registry.specs.Changes.{Amendment, CanCommit, IsPlannedAt, IsWithin, changed}
 pub use Rattle.bx_registry.specs.Drafts.{Drafted, IsDrafted, IsSender, members_of, named}
 pub use Rattle.bx_registry.specs.Ids.{digit_value, hex_value, number_in, with_digit}

@@ -2,7 +2,9 @@
 use bx_roster::Edits;
 use std::marker::Model;
 
-/// The change that a plan makes to the registry that planned it.
+/// The change that a plan makes to its registry.
+///
+/// Model: the edits of the sessions, and the clock and the list's length after them.
 #[derive(Drop)]
 pub struct Change {
     pub(crate) edits: Edits,

@@ -1,4 +1,4 @@
-//! The sessions while a request is being judged.
+//! The sessions as they change while a request is judged.
 ghost use Rattle.std.specs.Prelude.{◌≡◌, ◌+◌, ◌<◌, ◌≤◌, ◌++◌, ◌∷◌, [], ℕ, length, option_map, IfOk, OnOk, OnErr, MatchOption};
 ghost use Rattle.bx_entry.specs.Registry.{count_live, live_with_id, named_by};
 ghost use Rattle.bx_roster.specs.Tables.{AllLive, IsTable, known_at};
@@ -16,7 +16,7 @@ use std::marker::Model;
 pub(crate) struct Sender<'m> {
     pub(crate) number: u64,
     pub(crate) client: &'m Text,
-    /// Whether the session acknowledges.
+    /// Whether the session acknowledges batches.
     pub(crate) ack: bool,
 }
 
@@ -67,7 +67,7 @@ impl<'a> Draft<'a> {
 
     /// Returns the live session that `message` names, if any.
     ///
-    /// Handshakes and unknown meta channels name none.
+    /// Handshakes and messages to unknown meta channels name none.
     pub(crate) fn named_by<'m>(
         &self,
         message_kind: MessageKind,
@@ -83,7 +83,8 @@ impl<'a> Draft<'a> {
         }
     }
 
-    // Finds the live session with this client id. Its last digits name the only candidate.
+    // Returns the live session with client id `client`, if any. The last digits are the number of
+    // the only candidate.
     fn live_with_id<'m>(&self, client: &'m Text) -> Option<Sender<'m>>
         ensures { MatchOption result (live_with_id (members_of self.now).live client.now ≡ None)
             (λ s. IsSender (live_with_id (members_of self.now).live client.now) s.number s.client.now s.ack) }
@@ -103,7 +104,7 @@ impl<'a> Draft<'a> {
         }
     }
 
-    // Returns what is known of the live session `number`, if any.
+    // Returns the data of live session `number`, if any.
     #[tactic(auto, using(crate::proofs::Drafting::knowing))]
     fn known_at(&self, number: u64) -> Option<Known<'_>>
         ensures { option_map (λ k. (k.client.now, k.ack)) result ≡ known_at number (members_of self.now).live }
@@ -115,7 +116,7 @@ impl<'a> Draft<'a> {
         known
     }
 
-    /// Adds an edit, which must be possible after the earlier ones.
+    /// Appends an edit, which must be possible after the earlier ones.
     ///
     /// # Errors
     ///
@@ -136,7 +137,7 @@ impl<'a> Draft<'a> {
         Ok(())
     }
 
-    /// Returns the edits, in order.
+    /// Converts the draft into its edits, in order.
     pub(crate) fn into_edits(self) -> Sequence<Edit>
         ensures edits { result ≡ self.entry.edits }
         ensures can { CanEditEach self.entry.base self.entry.edits }

@@ -52,7 +52,7 @@ fn hex_digit(number: u8) -> char
 
 /// Returns the session's number in a client id: the digits after the nonce, modulo 2^64.
 ///
-/// If `client` is no client id, the result is arbitrary.
+/// If `client` is not a client id, the result has no meaning.
 pub(crate) fn number_in(client: &str) -> u64
     ensures { result ≡ number_in client.now }
 {

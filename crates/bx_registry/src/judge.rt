@@ -223,8 +223,8 @@ fn senders_behind(posted: Posted<'_>, senders: Senders) -> Senders
     }
 }
 
-// Returns `true` if an accepted message is a rider. It must end a request of accepted messages from
-// one session, which does not acknowledge.
+// Returns `true` if an accepted message is a rider. It must be the last message of a request in
+// which all messages are accepted and come from one session. That session must not acknowledge.
 fn is_rider(config: &Config, senders: Senders, posted: Posted<'_>, sender: &Sender<'_>) -> bool
     ensures { result ≡ is_rider config.now senders posted.entry.message_kind (posted_of posted.entry) (named sender.now) }
 {
@@ -329,7 +329,7 @@ fn slot_for<P: Placing>(
     }
 }
 
-// Returns the batch that a connect acknowledges.
+// Returns the number of the batch that a connect acknowledges, if any.
 fn acked_by(ack: AckMember) -> Option<u64>
     ensures { result ≡ acked_by ack }
 {
@@ -409,7 +409,8 @@ fn is_ack(ack: AckMember) -> bool
     }
 }
 
-// Returns how long a connect may be held, in milliseconds. Only a request's sole message is held.
+// Returns how long a message may be held, in milliseconds. Only a connect that is its request's
+// only message may be held.
 //
 // Bayeux 1.0, connect request. Holding only such a message is a policy of this server.
 fn hold_of(config: &Config, posted: Posted<'_>) -> u64
@@ -425,7 +426,7 @@ fn hold_of(config: &Config, posted: Posted<'_>) -> u64
     }
 }
 
-// Returns when a silent session expires after a message at `moment`, held for `hold` milliseconds.
+// Returns the due moment after a message at `moment` that may be held for `hold` milliseconds.
 fn due_after(config: &Config, moment: u64, hold: u64) -> u64
     requires moment { moment ≤ greatest_moment }
     requires hold { hold < 2 ^ 32 }
@@ -445,7 +446,7 @@ fn edit_for(message_kind: MessageKind, number: u64, due: u64) -> Edit
     }
 }
 
-// Parses the patterns of a subscription, except those of service channels.
+// Parses the patterns of a subscription or an unsubscription, except those of service channels.
 #[tactic(auto, using(crate::proofs::Judging::reading))]
 fn patterns_of(alloc: Global, message: &Message) -> Result<Sequence<Pattern>, AllocError>
     requires { has_fault message.now.texts ≡ false }

@@ -1,14 +1,14 @@
-//! Laws that relate what the program keeps to the whole registry.
+//! Laws that relate the program's live sessions to the definitions' registry.
 ghost use Rattle.bx_registry.specs.Laws.{StepsAgree, RunsAgree};
 
-/// Proves that a roll and its registry agree after one more element, and on its result.
+/// Proves that a registry and its roll judge one element alike, and agree after it.
 ///
-/// A roll is what the program keeps of a registry.
+/// The roll is the part of a registry that the program stores.
 pub fn steps_agree()
     ensures { StepsAgree }
 {}
 
-/// Proves that a roll and its registry agree after any list, such as a request.
+/// Proves that a registry and its roll judge any list alike, such as a request, and agree after it.
 pub fn runs_agree()
     ensures { RunsAgree }
 {}

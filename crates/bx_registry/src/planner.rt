@@ -36,11 +36,11 @@ pub(crate) struct Start {
     pub(crate) nonce: u128,
     /// The place of the request's first entry.
     pub(crate) place: u64,
-    /// The greatest moment before the request.
+    /// The greatest moment before the request, in milliseconds.
     pub(crate) clock: u64,
 }
 
-/// Judges the messages of a request in order, and adds their edits to `draft`.
+/// Judges the messages of a request in order, and appends their edits to `draft`.
 ///
 /// # Errors
 ///
@@ -87,7 +87,10 @@ pub(crate) fn plan_all<P: Placing>(
     })
 }
 
-// Pairs `message` with its request's data. `seen`: whether an earlier one is a handshake.
+// Pairs `message` with its request's data.
+//
+// `sole`, `last`: whether it is the request's only or last message. `seen`: whether an earlier
+// message is a handshake.
 fn posted_at(start: Start, message: &Message, sole: bool, last: bool, seen: bool) -> Posted<'_>
     ensures { posted_of result ≡ record {
       message = message.now;
@@ -110,7 +113,8 @@ fn posted_at(start: Start, message: &Message, sole: bool, last: bool, seen: bool
     }
 }
 
-// Judges the message at `place`, after messages from `senders`, and adds its edit to `draft`.
+// Judges the message at `place`, and appends its edit to `draft`. `senders`: who sent the earlier
+// messages.
 fn plan_next<P: Placing>(
     alloc: Global,
     setup: &Setup<'_, P>,

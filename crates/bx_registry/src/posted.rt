@@ -9,7 +9,7 @@ use bx_message::{Message, MessageKind};
 #[derive(Clone, Copy)]
 pub(crate) struct Posted<'a> {
     pub(crate) message: &'a Message,
-    /// The kind of message, by its channel.
+    /// The message's kind, by its channel.
     pub(crate) message_kind: MessageKind,
     /// The request's moment: milliseconds since the server started.
     pub(crate) moment: u64,

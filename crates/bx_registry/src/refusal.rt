@@ -1,4 +1,4 @@
-//! Which messages are refused, and why.
+//! Which messages are rejected, and why.
 ghost use Rattle.std.specs.Prelude.{◌≡◌, List, None, length, nat_lt, nat_le, not, is_some, is_none};
 ghost use Rattle.std.specs.List.{list_any};
 ghost use Rattle.bx_names.specs.Faults.{name_fault, pattern_fault};
@@ -12,7 +12,9 @@ use bx_advice::{Config, Error};
 use bx_message::{Message, MessageKind, Text, TextMember};
 use bx_names::{ChannelKind, is_meta, kind_of, name_fault, pattern_fault};
 
-/// Returns the first error, in the order of `Error`, that refuses a message, if any.
+/// Returns the error of a rejected message, or `None` if the message is accepted.
+///
+/// If several errors apply, returns the first in the order of [`Error`].
 ///
 /// `live`: how many sessions are live. `known`: whether the message names one of them.
 #[tactic(auto, using(crate::proofs::Judging::accepted))]
@@ -58,7 +60,8 @@ pub(crate) fn refusal(
     }
 }
 
-// Returns `true` if a message needs a session. A publish without a client id may need none.
+// Returns `true` if a message, other than a handshake, must name a live session. A publish without
+// a client id need not if `config.anonymous` is set.
 fn is_needed(config: &Config, message_kind: MessageKind, client: &TextMember) -> bool
     ensures { result ≡ is_needed config.now message_kind client.now }
 {
@@ -129,7 +132,7 @@ fn is_name(message: &Message) -> bool
     name_fault(message.channel.as_str()).is_none()
 }
 
-// Returns `true` if the subscription has an invalid pattern.
+// Returns `true` if one of the subscription's texts is not a valid pattern.
 fn has_no_pattern(message: &Message) -> bool
     ensures { result ≡ list_any (λ text. is_some (pattern_fault text)) message.now.texts }
 {
@@ -140,7 +143,7 @@ fn has_no_pattern(message: &Message) -> bool
         .any(|text| pattern_fault(text.as_str()).is_some())
 }
 
-// Returns `true` if the subscription names a meta channel.
+// Returns `true` if one of the subscription's texts is that of a meta channel.
 fn has_meta(message: &Message) -> bool
     ensures { result ≡ list_any is_meta message.now.texts }
 {

@@ -1,4 +1,4 @@
-//! The registry of live sessions.
+//! The registry: plans requests and ticks, and commits the plans.
 ghost use Rattle.std.specs.Prelude.{◌≡◌, ◌+◌, ◌≤◌, ◌==◌, ◌++◌, Err, None, [], ◌∷◌, length, IfOk, IfSome, IsOkUnless};
 ghost use Rattle.std.specs.List.{list_any};
 ghost use Rattle.bx_advice.specs.Limits.{greatest_length};
@@ -24,12 +24,13 @@ use bx_roster::{Edits, Table};
 use std::alloc::{AllocError, Global};
 use std::marker::Model;
 
-/// The live sessions, and the number of shards in which they are placed.
+/// The live sessions, and the number of shards that they are placed in.
 ///
 /// Messages are judged only here. A request or a tick is first planned, which leaves the list
-/// unchanged, and then committed, which neither allocates nor fails.
+/// unchanged. Then it is committed, which neither allocates nor fails.
 ///
-/// Model: includes the list of all that was admitted, which the program does not keep.
+/// Model: the configuration, the number of shards, the list of all admitted messages and ticks, and
+/// whether a record is reserved. The program does not store the list.
 #[derive(Drop)]
 pub struct Registry {
     config: Config,
@@ -58,7 +59,7 @@ impl Model for Registry {
 impl Registry {
     /// Creates a registry with an empty list and `config.shards` shards.
     ///
-    /// Reserves room for the due moments of as many sessions as may be live.
+    /// Allocates the queue of due moments for `config.limits.sessions` live sessions.
     ///
     /// # Errors
     ///
@@ -105,12 +106,13 @@ impl Registry {
         self.table.known_at(number).is_some()
     }
 
-    /// Plans a request: judges its messages in order, each after the effects of those before it.
+    /// Plans a request: judges its messages in order, each after the effects of the earlier ones.
     ///
-    /// The ticket of a connect or a rider names its session's shard. If a session is opened, its
-    /// record is reserved for [`commit`](Self::commit).
+    /// If a session is opened, its record is reserved for [`commit`](Self::commit). The ticket of a
+    /// connect or a rider names its session's shard.
     ///
-    /// `moment`: milliseconds since the server started.
+    /// `placing`: assigns sessions to shards. `moment`: milliseconds since the server started.
+    /// `nonce`: random bits for the client id of a session that is opened.
     ///
     /// # Errors
     ///
@@ -169,14 +171,14 @@ impl Registry {
         })
     }
 
-    /// Plans a tick, which closes the live sessions whose due moment is before the clock.
+    /// Plans a tick, which closes the live sessions that are due before the clock.
     ///
-    /// `moment`: milliseconds since the server started. The clock is the greatest moment so far.
-    /// Takes O(closed * log n) amortized time, if n sessions may be live.
+    /// `moment`: milliseconds since the server started. The clock is the greatest moment so far,
+    /// including `moment`. Takes O(c * log n) amortized time to close c sessions, if n may be live.
     ///
     /// # Errors
     ///
-    /// As [`plan`](Self::plan) for one message.
+    /// As [`plan`](Self::plan) for one message; nothing has changed.
     pub fn plan_tick(&mut self, alloc: Global, moment: u64) -> Result<Plan, AdmitFault>
         ensures same { self.new ≡ self.old }
         ensures refused { IfSome (refused_beyond moment (length self.old.list + 1)) (λ refusal. result ≡ Err (Refused refusal)) }
@@ -211,7 +213,7 @@ impl Registry {
         })
     }
 
-    // Checks that the moment and the list stay within their limits.
+    // Returns an error if `moment` is too large, or the list has no room for `count` more elements.
     fn check(&self, moment: u64, count: usize) -> Result<(), AdmitFault>
         ensures { result ≡ checked (refused_beyond moment (length self.now.list + count)) }
     {
@@ -224,7 +226,7 @@ impl Registry {
         Ok(())
     }
 
-    /// Applies a planned change and adds its `elements` to the list.
+    /// Applies a planned change, and appends its `elements` to the list.
     ///
     /// The plan must come from this registry, with nothing committed since. Does not allocate.
     #[tactic(auto, using(crate::proofs::Planning::committing))]
@@ -243,7 +245,7 @@ impl Registry {
         self.listing.join(elements);
     }
 
-    /// Places the sessions in `shards` shards from now on.
+    /// Changes the number of shards for all later plans.
     pub fn reshard(&mut self, shards: ShardCount)
         ensures shards { self.new ≡ record self.old { shards = shards } }
         ensures in_range { (1 ≤ self.new.shards) × (self.new.shards ≤ 64) }

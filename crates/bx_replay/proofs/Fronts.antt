@@ -1,4 +1,4 @@
--- What is written at a fault is a front of what all lines print.
+-- Proves that the output before a fault is a first part of the whole output.
 use Rattle.std.proofs.Common.{◌≡◌, ℕ, suc, ◌+◌, ◌<◌, Option, Some, None, List, [], ◌∷◌, ◌++◌, length, map, take, drop, drop-cons, take-append-drop, get_or, slice_get, Result, Ok, Err, refl, sym, ap, ◌∙◌, subst, append-nil, append_assoc, arith}
 use Rattle.std.proofs.lemmas.{Grind.flat_map-append, List.map-append}
 use Rattle.std.specs.Prelude.{IfErr, IfSome, IsErr, OnErr, option_map, string_bytes}
@@ -24,7 +24,7 @@ use Rattle.bx_theory.proofs.{Lines.lines_go_on, Lines.outs_last, Nonces.nonces_o
 use Rattle.bx_script.specs.declared.line.Line as script
 use Rattle.bx_script.proofs.Fronts.{fault_writes, front_first, front_none, front_second}
 
--- ---- outs
+-- ---- Outs
 
 pub outs_split : (os : List fanout.Out) (i : ℕ) (o : fanout.Out) → i < length os → o ≡ get_or os i o → map seen_out os ≡ map seen_out (take i os) ++ seen_out o ∷ map seen_out (drop (i + 1) os)
 outs_split os i o h e =
@@ -35,7 +35,6 @@ pub numbers_split : (ns : List ℕ) (i : ℕ) → i < length ns → ns ≡ take 
 numbers_split ns i h =
     sym (take-append-drop i ns) ∙ ap (λ (us : List ℕ). take i ns ++ us) (drop-cons ns i 0 h ∙ ap (λ (n : ℕ). get_or ns i 0 ∷ drop n ns) (let l : suc i ≡ i + 1 = omega arith in l))
 
--- a front of one out, by what was kept of its input
 pub out_front : {A E : Type 0} (o : Out) (a : PendingLine) (old : ℕ → Option PendingLine) (before after : Option (List ℕ)) (r : Result A E) → old o.input ≡ Some a →
     ((read : TicksAs a.tick) → Writes before after r (result_text (numbered a.line (option_map string_bytes a.callback) read.read) read.read o.result)) →
     OnErr r ((ns : List Numbered) → AreKept ns old → AppendsFront before after (outs_text ns (o ∷ [])))
@@ -45,7 +44,6 @@ out_front o a old before after (Err e) found w =
     let k : IsKept ns o.input a = kept o.input a found in
     subst (AppendsFront before after) (out_same ns o a k) (w (record { read = k.one.input; ticks = sym k.tick }))
 
--- a front of one out behind those before it
 pub outs_front : (ns : List Numbered) (all os : List Out) (o : Out) (us : List Out) (a b c : Option (List ℕ)) → all ≡ os ++ o ∷ us → Appends a b (outs_text ns os) → AppendsFront b c (outs_text ns (o ∷ [])) →
     AppendsFront a c (outs_text ns all)
 outs_front ns all os o us a b c e h f =
@@ -54,7 +52,6 @@ outs_front ns all os o us a b c e h f =
     ap (outs_text ns) e ∙ flat_map-append F os (o ∷ us) ∙ ap (λ (t : List ℕ). outs_text ns os ++ t) (flat_map-append F (o ∷ []) us) in
     subst (AppendsFront a c) (sym parts) (front_second a b c (outs_text ns os) (outs_text ns (o ∷ []) ++ outs_text ns us) h (front_first b c (outs_text ns (o ∷ [])) (outs_text ns us) f))
 
--- a front of one line that is held behind those before it
 pub held_front : (ns : List Numbered) (all is : List ℕ) (i : ℕ) (js : List ℕ) (a b c : Option (List ℕ)) (text : List ℕ) → all ≡ is ++ i ∷ js → text ≡ held_text (slice_get ns i) → Appends a b (held_texts ns is) → AppendsFront b c text →
     AppendsFront a c (held_texts ns all)
 held_front ns all is i js a b c text e same h f =
@@ -62,7 +59,7 @@ held_front ns all is i js a b c text e same h f =
     let parts : held_texts ns all ≡ held_texts ns is ++ (held_text (slice_get ns i) ++ held_texts ns js) = ap (held_texts ns) e ∙ flat_map-append F is (i ∷ js) in
     subst (AppendsFront a c) (sym parts) (front_second a b c (held_texts ns is) (held_text (slice_get ns i) ++ held_texts ns js) h (front_first b c (held_text (slice_get ns i)) (held_texts ns js) (subst (AppendsFront b c) same f)))
 
--- ---- one more line
+-- ---- One more line
 
 pub front_line : (config : Config) (ls : List script.Line) (l k : script.Line) (more : List Out) (text : List ℕ) (before after : Option (List ℕ)) → 0 < config.limits.batch → l ≡ k → AddsOuts config (inputs_in (seen_lines ls)) (seen_behind ls k) more →
     text ≡ line_prints (length (seen_lines ls) + 1) (inputs_from 1 (seen_lines ls ++ seen_behind ls k ∷ [])) (seen_behind ls k) more → AppendsFront before after text → PrintsFront config ls (ls ++ l ∷ []) before after
@@ -74,7 +71,6 @@ front_line config ls l k more text before after room is adds e front = record {
 }
 
 module _ {P : Type 0} {g : Ghosts P} where
-  -- nothing of what an input adds is written
   pub hands_none : (old : Round P g) (one : Numbered) (before : Option (List ℕ)) (kept : ℕ → Option PendingLine) → 0 < (setup_in old).config.limits.batch → HandsFront old one before before kept
   hands_none old one before kept room = record {
     more = whole_at (length (inputs_of old)) (wholes (setup_in old).config (inputs_of old ++ one.input ∷ []));
@@ -82,7 +78,6 @@ module _ {P : Type 0} {g : Ghosts P} where
     prints = λ ns many kept. front_none before (outs_text (ns ++ one ∷ []) (whole_at (length (inputs_of old)) (wholes (setup_in old).config (inputs_of old ++ one.input ∷ []))));
   }
 
-  -- the same of an input that is read alike
   pub front_as : (old : Round P g) (number : ℕ) (name : Option (List ℕ)) (given read : ReadInput) (before after : Option (List ℕ)) (kept : ℕ → Option PendingLine) → given ≡ read →
       HandsFront old (numbered number name given) before after kept → HandsFront old (numbered number name read) before after kept
   front_as old number name given read before after kept e h = subst (λ (x : ReadInput). HandsFront old (numbered number name x) before after kept) e h
@@ -100,9 +95,8 @@ module _ {P : Type 0} {g : Ghosts P} where
       (texts_handed config (seen_lines ls) name read (inputs_of old) (added_by old) h.more kept number d)
       (h.prints (inputs_from 1 (seen_lines ls)) (many_of config (seen_lines ls) (inputs_of old) (added_by old) kept number d) d.kept_are)
 
--- ---- all lines
+-- ---- All lines
 
--- the outs that one more line adds
 record Adds (config : Config) (ls : List Line) (l : Line) : Type 0 where
   more : List Out
   adds : AddsOuts config (inputs_in ls) l more
@@ -114,7 +108,6 @@ adds_some config ls (Accepted callback input) room = record {
 }
 adds_some config ls _ room = record { more = []; adds = tt }
 
--- what further lines print stands behind
 record GoesOn (config : Config) (ls more : List Line) : Type 0 where
   text : List ℕ
   is : printed_so_far config (ls ++ more) ≡ printed_so_far config ls ++ text
@@ -143,14 +136,12 @@ whole_known d config xs ys ms a c room r p =
     ap (λ (t : List ℕ). t ++ ends) (ap (printed_so_far config) whole ∙ on.is ∙ ap (λ (t : List ℕ). t ++ on.text) p.is) ∙ append_assoc p.text on.text ends in
     subst (AppendsFront a c) (sym parts) (front_first a c p.text (on.text ++ ends) p.front)
 
--- where a script is read on, what its first lines print is a front of the right output
 pub whole_front : (d : Dialect) (config other : Config) (bytes rest : Option (List ℕ)) (ms : List script.Line) (a c : Option (List ℕ)) → other ≡ config → 0 < other.limits.batch → Reads d bytes rest ms → PrintsFront other [] ms a c →
     IfSome bytes (λ bs. AppendsFront a c (replay_text d config bs))
 whole_front d config other None rest ms a c e room r p = tt
 whole_front d config other (Some xs) None ms a c e room r p = absurd r
 whole_front d config other (Some xs) (Some ys) ms a c e room r p = subst (λ (config : Config). AppendsFront a c (replay_text d config xs)) e (whole_known d other xs ys ms a c room r p)
 
--- all of what these lines print
 pub prints_all : (config : Config) (ls : List script.Line) (a b : Option (List ℕ)) → Prints config [] ls a b → PrintsFront config [] ls a b
 prints_all config ls a b p = record { text = p.text; front = record { written = p.text; unwritten = []; whole = sym (append-nil p.text); appends = p.appends }; is = p.is }
 
@@ -161,20 +152,17 @@ prints_some config ls ms a b c p q = record {
   is = q.is ∙ ap (λ (t : List ℕ). t ++ q.text) p.is;
 }
 
--- ---- results
+-- ---- Results
 
--- nothing is written before the first line
 pub none_known : {A E : Type 0} (d : Dialect) (config : Config) (bytes a : Option (List ℕ)) (r : Result A E) → IsErr r → IfSome bytes (λ bs. Writes a a r (replay_text d config bs))
 none_known d config None a r e = tt
 none_known d config (Some bs) a r e = fault_writes a a r (replay_text d config bs) (replay_text d config bs) refl e (front_none a (replay_text d config bs))
 
--- a fault in the middle of a script
 pub fault_known : {A E : Type 0} (d : Dialect) (config other : Config) (bytes a b : Option (List ℕ)) (r : Result A E) → other ≡ config → IsErr r → IfSome bytes (λ bs. AppendsFront a b (replay_text d other bs)) →
     IfSome bytes (λ bs. Writes a b r (replay_text d config bs))
 fault_known d config other None a b r same e f = tt
 fault_known d config other (Some bs) a b r same e f = fault_writes a b r (replay_text d config bs) (replay_text d other bs) (ap (λ (c : Config). replay_text d c bs) (sym same)) e f
 
--- a write that fails behind the last line is why the replay ends
 pub written_behind : {T R W : Type 0} (lines : Lines R) (output : Output W) (r : Result T ScriptFault) → IfErr r (IsWriteFault output) → IfErr r (IsReplayFault lines output)
 written_behind lines output (Ok x) why = tt
 written_behind lines output (Err Memory) why = tt

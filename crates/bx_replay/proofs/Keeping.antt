@@ -1,4 +1,4 @@
--- What is kept of inputs, and what their outs print.
+-- Proves what outs print, given what is kept of their inputs.
 use Rattle.std.proofs.Common.{◌≡◌, ℕ, ◌+◌, ◌<◌, Bool, true, false, cond, Option, Some, None, option_map, List, [], ◌∷◌, ◌++◌, length, map, take, get_or, slice_get, string_bytes, codes, OnOk, Result, Ok, Err, refl, sym, ap, ◌∙◌, subst, arith, append-nil, append_assoc}
 use Rattle.std.specs.{BTreeMap.is_at, Io.KnownBytes.Appends, Ordering.nat_cmp}
 use Rattle.std.proofs.lemmas.{Bool.Decides.nat_tests, Grind.flat_map-append, List.map-append, List.take_more, Option.slice_get_within}
@@ -12,7 +12,7 @@ use Rattle.bx_theory.specs.Lines.{outs_text}
 use Rattle.bx_theory.proofs.Lines.{get_front}
 use Rattle.bx_script.specs.Printing as script
 
--- ---- what is written
+-- ---- Writing
 
 pub appends_more : (a b c : Option (List ℕ)) (xs ys : List ℕ) → Appends a b xs → Appends b c ys → Appends a c (xs ++ ys)
 appends_more None b c xs ys h k = tt
@@ -27,7 +27,7 @@ appends_none (Some a) = sym (append-nil a)
 pub appends_same : (a b : Option (List ℕ)) (xs ys : List ℕ) → xs ≡ ys → Appends a b xs → Appends a b ys
 appends_same a b xs ys e h = subst (Appends a b) e h
 
--- ---- an out, by what was kept of its input
+-- ---- One out
 
 pub out_same : (numbered : List Numbered) (o : Out) (a : PendingLine) (k : IsKept numbered o.input a) →
     result_text (script.numbered a.line (option_map string_bytes a.callback) k.one.input) k.one.input o.result ≡ outs_text numbered (o ∷ [])
@@ -41,12 +41,11 @@ out_same numbered o a k =
 pub held_same : (numbered : List Numbered) (i : ℕ) (a : PendingLine) (text : ℕ → List ℕ) → IsKept numbered i a → ((n : Numbered) → text n.line ≡ held_text (Some n)) → text a.line ≡ held_text (slice_get numbered i)
 held_same numbered i a text k e = ap text k.line ∙ e k.one ∙ ap held_text (sym k.there)
 
--- an input that is a tick, or none
 pub record TicksAs (tick : Bool) : Type 0 where
   pub read : ReadInput
   pub ticks : is_tick read ≡ tick
 
--- ---- what is kept
+-- ---- What is kept
 
 pub at_is : (a b : ℕ) → is_at (nat_cmp a) b ≡ true → b ≡ a
 at_is a b e = grind (arith, nat_tests)
@@ -98,7 +97,7 @@ outs_more numbered os us a b c kept new p q =
           (appends_more a b c (outs_text numbered os) (outs_text numbered us) p.appends r.appends);
     }
 
--- ---- steps
+-- ---- Steps
 
 pub on_ok_both : {A E P Q R : Type 0} (r : Result A E) → (P → Q → R) → OnOk r P → OnOk r Q → OnOk r R
 on_ok_both (Ok x) f h k = f h k

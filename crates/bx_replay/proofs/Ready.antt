@@ -1,4 +1,4 @@
--- That what is printed was kept.
+-- Proves that all inputs with outs to print are kept.
 use Rattle.std.proofs.Common.{◌≡◌, ℕ, zero, suc, ◌+◌, ◌<◌, Bool, true, false, cond, not, Option, Some, None, List, [], ◌∷◌, ◌++◌, length, map, filter, drop, drop-cons, get_or, refl, sym, ap, ◌∙◌, subst, arith, append-nil, eqb-true}
 use Rattle.std.specs.Prelude.{◌==◌, IsSome, is_some}
 use Rattle.std.specs.{BTreeMap.is_at, Ordering.nat_cmp}
@@ -16,7 +16,7 @@ use Rattle.bx_fanout.specs.declared.out.Out as fanout
 use Rattle.bx_theory.proofs.Opens.{open_is_held, opens_go_on, outs_add}
 use Rattle.bx_fanout.proofs.HeldInputs.{at-is}
 
--- ---- each once
+-- ---- Each input once
 
 some_other : (a b : Bool) (o : Option PendingLine) → b ≡ a → IsSome (cond a None o) → (IsSome o) × (IsSome (cond b None o))
 some_other true b o e h = cc
@@ -32,7 +32,6 @@ swapped true false o = refl
 swapped false true o = refl
 swapped false false o = refl
 
--- one more, wherever it stands
 kept_in : (xs ys : List ℕ) (f : ℕ → Option PendingLine) (o : ℕ) → IsSome (f o) → AllKept (without o f) (xs ++ ys) → AllKept f (xs ++ o ∷ ys)
 kept_in [] ys f o s h = (s, h)
 kept_in (x ∷ xs) ys f o s h = (
@@ -53,9 +52,8 @@ kept_parted num p (x ∷ xs) f h = by (p x) (kept_parted num p xs (without (num 
     by true rest = (h.0, rest)
     by false rest = kept_in (map num (filter p xs)) (map num (filter (λ y. not (p y)) xs)) f (num x) h.0 rest
 
--- ---- one more input
+-- ---- One more input
 
--- no input has that number yet
 pub none_last : (o : Option PendingLine) (numbered : List Numbered) (kept : ℕ → Option PendingLine) → kept (length numbered) ≡ o → AreKept numbered kept → kept (length numbered) ≡ None
 none_last None numbered kept e k = e
 none_last (Some a) numbered kept e k = let is : IsKept numbered (length numbered) a = k (length numbered) a e in absurd (omega (arith, slice_get_within numbered (length numbered) is.one is.there))
@@ -79,7 +77,6 @@ inputs_out : (config : Config) (r : Registry) (ws : List opens.Numbered) → map
 inputs_out config r [] = refl
 inputs_out config r (w ∷ ws) = ap (λ (is : List ℕ). w.number ∷ is) (inputs_out config r ws)
 
--- what an input makes whole, and what stays open, was open or is that input
 kept_on : (config : Config) (inputs : List ReadInput) (input : ReadInput) (more : List Out) (f : ℕ → Option PendingLine) → 0 < config.limits.batch → outs config (inputs ++ input ∷ []) ≡ outs config inputs ++ more →
     AllKept f (held config inputs ++ length inputs ∷ []) → AllKept f (map (λ (o : Out). o.input) more ++ held config (inputs ++ input ∷ []))
 kept_on config inputs input more f room adds h =
@@ -116,7 +113,7 @@ pub kept_front : (xs ys : List ℕ) (f : ℕ → Option PendingLine) → AllKept
 kept_front [] ys f h = tt
 kept_front (x ∷ xs) ys f h = (h.0, kept_front xs ys (without x f) h.1)
 
--- ---- one by one
+-- ---- One out after another
 
 pub kept_less_one : (is : List ℕ) (i : ℕ) (old new : ℕ → Option PendingLine) → ((j : ℕ) → new j ≡ cond (is_at (nat_cmp i) j) None (old j)) → AllKept (without i old) is → AllKept new is
 kept_less_one is i old new e h = same_kept is (without i old) new (λ j. sym (e j ∙ ap (λ (b : Bool). cond b None (old j)) (at-is i j))) h
@@ -129,7 +126,6 @@ kept_at (i ∷ is) (suc k) f l h =
     let rest : IsSome (cond (get_or is k 0 == i) None (f (get_or is k 0))) = kept_at is k (without i f) (omega arith) h.1 in
     (some_other (j == i) (j == i) (f j) refl rest).0
 
--- the next out's input is kept, and the others are beside it
 pub next_kept : (os : List fanout.Out) (i : ℕ) (o : fanout.Out) (others : List ℕ) (f : ℕ → Option PendingLine) → i < length os → o ≡ get_or os i o → AllKept f (inputs_given (drop i os) ++ others) →
     (IsSome (f o.input)) × (AllKept (without o.input f) (inputs_given (drop (i + 1) os) ++ others))
 next_kept os i o others f h e k =

@@ -1,4 +1,4 @@
--- The words of a record's first line say its configuration.
+-- Proves that the arguments in a record's first line give its configuration.
 use Rattle.std.proofs.Common.{◌≡◌, ℕ, ◌+◌, ◌^◌, ◌<◌, ◌≤◌, ◌⊎◌, inl, inr, Bool, true, false, eqb, ltb, cond, ◌&&◌, List, [], ◌∷◌, ◌++◌, codes, decimal, Option, Some, None, refl, sym, ap, ◌∙◌, subst, arith, eq-eqb, lit≤}
 use Rattle.std.specs.Prelude.{nat_lt, nat_le, option_and_then, option_map}
 use Rattle.std.specs.Str.{bytes_eq}
@@ -16,7 +16,7 @@ use Rattle.bx_record.proofs.Digits.{moment_lacks, moment_reads}
 use Rattle.bx_replay.specs.Settings.{Settings, count_in, settings_in, time_in, with_bytes, with_patterns, with_sessions}
 use Rattle.bx_replay.specs.Records.{CanSay, ConfigsAreTaken, alone}
 
--- ---- one word
+-- ---- One argument
 
 counted : (limit n : ℕ) → 1 ≤ n → n ≤ limit → n < 2 ^ 64 → count_in limit (decimal n) ≡ Some n
 counted limit n some most small =
@@ -25,21 +25,18 @@ counted limit n some most small =
 timed : (n : ℕ) → n < 2 ^ 32 → n < 2 ^ 64 → time_in (decimal n) ≡ Some n
 timed n small wide = ap (λ (o : Option ℕ). option_and_then (λ k. cond (nat_lt k (2 ^ 32)) (Some k) None) o) (moment_reads n wide) ∙ rw (lt-ltb n (2 ^ 32) small) refl
 
--- what lacks a dash is none
 no_dash : (ds : List ℕ) → Lacks 45 ds → bytes_eq ds (codes "-") ≡ false
 no_dash [] h = refl
 no_dash (x ∷ xs) h = ap (λ b. b && bytes_eq xs []) h.0
 
--- ---- all of them
+-- ---- All arguments
 
--- what seven words come to, one read after another
 abbrev first_read : Option ℕ → Option ℕ → Option ℕ → Option ℕ → Option ℕ → Option Options → Option ℕ → Option Settings
 first_read shards workers timeout interval max_interval options limit =
     option_and_then (λ s. option_and_then (λ w. option_and_then (λ t. option_and_then (λ i. option_and_then (λ m. option_and_then (λ (o : Options). option_and_then (λ l.
     Some (record { shards = s; workers = w; timeout = t; interval = i; max_interval = m; ride = o.ride; anonymous = o.anonymous; limit = l; bytes = STANDARD_BYTES; sessions = STANDARD_SESSIONS; patterns = STANDARD_PATTERNS }))
     limit) options) max_interval) interval) timeout) workers) shards
 
--- with the standard limits of bytes, sessions and patterns
 abbrev plain : Config → Settings
 plain c = record (alone c) { bytes = STANDARD_BYTES; sessions = STANDARD_SESSIONS; patterns = STANDARD_PATTERNS }
 

@@ -1,4 +1,4 @@
--- One more line of a server.
+-- Proves what a replay's server prints and keeps after one more line.
 use Rattle.std.proofs.Common.{◌≡◌, ℕ, ◌+◌, ◌<◌, ◌≤◌, Option, Some, None, List, [], ◌∷◌, ◌++◌, length, map, Result, Ok, Err, refl, sym, ap, ◌∙◌, subst, arith, append-nil, append_assoc, length-append}
 use Rattle.std.proofs.lemmas.List.{map-append, length-map}
 use Rattle.std.specs.Prelude.{IfSome, option_map, string_bytes}
@@ -21,7 +21,7 @@ use Rattle.bx_theory.proofs.{Lines.inputs_go_on, Lines.lines_go_on, Nonces.nonce
 use Rattle.bx_script.proofs.Fronts.{writes_second}
 use Rattle.bx_script.specs.declared.line.Line as script
 
--- ---- lines that are no inputs
+-- ---- Lines that are not inputs
 
 inputs_on : (ls : List Line) (l : Line) (ones : List Numbered) → inputs_from (length ls + 1) (l ∷ []) ≡ ones → inputs_in (ls ++ l ∷ []) ≡ inputs_in ls ++ map (λ (n : Numbered). n.input) ones
 inputs_on ls l ones e =
@@ -58,7 +58,7 @@ prints_line config ls l more text before after room adds e appends = record {
   is = ap (printed_so_far config) (seen_more ls l) ∙ lines_go_on config (seen_lines ls) (seen_behind ls l) more room adds ∙ ap (λ (t : List ℕ). printed_so_far config (seen_lines ls) ++ t) (sym e);
 }
 
--- ---- inputs
+-- ---- Inputs
 
 pub served_handed : (config : Config) (ls : List Line) (callback : Option (List ℕ)) (input : ReadInput) (inputs now : List ReadInput) (added then : List Out) (kept keeps : ℕ → Option PendingLine) (number : ℕ) →
     Served config ls inputs added kept number → now ≡ inputs ++ input ∷ [] → then ≡ outs config now → AreKept (inputs_from 1 ls ++ record { line = number + 1; callback = callback; input = input } ∷ []) keeps → AllKept keeps (held config now) →
@@ -75,7 +75,6 @@ served_handed config ls callback input inputs now added then kept keeps number d
       number_is = omega (arith, d.number_is, length-append ls (Accepted callback input ∷ []));
     }
 
--- the outs that it adds
 pub adds_handed : (config : Config) (ls : List Line) (input : ReadInput) (inputs now : List ReadInput) (added then more : List Out) (kept : ℕ → Option PendingLine) (number : ℕ) →
     Served config ls inputs added kept number → now ≡ inputs ++ input ∷ [] → then ≡ outs config now → then ≡ added ++ more → outs config (inputs_in ls ++ input ∷ []) ≡ outs config (inputs_in ls) ++ more
 adds_handed config ls input inputs now added then more kept number d are all adds =
@@ -87,8 +86,6 @@ pub texts_handed : (config : Config) (ls : List Line) (callback : Option (List �
 texts_handed config ls callback input inputs added more kept number d =
     ap (λ (ns : List Numbered). outs_text ns more)
     (ap (λ (n : ℕ). inputs_from 1 ls ++ record { line = n + 1; callback = callback; input = input } ∷ []) d.number_is ∙ sym (inputs_go_on ls (Accepted callback input)))
-
--- how many inputs there are
 
 few_from : (number : ℕ) (ls : List Line) → length (inputs_from number ls) ≤ length ls
 few_from number [] = omega arith
@@ -105,7 +102,7 @@ many_of config ls inputs added kept number d = sym (ap length d.inputs_are ∙ l
 pub few_served : (config : Config) (ls : List Line) (inputs : List ReadInput) (added : List Out) (kept : ℕ → Option PendingLine) (number : ℕ) → Served config ls inputs added kept number → length inputs ≤ number
 few_served config ls inputs added kept number d = omega (arith, few_from 1 ls, many_of config ls inputs added kept number d, d.number_is)
 
--- ---- a line of a server
+-- ---- One line of a server
 
 pub served_line : (config : Config) (ls ms : List script.Line) (l k : script.Line) (inputs : List ReadInput) (added : List Out) (kept : ℕ → Option PendingLine) (number : ℕ) →
     ms ≡ ls ++ l ∷ [] → l ≡ k → ((n : ℕ) → inputs_from n (seen_behind ls k ∷ []) ≡ []) → Served config (seen_lines ls) inputs added kept number → Served config (seen_lines ms) inputs added kept (number + 1)
@@ -130,12 +127,10 @@ served_same config other ls inputs those added these kept number e f h d = recor
   number_is = d.number_is;
 }
 
--- what an input is read as behind these lines, with the nonce that waits there
 abbrev pub read_behind : List script.Line → Input → ReadInput
 read_behind ls input = with_nonce (nonce_at (read_lines ls)) (read_input input)
 
 module _ {P : Type 0} {g : Ghosts P} where
-  -- what a run that ended well says
   pub record Ran (old : Round P g) (inputs : List Input) (before after : List fanout.Out) (new : Round P g) : Type 0 where
     pub more : List fanout.Out
     pub behind : after ≡ before ++ more
@@ -157,7 +152,6 @@ module _ {P : Type 0} {g : Ghosts P} where
   }
   ran old inputs before after new (Err fault) u e run = cc
 
-  -- the same of an input that is read alike
   pub hands_as : (old new : Round P g) (number : ℕ) (name : Option (List ℕ)) (given read : ReadInput) (before after : Option (List ℕ)) (kept keeps : ℕ → Option PendingLine) → given ≡ read →
       Hands old (numbered number name given) new before after kept keeps → Hands old (numbered number name read) new before after kept keeps
   hands_as old new number name given read before after kept keeps e h = subst (λ (x : ReadInput). Hands old (numbered number name x) new before after kept keeps) e h
@@ -190,7 +184,7 @@ module _ {P : Type 0} {g : Ghosts P} where
       (texts_handed config (seen_lines ls) name read (inputs_of old) (added_by old) h.more kept number was)
       (h.prints (inputs_from 1 (seen_lines ls)) (many_of config (seen_lines ls) (inputs_of old) (added_by old) kept number was) d.kept_are).appends
 
--- ---- all lines
+-- ---- All lines
 
 pub prints_none : (config : Config) (ls : List script.Line) (a : Option (List ℕ)) → ls ≡ [] → Prints config [] ls a a
 prints_none config ls a e = record { text = []; appends = appends_none a; is = ap (λ (us : List script.Line). printed_so_far config (seen_lines us)) e ∙ sym (append-nil (printed_so_far config [])) }
@@ -225,7 +219,6 @@ reads_by : (d : Dialect) (xs ys : List ℕ) (c : Option (List ℕ)) (ls ms : Lis
 reads_by d xs ys None ls ms line e r n = let some : None ≡ Some (rest_of ys) = n.left in cc
 reads_by d xs ys (Some zs) ls ms line e r n = reads_line d xs ys zs ls ms line e r n
 
--- what was read as `d` before is read on as that
 pub reads_more : (d now : Dialect) (a b c : Option (List ℕ)) (ls ms : List script.Line) (next : Option script.Line) (line : script.Line) → now ≡ d → next ≡ Some line → ms ≡ ls ++ line ∷ [] →
     Reads d a b ls → IfSome b (λ bytes. IsNext now next bytes c) → Reads d a c ms
 reads_more d now None b c ls ms next line same is e r n = tt
@@ -259,7 +252,7 @@ pub replayed : {A E : Type 0} (d : Dialect) (config other : Config) (bytes : Opt
 replayed d config other None ls a b w r e all p h = tt
 replayed d config other (Some bs) ls a b w r e all p h = subst (λ (c : Config). Writes a w r (replay_text d c bs)) e (printed_all d other bs ls a b w r all p h)
 
--- ---- what a server keeps
+-- ---- What a server keeps
 
 pub keeps_served : (config : Config) (ls : List Line) (inputs : List ReadInput) (added : List Out) (kept : ℕ → Option PendingLine) (number : ℕ) → Served config ls inputs added kept number → Keeps kept (held config inputs) (length inputs)
 keeps_served config ls inputs added kept number d = record {

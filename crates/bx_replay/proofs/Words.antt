@@ -1,4 +1,4 @@
--- Fewer than five words, and more than seven, say nothing.
+-- Proves that fewer than five or more than seven positional arguments are invalid.
 use Rattle.std.proofs.Common.{◌≡◌, ℕ, ◌<◌, ◌≤◌, List, [], ◌∷◌, length, refl, arith}
 use Rattle.std.specs.Prelude.{None}
 use Rattle.bx_replay.specs.Settings.{words_in}

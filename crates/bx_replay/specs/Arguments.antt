@@ -1,4 +1,4 @@
--- What the program's arguments mean.
+-- The settings that parsed arguments give.
 use Rattle.std.specs.Prelude.{Option, Some, None, Result, Ok, Err}
 use Rattle.bx_advice.specs.Limits.{standard_limits, IsStandard}
 use Rattle.bx_replay.specs.Settings.{Settings}
@@ -21,7 +21,7 @@ run_by arguments = record {
   patterns = arguments.config.limits.patterns;
 }
 
--- All limits except the four that arguments set are this server's standard ones.
+-- All limits except the four that arguments set are the standard ones.
 abbrev pub HasStandardLimits : Arguments → Type 0
 HasStandardLimits arguments =
     IsStandard (record arguments.config.limits { events = standard_limits.events; bytes = standard_limits.bytes; sessions = standard_limits.sessions; patterns = standard_limits.patterns })

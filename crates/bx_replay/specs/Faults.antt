@@ -1,10 +1,10 @@
--- Why a replay may end early.
+-- The faults that end a replay early.
 use Rattle.std.specs.Prelude.{⊤}
 use Rattle.bx_script.specs.Words.{CannotRead, HasFailed}
 use Rattle.bx_script.specs.declared.{error.ScriptFault.ScriptFault, lines.Lines.Lines, output.Output.Output}
 use Rattle.bx_script.specs.declared.error.ScriptFault.TheVariants.{Memory, Read, Write}
 
--- Memory ran out, the script could not be read on, or a write failed.
+-- Memory ran out, the script cannot be read further, or a write failed.
 abbrev pub IsReplayFault : {R W : Type 0} → Lines R → Output W → ScriptFault → Type 0
 IsReplayFault lines output Memory = ⊤
 IsReplayFault lines output Read = CannotRead lines

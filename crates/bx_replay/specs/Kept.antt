@@ -1,4 +1,4 @@
--- What is kept of the inputs whose outs are not printed yet.
+-- What is kept of inputs until their outs are printed.
 use Rattle.std.specs.Prelude.{ℕ, ◌≡◌, ◌==◌, IsSome, None, ⊤, if◌then◌else◌, map, [], ◌∷◌, List, flat_map, option_map, slice_get, string_bytes, Option, Some}
 use Rattle.std.specs.Io.KnownBytes.{Appends}
 use Rattle.bx_replay.specs.declared.kept.PendingLine.{PendingLine}
@@ -19,12 +19,12 @@ pub record IsKept (numbered : List Numbered) (i : ℕ) (a : PendingLine) : Type 
 abbrev pub AreKept : List Numbered → (ℕ → Option PendingLine) → Type 0
 AreKept numbered kept = (i : ℕ) (a : PendingLine) → kept i ≡ Some a → IsKept numbered i a
 
--- The outs were printed, and what is kept still belongs to inputs.
+-- The outs were printed, and everything that is kept still belongs to an input.
 pub record PrintsOuts (numbered : List Numbered) (os : List Out) (before after : Option (List ℕ)) (new : ℕ → Option PendingLine) : Type 0 where
   pub kept : AreKept numbered new
   pub appends : Appends before after (outs_text numbered os)
 
--- The lines of the held inputs.
+-- What is printed for the held inputs.
 abbrev pub held_texts : List Numbered → List ℕ → List ℕ
 held_texts numbered is = flat_map (λ index. held_text (slice_get numbered index)) is
 
@@ -32,7 +32,7 @@ held_texts numbered is = flat_map (λ index. held_text (slice_get numbered index
 abbrev pub without : ℕ → (ℕ → Option PendingLine) → ℕ → Option PendingLine
 without i kept j = if j == i then None else kept j
 
--- All of these inputs are kept, and each is listed once.
+-- All of these inputs are kept, and each is given once.
 abbrev pub AllKept : (ℕ → Option PendingLine) → List ℕ → Type 0
 AllKept kept [] = ⊤
 AllKept kept (i ∷ is) = IsSome (kept i) × AllKept (without i kept) is

@@ -7,7 +7,7 @@ use Rattle.bx_script.specs.Words.{first_of, is_space}
 use Rattle.bx_record.specs.Record.{config_text}
 use Rattle.bx_replay.specs.Settings.{Settings, settings_in}
 
--- Times of 32 bits, and limits as arguments can set them.
+-- A configuration that arguments can give: its times have 32 bits, and its limits are in range.
 pub record CanSay (c : Config) : Type 0 where
   pub times : (c.timeout < 2 ^ 32) × (c.interval < 2 ^ 32) × (c.max_interval < 2 ^ 32)
   pub events : (1 ≤ c.limits.events) × (c.limits.events ≤ 65536)

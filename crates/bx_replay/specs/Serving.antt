@@ -1,4 +1,4 @@
--- What a server has taken in of a script, and what was printed for it.
+-- The lines that a replay's server has processed, and what it printed for them.
 use Rattle.std.specs.Prelude.{ℕ, ◌≡◌, ◌++◌, List, [], ◌∷◌, length, map, ⊤, Option, Some, None}
 use Rattle.std.specs.{BTreeMap.get, Io.KnownBytes.Appends, Ordering.nat_cmp}
 use Rattle.bx_replay.specs.Kept.{AllKept, AreKept, PrintsOuts, held_texts}
@@ -13,7 +13,7 @@ use Rattle.bx_theory.specs.Lines.{inputs_in, outs_text, printed_so_far}
 use Rattle.bx_script.specs.declared.line.Line as script
 use Rattle.bx_script.specs.declared.line.Line.TheVariants.{Bad, Rejected, Accepted, Resharded}
 
--- The lines that were taken in, in the definitions' form.
+-- The processed lines, in the definitions' form.
 abbrev pub read_lines : List script.Line → List Line
 read_lines ls = map said_by ls
 
@@ -21,22 +21,23 @@ read_lines ls = map said_by ls
 abbrev pub seen_lines : List script.Line → List Line
 seen_lines ls = with_nonces 0 (read_lines ls)
 
--- One more line after them.
+-- The line `l` after them, with its nonce.
 abbrev pub seen_behind : List script.Line → script.Line → Line
 seen_behind ls l = line_with (nonce_at (read_lines ls)) (said_by l)
 
--- The number of shards after a line.
+-- The number of shards after a line, given the number before it.
 abbrev pub shards_after : script.Line → ℕ → ℕ
 shards_after (Resharded shards) before = shards
 shards_after _ before = before
 
--- What further lines print.
+-- `text`, which is what the lines after `old` print, was appended.
 pub record Prints (config : Config) (old new : List script.Line) (before after : Option (List ℕ)) : Type 0 where
   pub text : List ℕ
   pub appends : Appends before after text
   pub is : printed_so_far config (seen_lines new) ≡ printed_so_far config (seen_lines old) ++ text
 
--- The beginning of what further lines print, written before a fault.
+-- A fault ended the printing of `text`, which is what the lines after `old` print: a first part was
+-- appended.
 pub record PrintsFront (config : Config) (old new : List script.Line) (before after : Option (List ℕ)) : Type 0 where
   pub text : List ℕ
   pub front : AppendsFront before after text
@@ -57,7 +58,7 @@ IsAll dialect (Some text) ls = read_lines ls ≡ lines_in dialect text
 abbrev pub held_lines : Config → List script.Line → List ℕ
 held_lines config ls = held_texts (inputs_from 1 (seen_lines ls)) (held config (inputs_in (seen_lines ls)))
 
--- All outs of the lines' inputs were added, and the held inputs are kept; `number` counts the
+-- All outs of the lines' inputs were appended, and the held inputs are kept. `number` counts the
 -- lines.
 pub record Served (config : Config) (ls : List Line) (inputs : List ReadInput) (added : List Out) (kept : ℕ → Option PendingLine) (number : ℕ) : Type 0 where
   pub inputs_are : inputs ≡ inputs_in ls
@@ -67,8 +68,7 @@ pub record Served (config : Config) (ls : List Line) (inputs : List ReadInput) (
   pub number_is : number ≡ length ls
 
 module _ {P : Type 0} {g : Ghosts P} where
-  -- One more input of a round: its outs, and those of earlier inputs that it completes, are
-  -- printed.
+  -- A round ran one more input. The outs of all inputs that it completed were printed.
   pub record Hands (old : Round P g) (one : Numbered) (new : Round P g) (before after : Option (List ℕ)) (kept keeps : ℕ → Option PendingLine) : Type 0 where
     pub more : List Out
     pub inputs : inputs_of new ≡ inputs_of old ++ one.input ∷ []
@@ -79,13 +79,14 @@ module _ {P : Type 0} {g : Ghosts P} where
     pub held_are : AllKept keeps (held (setup_in new).config (inputs_of new))
     pub prints : (numbered : List Numbered) → length numbered ≡ length (inputs_of old) → AreKept numbered kept → PrintsOuts (numbered ++ one ∷ []) more before after keeps
 
-  -- One more input, cut off by a fault: the beginning of what its outs print is written.
+  -- A fault ended the printing of one more input's outs: a first part was appended.
   pub record HandsFront (old : Round P g) (one : Numbered) (before after : Option (List ℕ)) (kept : ℕ → Option PendingLine) : Type 0 where
     pub more : List Out
     pub adds : outs (setup_in old).config (inputs_of old ++ one.input ∷ []) ≡ outs (setup_in old).config (inputs_of old) ++ more
     pub prints : (numbered : List Numbered) → length numbered ≡ length (inputs_of old) → AreKept numbered kept → AppendsFront before after (outs_text (numbered ++ one ∷ []) more)
 
-  -- A server printed the outs of its lines, and keeps the held inputs and the next request's nonce.
+  -- The invariant: the outs of the lines are printed; the held inputs and the next request's nonce
+  -- are kept.
   pub record Serves (s : ReplayServer P g) : Type 0 where
     pub served : Served (setup_in s.round).config (seen_lines s.lines) (inputs_of s.round) (added_by s.round) (get nat_cmp s.kept) s.number
     pub nonce_is : s.nonce ≡ nonce_at (read_lines s.lines)

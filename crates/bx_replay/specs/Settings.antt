@@ -1,13 +1,13 @@
--- The settings of a server, and the arguments for them.
+-- The settings of a replay, and the arguments for them.
 use Rattle.std.specs.Prelude.{ℕ, ◌&&◌, ◌^◌, nat_le, nat_lt, if◌then◌else◌, Bool, List, [], ◌∷◌, codes, Option, Some, None, option_and_then, option_map}
 use Rattle.std.specs.Str.{bytes_eq}
 use Rattle.bx_advice.specs.Options.{options_in}
 use Rattle.bx_advice.specs.declared.config.TheConstants.{MAX_BYTES, STANDARD_BYTES, STANDARD_PATTERNS, STANDARD_SESSIONS}
 use Rattle.bx_message.specs.Fields.{number_of}
 
--- How a server is run; times are in milliseconds. With `ride`, waiting events ride; with
+-- How a replay is run; times are in milliseconds. With `ride`, riders get waiting events; with
 -- `anonymous`, sessionless publishes are accepted. `limit` and `bytes` bound a session's waiting
--- events, `patterns` its active patterns, and `sessions` the live sessions.
+-- events, `patterns` its active patterns, and `sessions` the number of live sessions.
 pub record Settings : Type 0 where
   pub shards : ℕ
   pub workers : ℕ
@@ -25,11 +25,11 @@ infixl 10 ◌>>=◌
 abbrev pub ◌>>=◌ : {A B : Type 0} → Option A → (A → Option B) → Option B
 o >>= f = option_and_then f o
 
--- The number from 1 to a limit that digits give.
+-- The number that digits give, if it is from 1 to a limit.
 abbrev pub count_in : ℕ → List ℕ → Option ℕ
 count_in limit digits = option_and_then (λ n. if nat_le 1 n && nat_le n limit then Some n else None) (number_of digits)
 
--- The number of 32 bits that digits give.
+-- The number that digits give, if it has at most 32 bits.
 abbrev pub time_in : List ℕ → Option ℕ
 time_in digits = option_and_then (λ n. if nat_lt n (2 ^ 32) then Some n else None) (number_of digits)
 
@@ -58,17 +58,17 @@ named_in name [] = (None, [])
 named_in name (word ∷ []) = (None, word ∷ [])
 named_in name (word ∷ next ∷ words) = if bytes_eq word name then (Some next, words) else (None, word ∷ next ∷ words)
 
--- The settings with this limit of bytes, if there is one; `-` leaves them unchanged.
+-- The settings with this limit of bytes, if given; `-` leaves them unchanged.
 abbrev pub with_bytes : Option (List ℕ) → Settings → Option Settings
 with_bytes None s = Some s
 with_bytes (Some word) s = if bytes_eq word (codes "-") then Some s else option_map (λ n. record s { bytes = n }) (count_in MAX_BYTES word)
 
--- The settings with this limit of sessions, if there is one.
+-- The settings with this limit of sessions, if given.
 abbrev pub with_sessions : Option (List ℕ) → Settings → Option Settings
 with_sessions None s = Some s
 with_sessions (Some word) s = option_map (λ n. record s { sessions = n }) (count_in STANDARD_SESSIONS word)
 
--- The settings with this limit of patterns, if there is one.
+-- The settings with this limit of patterns, if given.
 abbrev pub with_patterns : Option (List ℕ) → Settings → Option Settings
 with_patterns None s = Some s
 with_patterns (Some word) s = option_map (λ n. record s { patterns = n }) (count_in STANDARD_PATTERNS word)

@@ -10,7 +10,7 @@ use bx_advice::{Config, MAX_SHARDS, Options};
 use bx_message::number_of;
 use bx_workers::WorkerCount;
 
-/// The configuration and the number of workers.
+/// The configuration of a replay and its number of workers.
 #[derive(Clone, Copy)]
 pub struct Arguments {
     /// The number of shards, the times in milliseconds, the limits and the options.
@@ -24,7 +24,7 @@ impl Arguments {
 
     /// Parses the arguments of a replay.
     ///
-    /// Limits come first, in this order; each may be missing:
+    /// `words`: the arguments. Limits come first, in this order; each may be missing:
     ///
     /// - `--bytes N`: bytes of a session's waiting events, 1 to
     ///   [`MAX_BYTES`](bx_advice::MAX_BYTES), or `-` for the standard limit
@@ -43,8 +43,8 @@ impl Arguments {
     ///
     /// # Errors
     ///
-    /// `Count` if there are too few or too many arguments. Otherwise the first wrong argument,
-    /// positional ones before limits.
+    /// `Count` if there are fewer than five or more than seven positional arguments. Otherwise the
+    /// first wrong positional argument or, if all of these are valid, the first wrong limit.
     pub fn read(words: &[&[u8]]) -> Result<Arguments, WrongWord>
         ensures said { said_by result ≡ settings_in (map (λ word. word.now) words.now) }
         ensures limits { IfOk result (λ arguments. HasStandardLimits arguments) }
@@ -182,7 +182,7 @@ impl Arguments {
     }
 }
 
-// Returns the value after `name`, if `words` begin with `name`, and the remaining words.
+// Returns the argument after `name` if `words` begin with `name`, and the remaining arguments.
 fn named_in<'a, 'b>(name: &[u8], words: &'a [&'b [u8]]) -> (Option<&'b [u8]>, &'a [&'b [u8]])
     ensures { (option_map (λ word. word.now) result.0, map (λ word. word.now) result.1.now) ≡ named_in name.now (map (λ word. word.now) words.now) }
 {
@@ -192,7 +192,7 @@ fn named_in<'a, 'b>(name: &[u8], words: &'a [&'b [u8]]) -> (Option<&'b [u8]>, &'
     }
 }
 
-// Parses a number of shards.
+// Parses a number of shards, 1 to 64.
 fn shards_in(digits: &[u8]) -> Option<usize>
     ensures { result ≡ count_in 64 digits.now }
 {
@@ -204,7 +204,7 @@ fn shards_in(digits: &[u8]) -> Option<usize>
     }
 }
 
-// Sets the options that `word` names.
+// Sets the options to those of `word`. Returns `None` if it is invalid.
 fn with_options(config: Config, word: &[u8]) -> Option<Config>
     ensures said { result
         ≡ option_map (λ (o : Options). record config { ride = o.ride; anonymous = o.anonymous }) (options_in word.now) }
@@ -213,7 +213,7 @@ fn with_options(config: Config, word: &[u8]) -> Option<Config>
     Some(config.with(Options::read(word)?))
 }
 
-// Sets the limit of waiting events.
+// Sets the limit of a session's waiting events. Returns `None` if it is invalid.
 fn with_limit(config: Config, limit: &[u8]) -> Option<Config>
     ensures said { result
         ≡ option_map (λ n. record config { limits = record config.limits { events = n } }) (count_in 65536 limit.now) }
@@ -225,7 +225,7 @@ fn with_limit(config: Config, limit: &[u8]) -> Option<Config>
     config.with_limit(time_in(limit)?)
 }
 
-// Parses a number of workers.
+// Parses a number of workers, 1 to 16.
 fn workers_in(digits: &[u8]) -> Option<WorkerCount>
     ensures { result ≡ count_in 16 digits.now }
 {

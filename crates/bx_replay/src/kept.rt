@@ -1,4 +1,4 @@
-//! The inputs whose outs are not printed yet.
+//! What is kept of inputs until their outs are printed.
 ghost use Rattle.std.specs.Prelude.{◌≡◌, ◌++◌, ℕ, [], ◌∷◌, List, IsSome, map, if◌then◌else◌, IfErr, OnErr, OnOk};
 ghost use Rattle.std.specs.BTreeMap.{get, is_at};
 ghost use Rattle.std.specs.Ordering.{nat_cmp};
@@ -18,19 +18,22 @@ use std::io::Write;
 /// What is kept of an input until its out is printed.
 #[derive(Drop)]
 pub struct PendingLine {
-    /// The number of its line.
+    /// The number of the input's line, from 1.
     pub line: u64,
-    /// The function that is called with its response, for a GET.
+    /// The name of the function that a callback-polling response calls, or `None` for other inputs.
     pub callback: Option<String>,
-    /// Whether the input is a tick, which prints nothing unless it is refused.
+    /// Whether the input is a tick, which prints nothing unless it is rejected.
     pub tick: bool,
 }
 
-/// Prints `outs` in order, and drops what was kept of their inputs.
+/// Prints `outs` in order, and drops what `kept` has of their inputs.
 ///
 /// # Errors
 ///
-/// `Memory` if memory runs out; `Memory` or `Write` if a write fails. A first part may be printed.
+/// - `Memory`: memory ran out.
+/// - `Write`: a write failed.
+///
+/// On error, a first part of the output may be written.
 pub fn print_outs<W: Write>(
     alloc: Global,
     kept: &mut BTreeMap<usize, PendingLine>,
@@ -51,7 +54,7 @@ pub fn print_outs<W: Write>(
     Ok(())
 }
 
-// Prints an out, and drops what was kept of its input.
+// Prints `out`, and drops what `kept` has of its input.
 fn print_out<W: Write>(
     alloc: Global,
     kept: &mut BTreeMap<usize, PendingLine>,
@@ -79,11 +82,11 @@ fn print_out<W: Write>(
     )
 }
 
-/// Prints that the inputs `numbers` are held.
+/// Prints for each input in `numbers` that it is held.
 ///
 /// # Errors
 ///
-/// `Memory` or `Write` if a write fails. A first part may be printed.
+/// `Memory` or `Write` if a write fails. A first part of the output may be written.
 pub fn print_held<W: Write>(
     kept: &BTreeMap<usize, PendingLine>,
     numbers: &[usize],

@@ -1,7 +1,7 @@
-//! The law of a record's first line.
+//! A law of the first line of a record.
 ghost use Rattle.bx_replay.specs.Records.{ConfigsAreTaken};
 
-/// Proves that a record's first line, split at spaces, gives its configuration with one worker.
+/// Proves that the first line of a record gives its configuration, with one worker.
 pub fn configs_are_taken()
     ensures { ConfigsAreTaken }
 {}

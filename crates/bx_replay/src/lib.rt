@@ -1,4 +1,4 @@
-//! Replays of scripts and records: from lines to printed answers, and the arguments for a run.
+//! Replays of scripts and records: their arguments, and the answers printed for each line.
 #![tactic(auto)]
 
 mod arguments;

@@ -1,4 +1,4 @@
-//! The first line of a record.
+//! The first line of a record, which has the arguments for its replay.
 ghost use Rattle.std.specs.List.{slice_split};
 ghost use Rattle.std.specs.Prelude.{◌≡◌, IfOk, IfSome, OnOk, Some, map, position};
 ghost use Rattle.bx_replay.specs.Arguments.{said_by};
@@ -11,13 +11,14 @@ use bx_script::ScriptFault;
 use std::alloc::{AllocError, Global};
 use std::io::BufRead;
 
-/// Reads the first line of a record, and parses its arguments, separated by single spaces.
+/// Reads the first line of a record and parses its arguments, separated by single spaces.
 ///
-/// Leaves `reader` at the next line. The inner result is that of [`Arguments::read`].
+/// The inner result is that of [`Arguments::read`]. `reader` is then at the next line.
 ///
 /// # Errors
 ///
-/// `Memory` if memory runs out; `Read` if a read fails.
+/// - `Read`: a read failed.
+/// - `Memory`: memory ran out, in a read or later.
 pub fn read_settings<R: BufRead>(
     alloc: Global,
     reader: &mut R,
@@ -30,7 +31,7 @@ pub fn read_settings<R: BufRead>(
     Ok(Arguments::read(&words))
 }
 
-// Reads the first line, including its line feed if it has one.
+// Reads the first line, with its newline if it has one.
 fn read_line<R: BufRead>(alloc: Global, reader: &mut R) -> Result<Vec<u8>, ScriptFault>
     ensures line { IfOk result (λ line. IfSome (R.remaining reader.old) (λ text. first_of line.items ≡ first_of text)) }
     ensures left { OnOk result (IfSome (R.remaining reader.old) (λ text. R.remaining reader.new ≡ Some (rest_of text))) }
@@ -42,7 +43,7 @@ fn read_line<R: BufRead>(alloc: Global, reader: &mut R) -> Result<Vec<u8>, Scrip
     }
 }
 
-// Returns what is before the first line feed, or all if there is none.
+// Returns the text before the first newline, or all of it if there is none.
 fn first_line(text: &[u8]) -> &[u8]
     ensures { result.now ≡ first_of text.now }
 {
@@ -52,14 +53,14 @@ fn first_line(text: &[u8]) -> &[u8]
     }
 }
 
-// Returns the index of the first line feed.
+// Returns the index of the first newline.
 fn end_in(text: &[u8]) -> Option<usize>
     ensures { result ≡ position is_newline text.now }
 {
     text.iter().position(|byte| *byte == b'\n')
 }
 
-// Splits a line at its spaces.
+// Splits `line` at each space.
 fn words_of(alloc: Global, line: &[u8]) -> Result<Vec<&[u8]>, AllocError>
     ensures { IfOk result (λ words. map (λ word. word.now) words.items ≡ slice_split is_space line.now) }
 {

@@ -1,4 +1,4 @@
-//! A replay of a script or a record.
+//! Replaying a script or a record.
 ghost use Rattle.std.specs.Prelude.{◌≡◌, [], IfErr, IfOk, IfSome, OnErr};
 ghost use Rattle.bx_replay.specs.Serving.{IsAll, Prints, Serves, held_lines};
 ghost use Rattle.bx_script.specs.Replay.{replay_text};
@@ -19,10 +19,11 @@ use std::io::{BufRead, Write};
 use std::sync::Arc;
 use std::thread::Threads;
 
-/// Writes the answers to all lines, numbered from 1, and then which lines have no answer yet.
+/// Writes the answers to all lines, and then which lines have no answer yet.
 ///
-/// The output is the same for every number of workers or shards, and for every placing. A line that
-/// changes the number of shards redistributes the sessions by the same placing.
+/// Lines are numbered from 1. The output is the same for every number of workers and shards, and
+/// for every placing. A line that changes the number of shards redistributes the sessions by
+/// `placing`.
 ///
 /// # Errors
 ///
@@ -30,7 +31,7 @@ use std::thread::Threads;
 /// - `Read`: a read failed, or there were [`MAX_READS`](bx_script::MAX_READS) reads.
 /// - `Write`: a write failed.
 ///
-/// On error, what was written is a first part of the right output.
+/// On error, a first part of the output may be written.
 pub fn replay<T: Threads + Sync, P: Placing + Drop + Send + Sync, R: BufRead, W: Write>(
     rt: &T,
     alloc: Global,
@@ -50,7 +51,7 @@ pub fn replay<T: Threads + Sync, P: Placing + Drop + Send + Sync, R: BufRead, W:
     finish(alloc, &server, writer)
 }
 
-// Answers all lines that the reader has.
+// Processes all lines that the reader has.
 fn answer_all<T: Threads + Sync, P: Placing + Drop + Send + Sync, R: BufRead, W: Write>(
     rt: &T,
     alloc: Global,
@@ -77,7 +78,7 @@ fn answer_all<T: Threads + Sync, P: Placing + Drop + Send + Sync, R: BufRead, W:
     }
 }
 
-// Writes which lines have no answer, and flushes.
+// Writes which lines have no answer, and flushes `writer`.
 fn finish<P: Placing, W: Write>(
     alloc: Global,
     server: &ReplayServer<P>,

@@ -1,4 +1,4 @@
-//! The server of a replay, which takes in one line at a time.
+//! The server of a replay, which processes one line at a time.
 ghost use Rattle.std.specs.Prelude.{◌≡◌, ◌+◌, ◌++◌, ◌≤◌, ◌<◌, ◌^◌, [], ◌∷◌, length, option_map, string_bytes, IfErr, IfOk, OnErr, OnOk};
 ghost use Rattle.std.specs.BTreeMap.{get};
 ghost use Rattle.std.specs.Ordering.{nat_cmp};
@@ -29,17 +29,17 @@ use std::thread::Threads;
 pub struct ReplayServer<P: Placing> {
     /// The round that answers the inputs.
     pub round: Round<P>,
-    /// The inputs whose outs are not printed yet, by number.
+    /// What is kept of inputs until their outs are printed, by the input's number.
     pub kept: BTreeMap<usize, PendingLine>,
-    /// Number of lines that were taken in.
+    /// Number of lines processed so far.
     pub number: u64,
-    /// The nonce of the next request.
+    /// The nonce of the next request, or 0 if no line gave one.
     pub nonce: u128,
-    /// Ghost: the lines that were taken in.
+    /// Ghost: the lines processed so far.
     pub lines: History<Line>,
 }
 
-/// Creates a server that has taken in no line.
+/// Creates a server that has processed no lines.
 ///
 /// # Errors
 ///
@@ -65,11 +65,16 @@ pub fn new_server<P: Placing + Drop>(
     })
 }
 
-/// Takes in one more line, and prints the answers that result.
+/// Processes `line`, and prints the outs that result.
+///
+/// `placing`: the placing to use if `line` changes the number of shards.
 ///
 /// # Errors
 ///
-/// `Memory` if memory runs out; `Memory` or `Write` if a write fails. A first part may be printed.
+/// - `Memory`: memory ran out.
+/// - `Write`: a write failed.
+///
+/// On error `server` is dropped, and a first part of the output may be written.
 pub fn answer<T: Threads + Sync, P: Placing + Drop + Send + Sync, W: Write>(
     rt: &T,
     alloc: Global,
@@ -132,7 +137,7 @@ pub fn answer<T: Threads + Sync, P: Placing + Drop + Send + Sync, W: Write>(
     }
 }
 
-// Sets the nonce of a request to the waiting one. Returns the input and the nonce for the next one.
+// Sets the nonce of a request to `nonce`. Returns the input, and the nonce of the next request.
 fn take_nonce(nonce: u128, input: Input) -> (Input, u128)
     ensures input { read_input result.0 ≡ with_nonce nonce (read_input input) }
     ensures left { result.1 ≡ nonce_left nonce (read_input input) }
@@ -143,7 +148,7 @@ fn take_nonce(nonce: u128, input: Input) -> (Input, u128)
     }
 }
 
-// Takes in one more input, and prints the outs that result.
+// Runs one more input, and prints the outs that result.
 fn hand<T: Threads + Sync, P: Placing + Send + Sync, W: Write>(
     rt: &T,
     alloc: Global,
@@ -184,7 +189,7 @@ fn ticks(input: &Input) -> bool
     matches!(input, Input::Tick(_))
 }
 
-// Changes the number of shards, with the same placing.
+// Redistributes the sessions among `shards` shards, by `placing`.
 fn reshard<T: Threads + Sync, P: Placing + Drop + Send + Sync>(
     rt: &T,
     alloc: Global,

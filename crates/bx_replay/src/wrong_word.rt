@@ -1,4 +1,4 @@
-//! What is wrong with the arguments of a replay.
+//! The error for wrong arguments of a replay.
 use std::fmt::{self, Display, Formatter, Write};
 
 /// What is wrong with the arguments: their number, or the value of one.
@@ -6,30 +6,30 @@ use std::fmt::{self, Display, Formatter, Write};
 pub enum WrongWord {
     /// There are fewer than five or more than seven positional arguments.
     Count,
-    /// The number of shards.
+    /// The number of shards is not 1 to 64.
     Shards,
-    /// The number of workers.
+    /// The number of workers is not 1 to 16.
     Workers,
-    /// How long a connect is held, in milliseconds.
+    /// How long a connect is held is not a number of milliseconds below 2^32.
     Timeout,
-    /// How long clients are advised to wait between two connects, in milliseconds.
+    /// How long clients wait between two connects is not a number of milliseconds below 2^32.
     Interval,
-    /// How long each accepted message keeps its session alive, in milliseconds.
+    /// How long a message keeps its session alive is not a number of milliseconds below 2^32.
     MaxInterval,
-    /// The options.
+    /// The options are not `-`, `r`, `a` or `ra`.
     Options,
-    /// How many events may wait for a session.
+    /// The number of events that may wait for a session is not 1 to 65,536.
     Limit,
-    /// How many bytes these may have.
+    /// The number of bytes that these events may have is neither `-` nor 1 to 4,294,967,295.
     Bytes,
-    /// How many sessions may be live.
+    /// The number of sessions that may be live is not 1 to 65,536.
     Sessions,
-    /// How many patterns a session may have.
+    /// The number of patterns that a session may have is not 1 to 1,024.
     Patterns,
 }
 
 impl Display for WrongWord {
-    /// Writes the rule that the arguments break.
+    /// Writes which arguments are valid instead.
     fn fmt<W: Write>(&self, f: &mut Formatter<W>) -> fmt::Result {
         f.write_str(match self {
             WrongWord::Count =>

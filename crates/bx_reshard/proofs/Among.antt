@@ -1,4 +1,4 @@
--- What the shards have that were redistributed, and what became of it in those that took over from them.
+-- What the old shards have, and in which new shard each part of it is.
 use Rattle.std.proofs.Common.{arith, ◌≡◌, ℕ, nat_eq, ◌&&◌, Bool, true, false, cond, is_some, Option, Some, None, List, [], ◌∷◌, refl, sym, ap, ◌∙◌}
 use Rattle.std.specs.Option.{option_or}
 use Rattle.bx_history.proofs.Tests.{either}
@@ -11,22 +11,18 @@ use Rattle.bx_reshard.specs.Redistribution.{redistributed_connect}
 use Rattle.bx_reshard.specs.Heirs.{answered_all, answered_with, lent_among, lent_as, overlaid, patterns_among, kept_among, settled_all}
 use Rattle.bx_shard.specs.Sessions.{IsCounted, held_until, holds_until, has_formed_at_most, patterns_in, kept_in}
 
--- what became of a connect, as the first of them knows that knows it
 abbrev pub known_among : List Sessions → ℕ → Option ConnectState
 known_among [] p = None
 known_among (s ∷ ss) p = option_or (connect_at s.connects p) (known_among ss p)
 
--- none that stands behind has the session too
 abbrev pub HaveOnce : ℕ → List Sessions → Type 0
 HaveOnce n [] = Unit {0}
 HaveOnce n (s ∷ ss) = (is_some (kept_in s n) ≡ true → kept_among ss n ≡ None) × HaveOnce n ss
 
--- nor knows the connect
 abbrev pub KnowOnce : ℕ → List Sessions → Type 0
 KnowOnce p [] = Unit {0}
 KnowOnce p (s ∷ ss) = (is_some (connect_at s.connects p) ≡ true → known_among ss p ≡ None) × KnowOnce p ss
 
--- this is so of each
 abbrev pub Each : (Sessions → Type 0) → List Sessions → Type 0
 Each P [] = Unit {0}
 Each P (s ∷ ss) = P s × Each P ss
@@ -51,7 +47,6 @@ over_lent o lent h = grind arith
 nothing_lent : (lent : Option Kept) → is_some lent ≡ false → lent ≡ None
 nothing_lent lent h = grind arith
 
--- the session stands where it is placed, as it was
 pub session_redistributed : (placing : ℕ → ℕ → ℕ) (count k n : ℕ) (ss : List Sessions) (lent : Option Kept) → HaveOnce n ss → is_some lent ≡ (nat_eq (placing n count) k && is_some (kept_among ss n)) →
     settled_all placing count k n ss lent ≡ cond (nat_eq (placing n count) k) (kept_among ss n) None
 session_redistributed placing count k n ss lent once room = either (nat_eq (placing n count) k) (settled_all placing count k n ss lent ≡ cond (nat_eq (placing n count) k) (kept_among ss n) None)
@@ -70,7 +65,6 @@ lent_once : (placing : ℕ → ℕ → ℕ) (count k p : ℕ) (ss : List Session
 lent_once placing count k p [] once = refl
 lent_once placing count k p (s ∷ ss) once = grind (arith, lent_once placing count k p ss once.1, once.0)
 
--- what is lent for a connect, once its answer has moved where one was filed
 abbrev answered_as : (ℕ → ℕ → ℕ) → ℕ → ℕ → Option ConnectState → Option ConnectState → Option ConnectState
 answered_as placing count k None lent = lent
 answered_as placing count k (Some (Held session deadline waker)) lent = lent
@@ -94,7 +88,6 @@ answered_once placing count k p (s ∷ ss) lent apart once =
 as_redistributed : (placing : ℕ → ℕ → ℕ) (count k : ℕ) (o : Option ConnectState) → answered_as placing count k o (lent_as placing count k (known_as o)) ≡ redistributed_connect placing count k o
 as_redistributed placing count k o = grind arith
 
--- the connect is known where its session is placed, as it was known
 pub connect_redistributed : (placing : ℕ → ℕ → ℕ) (count k p : ℕ) (ss : List Sessions) (lent : Option ConnectState) → Each (IsApart p) ss → KnowOnce p ss → lent ≡ lent_among placing count k ss p →
     answered_all placing count k p ss lent ≡ redistributed_connect placing count k (known_among ss p)
 connect_redistributed placing count k p ss lent apart once room =
@@ -102,7 +95,7 @@ connect_redistributed placing count k p ss lent apart once room =
     ∙ ap (answered_as placing count k (known_among ss p)) (room ∙ lent_once placing count k p ss once)
     ∙ as_redistributed placing count k (known_among ss p)
 
--- ---- what each said of its sessions
+-- ---- invariants of each shard
 
 pub counted_among : (ss : List Sessions) (n : ℕ) → Each (λ s. IsCounted n (kept_in s n) (patterns_in s n)) ss → IsCounted n (kept_among ss n) (patterns_among ss n)
 counted_among [] n each = refl
@@ -121,7 +114,6 @@ pub unknown_among : (ss : List Sessions) (p : ℕ) → Each (λ s. connect_at s.
 unknown_among [] p each = refl
 unknown_among (s ∷ ss) p each = ap (λ o. option_or o (known_among ss p)) each.0 ∙ unknown_among ss p each.1
 
--- a connect is held exactly where its session holds it
 pub held_among : (ss : List Sessions) (n p : ℕ) → HaveOnce n ss → KnowOnce p ss → Each (λ s. held_until (connect_at s.connects p) n ≡ holds_until (kept_in s n) p) ss →
     held_until (known_among ss p) n ≡ holds_until (kept_among ss n) p
 held_among [] n p have know each = refl
@@ -130,7 +122,6 @@ held_among (s ∷ ss) n p have know each = grind (arith, know.0, have.0, each.0,
 pub nobody : {X : Type 0} (b : Bool) → None ≡ cond {A = Option X} b None None
 nobody b = grind arith
 
--- so it is in the shard where the session is placed
 pub held_redistributed : (placing : ℕ → ℕ → ℕ) (count k n : ℕ) (o : Option ConnectState) → held_until (redistributed_connect placing count k o) n ≡ cond (nat_eq (placing n count) k) (held_until o n) None
 held_redistributed placing count k n o = grind arith
 

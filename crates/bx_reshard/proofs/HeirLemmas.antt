@@ -1,4 +1,4 @@
--- What becomes of many shards where one of them changes.
+-- A list of shards after one of them changes.
 use Rattle.std.proofs.Common.{◌≡◌, ◌≢◌, ℕ, ◌<◌, ◌≤◌, Bool, true, false, cond, Option, Some, option_map, Result, Ok, Err, OnOk, Vec, Global, List, length, get_or, slice_get, slice_set, nat_eq, nat_lt, refl, sym, ap, ◌∙◌, arith, eq-eqb, ltb-true, ltb-false}
 use Rattle.std.proofs.lemmas.{List.length-set, List.get_or-set_same, List.get_or-set_other, Option.slice_get-get_or, Option.slice_get_read, Option.slice_get_past}
 use Rattle.bx_history.proofs.Tests.{either}
@@ -7,7 +7,6 @@ use Rattle.bx_shard.specs.declared.sessions.Sessions.{Sessions}
 use Rattle.bx_shard.specs.Sessions.{kept_in, patterns_in}
 use Rattle.bx_reshard.specs.Heirs.{SameConnects, SameSessions, connect_there, kept_there, patterns_there}
 
--- what is read of a row stands there
 pub row_here : (row : Vec Sessions Global) (slot : ℕ) (s : Sessions) → slot < length row.items → s ≡ get_or row.items slot s → slice_get row.items slot ≡ Some s
 row_here row slot s within is = slice_get_read row.items (length row.items) slot s refl within is
 
@@ -25,12 +24,10 @@ set_beside xs i k y e =
     let past : length xs ≤ k = ltb-false k (length xs) l in
     slice_get_past (slice_set xs i y) k (omega (arith, past, length-set xs i y)) ∙ sym (slice_get_past xs k past))
 
--- what holds of the one that changes, and of one that stays, holds of each
 pub at_each : (P : Option Sessions → Option Sessions → Bool → Type 0) (xs : List Sessions) (i : ℕ) (old new : Sessions) → i < length xs → slice_get xs i ≡ Some old →
     P (Some old) (Some new) true → ((o : Option Sessions) → P o o false) → (k : ℕ) → P (slice_get xs k) (slice_get (slice_set xs i new) k) (nat_eq i k)
 at_each P xs i old new within here own others k = grind (arith, here, set_here xs i new within, set_beside xs i k new, own, others (slice_get xs k))
 
--- so where the sessions stay, or the connects
 pub same_sessions : (xs : List Sessions) (i : ℕ) (old new : Sessions) → i < length xs → slice_get xs i ≡ Some old →
     new.config ≡ old.config → ((n : ℕ) → kept_in new n ≡ kept_in old n) → ((n : ℕ) → patterns_in new n ≡ patterns_in old n) → SameSessions xs (slice_set xs i new)
 same_sessions xs i old new within here config sessions patterns = record {
@@ -48,11 +45,9 @@ same_connects xs i old new within here config connects = record {
   connects = λ k p. at_each (λ o u b. connect_there u p ≡ connect_there o p) xs i old new within here (connects p) (λ o. refl) k;
 }
 
--- what follows from success follows
 pub on_ok : {T E : Type 0} {P Q : Type 0} (r : Result T E) → (P → Q) → OnOk r P → OnOk r Q
 on_ok (Ok x) f p = f p
 on_ok (Err e) f p = tt
 
--- where the number is its own, what was there is meant
 pub at_own : {X : Type 0} (F : X → X) (g : ℕ → X) (m n : ℕ) → cond (nat_eq m n) (F (g m)) (g n) ≡ cond (nat_eq m n) (F (g n)) (g n)
 at_own F g m n = grind arith

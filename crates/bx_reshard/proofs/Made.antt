@@ -1,4 +1,4 @@
--- Shards that are made one after another.
+-- Shards that are created one after another.
 use Rattle.std.proofs.Common.{ℕ, suc, List, [], ◌∷◌, ◌++◌, Bool, length, arith}
 use Rattle.std.proofs.lemmas.List.Elements.{All-cons}
 use Rattle.std.specs.List.{All}
@@ -6,8 +6,6 @@ use Rattle.std.specs.declared.sync.Arc.{Arc}
 use Rattle.bx_history.proofs.Elements.{each_push}
 use Rattle.bx_shard.specs.declared.shard.Shard.{Shard}
 use Rattle.bx_reshard.specs.Making.{AreHandlesOf, AreMadeWith, IsMade}
-
--- the last of a row, or one of those before it
 
 pub none_made : {P Z : Type 0} (handles : List (Arc P Z)) (count place : ℕ) (shut : Bool) → AreMadeWith handles count place shut []
 none_made handles count place shut placing all k s e = absurd (cc)

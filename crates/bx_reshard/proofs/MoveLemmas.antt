@@ -1,4 +1,4 @@
--- What is lent and what moves, one session and one connect at a time.
+-- Reserving and moving, one session and one connect at a time.
 use Rattle.std.proofs.Common.{◌≡◌, ◌&&◌, ◌||◌, not, ℕ, zero, suc, ◌<◌, nat_eq, length, slice_get, arith, Bool, true, false, cond, is_some, Option, Some, None, option_map, List, [], ◌∷◌, ◌++◌, refl, sym, ap, ◌∙◌, eqb-true}
 use Rattle.std.proofs.lemmas.List.Elements.{All-nil, All-push}
 use Rattle.std.specs.{List.All, Map.lookup, Option.option_or}
@@ -26,7 +26,6 @@ kept_moved : (q p s : Bool) (e : Option WithRoom) (x : WithRoom) (lent : Option 
     ≡ cond q (overlaid (option_map (λ (y : WithRoom). y.kept) (option_or e (cond s (Some x) None))) lent) lent
 kept_moved q p s e x lent k = grind arith
 
--- one session more has moved
 pub session_moved : (placing : ℕ → ℕ → ℕ) (count k n : ℕ) (es : List (ℕ × WithRoom)) (number slot : ℕ) (x : WithRoom) (lent after : Option Kept) → slot ≡ placing number count →
     after ≡ cond (nat_eq slot k && nat_eq number n) (option_map (λ (y : Kept). x.kept) lent) lent →
     settled placing count k n (kept_by es n) after ≡ settled placing count k n (kept_by (es ++ (number, x) ∷ []) n) lent
@@ -42,7 +41,6 @@ answer_moved : (placing : ℕ → ℕ → ℕ) (count k : ℕ) (p s : Bool) (e :
     answered_with placing count k e (cond (p && s) (filed_as f.place f.answer lent) lent) ≡ answered_with placing count k (option_or e (cond s (Some f) None)) lent
 answer_moved placing count k p s e f lent at once = grind arith
 
--- one answer more has moved
 pub filing_moved : (placing : ℕ → ℕ → ℕ) (count k p : ℕ) (es : List (ℕ × FiledAnswer)) (connect slot : ℕ) (f : FiledAnswer) (lent after : Option ConnectState) → slot ≡ placing f.session count →
     lookup (nat_eq connect) es ≡ None → after ≡ cond (nat_eq slot k && nat_eq connect p) (filed_as f.place f.answer lent) lent →
     answered_with placing count k (lookup (nat_eq p) es) after ≡ answered_with placing count k (lookup (nat_eq p) (es ++ (connect, f) ∷ [])) lent
@@ -63,7 +61,6 @@ unknown h f e = grind arith
 or_twice : (c l : Option ConnectState) → option_or (option_or c l) l ≡ option_or c l
 or_twice c l = grind arith
 
--- what is lent at the places of both kinds is lent for all that are known
 pub lent_at_both : (a b : Bool) (c l : Option ConnectState) → ((a || b) ≡ false → l ≡ None) → cond b (option_or (cond a (option_or c l) c) l) (cond a (option_or c l) c) ≡ option_or c l
 lent_at_both a b c l h = grind arith
 
@@ -78,7 +75,6 @@ moved_none placing count heirs = record {
   connects = λ k p. refl;
 }
 
--- what one shard has moves first, then what the others have
 pub moved_more : (placing : ℕ → ℕ → ℕ) (count : ℕ) (s : Sessions) (ss old middle between last : List Sessions) →
     ((k n : ℕ) → kept_of middle k n ≡ settled placing count k n (kept_by s.by_number.entries n) (kept_of old k n)) →
     ((k n : ℕ) → patterns_at middle k n ≡ patterns_at old k n) → SameConnects old middle →

@@ -1,4 +1,4 @@
--- Shards whose sessions were redistributed.
+-- The new shards, made of what the old ones have.
 use Rattle.std.proofs.Common.{◌≡◌, ℕ, suc, ◌<◌, nat_eq, Bool, true, cond, Option, Some, None, List, [], ◌∷◌, length, get_or, map, slice_get, option_map, refl, sym, ap, ◌∙◌, subst, arith}
 use Rattle.std.proofs.lemmas.{List.length-map, Option.slice_get-get_or, Option.slice_get-map, Option.slice_get_within}
 use Rattle.std.specs.{Arc.arc_value, List.All, Option.option_or}
@@ -24,7 +24,6 @@ formed_redistributed : (b : Bool) (o : Option Kept) (place : ℕ) → has_formed
 formed_redistributed b o place h = grind arith
 
 module _ {P : Type 0} (place_of : P → ℕ → ℕ → ℕ) where
-  -- the sessions of each, and each as a state
   abbrev sessions_of : List (Shard P) → List Sessions
   sessions_of xs = map (λ s. s.sessions) xs
 
@@ -73,14 +72,13 @@ module _ {P : Type 0} (place_of : P → ℕ → ℕ → ℕ) where
     know_once xs p (apart_rest (state place_of s) (states_of xs) apart),
   )
 
-  -- what holds of each of the shards holds of its sessions
   each_at : (Q : Sessions → Type 0) (xs : List (Shard P)) → ((j : ℕ) (s : Shard P) → slice_get xs j ≡ Some s → Q s.sessions) → Each Q (sessions_of xs)
   each_at Q [] f = tt
   each_at Q (s ∷ xs) f = (f 0 s refl, each_at Q xs (λ j t at. f (suc j) t at))
 
   module _ (placing : P) (count : ℕ) (olds : List (Shard P)) (first : Shard P) (there : slice_get olds 0 ≡ Some first) (alike : AreAlike (states_of olds)) (apart : AreApart (states_of olds))
       (heirs last : List Sessions) (lent : AreLent (place_of placing) count (sessions_of olds) first.sessions.config heirs) (moved : AreMoved (place_of placing) count (sessions_of olds) heirs last) where
-    -- ---- each of those that took over
+    -- ---- each new shard
 
     session_here : (k n : ℕ) (t : Sessions) → slice_get last k ≡ Some t → kept_in t n ≡ cond (nat_eq (place_of placing n count) k) (kept_among (sessions_of olds) n) None
     session_here k n t at =
@@ -136,7 +134,7 @@ module _ {P : Type 0} (place_of : P → ℕ → ℕ → ℕ) where
     pub all_fit : All (Fits first.place) last
     all_fit = λ i d l. fits i (get_or last i d) (slice_get-get_or last i d l)
 
-    -- ---- the shards that are made of them
+    -- ---- the new shards
 
     module _ (shut : Bool) (new : List (Shard P)) (shut_is : shut ≡ first.is_shut) (made : AreMade placing count first.place shut new) (theirs : sessions_of new ≡ last) where
       is_redistributed : (k : ℕ) (t : Shard P) → slice_get new k ≡ Some t → IsRedistributed (place_of placing) count (states_of olds) k (state place_of t)

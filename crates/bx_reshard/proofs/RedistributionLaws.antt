@@ -1,4 +1,4 @@
--- What shards hold once their sessions were redistributed.
+-- What shards hold after redistribution.
 use Rattle.std.proofs.Common.{◌≡◌, ◌≢◌, ℕ, zero, suc, ◌<◌, true, false, cond, is_some, Option, Some, None, List, [], ◌∷◌, length, take, drop, map, filter, flat_map, option_map, slice_get, ◌==◌, refl, sym, ap, ◌∙◌, subst, arith, eqb-true, eq-eqb}
 use Rattle.std.proofs.lemmas.{Bool.cond_both, Bool.cond-true, List.take-append-drop, List.Folds.find-append}
 use Rattle.std.specs.Option.{option_or}
@@ -17,14 +17,12 @@ use Rattle.bx_shard.proofs.Untaken.{find_of, find_untaken, untaken}
 use Rattle.bx_theory.proofs.Closings.{run_number}
 use Rattle.bx_reshard.proofs.Among.{nobody}
 
--- ---- one of many
+-- ---- look-ups in several shards
 
--- where none has it none is found
 none_among : {X : Type 0} (f : State → Option X) (ss : List State) → ((i : ℕ) (t : State) → slice_get ss i ≡ Some t → f t ≡ None) → among f ss ≡ None
 none_among f [] none = refl
 none_among f (t ∷ ss) none = ap (λ o. option_or o (among f ss)) (none 0 t refl) ∙ none_among f ss (λ i u at. none (suc i) u at)
 
--- where one alone of the shards can have it, that one's is found
 among_one : {X : Type 0} (f : State → Option X) (ss : List State) (j : ℕ) (s : State) → slice_get ss j ≡ Some s →
     ((i : ℕ) (t : State) → i ≢ j → slice_get ss i ≡ Some t → f t ≡ None) → among f ss ≡ f s
 among_one f [] j s there others = absurd (let no : None ≡ Some s = there in cc)
@@ -35,7 +33,6 @@ among_one f (t ∷ ss) (suc j) s there others =
     ap (λ o. option_or o (among f ss)) (others 0 t (λ e. omega (arith, e)) refl)
     ∙ among_one f ss j s there (λ i u apart at. others (suc i) u (λ e. apart (omega (arith, e))) at)
 
--- what is found one of them has
 record Has {X : Type 0} (f : State → Option X) (ss : List State) (x : X) : Type 0 where
   index : ℕ
   shard : State
@@ -50,7 +47,6 @@ has_one {X = X} f (t ∷ ss) x h = by (f t) refl h (has_one f ss x)
     by None e g rest = let w = rest g in record { index = suc w.index; shard = w.shard; there = w.there; has = w.has }
     by (Some y) e g rest = record { index = 0; shard = t; there = refl; has = e ∙ g }
 
--- a shard of this index is there
 record There (ss : List State) (j : ℕ) : Type 0 where
   shard : State
   at : slice_get ss j ≡ Some shard
@@ -60,19 +56,17 @@ there [] j h = absurd (omega (arith, h))
 there (s ∷ ss) zero h = record { shard = s; at = refl }
 there (s ∷ ss) (suc j) h = let w = there ss j (omega (arith, h)) in record { shard = w.shard; at = w.at }
 
--- ---- the sessions of the definition's shard
+-- ---- the sessions of the definitions' shard
 
 abbrev kept_of : ℕ → List Session → Option Kept
 kept_of m us = find_kept m (map kept (live_among us))
 
--- the live session of this number is found in the shard where it stands
 found_standing : (setup : Setup) (shard m : ℕ) (es : List Entry) (rs : List Registered) →
     kept_of m (map (λ (s : Registered). session setup.config s.number es) (filter (λ (s : Registered). stands_in setup shard s.number) rs))
     ≡ cond (stands_in setup shard m) (kept_of m (map (λ (s : Registered). session setup.config s.number es) rs)) None
 found_standing setup shard m es [] = nobody (stands_in setup shard m)
 found_standing setup shard m es (r ∷ rs) = grind (arith, found_standing setup shard m es rs, run_number setup.config (unopened r.number) es)
 
--- all sessions over the first n elements, wherever they stand
 abbrev everyone : Config → List Listed → ℕ → List Session
 everyone config list n =
     let r = registry config (take n list) in
@@ -87,7 +81,6 @@ session_found setup list taken shard n m = found_standing setup shard m (entries
 abbrev answers_of : List Session → List Filed
 answers_of us = flat_map (λ (u : Session). u.answers) us
 
--- no session but this one answers the connect
 abbrev OnlyOf : Config → List Entry → ℕ → ℕ → Type 0
 OnlyOf config es p m = (q : ℕ) → is_some (find_of p (session config q es).answers) ≡ true → q ≡ m
 
@@ -102,7 +95,6 @@ answers_standing setup shard p m es (r ∷ rs) only =
     let standing = find-append (λ (f : Filed). f.connect == p) (S r).answers (answers_of (map S here)) in
     grind (arith, answers_standing setup shard p m es rs only, only r.number, each, standing)
 
--- where a slot waits for a session, that one alone answers the connect
 slot_once : (js : List Judged) (p q m : ℕ) → WaitsAt js q p → WaitsAt js m p → q ≡ m
 slot_once js p q m a b = let both : Some (Waiting q) ≡ Some (Waiting m) = sym a ∙ b in cc
 
@@ -114,7 +106,6 @@ only_waits config list n p m waits q here =
     subst (λ (xs : List Listed). WaitsAt (registry config xs).judged q p) (take-append-drop n list) (waits_later config (take n list) (drop n list) q p early) in
     slot_once (registry config list).judged p q m late waits) here
 
--- the answer to the connect is found in the shard where its session stands
 untaken_standing : (setup : Setup) (list : List Listed) (taken : List ℕ) (n p m : ℕ) → OnlyOf setup.config (entries_of (registry setup.config (take n list))) p m → (shard : ℕ) →
     find_of p (shard_at setup list taken shard n).filed ≡ cond (stands_in setup shard m) (find_of p (untaken taken (answers_of (everyone setup.config list n)))) None
 untaken_standing setup list taken n p m only shard =
@@ -127,19 +118,17 @@ untaken_standing setup list taken n p m only shard =
     ∙ answers_standing setup shard p m (entries_of (registry setup.config (take n list))) (registry setup.config (take n list)).sessions only
     ∙ sym (ap (λ o. cond (stands_in setup shard m) o None) (find_untaken taken p all u)))
 
--- ---- the shards before
+-- ---- the shards before redistribution
 
 standing : (placed k : ℕ) (o kept : Option Kept) → o ≡ cond (placed == k) kept None → is_some o ≡ true → placed ≡ k
 standing placed k o kept is here = grind arith
 
 module _ (setup : Setup) (list : List Listed) (taken : List ℕ) (n : ℕ) (old : List State) (each : (k : ℕ) (s : State) → slice_get old k ≡ Some s → Refines setup list taken k n s) where
-  -- a session that a shard holds stands in it
   stands : (k : ℕ) (s : State) (m : ℕ) → slice_get old k ≡ Some s → is_some (session_in s m) ≡ true → setup.placing m setup.shards ≡ k
   stands k s m at here =
       let found : session_in s m ≡ cond (stands_in setup k m) (kept_of m (everyone setup.config list n)) None = (each k s at).sessions m ∙ session_found setup list taken k n m in
       standing (setup.placing m setup.shards) k (session_in s m) (kept_of m (everyone setup.config list n)) found here
 
-  -- a connect that a shard knows is one of a session that stands in it
   knows : (k : ℕ) (s : State) (p : ℕ) → slice_get old k ≡ Some s → is_some (connect_in s p) ≡ true → (m : ℕ) × IsOwn setup list k p m
   knows k s p at here = by (connect_in s p) refl here
     where
@@ -148,7 +137,6 @@ module _ (setup : Setup) (list : List Listed) (taken : List ℕ) (n : ℕ) (old 
       by (Some (states.Held session deadline waker)) e h = (session, (each k s at).owned p session (ap session_at e))
       by (Some (states.Filed session place answer)) e h = (session, (each k s at).owned p session (ap session_at e))
 
-  -- so it is of one shard alone
   known_once : (k : ℕ) (s : State) (p m : ℕ) → slice_get old k ≡ Some s → WaitsAt (registry setup.config list).judged m p → is_some (connect_in s p) ≡ true → setup.placing m setup.shards ≡ k
   known_once k s p m at waits here =
       let w = knows k s p at here in
@@ -174,12 +162,11 @@ module _ (setup : Setup) (list : List Listed) (taken : List ℕ) (n : ℕ) (old 
 pub holders_are_apart : HoldersAreApart
 holders_are_apart setup list taken n shards each = (alike setup list taken n shards each, apart setup list taken n shards each)
 
--- ---- the shards after it
+-- ---- the shards after redistribution
 
 redistributed_session : (placing : ℕ → ℕ → ℕ) (count k : ℕ) (o : Option ConnectState) (m : ℕ) → session_at (redistributed_connect placing count k o) ≡ Some m → (session_at o ≡ Some m) × ((placing m count == k) ≡ true)
 redistributed_session placing count k o m h = grind arith
 
--- an answer that is filed is there where its session is placed
 redistributed_filed : (placing : ℕ → ℕ → ℕ) (count k m : ℕ) (o : Option ConnectState) → ((q : ℕ) → session_at o ≡ Some q → q ≡ m) →
     filed_with_place (redistributed_connect placing count k o) ≡ cond (placing m count == k) (filed_with_place o) None
 redistributed_filed placing count k m None own = nobody (placing m count == k)
@@ -194,11 +181,9 @@ redistributed_setup setup count placing = record { config = setup.config; shards
 
 module _ (setup : Setup) (list : List Listed) (taken : List ℕ) (n count : ℕ) (placing : ℕ → ℕ → ℕ) (old : List State) (many : length old ≡ setup.shards) (below : (m : ℕ) → setup.placing m setup.shards < setup.shards)
     (each : (k : ℕ) (s : State) → slice_get old k ≡ Some s → Refines setup list taken k n s) (k : ℕ) (t : State) (d : IsRedistributed placing count old k t) where
-  -- the shard where the session stood
   home : (m : ℕ) → There old (setup.placing m setup.shards)
   home m = there old (setup.placing m setup.shards) (omega (arith, below m, many))
 
-  -- nothing is known elsewhere of a connect of the session
   at_home : (p m : ℕ) → WaitsAt (registry setup.config list).judged m p → connect_among old p ≡ connect_in (home m).shard p
   at_home p m waits = among_one (λ s. connect_in s p) old (setup.placing m setup.shards) (home m).shard (home m).at
       (λ i s other at. none_of setup list taken n old each (connect_in s p) (λ h. other (sym (known_once setup list taken n old each i s p m at waits h))))
@@ -218,7 +203,6 @@ module _ (setup : Setup) (list : List Listed) (taken : List ℕ) (n count : ℕ)
 
   -- ---- answers
 
-  -- where a slot waits for the session
   filed_waiting : (p m : ℕ) → WaitsAt (registry setup.config list).judged m p → filed_with_place (connect_in t p) ≡ option_map answer_of (find_of p (shard_at (redistributed_setup setup count placing) list taken k n).filed)
   filed_waiting p m waits =
       let j : ℕ = setup.placing m setup.shards in
@@ -236,7 +220,6 @@ module _ (setup : Setup) (list : List Listed) (taken : List ℕ) (n count : ℕ)
       ∙ (elim (placing m count == k) as (λ b. cond b (option_map answer_of g) None ≡ option_map answer_of (cond b g None)) [ true ↦ refl | false ↦ refl ])
       ∙ ap (option_map answer_of) (sym (untaken_standing (redistributed_setup setup count placing) list taken n p m only k))
 
-  -- where none waits
   filed_nowhere : (p : ℕ) → ((m : ℕ) → WaitsAt (registry setup.config list).judged m p → ⊥) → filed_with_place (connect_in t p) ≡ option_map answer_of (find_of p (shard_at (redistributed_setup setup count placing) list taken k n).filed)
   filed_nowhere p never =
       let here : connect_among old p ≡ None = none_among (λ s. connect_in s p) old (λ i s at. none_of setup list taken n old each (connect_in s p) (λ h. let w = knows setup list taken n old each i s p at h in never w.0 w.1.waits)) in
@@ -257,7 +240,7 @@ module _ (setup : Setup) (list : List Listed) (taken : List ℕ) (n count : ℕ)
       by (Some (Waiting m)) e = filed_waiting p m e
       by (Some NoSlot) e = filed_nowhere p (λ m w. let no : Some NoSlot ≡ Some (Waiting m) = sym e ∙ w in cc)
 
-  -- ---- what is known
+  -- ---- known connects
 
   gone_redistributed : (p : ℕ) → is_taken taken p ≡ true → IsConnectOf (redistributed_setup setup count placing) list k p → (p < n) × (connect_in t p ≡ None)
   gone_redistributed p gone c =

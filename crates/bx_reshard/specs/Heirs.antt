@@ -1,4 +1,4 @@
--- Shards that take over the sessions of others, by shard, session number and connect's place.
+-- The sessions, patterns and connects of new shards, while everything moves into them.
 use Rattle.std.specs.Prelude.{ℕ, ◌≡◌, nat_eq, List, [], length, option_map, slice_get, if◌then◌else◌, ◌<◌, ◌&&◌, ◌∷◌, is_some, Option, Some, None}
 use Rattle.std.specs.{List.All, Map.lookup, Option.option_or}
 use Rattle.bx_names.specs.Globs.{Glob}
@@ -10,27 +10,27 @@ use Rattle.bx_connects.specs.Connects.{AreApart, connect_at, filed_as, filing_at
 use Rattle.bx_shard.specs.declared.sessions.Sessions.{Sessions}
 use Rattle.bx_shard.specs.Sessions.{patterns_in, kept_in}
 
--- What shard `k` of `count` is lent for a known connect of a session that is placed there.
+-- What is reserved in shard `k` of `count` for a known connect, if its session is placed there.
 abbrev pub lent_as : (ℕ → ℕ → ℕ) → ℕ → ℕ → Option (ℕ × Option ℕ) → Option ConnectState
 lent_as placing count k None = None
 lent_as placing count k (Some known) = if nat_eq (placing known.0 count) k then held_by known.0 known.1 else None
 
--- Session `n` in a shard, if both exist.
+-- Session `n` in a shard that may not exist.
 abbrev pub kept_there : Option Sessions → ℕ → Option Kept
 kept_there None n = None
 kept_there (Some s) n = kept_in s n
 
--- The patterns of session `n` in a shard, if any.
+-- The patterns of session `n` in a shard that may not exist.
 abbrev pub patterns_there : Option Sessions → ℕ → List Glob
 patterns_there None n = []
 patterns_there (Some s) n = patterns_in s n
 
--- The connect at `p` in a shard, if both exist.
+-- The connect at `p` in a shard that may not exist.
 abbrev pub connect_there : Option Sessions → ℕ → Option ConnectState
 connect_there None p = None
 connect_there (Some s) p = connect_at s.connects p
 
--- Session `n` in shard `k`, if both exist.
+-- Session `n` in shard `k`, if it is there.
 abbrev pub kept_of : List Sessions → ℕ → ℕ → Option Kept
 kept_of heirs k n = kept_there (slice_get heirs k) n
 
@@ -46,7 +46,7 @@ connect_of heirs k p = connect_there (slice_get heirs k) p
 abbrev pub config_of : List Sessions → ℕ → Option Config
 config_of heirs k = option_map (λ (s : Sessions). s.config) (slice_get heirs k)
 
--- An empty shard with this configuration.
+-- The shard is empty and has this configuration.
 pub record IsEmptyOf (config : Config) (s : Sessions) : Type 0 where
   pub config_is : s.config ≡ config
   pub sessions : (n : ℕ) → kept_in s n ≡ None
@@ -70,7 +70,7 @@ pub record SameSessions (old new : List Sessions) : Type 0 where
   pub sessions : (k n : ℕ) → kept_of new k n ≡ kept_of old k n
   pub patterns : (k n : ℕ) → patterns_at new k n ≡ patterns_at old k n
 
--- ---- All shards that are redistributed
+-- ---- All old shards
 
 -- Session `n`, from the first shard that has it.
 abbrev pub kept_among : List Sessions → ℕ → Option Kept
@@ -82,7 +82,7 @@ abbrev pub patterns_among : List Sessions → ℕ → List Glob
 patterns_among [] n = []
 patterns_among (s ∷ ss) n = if is_some (kept_in s n) then patterns_in s n else patterns_among ss n
 
--- What shard `k` is lent for the connect at `p`, by the first shard that lends it.
+-- What is reserved in shard `k` for the connect at `p`, from the first shard that knows it.
 abbrev pub lent_among : (ℕ → ℕ → ℕ) → ℕ → ℕ → List Sessions → ℕ → Option ConnectState
 lent_among placing count k [] p = None
 lent_among placing count k (s ∷ ss) p = option_or (lent_as placing count k (known_as (connect_at s.connects p))) (lent_among placing count k ss p)
@@ -92,7 +92,7 @@ pub record AreEmpty (config : Config) (count : ℕ) (heirs : List Sessions) : Ty
   pub many : length heirs ≡ count
   pub all : All (IsEmptyOf config) heirs
 
--- The new shards have room for all that the old ones have.
+-- Everything in the old shards is reserved in the new ones.
 pub record AreLent (placing : ℕ → ℕ → ℕ) (count : ℕ) (olds : List Sessions) (config : Config) (heirs : List Sessions) : Type 0 where
   pub many : length heirs ≡ count
   pub configs : (k : ℕ) → k < count → config_of heirs k ≡ Some config
@@ -103,30 +103,30 @@ pub record AreLent (placing : ℕ → ℕ → ℕ) (count : ℕ) (olds : List Se
 
 -- ---- Moves
 
--- A moved session fills the room that was made for it, if any.
+-- A moved session replaces the reserved one, if there is one.
 abbrev pub overlaid : Option Kept → Option Kept → Option Kept
 overlaid None lent = lent
 overlaid (Some k) lent = option_map (λ (x : Kept). k) lent
 
--- Session `n` in shard `k`, after one old shard's sessions have moved.
+-- Session `n` in shard `k` after the sessions of one old shard have moved.
 abbrev pub settled : (ℕ → ℕ → ℕ) → ℕ → ℕ → ℕ → Option Kept → Option Kept → Option Kept
 settled placing count k n moved lent = if nat_eq (placing n count) k then overlaid moved lent else lent
 
--- A connect in shard `k`, after its answer filed in one old shard, if any, has moved.
+-- A connect in shard `k` after its answer from one old shard, if any, has moved.
 abbrev pub answered_with : (ℕ → ℕ → ℕ) → ℕ → ℕ → Option FiledAnswer → Option ConnectState → Option ConnectState
 answered_with placing count k None lent = lent
 answered_with placing count k (Some f) lent = if nat_eq (placing f.session count) k then filed_as f.place f.answer lent else lent
 
--- Session `n` in these map entries, if it is there.
+-- Session `n` among `entries` of a map, if it is there.
 abbrev pub kept_by : List (ℕ × WithRoom) → ℕ → Option Kept
 kept_by entries n = option_map (λ (x : WithRoom). x.kept) (lookup (nat_eq n) entries)
 
--- Session `n` in shard `k`, after all old shards' sessions have moved.
+-- Session `n` in shard `k` after the sessions of all old shards have moved.
 abbrev pub settled_all : (ℕ → ℕ → ℕ) → ℕ → ℕ → ℕ → List Sessions → Option Kept → Option Kept
 settled_all placing count k n [] lent = lent
 settled_all placing count k n (s ∷ ss) lent = settled_all placing count k n ss (settled placing count k n (kept_in s n) lent)
 
--- The connect at `p` in shard `k`, after all old shards' filed answers have moved.
+-- The connect at `p` in shard `k` after the filed answers of all old shards have moved.
 abbrev pub answered_all : (ℕ → ℕ → ℕ) → ℕ → ℕ → ℕ → List Sessions → Option ConnectState → Option ConnectState
 answered_all placing count k p [] lent = lent
 answered_all placing count k p (s ∷ ss) lent = answered_all placing count k p ss (answered_with placing count k (filing_at s.connects.filed p) lent)

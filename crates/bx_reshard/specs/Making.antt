@@ -1,4 +1,4 @@
--- Shards that are made of redistributed sessions.
+-- The new shards, created from their sessions.
 use Rattle.std.specs.Prelude.{ℕ, ◌≡◌, ◌≤◌, Bool, Some, List, [], length, map, slice_get, vec_capacity}
 use Rattle.std.specs.{List.All, Arc.arc_value}
 use Rattle.std.specs.declared.sync.Arc.{Arc}
@@ -10,7 +10,7 @@ use Rattle.bx_reshard.specs.Heirs.{AreLent}
 abbrev pub AreHandlesOf : {P Z : Type 0} → P → List (Arc P Z) → Type 0
 AreHandlesOf placing handles = All (λ h. arc_value h ≡ placing) handles
 
--- Shard `k` of `count`, with this placing, place and shut state.
+-- The shard is shard `k` of `count`, with this placing, place and shut state.
 pub record IsMade {P : Type 0} (placing : P) (count place : ℕ) (shut : Bool) (k : ℕ) (s : Shard P) : Type 0 where
   pub placing_is : arc_value s.placing ≡ placing
   pub index_is : s.index ≡ k
@@ -18,15 +18,15 @@ pub record IsMade {P : Type 0} (placing : P) (count place : ℕ) (shut : Bool) (
   pub place_is : s.place ≡ place
   pub shut_is : s.is_shut ≡ shut
 
--- Each shard has its index in the list, and all have the same placing, place and shut state.
+-- Each shard has its position in the list as index. All have this placing, place and shut state.
 abbrev pub AreMade : {P : Type 0} → P → ℕ → ℕ → Bool → List (Shard P) → Type 0
 AreMade {P} placing count place shut shards = (k : ℕ) (s : Shard P) → slice_get shards k ≡ Some s → IsMade placing count place shut k s
 
--- The shards have the placing of the handles that they were given.
+-- If all handles are to one placing, all shards have it.
 abbrev pub AreMadeWith : {P Z : Type 0} → List (Arc P Z) → ℕ → ℕ → Bool → List (Shard P) → Type 0
 AreMadeWith {P} handles count place shut shards = (placing : P) → AreHandlesOf placing handles → AreMade placing count place shut shards
 
--- There is room for the new shards and all that the old ones have.
+-- `room` has everything that the new shards need for what the old shards have.
 pub record IsReady {P : Type 0} (place_of : P → ℕ → ℕ → ℕ) (placing : P) (count : ℕ) (olds : List (Shard P)) (room : Room P) : Type 0 where
   pub first : Shard P
   pub there : slice_get olds 0 ≡ Some first

@@ -1,4 +1,4 @@
--- The sessions of some shards, redistributed among another number of shards.
+-- The redistribution of sessions among another number of shards.
 use Rattle.std.specs.Prelude.{ℕ, ◌==◌, ◌≡◌, ◌≢◌, ◌<◌, length, true, List, [], ◌∷◌, slice_get, if◌then◌else◌, is_some, Option, Some, None}
 use Rattle.std.specs.Option.{option_or}
 use Rattle.bx_entry.specs.Words.{Listed, Kept}
@@ -13,39 +13,39 @@ abbrev pub among : {X : Type 0} → (State → Option X) → List State → Opti
 among f [] = None
 among f (s ∷ ss) = option_or (f s) (among f ss)
 
--- Session `n`, in whichever shard has it.
+-- Session `n`, from the first shard that has it.
 abbrev pub session_among : List State → ℕ → Option Kept
 session_among shards n = among (λ s. session_in s n) shards
 
--- The state of the connect at `p`, in whichever shard knows it.
+-- The state of the connect at `p`, from the first shard that knows it.
 abbrev pub connect_among : List State → ℕ → Option ConnectState
 connect_among shards p = among (λ s. connect_in s p) shards
 
 -- ---- Shards of one server
 
--- The shards have one configuration and have applied equally many entries.
+-- All shards have the same configuration and the same place.
 abbrev pub AreAlike : List State → Type 0
 AreAlike shards = (i j : ℕ) (s t : State) → slice_get shards i ≡ Some s → slice_get shards j ≡ Some t → (s.setup.config ≡ t.setup.config) × (s.place ≡ t.place)
 
--- No two shards have the same session or know the same connect.
+-- No two shards share a session or a connect.
 abbrev pub AreApart : List State → Type 0
 AreApart shards = (i j : ℕ) (s t : State) → i ≢ j → slice_get shards i ≡ Some s → slice_get shards j ≡ Some t →
     ((n : ℕ) → is_some (session_in s n) ≡ true → session_in t n ≡ None) × ((p : ℕ) → is_some (connect_in s p) ≡ true → connect_in t p ≡ None)
 
--- Shards that agree with the definitions' shards are alike and apart.
+-- Shards that agree with the definitions are alike, and share no session or connect.
 abbrev pub HoldersAreApart : Type 0
 HoldersAreApart = (setup : Setup) (list : List Listed) (taken : List ℕ) (n : ℕ) (shards : List State) → ((k : ℕ) (s : State) → slice_get shards k ≡ Some s → Refines setup list taken k n s) →
     AreAlike shards × AreApart shards
 
 -- ---- After redistribution
 
--- The connect without its waker, if its session is placed in shard `k` of `count`.
+-- The connect, without its waker, if its session is placed in shard `k` of `count`.
 abbrev pub redistributed_connect : (ℕ → ℕ → ℕ) → ℕ → ℕ → Option ConnectState → Option ConnectState
 redistributed_connect placing count k None = None
 redistributed_connect placing count k (Some (Held session deadline waker)) = if placing session count == k then Some (Held session deadline None) else None
 redistributed_connect placing count k (Some (Filed session place answer)) = if placing session count == k then Some (Filed session place answer) else None
 
--- The new shard `k` has the sessions that are placed there, with their connects.
+-- New shard `k` has the sessions that are placed in it, with their connects.
 pub record IsRedistributed (placing : ℕ → ℕ → ℕ) (count : ℕ) (old : List State) (k : ℕ) (new : State) : Type 0 where
   pub index : new.index ≡ k
   pub setup : (j : ℕ) (s : State) → slice_get old j ≡ Some s → new.setup ≡ record { config = s.setup.config; shards = count; placing = placing }
@@ -55,12 +55,12 @@ pub record IsRedistributed (placing : ℕ → ℕ → ℕ) (count : ℕ) (old : 
   pub connects : (p : ℕ) → connect_in new p ≡ redistributed_connect placing count k (connect_among old p)
   pub sound : IsSound new
 
--- All `count` shards after redistribution.
+-- There are `count` new shards, each with what is placed in it.
 pub record Redistributed (placing : ℕ → ℕ → ℕ) (count : ℕ) (old new : List State) : Type 0 where
   pub many : length new ≡ count
   pub each : (k : ℕ) (s : State) → slice_get new k ≡ Some s → IsRedistributed placing count old k s
 
--- Redistributed shards still agree with the definitions, with the new shard count and placing.
+-- The new shards agree with the definitions, with the new count and placing.
 abbrev pub RefinesRedistributed : Type 0
 RefinesRedistributed = (setup : Setup) (list : List Listed) (taken : List ℕ) (n count : ℕ) (placing : ℕ → ℕ → ℕ) (old new : List State) → 0 < setup.config.limits.batch →
     length old ≡ setup.shards → ((m : ℕ) → setup.placing m setup.shards < setup.shards) → ((k : ℕ) (s : State) → slice_get old k ≡ Some s → Refines setup list taken k n s) →

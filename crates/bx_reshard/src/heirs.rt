@@ -1,4 +1,4 @@
-//! The new shards, while they are built.
+//! The sessions of the new shards, while these are built.
 ghost use Rattle.std.specs.Prelude.{◌≡◌, ◌<◌, ℕ, nat_eq, not, ◌&&◌, ◌||◌, length, option_map, is_some, if◌then◌else◌, OnOk, IfOk};
 ghost use Rattle.std.specs.List.{All};
 ghost use Rattle.std.specs.Option.{option_or};
@@ -11,14 +11,14 @@ use bx_session::{Answered, Session};
 use bx_shard::{Sessions, Wakers};
 use std::alloc::{AllocError, Global};
 
-/// The sessions of each new shard, while it is built.
+/// The sessions, patterns and connects of each new shard, while it is built.
 #[derive(Drop)]
 pub(crate) struct Heirs {
     pub(crate) shards: Vec<Sessions>,
 }
 
 impl Heirs {
-    /// Creates `count` shards without sessions.
+    /// Creates `count` empty collections of sessions, one for each new shard.
     pub(crate) fn new(alloc: Global, config: Config, count: usize) -> Result<Heirs, AllocError>
         ensures many { IfOk result (λ heirs. length heirs.shards.items ≡ count) }
         ensures empty { IfOk result (λ heirs. All (IsEmptyOf config) heirs.shards.items) }
@@ -32,6 +32,8 @@ impl Heirs {
     }
 
     /// Reserves session `number` in shard `slot`, and copies its patterns from `from`.
+    ///
+    /// `slot`: the index of the shard, counted from 0.
     pub(crate) fn lend_session(
         &mut self,
         alloc: Global,
@@ -55,7 +57,9 @@ impl Heirs {
         heir.lend(alloc, number, from)
     }
 
-    /// Reserves a connect in shard `slot` that `session` holds at `place` until `deadline`.
+    /// Reserves in shard `slot` the connect that `session` holds at `place` until `deadline`.
+    ///
+    /// `deadline`: milliseconds since the server started. Without one, no tick ends the hold.
     pub(crate) fn lend_connect(
         &mut self,
         slot: usize,
@@ -75,7 +79,7 @@ impl Heirs {
         heir.lend_connect(place, session, deadline)
     }
 
-    /// Stores a session in shard `slot`, where it is reserved.
+    /// Stores `session` in shard `slot`, in which session `number` is reserved.
     pub(crate) fn settle(&mut self, slot: usize, number: u64, session: Session)
         requires within { slot < length self.old.shards.items }
         ensures sessions { (k n : ℕ) → kept_of self.new.shards.items k n
@@ -91,7 +95,7 @@ impl Heirs {
 
     /// Files the answer to a connect that is reserved in shard `slot`.
     ///
-    /// `place`: that of the entry that gave it. Moves the connect's waker to `wakers`.
+    /// `place`: that of the entry that gave the answer. Moves the connect's waker to `wakers`.
     pub(crate) fn file(&mut self, slot: usize, place: u64, answered: Answered, wakers: &mut Wakers)
         requires within { slot < length self.old.shards.items }
         ensures connects { (k p : ℕ) → connect_of self.new.shards.items k p

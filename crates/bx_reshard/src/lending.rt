@@ -1,4 +1,4 @@
-//! Reserving sessions and connects in the new shards, so that moving them does not allocate.
+//! Reserves sessions and connects in the new shards, so that moving them does not allocate.
 ghost use Rattle.std.specs.Prelude.{◌≡◌, ◌≤◌, ℕ, nat_eq, not, ◌&&◌, ◌||◌, length, map, is_some, if◌then◌else◌, OnOk, IfOk};
 ghost use Rattle.std.specs.List.{list_any};
 ghost use Rattle.std.specs.Option.{option_or};
@@ -13,7 +13,7 @@ use bx_entry::Placing;
 use bx_shard::{Sessions, Shard};
 use std::alloc::{AllocError, Global};
 
-/// Reserves the sessions `numbers` of an old shard, with their patterns.
+/// Reserves the sessions with `numbers` of the old shard `old`, with their patterns.
 pub(crate) fn lend_sessions<P: Placing>(
     alloc: Global,
     heirs: &mut Heirs,
@@ -40,7 +40,7 @@ pub(crate) fn lend_sessions<P: Placing>(
     Ok(())
 }
 
-/// Reserves the connects of an old shard at `places`.
+/// Reserves the connects in `old`, held or answered, at `places`.
 pub(crate) fn lend_connects<P: Placing>(
     heirs: &mut Heirs,
     old: &Connects,
@@ -64,7 +64,7 @@ pub(crate) fn lend_connects<P: Placing>(
     Ok(())
 }
 
-/// Reserves all sessions and connects of an old shard.
+/// Reserves all sessions and connects of the old shard `old`.
 pub(crate) fn lend_from<P: Placing>(
     alloc: Global,
     heirs: &mut Heirs,
@@ -93,7 +93,7 @@ pub(crate) fn lend_from<P: Placing>(
     lend_connects(heirs, connects, connects.filed_places(), placing, count)
 }
 
-/// Creates `count` new shards, in which everything of the old ones is reserved.
+/// Creates `count` new shards, in which everything in `shards` is reserved.
 pub(crate) fn lend_all<P: Placing>(
     alloc: Global,
     config: Config,

@@ -1,4 +1,4 @@
-//! Redistribution of all sessions among another number of shards.
+//! Redistributes all sessions among another number of shards.
 #![tactic(auto)]
 
 mod heirs;

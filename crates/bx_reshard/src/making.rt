@@ -1,4 +1,4 @@
-//! Making shards from redistributed sessions.
+//! Creates the new shards from their sessions.
 ghost use Rattle.std.specs.Prelude.{◌≡◌, ◌≤◌, ◌<◌, [], length, map, vec_capacity, IfOk};
 ghost use Rattle.std.specs.Arc.{arc_value};
 ghost use Rattle.std.specs.List.{All};
@@ -12,10 +12,10 @@ use bx_shard::Shard;
 use std::alloc::{AllocError, Global};
 use std::sync::Arc;
 
-/// All that the new shards allocate, before anything moves into them.
+/// Everything that the new shards need, before anything moves into them.
 ///
-/// This is room for their sessions and connects, a handle to the placing for each, and room for the
-/// shards themselves. `place` and `is_shut` are common to all.
+/// `heirs` has room for their sessions and connects. `handles` has a handle to the placing for each
+/// shard. `shards` is empty, with room for all shards. `place` and `is_shut` apply to all of them.
 #[derive(Drop)]
 pub(crate) struct Room<P> {
     pub(crate) heirs: Heirs,
@@ -25,7 +25,7 @@ pub(crate) struct Room<P> {
     pub(crate) is_shut: bool,
 }
 
-/// Clones the handle to the placing `count` times.
+/// Returns `count` clones of the handle to the placing.
 pub(crate) fn copy_handle<P: Drop>(
     alloc: Global,
     placing: &Arc<P>,
@@ -42,7 +42,7 @@ pub(crate) fn copy_handle<P: Drop>(
     Ok(handles)
 }
 
-/// Creates the shards from their sessions, in order. Does not allocate.
+/// Creates the shards from what is in `room`, in order. Does not allocate.
 pub(crate) fn finish<P: Placing + Drop>(room: Room<P>, count: ShardCount) -> Vec<Shard<P>>
     requires empty { room.shards.items ≡ [] }
     requires capacity { length room.heirs.shards.items ≤ vec_capacity room.shards }

@@ -1,4 +1,4 @@
-//! Moving sessions and answers to where they are reserved. Nothing here allocates.
+//! Moves sessions and answers into the room reserved for them. Nothing here allocates.
 ghost use Rattle.std.specs.Prelude.{◌≡◌, ◌≤◌, ℕ, length, map};
 ghost use Rattle.bx_connects.specs.Connects.{filing_at};
 ghost use Rattle.bx_reshard.specs.Heirs.{AreMoved, SameConnects, SameSessions, answered_with, connect_of, patterns_at, kept_by, kept_of, settled};
@@ -11,7 +11,7 @@ use bx_session::{Answered, Session};
 use bx_shard::{Shard, Wakers};
 use indexmap::IndexMap;
 
-/// Moves sessions to the new shards in which they are placed.
+/// Moves the sessions of an old shard to the new shards in which they are placed.
 pub(crate) fn move_sessions<P: Placing>(
     heirs: &mut Heirs,
     mut by_number: IndexMap<u64, Session>,
@@ -29,10 +29,10 @@ pub(crate) fn move_sessions<P: Placing>(
     }
 }
 
-/// Moves filed answers to the new shards in which their sessions are placed.
+/// Moves the filed answers of an old shard to the new shards in which their sessions are placed.
 ///
-/// Drops the wakers of held connects, which wakes their tasks. Moves the wakers of the reserved
-/// connects to `wakers`.
+/// Drops the wakers in `connects`, which wakes their tasks. Moves those of the reserved connects,
+/// if any, to `wakers`.
 pub(crate) fn move_answers<P: Placing>(
     heirs: &mut Heirs,
     mut connects: Connects,
@@ -59,7 +59,7 @@ pub(crate) fn move_answers<P: Placing>(
     }
 }
 
-/// Moves everything in `shards` to where it is reserved.
+/// Moves everything in `shards` into the room reserved for it.
 pub(crate) fn move_all<P: Placing + Drop>(
     heirs: &mut Heirs,
     shards: Vec<Shard<P>>,

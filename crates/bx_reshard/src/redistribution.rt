@@ -1,4 +1,4 @@
-//! Redistributing all sessions among another number of shards.
+//! The redistribution of all sessions among another number of shards.
 ghost use Rattle.std.specs.Prelude.{◌≡◌, ◌≤◌, length, map, IfOk, IfErr};
 ghost use Rattle.std.specs.Arc.{arc_value};
 ghost use Rattle.bx_reshard.specs.Redistribution.{AreAlike, AreApart, Redistributed};
@@ -14,11 +14,13 @@ use bx_shard::{Shard, Wakers};
 use std::alloc::{AllocError, Global};
 use std::sync::Arc;
 
-/// Redistributes the sessions of `shards` among `count` shards, as `placing` places them.
+/// Redistributes the sessions of `shards` among `count` new shards, by `placing`.
 ///
 /// A session keeps its patterns, its held connect and its filed answers. Wakers are dropped, which
-/// wakes their tasks. There must be at least one shard. The shards must have one configuration,
-/// have applied the same entries, and share no session or connect.
+/// wakes their tasks. The new shards are shut if the first old one is.
+///
+/// There must be at least one shard. All must have the same configuration and place, and no two may
+/// share a session or a connect.
 ///
 /// # Errors
 ///
@@ -44,7 +46,7 @@ pub fn redistribute<P: Placing + Drop>(
     }
 }
 
-// Allocates everything that the new shards need.
+// Allocates everything that the new shards need, and reserves in them what `shards` hold.
 fn make_room<P: Placing + Drop>(
     alloc: Global,
     shards: &[Shard<P>],
@@ -67,7 +69,7 @@ fn make_room<P: Placing + Drop>(
     })
 }
 
-// Moves everything to the new shards. Does not allocate.
+// Moves everything in `shards` to the new shards. Does not allocate.
 fn move_in<P: Placing + Drop>(
     mut room: Room<P>,
     shards: Vec<Shard<P>>,

@@ -1,4 +1,4 @@
--- The entries of a queue, the sessions that they file, and what a tick makes of them.
+-- The entries of a queue, their sessions, and the effect of a tick.
 use Rattle.std.proofs.Common.{◌≡◌, ◌≢◌, ℕ, ◌+◌, ◌<◌, ◌≤◌, Bool, true, false, List, [], ◌∷◌, ◌++◌, append_assoc, length, map, refl, sym, ap, subst, ◌∙◌, arith, eq-eqb, ne_eqb, eqb-true}
 use Rattle.std.specs.Prelude.{◌&&◌, ◌||◌, ◌==◌, nat_lt, nat_le, not, Some, None, if◌then◌else◌}
 use Rattle.std.specs.{List.filter, List.list_any, List.Sorted.IsPermutation}
@@ -12,12 +12,12 @@ use Rattle.bx_roster.specs.declared.due_queue.Due.{Due}
 use Rattle.bx_roster.proofs.Live.{live_in-swept}
 use Rattle.bx_roster.proofs.Tables.{IsTable-absent, map-absent, live_in-all, changed-due, changed-number, closing-due, closing-number}
 
--- ---- tests
+-- ---- Tests
 
 not-less : (a b : ℕ) → b ≤ a → nat_lt a b ≡ false
 not-less a b le = grind (arith, nat_tests)
 
--- ---- entries of a session
+-- ---- The entries of one session
 
 pub files-number : (r : Registered) (d : Due) → files r d ≡ true → d.number ≡ r.number
 files-number r d e = eqb-true d.number r.number (and_parts (d.number == r.number) (nat_le d.moment.0 r.due) e).0
@@ -38,11 +38,10 @@ any-later : (r s : Registered) (es : List Due) → s.number ≡ r.number → r.d
 any-later r s [] same later any = any
 any-later r s (d ∷ es) same later any = grind (arith, common_steps, any-later r s es same later, files-later r s d same later)
 
--- an entry of another session does not count
 any-other : (r : Registered) (d : Due) (es : List Due) → r.number ≢ d.number → list_any (files r) (d ∷ es) ≡ true → list_any (files r) es ≡ true
 any-other r d es ne any = ap (λ (b : Bool). b || list_any (files r) es) (sym (files-other r d ne)) ∙ any
 
--- ---- sessions that are filed
+-- ---- Sessions that have an entry
 
 pub filed-permuted : (es new : List Due) (rs : List Registered) → IsPermutation es new → AllFiled es rs → AllFiled new rs
 filed-permuted es new [] p all = tt
@@ -65,14 +64,13 @@ pub filed-append : (es : List Due) (rs ss : List Registered) → AllFiled es rs 
 filed-append es [] ss a b = b
 filed-append es (r ∷ rs) ss a b = (a.0, filed-append es rs ss a.1 b)
 
--- a due moment that moves on, and a session that is closed
 pub filed-extended : (es : List Due) (n due : ℕ) (rs : List Registered) → AllFiled es rs → AllFiled es (live_in (extended n due rs))
 filed-extended es n due rs all = filed-filter es (λ r. r.live) (extended n due rs) (filed-map es _ rs (λ r. changed-number due r _) (λ r. changed-due n due r _) all)
 
 pub filed-closed : (es : List Due) (n : ℕ) (rs : List Registered) → AllFiled es rs → AllFiled es (live_in (closed n rs))
 filed-closed es n rs all = filed-filter es (λ r. r.live) (closed n rs) (filed-map es _ rs (λ r. closing-number r _) (λ r. closing-due r _) all)
 
--- ---- one entry more, and one less
+-- ---- An entry is added or removed
 
 pub entries-filed : (d : Due) (late waiting late' waiting' : List Due) → late' ≡ late → IsPermutation (d ∷ waiting) waiting' → IsPermutation (d ∷ (late ++ waiting)) (late' ++ waiting')
 entries-filed d late waiting late' waiting' e p =
@@ -82,7 +80,6 @@ entries-filed d late waiting late' waiting' e p =
 pub entries-taken : (d : Due) (late waiting late' waiting' : List Due) → late ≡ late' ++ d ∷ [] → waiting' ≡ waiting → IsPermutation (late ++ waiting) (d ∷ (late' ++ waiting'))
 entries-taken d late waiting late' waiting' e f = rw (e, f) (subst (λ (es : List Due). IsPermutation es (d ∷ (late' ++ waiting))) (sym (append_assoc late' (d ∷ []) waiting)) (IsPermutation-middle late' d waiting))
 
--- one more session, with an entry of its own
 pub filed-push : (d : Due) (late waiting late' waiting' : List Due) (rs : List Registered) (r : Registered) → late' ≡ late → IsPermutation (d ∷ waiting) waiting' → d.number ≡ r.number → d.moment.0 ≡ r.due →
     AllFiled (late ++ waiting) rs → AllFiled (late' ++ waiting') (rs ++ r ∷ [])
 filed-push d late waiting late' waiting' rs r e p same moment all =
@@ -94,7 +91,6 @@ pub length-push : (d : Due) (late waiting late' waiting' : List Due) → late' �
 length-push d late waiting late' waiting' e p =
     omega (arith, length_permutation (d ∷ (late ++ waiting)) (late' ++ waiting') (entries-filed d late waiting late' waiting' e p))
 
--- an entry whose session is not there may go
 pub filed-absent : (d : Due) (es : List Due) (rs : List Registered) → IsAbsent d.number rs → AllFiled (d ∷ es) rs → AllFiled es rs
 filed-absent d es [] a all = tt
 filed-absent d es (r ∷ rs) a all = (any-other r d es a.0 all.0, filed-absent d es rs a.1 all.1)
@@ -103,19 +99,17 @@ pub none-absent : (n : ℕ) (rs : List Registered) → due_at n rs ≡ None → 
 none-absent n [] none = tt
 none-absent n (r ∷ rs) none = grind (arith, common_steps, none-absent n rs)
 
--- an entry whose session is closed may go
 pub filed-gone : (d : Due) (es : List Due) (rs : List Registered) → AllFiled (d ∷ es) rs → AllFiled es (live_in (closed d.number rs))
 filed-gone d es [] all = tt
 filed-gone d es (r ∷ rs) all = grind (arith, common_steps, filed-gone d es rs all.1, any-other r d es)
 
--- an entry moves on to the session's due moment
 pub filed-moved : (d e : Due) (es : List Due) (due low high : ℕ) (rs : List Registered) → e.number ≡ d.number → e.moment.0 ≡ due → IsTable low high rs → AllFiled (d ∷ es) rs →
     due_at d.number rs ≡ Some due → AllFiled (e ∷ es) rs
 filed-moved d e es due low high [] same moment t all is = tt
 filed-moved d e es due low high (r ∷ rs) same moment t all is =
     grind (arith, common_steps, filed-moved d e es due r.number high rs same moment t.2 all.1, filed-cons e es rs, filed-absent d es rs, IsTable-absent r.number high d.number rs, any-other r d es, files-from r e)
 
--- ---- what a tick leaves
+-- ---- The sessions after a tick
 
 abbrev pub stays : ℕ → Registered → Bool
 stays moment r = r.live && nat_le moment r.due
@@ -130,12 +124,10 @@ stays-swept moment (r ∷ rs) = grind (arith, common_steps, stays-swept moment r
 lt-test : (a b : ℕ) → a < b → nat_lt a b ≡ true
 lt-test a b less = grind (arith, nat_tests)
 
--- where no entry stands before a moment, no session that is filed is due before it
 pub due-from : (m : ℕ) (r : Registered) (es : List Due) → IsFrom m es → list_any (files r) es ≡ true → m ≤ r.due
 due-from m r [] from any = cc
 due-from m r (d ∷ es) from any = grind (arith, common_steps, due-from m r es (All-tail (λ (x : Due). m ≤ x.moment.0) d es from), All-head (λ (x : Due). m ≤ x.moment.0) d es from, files-due r d)
 
--- then a tick at that moment leaves all of them
 pub none-swept : (m : ℕ) (es : List Due) (rs : List Registered) → IsFrom m es → AllFiled es rs → swept m rs ≡ rs
 none-swept m es [] from all = refl
 none-swept m es (r ∷ rs) from all =
@@ -148,7 +140,6 @@ settled m late waiting ms none from filed all =
     let es : AllFiled waiting ms.live = subst (λ (l : List Due). AllFiled (l ++ waiting) ms.live) none filed in
     ap (with_live ms) (ap live_in (none-swept m waiting ms.live from es) ∙ live_in-all ms.live all)
 
--- a session that goes at a tick may be closed before it
 goes : (m : ℕ) (r : Registered) → r.due < m → stays m r ≡ false
 goes m r late = ap (λ (b : Bool). r.live && b) (less-or-not r.due m true (lt-test r.due m late)) ∙ and-false r.live
 

@@ -1,4 +1,4 @@
--- A walk over the map files each session that stands under a number.
+-- A walk over the map adds an entry for each session.
 use Rattle.std.proofs.Common.{◌≡◌, ℕ, zero, suc, ◌+◌, ◌≤◌, true, List, [], ◌∷◌, ◌++◌, length, Option, Some, None, is_some, refl, sym, ap, arith, true≢false}
 use Rattle.std.proofs.lemmas.Grind.{common_steps}
 use Rattle.std.specs.{List.list_any, Map.values_of}
@@ -24,13 +24,12 @@ module _ (dues : List Due) (es : List (ℕ × Option Registered)) (all : AllFile
   all-filed zero = tt
   all-filed (suc k) = filed-one (suc k) (sessions_to (under es) k) (under es (suc k)) refl (all-filed k)
 
--- ---- how many they are
+-- ---- The number of sessions
 
 few : (es : List (ℕ × Option Registered)) → length (sessions_in (values_of es)) ≤ length es
 few [] = omega arith
 few (e ∷ es) = grind (arith, common_steps, few es)
 
--- a vacant record is none of them
 fewer : (n : ℕ) (es : List (ℕ × Option Registered)) → under es n ≡ Some None → length (sessions_in (values_of es)) + 1 ≤ length es
 fewer n [] e = absurd (true≢false (sym (ap is_some e)))
 fewer n (e ∷ es) is = grind (arith, common_steps, fewer n es, few es)
@@ -39,7 +38,6 @@ module _ (es : List (ℕ × Option Registered)) {limit count opened : ℕ} (k : 
   pub few-kept : length (sessions_in (values_of es)) ≤ length (sessions_to (under es) opened)
   few-kept = grind (arith, common_steps, few es, fewer (opened + 1) es, k.next, k.sized, k.counted)
 
--- a record more
 pub sessions-push : (rs : List Registered) (r : Registered) (os : List (Option Registered)) → (rs ++ r ∷ []) ++ sessions_in os ≡ rs ++ sessions_in (Some r ∷ os)
 sessions-push [] r os = refl
 sessions-push (x ∷ rs) r os = ap (λ (xs : List Registered). x ∷ xs) (sessions-push rs r os)

@@ -1,4 +1,4 @@
--- What a change under one number makes of a roster.
+-- A roster after a change under one number.
 use Rattle.std.proofs.Common.{◌≡◌, ◌≢◌, ℕ, suc, ◌+◌, ◌-◌, ◌^◌, ◌<◌, ◌≤◌, Bool, true, false, List, [], ◌∷◌, ◌++◌, length, length-append, Option, Some, None, option_map, is_some, refl, sym, ap, subst, ◌∙◌, cond, arith, eq-eqb, ne_eqb, true≢false, inl, inr}
 use Rattle.std.specs.Prelude.{◌==◌, ◌⊎◌, max, nat_eq}
 use Rattle.std.proofs.lemmas.{Bool.Decides.eqb_tells, Grind.common_steps, Bool.cases_lt, List.length-map}
@@ -12,11 +12,9 @@ use Rattle.bx_roster.proofs.Sessions.{IsTable-above, found, found-absent, found-
 some-none : {A : Type 0} (a : A) → None ≡ Some a → ⊥
 some-none a e = true≢false (sym (ap is_some e))
 
--- what a map of these entries has under a number
 abbrev pub under : List (ℕ × Option Registered) → ℕ → Record
 under es n = lookup (nat_eq n) es
 
--- the roster of nothing
 pub empty-kept : (limit : ℕ) → limit < 2 ^ 64 → IsKept (under []) 0 limit 0 0
 unfolding sessions_to
 empty-kept limit small = grind (arith, common_steps, some-none)
@@ -28,12 +26,10 @@ empty-live at = refl
 abbrev pub prepared : ℕ → ℕ → List Registered → Bool → Prepared
 prepared limit opened live ready = record { members = record { limit = limit; opened = opened; live = live }; ready = ready }
 
--- rosters that agree in each part are the same
 pub made : (limit : ℕ) {m n : ℕ} {a b : List Registered} {r s : Bool} → m ≡ n → a ≡ b → r ≡ s →
     prepared limit m a r ≡ prepared limit n b s
 made limit p q e = λ i. prepared limit (p i) (q i) (e i)
 
--- the map has this under one number, and under the others what it had
 pub record Changed (at new : ℕ → Record) (n : ℕ) (w : Record) : Type 0 where
   pub here : new n ≡ w
   pub others : (q : ℕ) → q ≢ n → new q ≡ at q
@@ -44,7 +40,6 @@ changed-by at new n w u = record {
   others = λ q ne. u q ∙ ap (λ (b : Bool). cond b w (at q)) (ne_eqb n q (λ e. ne (sym e)));
 }
 
--- what is under a number after the change was there before, or is the new one
 what-by : {at new : ℕ → Record} {n : ℕ} {w : Record} → Changed at new n w → (q : ℕ) → ((q == n) ≡ true) × (q ≡ n) ⊎ ((q == n) ≡ false) × (q ≢ n) → (q ≡ n) × (new q ≡ w) ⊎ (new q ≡ at q)
 what-by {at} {new} {n} {w} c q (inl e) = inl (e.1, ap new e.1 ∙ c.here)
 what-by {at} {new} {n} {w} c q (inr e) = inr (c.others q e.1)
@@ -53,14 +48,12 @@ what : {at new : ℕ → Record} {n : ℕ} {w : Record} → Changed at new n w �
 what {at} {new} {n} {w} c q = what-by c q (eqb_tells q n)
 
 module _ {at : ℕ → Record} {records limit count opened : ℕ} (k : IsKept at records limit count opened) where
-  -- a session stands under the number of one that was opened
   pub within : (n : ℕ) (r : Registered) → at n ≡ Some (Some r) → n ≤ opened
   within n r e = grind (arith, common_steps, k.next, k.beyond n)
 
   no_session : (n : ℕ) (o : Record) → at n ≡ o → opened < n → session_of o ≡ None
   no_session n o e lt = grind (arith, common_steps, within n)
 
-  -- no session stands beyond those that were opened
   pub none-beyond : (n : ℕ) → opened < n → session_of (at n) ≡ None
   none-beyond n lt = no_session n (at n) refl lt
 
@@ -70,7 +63,7 @@ module _ {at : ℕ → Record} {records limit count opened : ℕ} (k : IsKept at
   pub extended-same : (n due : ℕ) → session_of (at n) ≡ None → sessions_to at opened ≡ live_in (extended n due (sessions_to at opened))
   extended-same n due none = extended-none at k.stand n none due opened
 
-  -- ---- what is found
+  -- ---- The session under a number
 
   module _ {A : Type 0} (pick : Registered → A) (n : ℕ) where
     found-by : (opened < n) ⊎ (n ≤ opened) → found pick n (sessions_to at opened) ≡ option_map pick (session_of (at n))
@@ -86,7 +79,7 @@ module _ {at : ℕ → Record} {records limit count opened : ℕ} (k : IsKept at
   pub due-kept : (n : ℕ) → due_at n (sessions_to at opened) ≡ option_map (λ r. r.due) (session_of (at n))
   due-kept n = due_at-found n (sessions_to at opened) ∙ found-kept (λ r. r.due) n
 
-  -- ---- a vacant record for the next session
+  -- ---- A vacant record is added for the next session
 
   module _ {new : ℕ → Record} {next : ℕ} (is : next ≡ opened + 1) (c : Changed at new next (Some None)) where
     pub prepared-same : sessions_to new opened ≡ sessions_to at opened
@@ -107,7 +100,7 @@ module _ {at : ℕ → Record} {records limit count opened : ℕ} (k : IsKept at
       stand = λ q r e. grind (arith, common_steps, what c q, k.stand q r);
     }
 
-  -- ---- the vacant record filled
+  -- ---- The vacant record is filled
 
   module _ {new : ℕ → Record} (s : Registered) {m : ℕ} (number : s.number ≡ m) (is : m ≡ opened + 1) (c : Changed at new m (Some (Some s))) where
     live-suc : m ≡ suc opened → sessions_to new opened ≡ sessions_to at opened → sessions_to new m ≡ sessions_to at opened ++ s ∷ []
@@ -138,7 +131,7 @@ module _ {at : ℕ → Record} {records limit count opened : ℕ} (k : IsKept at
         own : Stands m s
         own = record { number = number; above = omega (arith, is); named = named; live = lives }
 
-  -- ---- a session closed
+  -- ---- A session is closed
 
   module _ {new : ℕ → Record} (n : ℕ) (c : Changed at new n None) where
     pub closed-live : sessions_to new opened ≡ live_in (closed n (sessions_to at opened))
@@ -161,7 +154,7 @@ module _ {at : ℕ → Record} {records limit count opened : ℕ} (k : IsKept at
           stand = λ q x e. grind (arith, common_steps, what c q, k.stand q x);
         }
 
-  -- ---- a due moment moved on
+  -- ---- A due moment is extended
 
   module _ {new : ℕ → Record} (n due : ℕ) (x : Registered) (there : at n ≡ Some (Some x)) (c : Changed at new n (Some (Some (record x { due = max x.due due })))) where
     same-live : sessions_to new opened ≡ extended n due (sessions_to at opened)
@@ -191,7 +184,6 @@ module _ {at : ℕ → Record} {records limit count opened : ℕ} (k : IsKept at
         own : Stands n moved
         own = let s = k.stand n x there in record { number = s.number; above = s.above; named = s.named; live = s.live }
 
-  -- the same, be the record vacant or not
   module _ {new : ℕ → Record} (n due : ℕ) where
     vacant-same : at n ≡ Some None → Changed at new n (Some None) → new ≡ at
     vacant-same e c = λ i q. same q i
@@ -209,7 +201,7 @@ module _ {at : ℕ → Record} {records limit count opened : ℕ} (k : IsKept at
     pub moved-ready : (o : Option Registered) → at n ≡ Some o → Changed at new n (Some (option_map (later due) o)) → new (opened + 1) ≡ at (opened + 1)
     moved-ready o h1 h2 = grind (arith, common_steps, vacant-same, extended-ready)
 
-  -- ---- what stands under a number
+  -- ---- The record under a number
 
   pub prepared-size : {records' : ℕ} → records' ≡ records + cond (is_some (at (opened + 1))) 0 1 → records' ≡ count + 1
   prepared-size {records'} size = grind (arith, common_steps, k.sized)
@@ -217,18 +209,15 @@ module _ {at : ℕ → Record} {records limit count opened : ℕ} (k : IsKept at
   pub occupied : (n : ℕ) (o : Record) → at n ≡ o → is_some o ≡ true → n ≤ opened → (r : Registered) × (at n ≡ Some (Some r))
   occupied n o h1 h2 h3 = grind (arith, common_steps)
 
--- ---- edits
+-- ---- Edits
 
--- where there is room, a record is vacant
 pub ready-room : (b : Bool) → 1 ≤ room_of b → b ≡ true
 ready-room b le = grind (arith, common_steps)
 
--- the sessions of a map are a roster
 pub kept-roster : {at : ℕ → Record} {records limit count opened : ℕ} → IsKept at records limit count opened →
     IsRoster (record { limit = limit; opened = opened; live = sessions_to at opened })
 kept-roster {at} {records} {limit} {count} {opened} k = record { table = table-to at k.stand opened; all = live-to at k.stand opened }
 
--- where no edit opens a session, they open none
 pub none-open : (es : List Edit) → list_any is_open es ≡ false → opened_by_each es ≡ 0
 none-open [] none = refl
 none-open (e ∷ es) none = grind (arith, common_steps, none-open es)

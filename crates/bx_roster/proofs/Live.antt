@@ -1,4 +1,4 @@
--- What a change of sessions makes of the live ones.
+-- The live sessions after a change of sessions.
 use Rattle.std.proofs.Common.{◌≡◌, ℕ, Bool, false, List, arith}
 use Rattle.std.specs.Prelude.{max, if◌then◌else◌}
 use Rattle.std.proofs.lemmas.Grind.{common_steps}

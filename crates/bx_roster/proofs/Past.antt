@@ -1,4 +1,4 @@
--- The numbers of the overdue sessions, from the late entries of a queue.
+-- The late entries of a queue, in order and without repetition, give the overdue sessions.
 use Rattle.std.proofs.Common.{◌≡◌, ℕ, ◌<◌, Bool, true, false, List, [], ◌∷◌, ◌++◌, map, refl, sym, ap, ◌∙◌, arith, eqb}
 use Rattle.std.specs.Prelude.{◌&&◌, ◌==◌}
 use Rattle.std.specs.{List.dedup, List.list_any, List.Sorted.IsPermutation, List.Sorted.IsSorted, Ordering.nat_cmp}
@@ -11,7 +11,7 @@ use Rattle.bx_roster.specs.Words.{IsTable, IsAbsent, AllLive, due_at, AllFiled, 
 use Rattle.bx_roster.specs.declared.due_queue.Due.{Due}
 use Rattle.bx_roster.proofs.{Tables.IsTable-absent, Dues.due-from, Dues.files-number}
 
--- ---- the overdue sessions
+-- ---- The overdue sessions
 
 overdue-above : (m low high : ℕ) (rs : List Registered) → IsTable low high rs → AllAbove low (overdue m rs)
 overdue-above m low high [] t = tt
@@ -29,7 +29,7 @@ past-has : (m n low high : ℕ) (rs : List Registered) → IsTable low high rs �
 past-has m n low high [] t all = refl
 past-has m n low high (r ∷ rs) t all = grind (arith, common_steps, past-has m n r.number high rs t.2 all.1, absent-overdue, IsTable-absent)
 
--- ---- each of them has a late entry
+-- ---- Each overdue session has a late entry
 
 late-has : (m : ℕ) (r : Registered) (late waiting : List Due) → IsFrom m waiting → r.due < m → list_any (files r) (late ++ waiting) ≡ true → has r.number (map (λ (e : Due). e.number) late) ≡ true
 late-has m r [] waiting from less any = absurd (omega (arith, due-from m r waiting from any, less))
@@ -44,7 +44,6 @@ found-by : (m n : ℕ) (rs : List Registered) (late : List Due) → (has n (over
     (b : Bool) → has n (overdue m rs) ≡ b → (has n (map (λ (e : Due). e.number) late) && b) ≡ b
 found-by m n rs late h1 b h2 = grind (arith, common_steps, and-false)
 
--- in order and each once, they are the overdue sessions
 pub past-overdue : (m low high : ℕ) (rs : List Registered) (late waiting : List Due) (found sorted numbers : List ℕ) → IsFrom m waiting → AllFiled (late ++ waiting) rs → IsTable low high rs → AllLive rs →
     found ≡ past_numbers m rs late → IsPermutation found sorted → IsSorted nat_cmp sorted → numbers ≡ dedup eqb sorted → numbers ≡ overdue m rs
 past-overdue m low high rs late waiting found sorted numbers from filed t all is moved rises once =

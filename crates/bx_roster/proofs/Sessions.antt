@@ -1,4 +1,4 @@
--- The sessions of a map in the order of their numbers, and what a change under one number makes of them.
+-- The sessions of a map in ascending order of number, and changes under one number.
 use Rattle.std.proofs.Common.{◌≡◌, ◌≢◌, ℕ, zero, suc, ◌+◌, ◌<◌, ◌≤◌, true, false, List, [], ◌∷◌, ◌++◌, length, length-append, Option, Some, None, option_map, is_some, refl, sym, ap, ap₂, ◌∙◌, arith, eq-eqb, ne_eqb, append-nil, true≢false}
 use Rattle.std.specs.Prelude.{◌==◌, ◌⊎◌, max, if◌then◌else◌}
 use Rattle.std.proofs.lemmas.{Bool.Decides.eqb_tells, List.map-append, List.Elements.filter-append, Grind.common_steps}
@@ -6,7 +6,7 @@ use Rattle.bx_entry.specs.Registry.{Registered, extended, closed}
 use Rattle.bx_roster.specs.Words.{live_in, IsTable, IsAbsent, AllLive, known_of, known_at, due_at, Record, session_of, with_one, sessions_to, Stands}
 use Rattle.bx_roster.proofs.Tables.{IsTable-push, live_in-all, map-absent}
 
--- ---- lists
+-- ---- Lists
 
 IsTable-higher : (low high high' : ℕ) (rs : List Registered) → high ≤ high' → IsTable low high rs → IsTable low high' rs
 IsTable-higher low high high' [] le t = omega (arith, t)
@@ -27,7 +27,7 @@ pub AllLive-push : (rs : List Registered) (s : Registered) → AllLive rs → s.
 AllLive-push [] s a l = (l, tt)
 AllLive-push (r ∷ rs) s a l = (a.0, AllLive-push rs s a.1 l)
 
--- ---- what is found under a number
+-- ---- The session under a number
 
 module _ {A : Type 0} (pick : Registered → A) (n : ℕ) where
   abbrev pub found : List Registered → Option A
@@ -54,7 +54,7 @@ pub due_at-found : (n : ℕ) (rs : List Registered) → due_at n rs ≡ found (�
 due_at-found n [] = refl
 due_at-found n (r ∷ rs) = ap (λ o. if r.number == n then Some r.due else o) (due_at-found n rs)
 
--- ---- the sessions of a map
+-- ---- The sessions of a map
 
 pub same_to : (f g : ℕ → Record) (k : ℕ) → ((n : ℕ) → n ≤ k → f n ≡ g n) → sessions_to f k ≡ sessions_to g k
 unfolding sessions_to
@@ -94,7 +94,7 @@ module _ (at : ℕ → Record) (stand : (n : ℕ) (r : Registered) → at n ≡ 
     found-to zero le = none-below (at n) refl le
     found-to (suc k) le = grind (arith, common_steps, found-to k, found-at (sessions_to at k) (at n) refl, IsTable-above 0 k n (sessions_to at k), table-to k, found-beside k (sessions_to at k) (at (suc k)) refl)
 
--- ---- a session closed
+-- ---- A session is closed
 
 module _ (n : ℕ) where
   abbrev close_one : Registered → Registered
@@ -135,7 +135,7 @@ module _ (n : ℕ) where
         by : (n ≤ k → length (sessions_to new k) + 1 ≡ length (sessions_to at k)) → ((suc k == n) ≡ true) × (suc k ≡ n) ⊎ ((suc k == n) ≡ false) × (suc k ≢ n) → length (with_one (sessions_to new k) (session_of (new (suc k)))) + 1 ≡ length (with_one (sessions_to at k) (session_of (at (suc k))))
         by h1 h2 = grind (arith, common_steps, same_to, length-append, length-one)
 
--- ---- a due moment moved on
+-- ---- A due moment is extended
 
 module _ (n due : ℕ) (at new : ℕ → Record) (stand : (n : ℕ) (r : Registered) → at n ≡ Some (Some r) → Stands n r) (x : Registered) (there : at n ≡ Some (Some x))
     (moved : new n ≡ Some (Some (record x { due = max x.due due }))) (others : (q : ℕ) → q ≢ n → new q ≡ at q) where
@@ -152,7 +152,7 @@ module _ (n due : ℕ) (at new : ℕ → Record) (stand : (n : ℕ) (r : Registe
   extended-to zero = refl
   extended-to (suc k) = grind (arith, common_steps, extended-to k, moved, there, others (suc k), extended-one (sessions_to at k) x, (stand n x there).number, extended-beside (suc k) (sessions_to at k) (at (suc k)))
 
--- ---- a number under which no session stands
+-- ---- A number without a session
 
 IsAbsent-push : (n : ℕ) (rs : List Registered) (r : Registered) → IsAbsent n rs → r.number ≢ n → IsAbsent n (rs ++ r ∷ [])
 IsAbsent-push n [] r a ne = (ne, tt)

@@ -1,4 +1,4 @@
--- Tables of sessions, and what a change of the session of a number makes of them.
+-- Tables of sessions, and changes of one session.
 use Rattle.std.proofs.Common.{◌≡◌, ◌≢◌, ℕ, ◌<◌, ◌≤◌, Bool, false, List, [], ◌∷◌, ◌++◌, map, refl, ap, ◌∙◌, cond, arith, ne_eqb}
 use Rattle.std.specs.Prelude.{◌==◌, max, if◌then◌else◌}
 use Rattle.std.specs.List.{filter}
@@ -6,7 +6,7 @@ use Rattle.std.proofs.lemmas.Grind.{common_steps}
 use Rattle.bx_entry.specs.Registry.{Registered}
 use Rattle.bx_roster.specs.Words.{live_in, IsNamed, IsTable, IsAbsent, AllLive}
 
--- ---- tables
+-- ---- Tables
 
 pub IsTable-bounds : (low high : ℕ) (rs : List Registered) → IsTable low high rs → low ≤ high
 IsTable-bounds low high [] t = t
@@ -36,10 +36,9 @@ pub IsTable-push : (low high : ℕ) (rs : List Registered) (s : Registered) → 
 IsTable-push low high [] s above named t = (omega (arith, t), named, omega arith)
 IsTable-push low high (r ∷ rs) s above named t = (t.0, t.1, IsTable-push r.number high rs s above named t.2)
 
--- ---- one session by its number
+-- ---- One session by its number
 
 module _ (n : ℕ) (f : Registered → Registered) where
-  -- the change of the session with this number
   abbrev pub changing : Registered → Registered
   changing r = if r.number == n then f r else r
 
@@ -47,7 +46,7 @@ module _ (n : ℕ) (f : Registered → Registered) where
   map-absent [] a = refl
   map-absent (r ∷ rs) a = rw (ne_eqb r.number n a.0) (ap (λ (ys : List Registered). r ∷ ys) (map-absent rs a.1))
 
--- ---- those that are live
+-- ---- The live sessions
 
 pub AllLive-live : (rs : List Registered) → AllLive (live_in rs)
 AllLive-live [] = tt
@@ -57,7 +56,7 @@ pub live_in-all : (rs : List Registered) → AllLive rs → live_in rs ≡ rs
 live_in-all [] all = refl
 live_in-all (r ∷ rs) all = ap (λ (b : Bool). cond b (r ∷ live_in rs) (live_in rs)) all.0 ∙ ap (λ (ys : List Registered). r ∷ ys) (live_in-all rs all.1)
 
--- ---- a due moment that moves on
+-- ---- A due moment is extended
 
 pub changed-due : (n due : ℕ) (r : Registered) (b : Bool) → r.due ≤ (if b then record r { due = max r.due due } else r).due
 changed-due n due r b = grind (arith, common_steps)
@@ -68,7 +67,7 @@ changed-number due r b = grind (arith, common_steps)
 pub changed-client : (due : ℕ) (r : Registered) (b : Bool) → (if b then record r { due = max r.due due } else r).client ≡ r.client
 changed-client due r b = grind (arith, common_steps)
 
--- ---- a session that is closed
+-- ---- A session is closed
 
 pub closing-due : (r : Registered) (b : Bool) → r.due ≤ (if b then record r { live = false } else r).due
 closing-due r b = grind (arith, common_steps)

@@ -13,12 +13,12 @@ edited ms (Open s) = record ms { opened = s.number; live = ms.live ++ s ∷ [] }
 edited ms (Extend number due) = with_live ms (live_in (extended number due ms.live))
 edited ms (Close number) = with_live ms (live_in (closed number ms.live))
 
--- The sessions after these edits in order, or after all that are overdue are closed.
+-- The sessions after all edits of a change, or after a sweep that closes the overdue ones.
 abbrev pub edited_by : Members → Edits → Members
 edited_by ms (Each edits) = fold edited ms edits
 edited_by ms (Sweep moment) = with_live ms (live_in (swept moment ms.live))
 
--- A session that is opened is the next one, and there is room for it.
+-- The session can be opened: it has the next number, and there is room for it.
 pub record IsNext (ms : Members) (s : Registered) : Type 0 where
   pub room : length ms.live < ms.limit
   pub number : s.number ≡ ms.opened + 1
@@ -32,7 +32,7 @@ CanEdit ms (Open s) = IsNext ms s
 CanEdit ms (Extend number due) = Unit {0}
 CanEdit ms (Close number) = IsSome (known_at number ms.live)
 
--- Each of these edits can be made, one after another.
+-- These edits can be made, one after another.
 abbrev pub CanEditEach : Members → List Edit → Type 0
 CanEditEach ms [] = Unit {0}
 CanEditEach ms (e ∷ es) = CanEdit ms e × CanEditEach (edited ms e) es
@@ -64,6 +64,6 @@ abbrev pub opens : Edits → ℕ
 opens (Each edits) = opened_by_each edits
 opens (Sweep moment) = 0
 
--- How many sessions can be opened before another record must be made.
+-- How many sessions can be opened before another record must be reserved.
 abbrev pub room_of : Bool → ℕ
 room_of ready = if ready then 1 else 0

@@ -12,7 +12,7 @@ abbrev pub session_of : Option (Option Registered) → Option Registered
 session_of None = None
 session_of (Some record_there) = record_there
 
--- The sessions with one more, if there is one.
+-- The sessions, followed by one more, if any.
 abbrev pub with_one : List Registered → Option Registered → List Registered
 with_one rs None = rs
 with_one rs (Some r) = rs ++ r ∷ []
@@ -22,23 +22,23 @@ unfoldable pub sessions_to : (ℕ → Record) → ℕ → List Registered
 sessions_to at zero = []
 sessions_to at (suc n) = with_one (sessions_to at n) (session_of (at (suc n)))
 
--- A live session is stored under its own number.
+-- The session is live and stored under its own number.
 pub record Stands (n : ℕ) (r : Registered) : Type 0 where
   pub number : r.number ≡ n
   pub above : 0 < n
   pub named : IsNamed r
   pub live : r.live ≡ true
 
--- The session, due no earlier than before and no earlier than `due`.
+-- The session with its due moment moved to `due`, but never back.
 abbrev pub later : ℕ → Registered → Registered
 later due r = record r { due = max r.due due }
 
--- How many records are under a number: 1 or 0.
+-- How many records there are under a number: 1 or 0.
 abbrev pub vacant_count : Record → ℕ
 vacant_count o = if is_some o then 1 else 0
 
--- Each live session has a record. At most one more, a vacant one, is under the next number to be
--- opened, and none is beyond.
+-- Each live session has a record. There is at most one other record: a vacant one, under the next
+-- number to be opened.
 pub record IsKept (at : ℕ → Record) (records limit count opened : ℕ) : Type 0 where
   pub fits : count ≤ limit
   pub small : limit < 2 ^ 64

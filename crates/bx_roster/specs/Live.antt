@@ -2,7 +2,7 @@
 use Rattle.std.specs.Prelude.{ℕ, Bool, List, filter}
 use Rattle.bx_entry.specs.Registry.{Registered}
 
--- How many sessions may be live, how many were ever opened, and the live ones by number.
+-- How many sessions may be live, how many were ever opened, and the live ones.
 pub record Members : Type 0 where
   pub limit : ℕ
   pub opened : ℕ
@@ -16,7 +16,7 @@ live_in sessions = filter (λ (r : Registered). r.live) sessions
 abbrev pub with_live : Members → List Registered → Members
 with_live ms live = record ms { live = live }
 
--- A table in contracts: the live sessions, and whether there is a vacant record for the next one.
+-- A table as contracts see it: the sessions, and whether a record is reserved for the next one.
 pub record Prepared : Type 0 where
   pub members : Members
   pub ready : Bool

@@ -7,7 +7,7 @@ use Rattle.bx_roster.specs.Live.{Members}
 use Rattle.bx_roster.specs.Tables.{AllLive, IsTable, due_at}
 use Rattle.bx_roster.specs.declared.due_queue.Due.{Due}
 
--- How many entries there is room for, the late entries and the waiting ones.
+-- For how many entries there is room, the late entries, and the waiting ones.
 pub record Queue : Type 0 where
   pub room : ℕ
   pub late : List Due
@@ -29,7 +29,7 @@ IsFrom moment dues = All (λ (d : Due). moment ≤ d.moment.0) dues
 abbrev pub IsLateBy : ℕ → List Due → List Due → Type 0
 IsLateBy moment before after = (moved : List Due) × (after ≡ before ++ moved) × All (λ (d : Due). d.moment.0 < moment) moved
 
--- Whether an entry is the session's and is at its due moment or before.
+-- Whether an entry is for session `r` and at its due moment or before.
 abbrev pub files : Registered → Due → Bool
 files r d = (d.number == r.number) && nat_le d.moment.0 r.due
 
@@ -38,14 +38,15 @@ abbrev pub AllFiled : List Due → List Registered → Type 0
 AllFiled dues [] = Unit {0}
 AllFiled dues (r ∷ rs) = (list_any (files r) dues ≡ true) × AllFiled dues rs
 
--- The waiting entries form a heap, and there is room for as many entries as there may be.
+-- The waiting entries form a heap. Heap and list each have memory for `room` entries, and there are
+-- at most `room` entries in all.
 pub record IsQueue (waiting late : List Due) (waiting_room late_room room : ℕ) : Type 0 where
   pub heap : IsHeap due_order waiting
   pub fits : length late + length waiting ≤ room
   pub waiting_fits : room ≤ waiting_room
   pub late_fits : room ≤ late_room
 
--- The sessions are live and in the order of their numbers.
+-- The sessions are live and in ascending order of number.
 pub record IsRoster (ms : Members) : Type 0 where
   pub table : IsTable 0 ms.opened ms.live
   pub all : AllLive ms.live
@@ -61,6 +62,6 @@ abbrev pub is_past : ℕ → Option ℕ → Bool
 is_past moment None = false
 is_past moment (Some due) = nat_lt due moment
 
--- The numbers of the entries whose sessions were due before `moment`.
+-- The sessions that have an entry, are live, and were due before `moment`, by number.
 abbrev pub past_numbers : ℕ → List Registered → List Due → List ℕ
 past_numbers moment live dues = filter (λ n. is_past moment (due_at n live)) (map (λ (d : Due). d.number) dues)

@@ -1,4 +1,4 @@
--- Lists of sessions in the order of their numbers.
+-- Lists of sessions in ascending order of number.
 use Rattle.std.specs.Prelude.{ℕ, ◌≡◌, ◌≢◌, ◌<◌, ◌≤◌, ◌==◌, Bool, true, List, [], ◌∷◌, drop, if◌then◌else◌, Option, Some, None}
 use Rattle.bx_entry.specs.Registry.{Registered, hex_digits}
 
@@ -6,7 +6,7 @@ use Rattle.bx_entry.specs.Registry.{Registered, hex_digits}
 abbrev pub IsNamed : Registered → Type 0
 IsNamed r = drop 32 r.client ≡ hex_digits 16 r.number
 
--- The numbers ascend above `low` and up to `high`, and each client id ends in its session's number.
+-- The numbers ascend, are above `low` and at most `high`, and the client ids end in their digits.
 abbrev pub IsTable : ℕ → ℕ → List Registered → Type 0
 IsTable low high [] = low ≤ high
 IsTable low high (r ∷ rs) = (low < r.number) × IsNamed r × IsTable r.number high rs
@@ -25,12 +25,12 @@ AllLive (r ∷ rs) = (r.live ≡ true) × AllLive rs
 abbrev pub known_of : Registered → List ℕ × Bool
 known_of r = (r.client, r.ack)
 
--- The client id of the first session with this number, and whether it acknowledges.
+-- The client id of the first session with this number, if any, and whether it acknowledges.
 abbrev pub known_at : ℕ → List Registered → Option (List ℕ × Bool)
 known_at number [] = None
 known_at number (r ∷ rs) = if r.number == number then Some (known_of r) else known_at number rs
 
--- The due moment of the first session with this number.
+-- The due moment of the first session with this number, if any.
 abbrev pub due_at : ℕ → List Registered → Option ℕ
 due_at number [] = None
 due_at number (r ∷ rs) = if r.number == number then Some r.due else due_at number rs

@@ -10,7 +10,7 @@ use std::marker::Model;
 
 /// An entry: when to look at a session, at its due moment or before.
 ///
-/// The earliest entry compares as the greatest.
+/// The earliest entry compares as the greatest, so that the heap returns it first.
 #[derive(Clone, Copy, PartialEq, Eq, PartialOrd, Ord)]
 pub(crate) struct Due {
     /// Milliseconds since the server started.
@@ -18,7 +18,7 @@ pub(crate) struct Due {
     pub(crate) number: u64,
 }
 
-/// The entries of sessions: a heap of those that wait, and a list of those found late.
+/// The entries of sessions: a heap of the waiting ones, and a list of the late ones.
 ///
 /// All memory is allocated at creation.
 ///
@@ -44,6 +44,10 @@ impl Model for DueQueue {
 
 impl DueQueue {
     /// Creates an empty queue with room for `room` entries.
+    ///
+    /// # Errors
+    ///
+    /// `AllocError` if memory runs out.
     pub(crate) fn new(alloc: Global, room: usize) -> Result<DueQueue, AllocError>
         ensures { IfOk result (λ q. q ≡ record { room = room; late = []; waiting = [] }) }
     {
@@ -61,7 +65,9 @@ impl DueQueue {
         self.late.len() + self.waiting.len() < self.room
     }
 
-    /// Adds an entry, for which there must be room. Takes logarithmic time.
+    /// Adds an entry for session `number` at `moment`, in milliseconds.
+    ///
+    /// There must be room. Takes logarithmic time.
     pub(crate) fn file(&mut self, moment: u64, number: u64)
         requires { length (entries self.old) < self.old.room }
         ensures room { self.new.room ≡ self.old.room }
@@ -82,7 +88,7 @@ impl DueQueue {
 
     /// Moves the entries before `moment`, in milliseconds, to the late ones.
     ///
-    /// Takes logarithmic time for each.
+    /// Takes logarithmic time for each moved entry.
     pub(crate) fn expire(&mut self, moment: u64)
         ensures room { self.new.room ≡ self.old.room }
         ensures same { IsPermutation (entries self.old) (entries self.new) }
@@ -99,7 +105,7 @@ impl DueQueue {
         self.late.as_slice()
     }
 
-    /// Removes and returns one of the late entries, if any.
+    /// Takes one of the late entries, if any.
     pub(crate) fn take_late(&mut self) -> Option<Due>
         ensures waiting { self.new.waiting ≡ self.old.waiting }
         ensures room { self.new.room ≡ self.old.room }
@@ -127,7 +133,7 @@ fn move_before(waiting: &mut BinaryHeap<Due>, late: &mut Vec<Due>, moment: u64)
     }
 }
 
-// Removes and returns the first entry, if it is before `moment`.
+// Takes the first entry, if it is before `moment`.
 fn pop_before(waiting: &mut BinaryHeap<Due>, moment: u64) -> Option<Due>
     requires { IsHeap due_order (heap_items waiting.old) }
     ensures heap { IsHeap due_order (heap_items waiting.new) }

@@ -1,23 +1,23 @@
-//! How a request or a tick changes the live sessions.
+//! Changes to the live sessions.
 use crate::session::LiveSession;
 use bx_message::Sequence;
 
-/// A change to the live sessions.
+/// One change to the live sessions.
 #[derive(Drop)]
 pub enum Edit {
-    /// Opens a session.
+    /// Opens the session, which must have the next number.
     Open(LiveSession),
-    /// Moves the due moment of a session to `due`, in milliseconds, but never back.
+    /// Moves the due moment of session `number` to `due`, in milliseconds, but never back.
     Extend { number: u64, due: u64 },
-    /// Closes a session.
+    /// Closes session `number`, which must be live.
     Close { number: u64 },
 }
 
-/// All changes by a request or a tick.
+/// All changes that a request or a tick makes.
 #[derive(Drop)]
 pub enum Edits {
-    /// Several changes, in order.
+    /// The changes of a request, in order.
     Each(Sequence<Edit>),
-    /// Closes every session whose due moment is before this one, in milliseconds.
+    /// Closes every session that is due before this moment, in milliseconds.
     Sweep(u64),
 }

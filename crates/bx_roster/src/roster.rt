@@ -16,7 +16,7 @@ use std::marker::Model;
 
 /// The live sessions by number, and possibly a vacant record for the next one.
 ///
-/// Otherwise the map has no records.
+/// The map has no other records.
 ///
 /// Model: the live sessions in ascending order of number, and whether there is a vacant record.
 #[derive(Drop)]
@@ -56,7 +56,7 @@ impl Roster {
         }
     }
 
-    /// Returns how many sessions are live, and how many were opened.
+    /// Returns how many sessions are live, and how many were ever opened.
     pub(crate) fn counts(&self) -> (usize, u64)
         ensures live { result.0 ≡ length self.now.members.live }
         ensures opened { result.1 ≡ self.now.members.opened }
@@ -86,7 +86,7 @@ impl Roster {
         Some(self.find(number)?.due)
     }
 
-    /// Files every session in `queue`, which must be empty and have room for all.
+    /// Adds an entry for every session to `queue`, which must be empty and have room for all.
     pub(crate) fn file_all(&self, queue: &mut DueQueue)
         requires empty { entries queue.old ≡ [] }
         requires few { length self.now.members.live ≤ queue.old.room }
@@ -99,7 +99,9 @@ impl Roster {
 
     /// Adds a vacant record for the next session, if there is none.
     ///
-    /// On error, nothing has changed.
+    /// # Errors
+    ///
+    /// `AllocFailed` if memory runs out; nothing has changed.
     pub(crate) fn prepare(&mut self) -> Result<(), AllocFailed<(u64, Option<LiveSession>)>>
         requires { self.old.members.opened + 1 < 2 ^ 64 }
         ensures members { self.new.members ≡ self.old.members }
@@ -131,9 +133,9 @@ impl Roster {
         *vacant = Some(session);
     }
 
-    /// Moves a session's due moment to `due`, in milliseconds, but never back.
+    /// Moves the due moment of session `number` to `due`, in milliseconds, but never back.
     ///
-    /// Does not allocate.
+    /// Does nothing if the session is not live. Does not allocate.
     pub(crate) fn extend(&mut self, number: u64, due: u64)
         ensures extended { self.new ≡ record self.old {
           members = with_live self.old.members (live_in (extended number due self.old.members.live));
@@ -146,7 +148,7 @@ impl Roster {
         move_on(session, due);
     }
 
-    /// Closes a session, which leaves the map. Does not allocate.
+    /// Removes session `number`, if it is live. Does not allocate.
     pub(crate) fn close(&mut self, number: u64)
         ensures closed { self.new ≡ record self.old {
           members = with_live self.old.members (live_in (closed number self.old.members.live));
@@ -163,7 +165,7 @@ impl Roster {
     }
 }
 
-// Files the sessions among `records`.
+// Adds an entry to `queue` for each session in `records`.
 fn file_each(queue: &mut DueQueue, records: &IndexMap<u64, Option<LiveSession>>)
     requires empty { entries queue.old ≡ [] }
     requires few { length (sessions_in (values records.now)) ≤ queue.old.room }

@@ -1,4 +1,4 @@
-//! Sessions, as the registry knows them.
+//! A session in the table of live sessions.
 ghost use Rattle.std.specs.Prelude.{◌≡◌};
 ghost use Rattle.bx_roster.specs.Tables.{known_of};
 
@@ -10,11 +10,11 @@ use std::marker::Model;
 pub struct LiveSession {
     /// The session's number, from 1 in the order of opening.
     pub number: u64,
-    /// The client id, which ends with the digits of the number.
+    /// The client id, which ends with the 16 hexadecimal digits of the number.
     pub client: Text,
     /// Whether the session acknowledges batches.
     pub ack: bool,
-    /// The due moment, in milliseconds. A later tick closes the session.
+    /// The due moment, in milliseconds since the server started. A later tick closes the session.
     pub due: u64,
     /// Whether the session is still live.
     pub live: bool,
@@ -34,17 +34,17 @@ impl Model for LiveSession {
     } };
 }
 
-/// What is known of a session, to judge its messages.
+/// The data of a session that is needed to judge its messages.
 #[derive(Clone, Copy)]
 pub struct Known<'a> {
-    /// The client id.
+    /// The session's client id.
     pub client: &'a Text,
     /// Whether the session acknowledges batches.
     pub ack: bool,
 }
 
 impl LiveSession {
-    /// Returns what the session's messages are judged by.
+    /// Returns the data that is needed to judge the session's messages.
     pub fn known(&self) -> Known<'_>
         ensures { (result.client.now, result.ack) ≡ known_of self.now }
     {

@@ -1,4 +1,4 @@
-//! The live sessions, with a queue of their due moments.
+//! The table of live sessions: its edits, and the sweep that closes silent ones.
 ghost use Rattle.std.specs.Prelude.{◌≡◌, ◌+◌, ◌<◌, ◌≤◌, ◌^◌, ◌++◌, ◌∷◌, [], length, fold, nat_lt, option_map, true, false, IfOk, OnOk, OnErr};
 ghost use Rattle.std.specs.List.{list_any};
 ghost use Rattle.bx_entry.specs.Registry.{closed, extended, overdue, swept};
@@ -17,12 +17,13 @@ use std::marker::Model;
 
 /// The live sessions, with a queue of their due moments.
 ///
-/// Each live session has an entry in the queue, at its due moment or before. Extending the session
-/// leaves the entry as it is; a tick after the entry files it again.
+/// Each live session has an entry in the queue, at its due moment or before. Extending a session
+/// does not move its entry. The first tick after the entry closes the session if it is overdue, and
+/// otherwise moves the entry to the due moment.
 ///
-/// So a tick looks only at sessions whose entry is before its moment. It takes logarithmic time for
-/// each session that it closes, and for each entry whose session was closed or extended since it
-/// was filed. Making room takes logarithmic time for each opening, on average.
+/// So a tick looks only at the entries before its moment. It takes logarithmic time for each
+/// session that it closes, and for each entry of a session that was closed or extended in the
+/// meantime. Making room takes logarithmic time for each opening, on average.
 ///
 /// Model: the live sessions in ascending order of number, and whether one more can be opened
 /// without allocating.
@@ -48,7 +49,7 @@ impl Table {
     ///
     /// # Errors
     ///
-    /// `AllocError` if memory runs out for the queue, which has room for twice as many.
+    /// `AllocError` if memory runs out for the queue, which gets room for `2 * limit` entries.
     pub fn new(alloc: Global, limit: usize) -> Result<Table, AllocError>
         ensures { IfOk result (λ t. t ≡ record { members = record { limit = limit; opened = 0; live = [] }; ready = false }) }
     {
@@ -58,7 +59,7 @@ impl Table {
         })
     }
 
-    /// Returns how many sessions are live, and how many were opened.
+    /// Returns how many sessions are live, and how many were ever opened.
     pub fn counts(&self) -> (usize, u64)
         ensures live { result.0 ≡ length self.now.members.live }
         ensures opened { result.1 ≡ self.now.members.opened }
@@ -70,16 +71,16 @@ impl Table {
         self.roster.counts()
     }
 
-    /// Returns what is known of session `number`, if it is live.
+    /// Returns the client id of session `number`, and whether it acknowledges, if it is live.
     pub fn known_at(&self, number: u64) -> Option<Known<'_>>
         ensures { option_map (λ k. (k.client.now, k.ack)) result ≡ known_at number self.now.members.live }
     {
         Some(self.roster.find(number)?.known())
     }
 
-    /// Reserves a record for the session that `edits` open, if they open one.
+    /// Reserves a record for the session that `edits` open, if any.
     ///
-    /// A record that is already reserved is left as it is.
+    /// Does nothing if a record is already reserved.
     ///
     /// # Errors
     ///
@@ -122,7 +123,6 @@ impl Table {
         self.roster.extend(number, due);
     }
 
-    // Closes a session.
     fn close(&mut self, number: u64)
         ensures { self.new ≡ record self.old {
           members = with_live self.old.members (live_in (closed number self.old.members.live));
@@ -134,7 +134,7 @@ impl Table {
     /// Applies `edits`. Does not allocate.
     ///
     /// They may open one session, for which [`prepare`](Self::prepare) must have reserved a record.
-    /// They may only close live sessions.
+    /// A session that they close must be live.
     pub fn apply(&mut self, edits: Edits)
         requires can { CanEditBy self.old.members edits }
         requires room { opens edits ≤ room_of self.old.ready }
@@ -170,10 +170,10 @@ impl Table {
         }
     }
 
-    /// Returns the live sessions whose due moment is before `moment`, in ascending order.
+    /// Returns the numbers of the live sessions due before `moment`, in ascending order.
     ///
-    /// `moment`: milliseconds since the server started. Looks only at the sessions whose entry is
-    /// before it.
+    /// `moment`: milliseconds since the server started. Looks only at the queue's entries before
+    /// it.
     ///
     /// # Errors
     ///
@@ -190,7 +190,7 @@ impl Table {
         Ok(Sequence::from_vec(numbers))
     }
 
-    // Closes the sessions whose due moment is before `moment`.
+    // Closes the sessions due before `moment`.
     fn sweep(&mut self, moment: u64)
         ensures { self.new.members ≡ with_live self.old.members (live_in (swept moment self.old.members.live)) }
     {
@@ -206,7 +206,7 @@ fn opens_one(edits: &[Edit]) -> bool
     edits.iter().any(|edit| matches!(edit, Edit::Open(_)))
 }
 
-// Returns the sessions of `late` entries whose due moment is before `moment`.
+// Returns the numbers in `late` of the live sessions due before `moment`.
 fn past_numbers(
     alloc: Global,
     roster: &Roster,
@@ -233,7 +233,8 @@ fn is_past(due: Option<u64>, moment: u64) -> bool
     }
 }
 
-// Closes the sessions of late entries that are due before `moment`, and files the others again.
+// Removes the late entries. Closes the sessions due before `moment`, and adds new entries for the
+// others.
 fn settle_late(roster: &mut Roster, queue: &mut DueQueue, moment: u64)
     requires roster { IsRoster roster.old.members }
     requires filed { AllFiled (entries queue.old) roster.old.members.live }
@@ -248,7 +249,8 @@ fn settle_late(roster: &mut Roster, queue: &mut DueQueue, moment: u64)
     }
 }
 
-// Closes the session of a removed entry, or files it again if it is due at `moment` or later.
+// Closes the session of the removed entry `due`, if it is due before `moment`. If it is due at
+// `moment` or later, adds a new entry for it.
 fn settle(roster: &mut Roster, queue: &mut DueQueue, due: Due, moment: u64)
     requires roster { IsRoster roster.old.members }
     requires filed { AllFiled (due ∷ entries queue.old) roster.old.members.live }
@@ -267,9 +269,8 @@ fn settle(roster: &mut Roster, queue: &mut DueQueue, due: Due, moment: u64)
     }
 }
 
-// Files the live sessions anew if there is no room, which drops the entries of closed ones. The
-// queue has room for twice the limit of live sessions, so as many can be opened before this happens
-// again.
+// Makes room in a full queue: removes all entries, and adds one for each live session. The queue is
+// then at most half full, so this is rare.
 fn make_room(queue: &mut DueQueue, roster: &Roster)
     requires filed { AllFiled (entries queue.old) roster.now.members.live }
     requires few { length roster.now.members.live < queue.old.room }

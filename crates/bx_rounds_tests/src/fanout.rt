@@ -1,5 +1,6 @@
-//! Tests of rounds: inputs in one run or several, by one worker or several, with several placings,
-//! with riders, and after resharding.
+//! Tests of rounds: with one run or several, one worker or several, and several placings.
+//!
+//! Also with riders, and after resharding.
 ghost use Rattle.std.specs.Prelude.{◌≤◌};
 
 use crate::requests::request;
@@ -16,8 +17,8 @@ use std::sync::atomic::{AtomicBool, AtomicU16, Ordering};
 use std::test::Fail;
 use std::thread::{Threads, yield_now};
 
-// Number of sessions opened before the inputs, each by a request. They subscribe to nothing, but
-// with fewer live sessions one worker handles an event alone.
+// Number of sessions opened before the inputs, each by a request. They subscribe to nothing. With
+// fewer live sessions, one worker would handle an event alone.
 const CROWD: usize = 1_024;
 
 // More inputs than any test has.
@@ -26,8 +27,8 @@ const MOST_INPUTS: usize = 10_000;
 const HANDSHAKE: &str =
     r#"{"channel":"/meta/handshake","version":"1.0","supportedConnectionTypes":["long-polling"]}"#;
 
-// Two handshakes, a subscription and a connect of the first session, and an event from the second
-// session that answers the connect. Each has its moment.
+// Inputs after the crowd, with their moments: two handshakes, a subscription and a connect of the
+// first session, and a publish of the second session, which answers the connect.
 const INPUTS: [(u64, &str); 5] = [
     (
         0,
@@ -51,7 +52,7 @@ const INPUTS: [(u64, &str); 5] = [
     ),
 ];
 
-// The number and response of each out, in the order in which they are added.
+// The number and response of each out, in the order in which they are appended.
 const OUTS: [(usize, &str); 5] = [
     (
         1_024,
@@ -72,8 +73,9 @@ const OUTS: [(usize, &str); 5] = [
     (1_028, r#"[{"channel":"/a/b","successful":true}]"#),
 ];
 
-// Inputs after these in a round with riders: another event from the second session waits for the
-// first. The reply to the first session's own publish then comes after both events.
+// Inputs after these in a round with riders. The second session publishes another event, which
+// waits for the first session. Then the first session publishes, and the reply comes after both
+// events.
 const RIDING: [(u64, &str); 2] = [
     (
         30,
@@ -93,14 +95,13 @@ const RIDDEN: [(usize, &str); 2] = [
     ),
 ];
 
-// A connect that is held.
+// A connect after these, which is held.
 const ALONE: [(u64, &str); 1] = [(
     40,
     r#"{"channel":"/meta/connect","clientId":"000000000000000000000000000000000000000000000401","connectionType":"long-polling"}"#,
 )];
 
-// A run: its inputs, its outs, the number of inputs taken in by its end, and the numbers of the
-// held ones.
+// A run: its inputs, its outs, and after it, how many inputs were started and which are held.
 type HoldRun = (
     &'static [(u64, &'static str)],
     &'static [(usize, &'static str)],
@@ -117,7 +118,7 @@ const OPENED_FIRST: &str =
 const SUPERSEDED_FIRST: &str =
     r#"[{"channel":"/meta/connect","clientId":"000000000000000000000000000000000000000000000001","error":"408::Superseded connect","successful":false}]"#;
 
-// One run: a session's connect is held until the session connects again.
+// One run of three inputs: a session's connect is held until the session connects again.
 const TOGETHER: [HoldRun; 1] = [(
     &[(0, HANDSHAKE), (1, CONNECT_FIRST), (2, CONNECT_FIRST)],
     &[(0, OPENED_FIRST), (1, SUPERSEDED_FIRST)],
@@ -132,11 +133,11 @@ const APART: [HoldRun; 3] = [
     (&[(2, CONNECT_FIRST)], &[(1, SUPERSEDED_FIRST)], 3, &[2]),
 ];
 
-// Tables for placings. Of two shards, the second table uses only the first shard, and the others
-// use both.
+// Tables for placings. If there are two shards, the second table uses only the first shard, and the
+// others use both.
 const TABLES: [&[u8]; 3] = [&[0, 1, 2], &[], &[1, 2, 2]];
 
-// How often a waiting worker checks whether it may go on.
+// How often a waiting worker checks whether it may continue, before it gives up.
 const LOOKS: u32 = 10_000_000;
 
 // Returns the first `count` inputs.
@@ -144,7 +145,7 @@ fn inputs(alloc: Global, count: usize) -> Result<Vec<Input>, Fail> {
     requests(alloc, INPUTS.get(..count).ok_or("too few inputs")?)
 }
 
-// Creates a request for each moment and body.
+// Creates a request for each moment and body in `table`.
 fn requests(alloc: Global, table: &[(u64, &str)]) -> Result<Vec<Input>, Fail> {
     let mut inputs = Vec::new(alloc);
     for (moment, body) in table {
@@ -162,7 +163,7 @@ fn crowd(alloc: Global) -> Result<Vec<Input>, AllocError> {
     Ok(inputs)
 }
 
-// Creates a round that places sessions by `table`.
+// Creates a round of `shards` shards and `workers` workers, which places sessions by `table`.
 fn round(
     alloc: Global,
     (shards, workers): (usize, usize),
@@ -172,7 +173,7 @@ fn round(
     round_of(alloc, config, workers, table)
 }
 
-// Creates a round of four shards with riders.
+// Creates a round of four shards that allows riders.
 fn riding_round(alloc: Global, workers: usize) -> Result<Round<ByTable>, Fail> {
     let config = Config::new(4, 30_000, 0, 10_000).ok_or("no configuration")?;
     let options = Options {
@@ -193,7 +194,7 @@ fn round_of(
     Ok(Round::new(alloc, config, placing, workers)?)
 }
 
-// Runs `inputs` in one run.
+// Runs `inputs` in one run, and appends the outs to `outs`.
 fn run<R: Threads + Sync, G: Gate + Sync>(
     rt: &R,
     alloc: Global,
@@ -221,7 +222,7 @@ fn open_crowd<R: Threads + Sync>(
     run(rt, alloc, &OpenGate, round, &crowd(alloc)?, &mut outs)
 }
 
-// Checks the outs of the inputs after the crowd, with at most `at_once` inputs a run.
+// Checks the outs of the inputs after the crowd, with at most `at_once` inputs in a run.
 fn check_round<R: Abort + Threads + Sync>(
     rt: &R,
     alloc: Global,
@@ -252,8 +253,8 @@ fn check_given<R: Abort + Threads + Sync>(
     check(rt, alloc, &outs, &OUTS)
 }
 
-// Checks the outs with gates: `few` for the run up to the connect and for a final tick, `many` for
-// the event.
+// Checks the outs with two gates. The run up to the connect and a tick at the end use `few`. The
+// event uses `many`.
 fn check_gated<R: Abort + Threads + Sync, F: Gate + Sync, G: Gate + Sync>(
     rt: &R,
     alloc: Global,
@@ -297,7 +298,7 @@ fn check<R: Abort>(
     Ok(())
 }
 
-// Writes the body of an out's response.
+// Returns the body of an out's response.
 fn written(alloc: Global, out: &Out) -> Result<Vec<u8>, Fail> {
     match &out.result {
         Ok(items) => Ok(body_text(alloc, items.as_slice())?),
@@ -305,7 +306,7 @@ fn written(alloc: Global, out: &Out) -> Result<Vec<u8>, Fail> {
     }
 }
 
-// One run and several runs add the same outs.
+// Checks that one run and several runs append the same outs.
 #[test]
 fn one_run_gives_what_several_give(rt: HostRuntime) -> Result<(), Fail> {
     let alloc = rt.alloc();
@@ -317,7 +318,7 @@ fn one_run_gives_what_several_give(rt: HostRuntime) -> Result<(), Fail> {
     Ok(())
 }
 
-// Checks the inputs, then riders handled by `team`, and then a connect handled by worker 0.
+// Checks the inputs, then riders that `team` handles, and then a connect that worker 0 handles.
 fn check_riding<R: Abort + Threads + Sync>(
     rt: &R,
     alloc: Global,
@@ -330,7 +331,7 @@ fn check_riding<R: Abort + Threads + Sync>(
     check_team(rt, alloc, round, 0b1, &ALONE, &[])
 }
 
-// Checks that `team` handles the inputs `asked` and that their outs are `right`.
+// Checks that the workers in `team` handle the inputs `asked`, and that their outs are `right`.
 fn check_team<R: Abort + Threads + Sync>(
     rt: &R,
     alloc: Global,
@@ -345,7 +346,7 @@ fn check_team<R: Abort + Threads + Sync>(
     Ok(())
 }
 
-// Checks that one run of the inputs `asked` adds the outs `right`.
+// Checks that one run of the inputs `asked` appends the outs `right`.
 fn check_outs<R: Abort + Threads + Sync, G: Gate + Sync>(
     rt: &R,
     alloc: Global,
@@ -370,7 +371,7 @@ fn check_riding_by<R: Abort + Threads + Sync>(
     check_riding(rt, alloc, &mut round, team)
 }
 
-// Riders get the same from one worker and from four.
+// Checks that riders get the same from one worker and from four.
 #[test]
 fn events_ride_by_one_worker_and_by_four(rt: HostRuntime) -> Result<(), Fail> {
     for (workers, team) in [(1, 0b1), (4, 0b1111)] {
@@ -379,7 +380,7 @@ fn events_ride_by_one_worker_and_by_four(rt: HostRuntime) -> Result<(), Fail> {
     Ok(())
 }
 
-// Checks how many inputs were taken in, and which are held.
+// Checks how many inputs were started, and which are held.
 fn check_held<R: Abort>(
     rt: &R,
     alloc: Global,
@@ -392,7 +393,7 @@ fn check_held<R: Abort>(
     Ok(())
 }
 
-// Checks the outs of each run, and the inputs held after it.
+// Checks the outs of each run, and which inputs are held after it.
 fn check_holds<R: Abort + Threads + Sync>(
     rt: &R,
     alloc: Global,
@@ -417,7 +418,7 @@ fn check_holds_by<R: Abort + Threads + Sync>(
     check_holds(rt, alloc, &mut round, runs)
 }
 
-// A round reports its held connects.
+// Checks that a round reports its held connects.
 #[test]
 fn a_held_connect_is_told_beside_what_is_given(rt: HostRuntime) -> Result<(), Fail> {
     for workers in [1, 2] {
@@ -427,7 +428,7 @@ fn a_held_connect_is_told_beside_what_is_given(rt: HostRuntime) -> Result<(), Fa
     Ok(())
 }
 
-// A gate that holds one worker before its work until another is done.
+// A gate that stops worker `held` before its work until another worker is done.
 #[derive(Drop)]
 struct Holding {
     held: usize,
@@ -464,8 +465,8 @@ impl Gate for Holding {
     }
 }
 
-// Shows that a run's workers run concurrently, which no clause states. If one thread did the work
-// of both in turn, worker 0 would give up.
+// Checks that the workers of a run run concurrently, which no clause states. If one thread did the
+// work of both in turn, worker 0 would give up.
 #[test]
 fn workers_run_beside_one_another(rt: HostRuntime) -> Result<(), Fail> {
     let alloc = rt.alloc();
@@ -521,7 +522,7 @@ fn hold<R: Threads + Sync, G: Gate + Sync>(
     run(rt, alloc, gate, round, held, outs)
 }
 
-// Runs the last input, and checks that the connect is held until then.
+// Runs the last input, and checks that it ends the hold of the connect.
 fn answer_held<R: Abort + Threads + Sync, G: Gate + Sync>(
     rt: &R,
     alloc: Global,
@@ -536,7 +537,7 @@ fn answer_held<R: Abort + Threads + Sync, G: Gate + Sync>(
     check_held(rt, alloc, round, 1_029, &[])
 }
 
-// Checks that a held connect moves with its session: the event still answers it.
+// Checks that a held connect moves with its session: the event still answers the connect.
 fn check_redistributed<R: Abort + Threads + Sync, G: Gate + Sync>(
     rt: &R,
     alloc: Global,
@@ -549,10 +550,10 @@ fn check_redistributed<R: Abort + Threads + Sync, G: Gate + Sync>(
     check(rt, alloc, &outs, &OUTS)
 }
 
-// A gate where workers wait until their whole team has come.
+// A gate at which workers wait until their whole team is there.
 #[derive(Drop)]
 struct Meeting {
-    // A bit for each worker of the team.
+    // Has a bit for each worker of the team.
     team: u16,
     came: AtomicU16,
     went: AtomicU16,
@@ -590,16 +591,16 @@ impl Gate for Meeting {
     }
 }
 
-// Checks that the team's workers were there at the same time, and all finished.
+// Checks that all workers of the team were there at the same time, and finished their work.
 fn check_met<R: Abort>(rt: &R, meeting: &Meeting) {
     let (team, went) = (meeting.team, meeting.went.load(Ordering::SeqCst));
     assert!(rt; !meeting.gave_up.load(Ordering::SeqCst), "team {team:b}");
     assert_eq!(rt; went, team, "team {team:b}");
 }
 
-// Shows that there is a thread for each worker, which no clause states: with fewer threads, workers
-// would give up. The event could reach the crowd, so every worker with a shard takes part. The
-// other inputs have too few deliveries for that.
+// Checks that each worker has a thread, which no clause states. With fewer threads, workers would
+// give up. The event could reach the crowd, so every worker with a shard takes part. The other
+// inputs have too few deliveries for that.
 #[test]
 fn as_many_threads_run_as_workers(rt: HostRuntime) -> Result<(), Fail> {
     let alloc = rt.alloc();
@@ -613,7 +614,7 @@ fn as_many_threads_run_as_workers(rt: HostRuntime) -> Result<(), Fail> {
     Ok(())
 }
 
-// Shows that a held connect moves to one of 64 shards, and that each worker has some of them.
+// Checks that a held connect moves to one of 64 shards, and that each worker has some of them.
 #[test]
 fn each_worker_finds_a_shard_among_more(rt: HostRuntime) -> Result<(), Fail> {
     let alloc = rt.alloc();

@@ -1,5 +1,6 @@
-//! Tests of replays with several placings, and with readers and writers that fail. After a failure,
-//! the output is a front of the right one. Other scripts are rows of the program.
+//! Tests of replays with several placings, and with readers and writers that fail.
+//!
+//! `tests/rows` tests the program with other scripts.
 use bx_advice::Config;
 use bx_entry::{AllFirst, ByRemainder, ByTable, Placing};
 use bx_replay::replay;
@@ -13,7 +14,8 @@ use std::sync::Arc;
 use std::test::Fail;
 use std::thread::Threads;
 
-// Scripts and their output: replies, bad lines and a held connect; an event that answers a connect.
+// Scripts and what a replay of each writes. In the first, a connect supersedes another, and two
+// lines are wrong. In the second, an event answers a connect.
 const RUNS: [(&str, &str); 2] = [
     (
         r#"0 P [{"channel":"/meta/handshake","version":"1.0","supportedConnectionTypes":["long-polling"]}]
@@ -45,7 +47,8 @@ x
     ),
 ];
 
-// An event that answers two of three connects, and a batch sent again after resharding.
+// In the first, an event answers two of three connects. In the second, a batch is sent again after
+// resharding.
 const PLACED: [(&str, &str); 2] = [
     (
         r#"0 P [{"channel":"/meta/handshake","version":"1.0","supportedConnectionTypes":["long-polling"]}]
@@ -84,8 +87,9 @@ const PLACED: [(&str, &str); 2] = [
     ),
 ];
 
-// A held connect that supersedes another; disconnects of sessions that are not live; ticks up to
-// the end of a session, followed by its publish; a batch sent until it is acknowledged.
+// In the first, a connect supersedes another. In the second, clients also disconnect sessions that
+// are not live. In the third, a tick ends a session, which publishes after that. In the fourth, a
+// batch is sent until it is acknowledged.
 const WHOLE: [(&str, &str); 4] = [
     (
         r#"0 P [{"channel":"/meta/handshake","version":"1.0","supportedConnectionTypes":["long-polling"]}]
@@ -153,7 +157,7 @@ const WHOLE: [(&str, &str); 4] = [
     ),
 ];
 
-// Replays a script with two workers and three shards, and returns the result.
+// Replays the script in `lines` with two workers and three shards, and returns the result.
 fn replayed<T, P, R, W>(
     rt: &T,
     alloc: Global,
@@ -173,7 +177,7 @@ where
     Ok(replay(rt, alloc, config, placing, workers, lines, output))
 }
 
-// Checks the output of a script with `placing`.
+// Checks that a replay of `script` by `placing` writes `expected`.
 fn check_placed<R: Abort + Threads + Sync, P: Placing + Drop + Send + Sync>(
     rt: &R,
     alloc: Global,
@@ -204,7 +208,7 @@ fn check_placings<R: Abort + Threads + Sync>(
     check_placed(rt, alloc, ByRemainder, run)
 }
 
-// The output is the same with each of three placings.
+// Checks that the output is the same with each of three placings.
 #[test]
 fn wherever_sessions_are_placed_the_same_is_printed(rt: HostRuntime) -> Result<(), Fail> {
     for run in RUNS {
@@ -219,7 +223,7 @@ fn wherever_sessions_are_placed_the_same_is_printed(rt: HostRuntime) -> Result<(
     Ok(())
 }
 
-// A reader that returns at most 40 bytes a read, and fails after `reads` reads.
+// A reader that returns at most 40 bytes at a time, and fails after `reads` reads.
 #[derive(Drop)]
 struct Reader<'a> {
     bytes: &'a [u8],
@@ -239,7 +243,7 @@ impl Read for Reader<'_> {
     }
 }
 
-// A writer that takes at most 40 bytes a write. It fails after `writes` writes, or on a flush
+// A writer that writes at most 40 bytes at a time. It fails after `writes` writes, and on a flush
 // unless `flushes`.
 #[derive(Drop)]
 struct Writer {
@@ -268,8 +272,8 @@ impl Write for Writer {
     }
 }
 
-// Returns `true` if the replay ended well, and checks its output. Otherwise checks for `fault`, and
-// that the output is a front of the right one.
+// Returns `true` if the replay succeeded, and checks that it wrote `right`. Otherwise checks that
+// it failed with `fault`, and that it wrote a first part of `right`.
 fn is_whole<R: Abort>(
     rt: &R,
     ended: Result<(), ScriptFault>,
@@ -286,7 +290,7 @@ fn is_whole<R: Abort>(
     false
 }
 
-// Replays a script from a reader that fails after `reads` reads.
+// Replays a script from a reader that fails after `reads` reads, and checks it by `is_whole`.
 fn check_read<R: Abort + Threads + Sync>(
     rt: &R,
     alloc: Global,
@@ -310,7 +314,7 @@ fn check_read<R: Abort + Threads + Sync>(
     Ok(is_whole(rt, ended, ScriptFault::Read, written.as_slice(), right))
 }
 
-// Replays with a reader that fails after 0 reads, 1 read and so on, until it does not fail.
+// Checks a replay with a reader that fails after 0 reads, 1 read and so on, until one succeeds.
 fn check_reads<R: Abort + Threads + Sync>(
     rt: &R,
     alloc: Global,
@@ -324,7 +328,7 @@ fn check_reads<R: Abort + Threads + Sync>(
     Err(Fail::from("more reads than there may be"))
 }
 
-// A failed read leaves a front of the output.
+// Checks that a first part of the output is written before a failed read.
 #[test]
 fn a_failed_read_leaves_a_front(rt: HostRuntime) -> Result<(), Fail> {
     for run in RUNS {
@@ -333,7 +337,7 @@ fn a_failed_read_leaves_a_front(rt: HostRuntime) -> Result<(), Fail> {
     Ok(())
 }
 
-// Replays a script to `writer`, which may fail on a write or a flush.
+// Replays a script to `writer`, which may fail, and checks it by `is_whole`.
 fn check_writer<R: Abort + Threads + Sync>(
     rt: &R,
     alloc: Global,
@@ -360,7 +364,7 @@ fn new_writer(alloc: Global, writes: usize, flushes: bool) -> Writer {
     }
 }
 
-// Replays with a writer that fails after 0 writes, 1 write and so on, until it does not fail.
+// Checks a replay with a writer that fails after 0 writes, 1 write and so on, until one succeeds.
 fn check_writes<R: Abort + Threads + Sync>(
     rt: &R,
     alloc: Global,
@@ -374,7 +378,7 @@ fn check_writes<R: Abort + Threads + Sync>(
     Err(Fail::from("more writes than there may be"))
 }
 
-// A failed write leaves a front of the output.
+// Checks that a first part of the output is written before a failed write.
 #[test]
 fn a_failed_write_leaves_a_front(rt: HostRuntime) -> Result<(), Fail> {
     for run in RUNS {
@@ -383,7 +387,7 @@ fn a_failed_write_leaves_a_front(rt: HostRuntime) -> Result<(), Fail> {
     Ok(())
 }
 
-// A failed flush is a write fault, after all output.
+// Checks that a failed flush is a write fault, after all output is written.
 #[test]
 fn a_failed_flush_is_a_write_fault(rt: HostRuntime) -> Result<(), Fail> {
     let mut writer = new_writer(rt.alloc(), 100, false);

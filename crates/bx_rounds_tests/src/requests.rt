@@ -3,7 +3,11 @@ use bx_cut::Bodies;
 use bx_entry::{Arrival, Door, Input};
 use std::alloc::{AllocError, Global};
 
-/// Creates a request with a JSON body at `moment`, on the publishers' listener.
+/// Creates a request with the JSON `body` at `moment`, from the publishers' listener.
+///
+/// # Errors
+///
+/// `AllocError` if memory runs out.
 pub fn request(alloc: Global, moment: u64, body: &str) -> Result<Input, AllocError> {
     Ok(Input::Post(Arrival {
         moment,

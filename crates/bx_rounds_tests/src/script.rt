@@ -1,4 +1,4 @@
-//! Tests of reading a script's lines, and of writing the answers to them.
+//! Tests of reading the lines of a script, and of writing the answers to them.
 use crate::same::same;
 use bx_advice::BODY_LIMIT;
 use bx_entry::{Input, Refusal};
@@ -12,7 +12,7 @@ use std::io::{BufRead, BufReader, Read, Write};
 use std::process::Abort;
 use std::test::Fail;
 
-// Describes a line. A document of over 9 bytes is given by its length.
+// Describes a line. A document of more than 9 bytes is given by its length in bytes.
 fn told(alloc: Global, line: &Line) -> Result<String, AllocError> {
     match line {
         Line::Bad => String::from_str(alloc, "bad"),
@@ -51,7 +51,7 @@ fn told_input(alloc: Global, name: &str, input: &Input) -> Result<String, AllocE
     Ok(text)
 }
 
-// Describes all lines, each followed by a semicolon.
+// Describes all lines that `reader` has, each followed by a semicolon.
 fn all_told<R: BufRead>(
     alloc: Global,
     dialect: Dialect,
@@ -78,11 +78,12 @@ const SCRIPT: &[u8] =
 const TOLD: &str =
     "post 0 - |[]\r|;bad;bad;post 0 - |\0|;bad;tick 7;bad;bad;tick 0;post 1 cb |[]|;turned 400;bad;shards 64;bad;shards 1;tick 0;post 2 - |[]| | |;turned 400;turned 400;bad;nonce 255;bad;bad;bad;bad;nonce 340282366920938463463374607431768211455;note;note;note;bad;bad;bad;bad;bad;bad;bad;bad;bad;bad;bad;bad;";
 
-// The same lines read as a script. Lines that only records have are bad there.
+// The same lines, read as a script. Lines that only a record may have are bad there.
 const TOLD_AS_SCRIPT: &str =
     "post 0 - |[]\r|;bad;bad;post 0 - |\0|;bad;tick 7;bad;bad;tick 0;post 1 cb |[]|;turned 400;bad;shards 64;bad;shards 1;tick 0;bad;bad;bad;bad;bad;bad;bad;bad;bad;bad;bad;bad;bad;bad;bad;bad;bad;bad;bad;bad;bad;bad;bad;bad;bad;";
 
-// A reader that returns one byte a read, and `fault` once after its number of reads.
+// A reader that returns one byte at a time. If `fault` is given, it fails once, after that number
+// of reads.
 #[derive(Drop)]
 struct Slow {
     bytes: &'static [u8],
@@ -107,7 +108,7 @@ impl Read for Slow {
     }
 }
 
-// Checks the description of the record in `reader`, or the fault that reading it ends with.
+// Checks the description of the record in `reader`, or the fault that reading it results in.
 fn check_told<R: BufRead>(
     rt: &impl Abort,
     alloc: Global,
@@ -132,7 +133,7 @@ fn check_slowly(
     Ok(())
 }
 
-// Shows what each line is read as, also by slow and failing readers.
+// Checks what each line is read as, also from slow and failing readers.
 #[test]
 fn lines_say_what_they_say(rt: HostRuntime) -> Result<(), Fail> {
     let alloc = rt.alloc();
@@ -153,7 +154,7 @@ fn lines_say_what_they_say(rt: HostRuntime) -> Result<(), Fail> {
     Ok(())
 }
 
-// Returns the number of lines, or `None` if one is not accepted or there are over 5,000.
+// Returns the number of lines, or `None` if one is not accepted or there are more than 5,000.
 fn handed(alloc: Global, script: &str) -> Result<Option<u32>, ScriptFault> {
     let mut lines = Lines::new(alloc, Dialect::Script, script.as_bytes());
     for count in 0..5_001 {
@@ -166,7 +167,7 @@ fn handed(alloc: Global, script: &str) -> Result<Option<u32>, ScriptFault> {
     Ok(None)
 }
 
-// A script of 5,000 lines is read.
+// Checks that a script of 5,000 lines is read.
 #[test]
 fn a_script_has_thousands_of_lines(rt: HostRuntime) -> Result<(), Fail> {
     let script = "7 T\n".repeat(rt.alloc(), 5_000)?;
@@ -179,7 +180,7 @@ fn a_script_has_thousands_of_lines(rt: HostRuntime) -> Result<(), Fail> {
     Ok(())
 }
 
-// Creates a line of `head`, `count` times `byte` and `end`, followed by a tick.
+// Creates a line of `head`, then `byte` `count` times, and `end`. A line with a tick follows it.
 fn long_script(
     alloc: Global,
     head: &str,
@@ -191,7 +192,7 @@ fn long_script(
     format!(in alloc; "{head}{bytes}{end}\n5 T\n")
 }
 
-// Long lines are read, but documents only up to their limit.
+// Checks that long lines are read, but documents only up to their limit.
 #[test]
 fn long_lines_say_what_they_say(rt: HostRuntime) -> Result<(), Fail> {
     let alloc = rt.alloc();
@@ -240,7 +241,7 @@ fn write_results(alloc: Global, out: &mut Output<&mut Vec<u8>>) -> Result<(), Sc
     write_result(alloc, out, 7, &None, true, &Err(Refusal::BadMoment))
 }
 
-// Shows what is written for each answer, and that a full buffer is an error.
+// Checks what is written for each answer, and that a full buffer is an error.
 #[test]
 fn what_is_printed(rt: HostRuntime) -> Result<(), Fail> {
     let alloc = rt.alloc();
@@ -306,7 +307,7 @@ fn check_front(rt: &impl Abort, alloc: Global, writes: usize, name: &Option<Stri
     same(rt, is_front, true, writes);
 }
 
-// A failed write leaves a front of the output.
+// Checks that a first part of the output is written before a failed write.
 #[test]
 fn a_failed_write_leaves_a_front(rt: HostRuntime) -> Result<(), Fail> {
     let name = Some(String::from_str(rt.alloc(), "cb")?);
@@ -316,7 +317,7 @@ fn a_failed_write_leaves_a_front(rt: HostRuntime) -> Result<(), Fail> {
     Ok(())
 }
 
-// A writer that takes two bytes a write, and is interrupted before each.
+// A writer that writes at most two bytes at a time, and is interrupted before each write.
 #[derive(Drop)]
 struct Halting {
     held: Vec<u8>,
@@ -346,7 +347,7 @@ fn respond_twice<W: Write>(alloc: Global, writer: &mut W) -> Result<(), ScriptFa
     write_held(&mut out, 7)
 }
 
-// Short and interrupted writes are continued.
+// Checks that short and interrupted writes are continued.
 #[test]
 fn short_and_interrupted_writes_go_on(rt: HostRuntime) -> Result<(), Fail> {
     let mut writer = Halting {
@@ -359,7 +360,7 @@ fn short_and_interrupted_writes_go_on(rt: HostRuntime) -> Result<(), Fail> {
     Ok(())
 }
 
-// A writer that takes one byte a write.
+// A writer that writes one byte at a time.
 #[derive(Drop)]
 struct Narrow {
     held: Vec<u8>,
@@ -392,7 +393,7 @@ fn check_narrow(
     Ok(())
 }
 
-// A long text is written whole, even a byte a write.
+// Checks that a long text is written whole, even one byte at a time.
 #[test]
 fn a_long_text_is_written_byte_by_byte(rt: HostRuntime) -> Result<(), Fail> {
     let alloc = rt.alloc();
@@ -401,7 +402,7 @@ fn a_long_text_is_written_byte_by_byte(rt: HostRuntime) -> Result<(), Fail> {
     check_narrow(&rt, alloc, &Some(name), wanted.as_str())
 }
 
-// A writer that is interrupted `interruptions` times, and then takes everything.
+// A writer that is interrupted `interruptions` times, and then writes everything.
 #[derive(Drop)]
 struct Interrupted {
     held: Vec<u8>,
@@ -423,7 +424,7 @@ impl Write for Interrupted {
     }
 }
 
-// A write goes on after 100,000 interruptions.
+// Checks that a write succeeds after 100,000 interruptions.
 #[test]
 fn a_write_is_tried_after_many_interruptions(rt: HostRuntime) -> Result<(), Fail> {
     let mut writer = Interrupted {
@@ -436,7 +437,7 @@ fn a_write_is_tried_after_many_interruptions(rt: HostRuntime) -> Result<(), Fail
     Ok(())
 }
 
-// Shows which digits are read as a number.
+// Checks which digits are read as a number.
 #[test]
 fn digits_say_numbers(rt: HostRuntime) {
     for (digits, number) in [
@@ -452,7 +453,7 @@ fn digits_say_numbers(rt: HostRuntime) {
     }
 }
 
-// Shows the texts of the faults.
+// Checks the texts of the faults.
 #[test]
 fn faults_have_texts(rt: HostRuntime) -> Result<(), Fail> {
     let alloc = rt.alloc();

@@ -1,4 +1,4 @@
-//! Tests of a world: schedules, and the output of each step.
+//! Tests of a world: the output of each step of a schedule.
 use crate::requests::request;
 use bx_advice::Config;
 use bx_entry::{AdmitFault, AllFirst, ByRemainder, ByTable, Input, Placing, Refusal, Slot, Ticket};
@@ -48,7 +48,7 @@ const OPENING: [Line; 3] = [
     ),
 ];
 
-// A connect of the first session after these, for that session in shard 0 and in shard 1.
+// Then the first session connects: once for that session in shard 0, once for shard 1.
 const CONNECT: [Line; 2] = [
     (
         Deed::Post(
@@ -66,7 +66,7 @@ const CONNECT: [Line; 2] = [
     ),
 ];
 
-// An event from the second session that answers the connect.
+// Then the second session publishes an event, which answers the connect.
 const EVENT: Line = (
     Deed::Post(
         20,
@@ -79,8 +79,8 @@ const EVENT: Line = (
 const ANSWER: &str =
     r#"{"channel":"/a/b","data":7}{"advice":{"interval":0,"reconnect":"retry","timeout":30000},"channel":"/meta/connect","clientId":"000000000000000000000000000000000000000000000001","successful":true}"#;
 
-// Steps after these five entries, with the connect's session in shard 1. The answer is filed once
-// shard 1 has applied all five, whatever shard 0 has applied.
+// Steps after these five entries, if the session that connects is in shard 1. The answer is filed
+// once shard 1 has applied all five, whatever shard 0 has applied.
 const APPLICATIONS: [Line; 15] = [
     (Deed::Take(3, 1), "none"),
     (Deed::Apply(1), "applied"),
@@ -151,7 +151,7 @@ fn steps(alloc: Global, lines: &[Line]) -> Result<Vec<Step>, AllocError> {
     Ok(steps)
 }
 
-// Writes an output as text.
+// Appends an output as text.
 fn push_out(alloc: Global, out: &StepOut, text: &mut Vec<u8>) -> Result<(), AllocError> {
     match out {
         StepOut::Admitted { first, slots } => push_slots(alloc, *first, slots.as_slice(), text),
@@ -211,7 +211,7 @@ fn world<P: Placing + Drop>(alloc: Global, placing: &Arc<P>) -> Result<World<P>,
     Ok(World::new(alloc, config, placing.clone()?)?)
 }
 
-// Checks the outputs of the whole schedule in one run.
+// Checks the outputs of the schedule `lines`, in one run.
 fn check_run<R: Abort, P: Placing>(
     rt: &R,
     alloc: Global,
@@ -228,7 +228,7 @@ fn check_run<R: Abort, P: Placing>(
     Ok(())
 }
 
-// Checks the outputs step by step.
+// Checks the outputs of the schedule `lines`, step by step.
 fn check_steps<R: Abort, P: Placing>(
     rt: &R,
     alloc: Global,
@@ -254,7 +254,9 @@ fn check<R: Abort, P: Placing + Drop>(
     Ok(())
 }
 
-// Checks the outputs in a new world, in one run or step by step.
+// Checks the outputs of the schedule `lines` in a new world.
+//
+// Runs it at once if `at_once`, and otherwise step by step.
 fn check_in<R: Abort, P: Placing + Drop>(
     rt: &R,
     alloc: Global,
@@ -270,8 +272,8 @@ fn check_in<R: Abort, P: Placing + Drop>(
     }
 }
 
-// Creates a schedule of the five entries, with the connect's session in `shard`, followed by
-// `behind`.
+// Creates a schedule of the five entries, followed by the given lines. `shard`: that of the session
+// that connects.
 fn schedule(alloc: Global, shard: usize, behind: &[Line]) -> Result<Vec<Line>, Fail> {
     let mut lines = Vec::from_slice(alloc, &OPENING)?;
     lines.push(*CONNECT.get(shard).ok_or("no shard")?)?;
@@ -280,7 +282,7 @@ fn schedule(alloc: Global, shard: usize, behind: &[Line]) -> Result<Vec<Line>, F
     Ok(lines)
 }
 
-// Shows the output of each step of two schedules.
+// Checks the output of each step of two schedules.
 #[test]
 fn each_step_gives_its_output(rt: HostRuntime) -> Result<(), Fail> {
     let alloc = rt.alloc();
@@ -289,8 +291,8 @@ fn each_step_gives_its_output(rt: HostRuntime) -> Result<(), Fail> {
     check(&rt, alloc, &placing, &HELD)
 }
 
-// Creates ten applications, five of each shard. Bit k of `order` is the shard of application k.
-// After each, the answer to the connect is asked for; it is there after the fifth of `shard`.
+// Creates ten steps that apply an entry, five for each shard. Bit k of `order` is the shard of the
+// k-th. A step after each takes the answer to the connect, which is filed by the fifth of `shard`.
 fn applications(alloc: Global, order: u32, shard: usize) -> Result<Vec<Line>, AllocError> {
     let mut lines = Vec::new(alloc);
     let mut left = 5_u32;
@@ -307,7 +309,7 @@ fn applications(alloc: Global, order: u32, shard: usize) -> Result<Vec<Line>, Al
     Ok(lines)
 }
 
-// Checks all orders of the applications, with the connect's session in `shard`.
+// Checks all orders of these steps. `shard`: that of the session that connects.
 fn check_orders<R: Abort, P: Placing + Drop>(
     rt: &R,
     alloc: Global,
@@ -324,7 +326,7 @@ fn check_orders<R: Abort, P: Placing + Drop>(
     Ok(())
 }
 
-// The order in which shards apply entries does not matter.
+// Checks that the order in which shards apply entries does not matter.
 #[test]
 fn no_order_of_the_shards_matters(rt: HostRuntime) -> Result<(), Fail> {
     let alloc = rt.alloc();
@@ -336,7 +338,7 @@ fn no_order_of_the_shards_matters(rt: HostRuntime) -> Result<(), Fail> {
     Ok(())
 }
 
-// Admits a tick, and returns its place or why it is refused.
+// Admits a tick at `moment`, and returns its place, or why it is not admitted.
 fn ticked<P: Placing>(alloc: Global, world: &mut World<P>, moment: u64) -> Result<u64, AdmitFault> {
     match world.admit_tick(alloc, moment) {
         Ok(admitted) => Ok(admitted.first),
@@ -344,8 +346,8 @@ fn ticked<P: Placing>(alloc: Global, world: &mut World<P>, moment: u64) -> Resul
     }
 }
 
-// Checks that a tick past the greatest moment is refused and changes nothing. One at that moment
-// becomes the list's first entry.
+// Checks that a tick after the greatest moment is rejected and changes nothing. One at that moment
+// becomes the first entry of the list.
 fn check_calls<R: Abort, P: Placing>(
     rt: &R,
     alloc: Global,
@@ -364,7 +366,7 @@ fn check_calls<R: Abort, P: Placing>(
     Ok(())
 }
 
-// A tick is admitted up to the greatest moment.
+// Checks that a tick is admitted up to the greatest moment.
 #[test]
 fn a_tick_is_taken_up_to_the_greatest_moment(rt: HostRuntime) -> Result<(), Fail> {
     let alloc = rt.alloc();

@@ -1,4 +1,4 @@
--- A list, cut at the first byte of a value.
+-- A list that is cut at the first byte with a given value.
 use Rattle.std.proofs.Common.{◌≡◌, ℕ, suc, ◌+◌, ◌<◌, ◌≤◌, Bool, true, false, eqb, cond, not, List, [], ◌∷◌, ◌++◌, length, take, drop, refl, sym, ap, ◌∙◌, arith, position, Option, Some, None, eqb-true, eq-eqb, append-nil, zero, ◌⊎◌, inl, inr}
 use Rattle.std.proofs.lemmas.{Bool.le-ltb, Bool.lt-ltb, Grind.common_steps, List.Sums.position_or_len_is}
 use Rattle.memchr.specs.Find.{IsFirstByte, is_byte}
@@ -9,7 +9,6 @@ module _ (c : ℕ) where
   abbrev test : ℕ → Bool
   test x = eqb x c
 
-  -- no byte of the list is c
   abbrev pub Lacks : List ℕ → Type 0
   Lacks [] = Unit {0}
   Lacks (x ∷ xs) = (test x ≡ false) × Lacks xs
@@ -31,7 +30,6 @@ module _ (c : ℕ) where
   pub after_at : (x : ℕ) (xs : List ℕ) → test x ≡ true → after_first test (x ∷ xs) ≡ xs
   after_at x xs h = rw h
 
-  -- what lacks it goes before
   pub before_behind : (m xs : List ℕ) → Lacks m → before_first test (m ++ xs) ≡ m ++ before_first test xs
   before_behind [] xs h = refl
   before_behind (x ∷ m) xs h = before_past x (m ++ xs) h.0 ∙ ap (λ l. x ∷ l) (before_behind m xs h.1)
@@ -40,7 +38,6 @@ module _ (c : ℕ) where
   after_behind [] xs h = refl
   after_behind (x ∷ m) xs h = after_past x (m ++ xs) h.0 ∙ after_behind m xs h.1
 
-  -- what stands before it lacks it
   pub before_lacks : (xs : List ℕ) → Lacks (before_first test xs)
   before_lacks [] = tt
   before_lacks (x ∷ xs) = next (before_lacks xs) (test x) refl
@@ -53,16 +50,14 @@ module _ (c : ℕ) where
   position_within [] = omega arith
   position_within (x ∷ xs) = grind (arith, common_steps, position_within xs)
 
-  -- where no index is found, all stands before it
   pub none_is_all : (xs : List ℕ) → position test xs ≡ None → position_or_len test xs ≡ length xs
   none_is_all xs h = grind (arith, common_steps, position_within xs)
 
-  -- up to the first, and it
   pub taken_through : (xs : List ℕ) → position_or_len test xs < length xs → take (position_or_len test xs + 1) xs ≡ before_first test xs ++ c ∷ []
   taken_through [] h = absurd (omega arith)
   taken_through (x ∷ xs) h = grind (arith, common_steps, taken_through xs, eqb-true)
 
-  -- ---- with it, or without
+  -- ---- Lists with the byte, and without it
 
   pub lacks_taken : (n : ℕ) (xs : List ℕ) → Lacks xs → Lacks (take n xs)
   lacks_taken zero xs h = tt
@@ -91,7 +86,6 @@ module _ (c : ℕ) where
   pub after_it : (m xs : List ℕ) → Lacks m → after_first test (m ++ c ∷ xs) ≡ xs
   after_it m xs h = after_behind m (c ∷ xs) h ∙ after_at c xs (eq-eqb c c refl)
 
-  -- what stands before it, and behind it
   pub record Parted (xs : List ℕ) : Type 0 where
     pub front : List ℕ
     pub back : List ℕ
@@ -118,7 +112,6 @@ split_some p (x ∷ xs) = next (p x) (split_some p xs)
 is_false : (b : Bool) → (b ≡ true → ⊥) → b ≡ false
 is_false b never = grind (arith, common_steps)
 
--- the first place of a newline, as a search tells it
 pub newline_found : (text : List ℕ) (r : Option ℕ) → IsFirstByte (is_byte 10) text r → r ≡ position is_newline text
 newline_found text None none =
     let at : position_or_len is_newline text ≡ length text =

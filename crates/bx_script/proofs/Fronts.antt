@@ -1,15 +1,13 @@
--- Fronts of a text that is written.
+-- First parts of a text that is written.
 use Rattle.std.proofs.Common.{◌≡◌, ℕ, Option, List, [], ◌∷◌, ◌++◌, Result, Ok, Err, decimal, refl, sym, ap, ◌∙◌, subst, append-nil, append_assoc}
 use Rattle.std.specs.Prelude.{IsErr, OnErr, OnOk}
 use Rattle.std.specs.Io.KnownBytes.{Appends, Keeps}
 use Rattle.std.proofs.KnownBytes.{Appends-kept, Appends-nil, Appends-trans}
 use Rattle.bx_script.specs.Words.{line_text, AppendsFront, Writes}
 
--- nothing was written
 pub front_none : (a : Option (List ℕ)) (text : List ℕ) → AppendsFront a a text
 front_none a text = record { written = []; unwritten = text; whole = refl; appends = Appends-nil a }
 
--- a front of the first part
 pub front_first : (a b : Option (List ℕ)) (xs ys : List ℕ) → AppendsFront a b xs → AppendsFront a b (xs ++ ys)
 front_first a b xs ys f = record {
   written = f.written;
@@ -18,7 +16,6 @@ front_first a b xs ys f = record {
   appends = f.appends;
 }
 
--- all of the first part, and a front of the second
 pub front_second : (a b c : Option (List ℕ)) (xs ys : List ℕ) → Appends a b xs → AppendsFront b c ys → AppendsFront a c (xs ++ ys)
 front_second a b c xs ys h f = record {
   written = xs ++ f.written;
@@ -31,21 +28,18 @@ pub writes_second : {A E : Type 0} (a b c : Option (List ℕ)) (r : Result A E) 
 writes_second a b c (Ok x) xs ys h w = Appends-trans a b c xs ys h w
 writes_second a b c (Err x) xs ys h w = front_second a b c xs ys h w
 
--- a fault that is handed on
 pub fault_writes : {A E : Type 0} (a b : Option (List ℕ)) (r : Result A E) (text whole : List ℕ) → text ≡ whole → IsErr r → AppendsFront a b whole → Writes a b r text
 fault_writes a b (Ok x) text whole e h f = absurd cc
 fault_writes a b (Err x) text whole e h f = subst (AppendsFront a b) (sym e) f
 
--- all of a text was written
 pub front_all : (a b c : Option (List ℕ)) (text : List ℕ) → Appends a b text → Keeps b c → AppendsFront a c text
 front_all a b c text h k = record { written = text; unwritten = []; whole = sym (append-nil text); appends = Appends-kept a b c text h k }
 
--- the same, whatever came then
 pub writes_all : {A E : Type 0} (a b c : Option (List ℕ)) (r : Result A E) (text : List ℕ) → Appends a b text → Keeps b c → Writes a c r text
 writes_all a b c (Ok x) text h k = Appends-kept a b c text h k
 writes_all a b c (Err x) text h k = front_all a b c text h k
 
--- ---- what a result says
+-- ---- Results
 
 pub writes_ok : {A E : Type 0} (a b : Option (List ℕ)) (r : Result A E) (text : List ℕ) → Writes a b r text → OnOk r (Appends a b text)
 writes_ok a b (Ok x) text w = w
@@ -55,9 +49,8 @@ pub writes_fault : {A E : Type 0} (a b : Option (List ℕ)) (r : Result A E) (te
 writes_fault a b (Ok x) text w = tt
 writes_fault a b (Err x) text w = w
 
--- ---- a line
+-- ---- Lines
 
--- the parts in which a line is written
 pub line_parts : (number : ℕ) (digits lead text : List ℕ) → digits ≡ decimal number → line_text number (lead ++ text) ≡ digits ++ ((32 ∷ []) ++ (lead ++ (text ++ 10 ∷ [])))
 line_parts number digits lead text is =
     ap (λ (t : List ℕ). decimal number ++ (32 ∷ t)) (append_assoc lead text (10 ∷ [])) ∙ ap (λ (t : List ℕ). t ++ (32 ∷ (lead ++ (text ++ 10 ∷ [])))) (sym is)

@@ -1,9 +1,9 @@
--- What is kept of a line, in one piece.
+-- How a part of a line is appended to what is kept.
 use Rattle.std.proofs.Common.{◌≡◌, ℕ, suc, ◌-◌, ◌<◌, ◌≤◌, Bool, true, false, eqb, ltb, cond, List, [], ◌∷◌, ◌++◌, fold, length, take, refl, sym, ap, ◌∙◌, arith, append_assoc, append-nil, length-append, take_all, min, eqb-true, Result, Ok, Err, OnOk, is_ok}
 use Rattle.std.proofs.lemmas.{Grind.common_steps, Bool.lt-ltb, Bool.ltb-true, Bool.ltb-false}
 use Rattle.bx_script.specs.Kept.{without_zeros, is_lone_zero, keep_byte}
 
--- ---- behind a byte that is no lone zero
+-- ---- After bytes that are not a lone zero
 
 longer_is_no_zero : (k : List ℕ) (x : ℕ) → 0 < length k → is_lone_zero (k ++ x ∷ []) ≡ false
 longer_is_no_zero [] x h = absurd (omega arith)
@@ -22,7 +22,6 @@ next_room limit k x xs more same false e =
     let room : limit - length k ≡ 0 = omega arith in
     same ∙ ap (λ n. k ++ take n xs) room ∙ sym (ap (λ n. k ++ take n (x ∷ xs)) room)
 
--- as many bytes are kept as there is room for
 pub keeps_room : (limit : ℕ) (k xs : List ℕ) → is_lone_zero k ≡ false → 0 < length k → fold (keep_byte limit) k xs ≡ k ++ take (limit - length k) xs
 keeps_room limit k [] none some = sym (ap (λ l. k ++ l) (take_all (limit - length k) [] (omega arith)) ∙ append-nil k)
 keeps_room limit k (x ∷ xs) none some =
@@ -31,13 +30,12 @@ keeps_room limit k (x ∷ xs) none some =
     let same = keeps_room limit k xs none some in
     rw none (next_room limit k x xs more same (ltb (length k) limit) refl)
 
--- ---- behind a lone zero
+-- ---- After a lone zero
 
 zeros_are_dropped : (limit : ℕ) (xs : List ℕ) → fold (keep_byte limit) (48 ∷ []) xs ≡ fold (keep_byte limit) (48 ∷ []) (without_zeros xs)
 zeros_are_dropped limit [] = refl
 zeros_are_dropped limit (x ∷ xs) = grind (arith, common_steps, zeros_are_dropped limit xs)
 
--- no zero stands first
 abbrev pub IsStripped : List ℕ → Type 0
 IsStripped [] = Unit {0}
 IsStripped (x ∷ xs) = eqb x 48 ≡ false
@@ -56,7 +54,7 @@ keeps_stripped limit (x ∷ xs) low h =
 pub keeps_behind_zero : (limit : ℕ) (xs : List ℕ) → 1 < limit → fold (keep_byte limit) (48 ∷ []) xs ≡ 48 ∷ take (limit - 1) (without_zeros xs)
 keeps_behind_zero limit xs low = zeros_are_dropped limit xs ∙ keeps_stripped limit (without_zeros xs) low (strips xs)
 
--- ---- a part
+-- ---- A part of a line
 
 lone_zero_is : (k : List ℕ) → is_lone_zero k ≡ true → k ≡ 48 ∷ []
 lone_zero_is k h = grind (arith, common_steps, eqb-true)
@@ -64,7 +62,6 @@ lone_zero_is k h = grind (arith, common_steps, eqb-true)
 take_within : (n : ℕ) (xs : List ℕ) → take (min n (length xs)) xs ≡ take n xs
 take_within n xs = grind (arith, common_steps)
 
--- what is added to what is kept
 pub keeps_part : (limit : ℕ) (k part p : List ℕ) → 1 < limit → 0 < length k → p ≡ cond (is_lone_zero k) (without_zeros part) part
     → fold (keep_byte limit) k part ≡ k ++ take (min (limit - length k) (length p)) p
 keeps_part limit k part p low some chosen =

@@ -1,11 +1,11 @@
--- Hexadecimal digits are a text, and 32 of them say a number of 128 bits.
+-- 32 hexadecimal digits are a text, and their value fits in 128 bits.
 use Rattle.std.proofs.Common.{◌≡◌, ℕ, ◌<◌, ◌^◌, true, false, eqb, List, [], ◌∷◌, length, Result, Ok, Err, Some, refl, sym, ap, ◌∙◌, subst, arith, eq-eqb}
 use Rattle.std.specs.{List.list_all, Result.OkIff, Result.result_ok, Int.Digits.number_from_digits, Str.IsAscii, Str.IsUtf8, Str.Parse.AllDigits, Str.Parse.IsNumeral, Str.Parse.ParsesUnsigned, Str.Parse.digits_value, Str.Parse.without_leading_plus, Char.digit_value, Char.is_ascii_hexdigit}
 use Rattle.std.specs.Prelude.{map}
 use Rattle.std.proofs.lemmas.{Str.IsUtf8-from_ascii, Str.Ascii.IsAscii-nil, Str.Ascii.IsAscii-cons, Int.Digits.number_lt, Int.Digits.all_below_base_from_digits, Int.Digits.digits_value_is, List.length-map, Bool.and_parts, Bool.Decides.nat_tests, Grind.common_steps}
 use Rattle.bx_script.specs.Words.{nonce_of}
 
--- ---- digits
+-- ---- Digits
 
 digit_low : (c : ℕ) → is_ascii_hexdigit c ≡ true → digit_value c < 16
 digit_low c h = grind (arith, common_steps, nat_tests)
@@ -27,7 +27,6 @@ each_ascii (d ∷ ds) h = let parts = and_parts (is_ascii_hexdigit d) (list_all 
 pub hexadecimal_is_text : (ds : List ℕ) → list_all is_ascii_hexdigit ds ≡ true → IsUtf8 ds
 hexadecimal_is_text ds h = IsUtf8-from_ascii ds (each_ascii ds h)
 
--- no sign stands first
 no_sign : (ds : List ℕ) → list_all is_ascii_hexdigit ds ≡ true → without_leading_plus ds ≡ ds
 no_sign [] h = refl
 no_sign (d ∷ ds) h = rw (digit_unsigned d (and_parts (is_ascii_hexdigit d) (list_all is_ascii_hexdigit ds) h).0) refl
@@ -39,12 +38,11 @@ value_fits ds all many =
     let bound : 16 ^ 32 ≡ 2 ^ 128 = refl in
     subst (λ (n : ℕ). n < 2 ^ 128) (sym (digits_value_is 16 ds)) (subst (λ (n : ℕ). number_from_digits 16 (map digit_value ds) < n) (ap (λ (k : ℕ). 16 ^ k) count ∙ bound) low)
 
--- ---- what they say
+-- ---- Their value
 
 nonce_is : (ds : List ℕ) → length ds ≡ 32 → list_all is_ascii_hexdigit ds ≡ true → nonce_of ds ≡ Some (digits_value 16 ds)
 nonce_is ds many all = rw (eq-eqb (length ds) 32 many, all) refl
 
--- what is read of 32 such digits is the nonce
 pub nonce_from_parse : {E : Type 0} (ds : List ℕ) (r : Result ℕ E) → ParsesUnsigned 128 16 ds r → length ds ≡ 32 → list_all is_ascii_hexdigit ds ≡ true → result_ok r ≡ nonce_of ds
 nonce_from_parse ds r h many all = by r (subst (λ (bs : List ℕ). OkIff r (IsNumeral 16 bs × (digits_value 16 bs < 2 ^ 128)) (digits_value 16 bs)) (no_sign ds all) h) ∙ sym (nonce_is ds many all)
   where

@@ -1,4 +1,4 @@
--- What a read of a part of a line does to known bytes.
+-- What reading a part of a line does to the known bytes.
 use Rattle.std.proofs.Common.{◌≡◌, ◌≢◌, ℕ, ◌+◌, ◌<◌, List, [], ◌∷◌, ◌++◌, fold, length, take, refl, sym, ap, subst, ◌∙◌, arith, Option, Some, None, OnSome, take_all, append_assoc, append-nil, length-append}
 use Rattle.std.specs.{List.before_first, List.position_or_len, Io.KnownBytes.Consumes, Io.KnownBytes.IsAtEnd, Io.KnownBytes.Keeps}
 use Rattle.bx_script.specs.Words.{is_newline, kept_with, keep_byte, first_of, rest_of, IsCut, PartRead, ReadsPart}
@@ -11,7 +11,6 @@ fold-append : (f : List ℕ → ℕ → List ℕ) (k xs ys : List ℕ) → fold 
 fold-append f k [] ys = refl
 fold-append f k (x ∷ xs) ys = fold-append f (f k x) xs ys
 
--- what is kept of two parts, one after the other
 pub kept_with-append : (k xs ys : List ℕ) → kept_with k (xs ++ ys) ≡ kept_with (kept_with k xs) ys
 kept_with-append k xs ys = fold-append (keep_byte KEPT_LIMIT) k xs ys
 
@@ -53,14 +52,12 @@ part_read End x y shown n used kept now cut e end is =
     let all : x ≡ y = e ∙ ap (λ k. take k shown ++ y) cut.2 in
     (all ∙ none, sym all, is ∙ ap (λ k. kept_with kept (take k shown)) cut.1)
 
--- where the bytes are known
 pub reads_part : (step : ReadOutcome) (a c : Option (List ℕ)) (shown : List ℕ) (n used : ℕ) (kept now : List ℕ) → IsCut shown n used step
     → Consumes a c (take used shown) → (length shown ≡ 0 → OnSome a (IsAtEnd c)) → now ≡ kept_with kept (take n shown) → ReadsPart step a c kept now
 reads_part step None c shown n used kept now cut e end is = tt
 reads_part step (Some x) None shown n used kept now cut e end is = absurd e
 reads_part step (Some x) (Some y) shown n used kept now cut e end is = part_read step x y shown n used kept now cut e end is
 
--- an interrupted read
 pub reads_again : (a c : Option (List ℕ)) (kept : List ℕ) → Keeps a c → ReadsPart Again a c kept kept
 reads_again None c kept h = tt
 reads_again (Some x) None kept h = absurd h

@@ -1,4 +1,4 @@
--- What is kept of a line says what the line says.
+-- What is kept of a line means the same as the line.
 use Rattle.std.proofs.Common.{◌≡◌, ℕ, zero, suc, ◌+◌, ◌-◌, ◌*◌, ◌^◌, ◌<◌, ◌≤◌, ◌&&◌, ◌⊎◌, inl, inr, Bool, true, false, eqb, ltb, cond, List, [], ◌∷◌, ◌++◌, length, take, refl, sym, ap, subst, ◌∙◌, arith, Option, Some, None, take_all, eqb-true, fold, lit≤, le_trans, length-take-le}
 use Rattle.std.proofs.lemmas.{Grind.common_steps, List.take-append-le, Bool.lt-ltb, Bool.ltb-true, Bool.ltb-false, Bool.le-ltb, Bool.Decides.nat_tests}
 use Rattle.std.specs.Prelude.{codes, nat_eq}
@@ -10,13 +10,12 @@ use Rattle.bx_script.specs.declared.kept.TheConstants.{KEPT_LIMIT}
 use Rattle.bx_script.proofs.Keeping.{keeps_room, keeps_behind_zero, strips, IsStripped}
 use Rattle.bx_script.proofs.Cuts.{Lacks, lacks_taken, after_all, before_it, after_it, before_past, after_past, Parted, parted}
 
--- ---- many digits
+-- ---- Numbers with many digits
 
 value_grows : (n : ℕ) (ds : List ℕ) → n ≤ digits_value_after 10 n ds
 value_grows n [] = omega arith
 value_grows n (d ∷ ds) = omega (arith, value_grows (n * 10 + digit_value d) ds)
 
--- n, with so many zeros behind it
 abbrev with_zeros : ℕ → ℕ → ℕ
 with_zeros zero n = n
 with_zeros (suc k) n = with_zeros k (n * 10)
@@ -42,7 +41,6 @@ none_by_test a b n h = grind (arith, common_steps)
 large_is_none : (m : List ℕ) → 2 ^ 64 ≤ digits_value 10 m → number_of m ≡ None
 large_is_none m h = none_by_test (is_digits m) (ltb (digits_value 10 m) (2 ^ 64)) (digits_value 10 m) (le-ltb _ _ h)
 
--- at most one zero stands first
 abbrev pub IsNormal : List ℕ → Type 0
 IsNormal [] = Unit {0}
 IsNormal (x ∷ []) = Unit {0}
@@ -64,13 +62,11 @@ many_digits (x ∷ y ∷ m) (inr second) long =
     large_is_none (x ∷ y ∷ m) (twenty_digits ((0 * 10 + digit_value x) * 10 + digit_value y) m some (omega arith))
 many_digits _ h long = absurd (omega arith)
 
--- ---- a long line
+-- ---- Long lines
 
--- many digits are no nonce
 too_many : (digits : List ℕ) → BODY_LIMIT < length digits → eqb (length digits) 32 ≡ false
 too_many digits many = grind (arith, common_steps, nat_tests)
 
--- it says the same without its end
 cut_command : (d : Dialect) (moment n : ℕ) (rest : List ℕ) → BODY_LIMIT + 2 < n → n < length rest → command d moment (take n rest) ≡ command d moment rest
 cut_command Script moment (suc (suc (suc n))) (a ∷ b ∷ c ∷ rest) long within =
     let short : BODY_LIMIT < length (c ∷ take n rest) = omega (arith, length-take-le n rest (omega arith)) in
@@ -98,7 +94,6 @@ front_is_normal : (m r : List ℕ) → IsNormal (m ++ r) → IsNormal m
 front_is_normal (x ∷ y ∷ m) r h = h
 front_is_normal _ r h = tt
 
--- what is behind the moment, cut
 cut_rest : (d : Dialect) (m r : List ℕ) (n : ℕ) → IsNormal m → BODY_LIMIT + 24 < n + length m → line_by d (number_of m) (take n r) ≡ line_by d (number_of m) r
 cut_rest d m r n normal long = by_length (ltb 21 (length m)) refl
   where
@@ -143,7 +138,7 @@ cut_timed d limit text room normal = by_space (parted 32 text)
         let front = front_is_normal p.front (32 ∷ p.back) (subst IsNormal p.whole normal) in
         ap (λ l. timed_line d (take limit l)) p.whole ∙ cut_by d limit p.front p.back room front p.lacks (ltb (length p.front) limit) refl ∙ sym (ap (timed_line d) p.whole)
 
--- ---- a note
+-- ---- Notes
 
 cut_note : (n : ℕ) (note : List ℕ) → BODY_LIMIT < n → noted_by (take n note) ≡ noted_by note
 cut_note n note room = by_room (ltb n (length note)) refl
@@ -156,7 +151,6 @@ cut_note n note room = by_room (ltb n (length note)) refl
         rw (lt-ltb BODY_LIMIT (length (take n note)) short, lt-ltb BODY_LIMIT (length note) whole) refl
     by_room false e = ap noted_by (take_all n note (ltb-false _ _ e))
 
--- a line of either kind
 pub cut_says : (d : Dialect) (limit : ℕ) (text : List ℕ) → BODY_LIMIT + 32 ≤ limit → IsNormal text → line_of d (take limit text) ≡ line_of d text
 cut_says Script limit text room normal = cut_timed Script limit text room normal
 cut_says Recorded (suc (suc n)) (a ∷ b ∷ rest) room normal =
@@ -167,7 +161,7 @@ cut_says Recorded limit [] room normal = ap (line_of Recorded) (take_all limit [
 cut_says Recorded limit (a ∷ []) room normal = ap (line_of Recorded) (take_all limit (a ∷ []) (omega arith))
 cut_says Recorded _ (a ∷ b ∷ rest) room normal = absurd (omega arith)
 
--- ---- zeros
+-- ---- Zeros
 
 zero_more : (m : List ℕ) → number_of (48 ∷ 48 ∷ m) ≡ number_of (48 ∷ m)
 zero_more m =
@@ -192,7 +186,7 @@ zeros_say : (d : Dialect) (xs : List ℕ) → line_of d (48 ∷ without_zeros xs
 zeros_say Script xs = zeros_timed Script xs
 zeros_say Recorded xs = zeros_timed Recorded xs
 
--- ---- what is kept
+-- ---- What is kept
 
 stripped_is_normal : (xs : List ℕ) → IsStripped xs → IsNormal (48 ∷ xs)
 stripped_is_normal xs h = grind (arith, common_steps)
@@ -211,7 +205,6 @@ kept_behind d limit x xs room false e =
     let low : limit ≡ suc (limit - 1) = omega arith in
     ap (line_of d) (keeps_room limit (x ∷ []) xs e (omega arith) ∙ sym (ap (λ n. take n (x ∷ xs)) low)) ∙ cut_says d limit (x ∷ xs) room (other_is_normal x xs e)
 
--- it says what the line says
 pub kept_says : (d : Dialect) (line : List ℕ) → line_of d (kept_with [] line) ≡ line_of d line
 kept_says d [] = refl
 kept_says d (x ∷ xs) = kept_behind d KEPT_LIMIT x xs (lit≤ tt) (eqb x 48) refl

@@ -1,4 +1,4 @@
--- The first line of a script, and the others.
+-- The first line of a script, and the lines after it.
 use Rattle.std.proofs.Common.{◌≡◌, ◌≢◌, ℕ, ◌⊎◌, inl, inr, true, false, List, [], ◌∷◌, ◌++◌, refl, sym, ap, ◌∙◌, Option, Some, None, IfSome}
 use Rattle.std.specs.List.{slice_split}
 use Rattle.bx_script.specs.Words.{Dialect, is_newline, lines_of, without_empty_end, line_of, first_of, rest_of, ReadsLine, IsNext, said_by}
@@ -20,7 +20,6 @@ line_and_rest m r lacks =
     ap without_empty_end (split_behind 10 m r lacks) ∙ no_end m (slice_split is_newline r) some.0 some.1 some.2
     ∙ sym (ap (λ l. l ∷ lines_of (rest_of (m ++ 10 ∷ r))) (before_it 10 m r lacks) ∙ ap (λ l. m ∷ lines_of l) (after_it 10 m r lacks))
 
--- a script that isn't empty is its first line and the lines behind it
 pub lines_are : (script : List ℕ) → script ≢ [] → lines_of script ≡ first_of script ∷ lines_of (rest_of script)
 lines_are [] some = absurd (some refl)
 lines_are (x ∷ xs) some = by_newline (parted 10 (x ∷ xs))
@@ -30,7 +29,6 @@ lines_are (x ∷ xs) some = by_newline (parted 10 (x ∷ xs))
     by_newline (inr p) =
         ap lines_of p.whole ∙ line_and_rest p.front p.back p.lacks ∙ sym (ap (λ l. first_of l ∷ lines_of (rest_of l)) p.whole)
 
--- what is kept of a line that was read says it
 pub is_next : (d : Dialect) (line : Line) (old new : Option (List ℕ)) (kept : List ℕ) → ReadsLine true old new kept → said_by line ≡ line_of d kept → IfSome old (λ script. IsNext d (Some line) script new)
 is_next d line None new kept read said = tt
 is_next d line (Some script) None kept read said = absurd read
@@ -40,7 +38,6 @@ is_next d line (Some script) (Some rest) kept read said = record {
   left = ap Some read.2;
 }
 
--- at the end there is none
 pub is_last : (d : Dialect) (old new : Option (List ℕ)) (kept : List ℕ) → ReadsLine false old new kept → IfSome old (λ script. IsNext d None script new)
 is_last d None new kept read = tt
 is_last d (Some script) None kept read = absurd read

@@ -1,4 +1,4 @@
--- What a line means, and what is left of a script to read.
+-- What a line means, and what is left of a script.
 use Rattle.std.specs.Prelude.{ℕ, ◌≡◌, List, [], ◌∷◌, Option, Some, None, string_bytes, option_map}
 use Rattle.bx_script.specs.Replay.{Dialect, line_of, lines_of}
 use Rattle.bx_script.specs.Replay as replay
@@ -25,7 +25,7 @@ said_by (Resharded shards) = replay.Resharded shards
 said_by (Announced nonce) = replay.Announced nonce
 said_by Noted = replay.Noted
 
--- What is left of the script.
+-- The bytes of the script that are left.
 abbrev pub unread : {R : Type 0} → (R → Option (List ℕ)) → Lines R → Option (List ℕ)
 unread remaining lines = remaining lines.reader
 
@@ -33,11 +33,11 @@ unread remaining lines = remaining lines.reader
 abbrev pub reads_left : {R : Type 0} → Lines R → ℕ
 reads_left lines = lines.reads.left
 
--- A read of the script failed, or no more reads are allowed.
+-- A read failed, or no more reads are allowed.
 abbrev pub CannotRead : {R : Type 0} → Lines R → Type 0
 CannotRead lines = HasEnded lines.reads
 
--- Why an operation that reads a script may fail.
+-- The faults of an operation that reads lines.
 abbrev pub IsFault : {R : Type 0} → Lines R → ScriptFault → Type 0
 IsFault lines fault = IsReadFault lines.reads fault
 
@@ -45,13 +45,13 @@ IsFault lines fault = IsReadFault lines.reads fault
 abbrev pub read_as : {R : Type 0} → Lines R → Dialect
 read_as lines = dialect_of lines.dialect
 
--- `line` is what the script's first line means, and the lines after it are left.
+-- `line` is what the first line of the script means, and the bytes after it are left.
 pub record NextLine (dialect : Dialect) (line : Line) (script : List ℕ) (rest : Option (List ℕ)) : Type 0 where
   pub said : said_by line ≡ line_of dialect (first_of script)
   pub behind : lines_of script ≡ first_of script ∷ lines_of (rest_of script)
   pub left : rest ≡ Some (rest_of script)
 
--- The script is at its end and there is no line, or its first line is read.
+-- No line is left, and none is read. Or the first line is read.
 abbrev pub IsNext : Dialect → Option Line → List ℕ → Option (List ℕ) → Type 0
 IsNext dialect None script rest = (script ≡ []) × (rest ≡ Some [])
 IsNext dialect (Some line) script rest = NextLine dialect line script rest

@@ -1,4 +1,4 @@
--- What was written to a writer, and whether it failed.
+-- What was written to a writer, and whether a write failed.
 use Rattle.std.specs.Prelude.{ℕ, ⊤, IsTrue, List, Option}
 use Rattle.bx_script.specs.declared.{error.ScriptFault.ScriptFault, output.Output.Output}
 use Rattle.bx_script.specs.declared.error.ScriptFault.TheVariants.{Memory, Read, Write}
@@ -11,11 +11,11 @@ written contents output = contents output.writer
 abbrev pub interruptions_left : {W : Type 0} → Output W → ℕ
 interruptions_left output = output.interruptions_left
 
--- A write failed, wrote no bytes, or was interrupted too often.
+-- The output records a write that failed, wrote no bytes, or was interrupted too often.
 abbrev pub HasFailed : {W : Type 0} → Output W → Type 0
 HasFailed output = IsTrue output.failed
 
--- Why an operation that writes may fail: memory ran out, or a write failed.
+-- The faults of an operation that writes: memory ran out, or a write failed.
 abbrev pub IsWriteFault : {W : Type 0} → Output W → ScriptFault → Type 0
 IsWriteFault output Memory = ⊤
 IsWriteFault output Read = ⊥

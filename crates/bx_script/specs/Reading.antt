@@ -6,14 +6,14 @@ use Rattle.bx_script.specs.Kept.{kept_with}
 use Rattle.bx_script.specs.declared.part.ReadOutcome.{ReadOutcome}
 use Rattle.bx_script.specs.declared.part.ReadOutcome.TheVariants.{Again, More, Line, End}
 
--- The first line, and then what follows it.
+-- The first line of a script, and what follows it.
 abbrev pub first_of : List ℕ → List ℕ
 first_of script = before_first is_newline script
 
 abbrev pub rest_of : List ℕ → List ℕ
 rest_of script = after_first is_newline script
 
--- The effect of one read on the bytes that are left and on what is kept.
+-- What one read does to the bytes that are left and to those that are kept.
 abbrev pub PartRead : ReadOutcome → List ℕ → List ℕ → List ℕ → List ℕ → Type 0
 PartRead Again before after kept now = (after ≡ before) × (now ≡ kept)
 PartRead More before after kept now = (before ≢ []) × (kept_with now (first_of after) ≡ kept_with kept (first_of before)) × (rest_of after ≡ rest_of before)
@@ -26,7 +26,7 @@ ReadsPart step None new kept now = ⊤
 ReadsPart step (Some before) None kept now = ⊥
 ReadsPart step (Some before) (Some after) kept now = PartRead step before after kept now
 
--- A line was read, and `kept` is what is kept of it; or no line was left.
+-- A line was read, and `kept` is what is kept of it. Or no line was left.
 abbrev pub LineRead : Bool → List ℕ → List ℕ → List ℕ → Type 0
 LineRead true before after kept = (before ≢ []) × (kept ≡ kept_with [] (first_of before)) × (after ≡ rest_of before)
 LineRead false before after kept = (before ≡ []) × (after ≡ [])
@@ -36,12 +36,12 @@ ReadsLine found None new kept = ⊤
 ReadsLine found (Some before) None kept = ⊥
 ReadsLine found (Some before) (Some after) kept = LineRead found before after kept
 
--- A line has begun, so the text was not empty (`true`), or nothing was read (`false`).
+-- A line has begun, so bytes were left (`true`), or nothing was read (`false`).
 abbrev pub IsBegun : Bool → List ℕ → List ℕ → Type 0
 IsBegun true before after = before ≢ []
 IsBegun false before after = after ≡ before
 
--- What is kept and what is left of a line give what is kept of the whole line.
+-- What is kept so far and what is left of the line add up to what is kept of the whole line.
 abbrev pub ReadingOn : Bool → Option (List ℕ) → Option (List ℕ) → List ℕ → Type 0
 ReadingOn began None new kept = ⊤
 ReadingOn began (Some before) None kept = ⊥

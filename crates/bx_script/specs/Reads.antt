@@ -1,4 +1,4 @@
--- Why a script is not read any further.
+-- Why a script cannot be read any more.
 use Rattle.std.specs.Prelude.{◌≡◌, ◌⊎◌, ⊤, IsTrue}
 use Rattle.bx_script.specs.declared.{error.ScriptFault.ScriptFault, part.Reads.Reads}
 use Rattle.bx_script.specs.declared.error.ScriptFault.TheVariants.{Memory, Read, Write}
@@ -7,7 +7,7 @@ use Rattle.bx_script.specs.declared.error.ScriptFault.TheVariants.{Memory, Read,
 abbrev pub HasEnded : Reads → Type 0
 HasEnded reads = IsTrue reads.failed ⊎ (reads.left ≡ 0)
 
--- Why an operation that reads may fail: memory ran out, or the script cannot be read on.
+-- The faults of an operation that reads: memory ran out, or the script cannot be read any more.
 abbrev pub IsReadFault : Reads → ScriptFault → Type 0
 IsReadFault reads Memory = ⊤
 IsReadFault reads Read = HasEnded reads

@@ -22,7 +22,7 @@ is_newline byte = byte == 10
 abbrev pub is_space : ℕ → Bool
 is_space byte = byte == 32
 
--- The parts between newlines, without an empty last one.
+-- The parts between newlines, without the last one if it is empty.
 abbrev pub without_empty_end : List (List ℕ) → List (List ℕ)
 without_empty_end [] = []
 without_empty_end ([] ∷ []) = []
@@ -34,18 +34,18 @@ lines_of script = without_empty_end (slice_split is_newline script)
 
 -- ---- What a line means
 
--- A script, or a record of a server's inputs, which has three more kinds of lines.
+-- A script, or a record of what a server admitted, which has three more kinds of lines.
 pub data Dialect : Type 0 where
   Script : Dialect
   Recorded : Dialect
 
--- What a transport makes of a body or a query: a refusal with its status, or documents and the name
--- of the callback that asks for them.
+-- What a body or a query is read as: an error with its status, or documents, with the name of the
+-- callback if it is a query.
 pub data Taken : Type 0 where
   Refused : (status : ℕ) → Taken
   Documents : (callback : Option (List ℕ)) → (documents : List (List ℕ)) → Taken
 
--- A transport error is a refusal with its status.
+-- A transport error, with its status.
 abbrev pub not_taken : TransportError → Taken
 not_taken error = Refused (code_of (transport_status error))
 
@@ -54,11 +54,11 @@ abbrev pub body_by : Result (List (List ℕ)) TransportError → Taken
 body_by (Ok documents) = Documents None documents
 body_by (Err error) = not_taken error
 
--- How a body is read: as that of a POST without a content type.
+-- A body is read as that of a POST without a content type.
 abbrev pub body_taken : List ℕ → Taken
 body_taken body = body_by (post_taken None body)
 
--- How a form is read: as the body of a POST with a form's media type.
+-- A form is read as the body of a POST with the media type of forms.
 abbrev pub form_taken : List ℕ → Taken
 form_taken form = body_by (post_taken (Some (codes "application/x-www-form-urlencoded")) form)
 
@@ -67,12 +67,12 @@ abbrev pub query_by : Result (List ℕ × List (List ℕ)) TransportError → Ta
 query_by (Ok query) = Documents (Some query.0) query.1
 query_by (Err error) = not_taken error
 
--- How a query is read: as that of a GET.
+-- A query is read as that of a GET.
 abbrev pub query_taken : List ℕ → Taken
 query_taken query = query_by (get_taken query)
 
--- A malformed line, a refusal by a transport, an input with its callback, a number of shards, the
--- next request's nonce, or the note of an answer.
+-- The meaning of a line: malformed, a body or query that is rejected, an input with the name of its
+-- callback, a number of shards, the nonce of the next request, or the note of an answer.
 pub data Line : Type 0 where
   Bad : Line
   Rejected : (status : ℕ) → Line
@@ -81,41 +81,41 @@ pub data Line : Type 0 where
   Announced : (nonce : ℕ) → Line
   Noted : Line
 
--- A request of these documents, with the nonce 0 until lines give it theirs.
+-- The request that a line has, with the nonce 0. `with_nonces` gives it its own.
 abbrev pub handed_by : ℕ → Taken → Line
 handed_by moment (Refused status) = Rejected status
 handed_by moment (Documents callback documents) = Accepted callback (read_by moment 0 (request_messages documents))
 
--- The line that changes the number of shards, from 1 to 64.
+-- A line that changes the number of shards, if it is from 1 to 64.
 abbrev pub reshards : Option ℕ → Line
 reshards None = Bad
 reshards (Some shards) = if nat_lt 0 shards && nat_le shards 64 then Resharded shards else Bad
 
--- The line with the digits of that number; more than `BODY_LIMIT` are not read.
+-- A line with the digits of that number. It is bad if there are more than `BODY_LIMIT` digits.
 abbrev pub resharded_by : List ℕ → Line
 resharded_by digits = if nat_lt BODY_LIMIT (length digits) then Bad else reshards (number_of digits)
 
--- The value of exactly 32 hexadecimal digits of either case.
+-- The value of 32 hexadecimal digits of either case. Other texts have none.
 abbrev pub nonce_of : List ℕ → Option ℕ
 nonce_of digits = if length digits == 32 && list_all is_ascii_hexdigit digits then Some (digits_value 16 digits) else None
 
--- The line that announces a nonce, if there is one.
+-- A line that announces a nonce, if there is one.
 abbrev pub announces : Option ℕ → Line
 announces None = Bad
 announces (Some nonce) = Announced nonce
 
--- The line that announces the nonce with these digits.
+-- A line that announces the nonce with these digits.
 abbrev pub announced_by : List ℕ → Line
 announced_by digits = announces (nonce_of digits)
 
--- The line with a form or a nonce after its moment, which only records have.
+-- A line with a form or a nonce after its moment, which only records have.
 abbrev pub recorded_command : Dialect → ℕ → List ℕ → Line
 recorded_command Script moment rest = Bad
 recorded_command Recorded moment rest =
     if starts_with nat_eq rest (codes "F ") then handed_by moment (form_taken (drop 2 rest))
     else (if starts_with nat_eq rest (codes "N ") then announced_by (drop 2 rest) else Bad)
 
--- The line with `rest` after its moment.
+-- A line with `rest` after its moment.
 abbrev pub command : Dialect → ℕ → List ℕ → Line
 command dialect moment rest =
     if bytes_eq rest (codes "T") then Accepted None (Tick moment)
@@ -124,12 +124,12 @@ command dialect moment rest =
     else (if starts_with nat_eq rest (codes "S ") then resharded_by (drop 2 rest)
     else recorded_command dialect moment rest)))
 
--- The line with this moment, if it fits 64 bits.
+-- A line with this moment. It is bad if there is none that fits in 64 bits.
 abbrev pub line_by : Dialect → Option ℕ → List ℕ → Line
 line_by dialect None rest = Bad
 line_by dialect (Some moment) rest = command dialect moment rest
 
--- The line of a moment, a space and a command.
+-- A line of a moment, a space and a command.
 abbrev pub timed_line : Dialect → List ℕ → Line
 timed_line dialect text = line_by dialect (number_of (before_first is_space text)) (after_first is_space text)
 
@@ -137,53 +137,54 @@ timed_line dialect text = line_by dialect (number_of (before_first is_space text
 abbrev pub is_digest : List ℕ → Bool
 is_digest digits = length digits == 64 && list_all is_ascii_hexdigit digits
 
--- The note of an answer: a place that fits 64 bits, a space and a digest; more than `BODY_LIMIT`
--- bytes are not read.
+-- The note of an answer: a place that fits in 64 bits, a space and a digest. It is bad if it has
+-- more than `BODY_LIMIT` bytes.
 abbrev pub noted_by : List ℕ → Line
 noted_by note =
     if nat_lt BODY_LIMIT (length note) then Bad
     else (if is_some (number_of (before_first is_space note)) && is_digest (after_first is_space note) then Noted else Bad)
 
--- A line with a moment or, in a record, the note of an answer.
+-- The meaning of a line: one with a moment or, in a record, the note of an answer.
 abbrev pub line_of : Dialect → List ℕ → Line
 line_of Script text = timed_line Script text
 line_of Recorded text = if starts_with nat_eq text (codes "A ") then noted_by (drop 2 text) else timed_line Recorded text
 
--- The lines of a text.
+-- The meanings of the lines of a text.
 abbrev pub lines_in : Dialect → List ℕ → List Line
 lines_in dialect text = map (line_of dialect) (lines_of text)
 
 -- ---- Nonces
 
--- An input with this nonce, if it is a request.
+-- The input with this nonce, if it is a request.
 abbrev pub with_nonce : ℕ → ReadInput → ReadInput
 with_nonce nonce (Request moment other messages) = Request moment nonce messages
 with_nonce nonce (Unread fault) = Unread fault
 with_nonce nonce (Tick moment) = Tick moment
 
--- A line with this nonce, if it is a request.
+-- The line with this nonce, if it is a request.
 abbrev pub line_with : ℕ → Line → Line
 line_with nonce (Accepted callback input) = Accepted callback (with_nonce nonce input)
 line_with nonce line = line
 
--- The nonce that waits after an input: 0 after a request, even an unreadable one; a tick keeps it.
+-- The nonce that waits after an input: 0 after a request, even an unreadable one, and unchanged
+-- after a tick.
 abbrev pub nonce_left : ℕ → ReadInput → ℕ
 nonce_left nonce (Request moment other messages) = 0
 nonce_left nonce (Unread fault) = 0
 nonce_left nonce (Tick moment) = nonce
 
--- The nonce that waits after a line: an announcement replaces it, and other lines without input
--- keep it.
+-- The nonce that waits after a line. A line that announces a nonce replaces it. Other lines without
+-- an input leave it as it is.
 abbrev pub nonce_behind : ℕ → Line → ℕ
 nonce_behind nonce (Announced other) = other
 nonce_behind nonce (Accepted callback input) = nonce_left nonce input
 nonce_behind nonce line = nonce
 
--- The nonce that waits after these lines; it is 0 at first.
+-- The nonce that waits after these lines. It is 0 at first.
 abbrev pub nonce_at : List Line → ℕ
 nonce_at ls = fold nonce_behind 0 ls
 
--- The lines, each request with the nonce that waits for it; `nonce` waits for the first.
+-- The lines, each request with the nonce that waits for it. `nonce` waits for the first request.
 abbrev pub with_nonces : ℕ → List Line → List Line
 with_nonces nonce [] = []
 with_nonces nonce (line ∷ ls) = line_with nonce line ∷ with_nonces (nonce_behind nonce line) ls
@@ -196,7 +197,7 @@ pub record Numbered : Type 0 where
   pub callback : Option (List ℕ)
   pub input : ReadInput
 
--- The inputs among lines, which are counted from `number`.
+-- The inputs among lines, which are numbered from `number` on.
 abbrev pub inputs_from : ℕ → List Line → List Numbered
 inputs_from number [] = []
 inputs_from number (Accepted callback input ∷ ls) = record { line = number; callback = callback; input = input } ∷ inputs_from (number + 1) ls
@@ -207,28 +208,29 @@ inputs_from number (_ ∷ ls) = inputs_from (number + 1) ls
 abbrev pub line_text : ℕ → List ℕ → List ℕ
 line_text number text = decimal number ++ (32 ∷ (text ++ 10 ∷ []))
 
--- A response's body: the array, or the call of the callback with it.
+-- The body of a response: the array, or the call of the callback with it.
 abbrev pub response_text : Option (List ℕ) → List Item → List ℕ
 response_text None items = body_text items
 response_text (Some name) items = callback_text name items
 
--- What a complete input prints: a refusal's status, nothing for a tick, or 200 and the response. No
--- unreadable request is accepted.
+-- What is printed for an input that is whole: the status of its refusal, nothing for a tick, or 200
+-- and the response.
 abbrev pub result_text : Numbered → ReadInput → Result (List Item) Refusal → List ℕ
 result_text n input (Err refusal) = line_text n.line (decimal (code_of (refusal_status refusal)))
 result_text n (Tick moment) (Ok items) = []
 result_text n _ (Ok items) = line_text n.line (codes "200 " ++ response_text n.callback items)
 
--- The text of an out, by its input.
+-- What is printed for an out, by its input.
 abbrev pub out_by : Out → Option Numbered → List ℕ
 out_by o None = []
 out_by o (Some n) = result_text n n.input o.result
 
--- The outs of the inputs that become complete at the input `index`.
+-- What is printed for the inputs that the input `index` makes whole.
 abbrev pub outs_at : List Whole → List Numbered → ℕ → List ℕ
 outs_at ws numbered index = flat_map (λ (o : Out). out_by o (slice_get numbered o.input)) (whole_at index ws)
 
--- What the lines print; `number` is the first line's, and `index` counts the inputs before it.
+-- What the lines print. `number`: the number of the first of them. `index`: how many inputs come
+-- before it.
 abbrev pub printed_from : List Whole → List Numbered → ℕ → ℕ → List Line → List ℕ
 printed_from ws numbered number index [] = []
 printed_from ws numbered number index (Bad ∷ ls) = line_text number (codes "bad") ++ printed_from ws numbered (number + 1) index ls
@@ -238,7 +240,7 @@ printed_from ws numbered number index (Resharded shards ∷ ls) = printed_from w
 printed_from ws numbered number index (Announced nonce ∷ ls) = printed_from ws numbered (number + 1) index ls
 printed_from ws numbered number index (Noted ∷ ls) = printed_from ws numbered (number + 1) index ls
 
--- What an input prints that is incomplete at the end.
+-- What is printed for an input that is held at the end.
 abbrev pub held_text : Option Numbered → List ℕ
 held_text None = []
 held_text (Some n) = line_text n.line (codes "held")
@@ -248,7 +250,7 @@ printed config numbered ls =
     let inputs = map (λ (n : Numbered). n.input) numbered in
     printed_from (wholes config inputs) numbered 1 0 ls ++ flat_map (λ index. held_text (slice_get numbered index)) (held config inputs)
 
--- What the lines print in order, and then the held lines.
+-- What a replay prints for a text: what its lines print in order, and then the held lines.
 abbrev pub replay_text : Dialect → Config → List ℕ → List ℕ
 replay_text dialect config text =
     let ls = with_nonces 0 (lines_in dialect text) in printed config (inputs_from 1 ls) ls

@@ -1,4 +1,4 @@
--- The names of this crate's definitions, for files that import several.
+-- Names of this crate's definitions, for files that import several.
 pub use Rattle.bx_script.specs.Kept.{keep_byte, kept_with, without_zeros}
 pub use Rattle.bx_script.specs.Lines.{CannotRead, IsNext, NextLine, dialect_of, read_as, reads_left, said_by, unread}
 pub use Rattle.bx_script.specs.Output.{HasFailed, IsWriteFault, written}

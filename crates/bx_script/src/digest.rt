@@ -1,4 +1,4 @@
-//! The digest in a line.
+//! The digest in the note of an answer.
 ghost use Rattle.std.specs.Prelude.{◌≡◌};
 ghost use Rattle.bx_script.specs.Replay.{is_digest};
 

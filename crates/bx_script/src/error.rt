@@ -15,12 +15,14 @@ pub enum ScriptFault {
     Memory,
     /// A read failed, or there were [`MAX_READS`](crate::MAX_READS) reads.
     Read,
-    /// A write failed.
+    /// A write failed, wrote nothing, or was interrupted too often.
+    ///
+    /// [`MAX_INTERRUPTIONS`](crate::MAX_INTERRUPTIONS) interruptions are allowed.
     Write,
 }
 
 impl ScriptFault {
-    /// Converts the error of a read: out of memory to `Memory`, any other to `Read`.
+    /// Converts the error of a read: `OutOfMemory` to `Memory`, any other to `Read`.
     pub fn of_read(error: &io::Error) -> ScriptFault
         ensures memory { error_kind error.now ≡ ErrorKind.OutOfMemory → result ≡ ScriptFault.Memory }
         ensures other { error_kind error.now ≢ ErrorKind.OutOfMemory → result ≡ ScriptFault.Read }
@@ -31,7 +33,7 @@ impl ScriptFault {
         }
     }
 
-    /// Converts the error of a write: out of memory to `Memory`, any other to `Write`.
+    /// Converts the error of a write: `OutOfMemory` to `Memory`, any other to `Write`.
     pub fn of_write(error: &io::Error) -> ScriptFault
         ensures memory { error_kind error.now ≡ ErrorKind.OutOfMemory → result ≡ ScriptFault.Memory }
         ensures other { error_kind error.now ≢ ErrorKind.OutOfMemory → result ≡ ScriptFault.Write }

@@ -5,13 +5,14 @@ ghost use Rattle.bx_script.specs.Kept.{is_lone_zero, kept_with, without_zeros};
 use bx_advice::BODY_LIMIT;
 use std::alloc::AllocError;
 
-/// Greatest number of bytes of a line that are kept.
+/// The most bytes of a line that are kept.
 ///
-/// The body or query of a longer line is too large in any case: before it are at most a zero, 20
-/// digits, a letter and two spaces.
+/// The body or query of a longer line is too large in any case. Before it, at most a zero, 20
+/// digits, a letter and two spaces are kept.
 pub(crate) const KEPT_LIMIT: usize = BODY_LIMIT + 32;
 
-// Keeps another part of the line.
+// Appends the next part of the line to `kept`, up to `KEPT_LIMIT` bytes. If the line begins with
+// several zeros, only the first is kept.
 pub(crate) fn keep(kept: &mut Vec<u8>, part: &[u8]) -> Result<(), AllocError>
     ensures { OnOk result (kept.new.items ≡ kept_with kept.old.items part.now) }
 {
@@ -25,7 +26,7 @@ pub(crate) fn keep(kept: &mut Vec<u8>, part: &[u8]) -> Result<(), AllocError>
     keep_on(kept, rest)
 }
 
-// Keeps another part of the line, after at least one byte.
+// Appends `part` to `kept` in the same way, if `kept` is not empty.
 fn keep_on(kept: &mut Vec<u8>, part: &[u8]) -> Result<(), AllocError>
     requires { 0 < vec_len kept.old }
     ensures { OnOk result (kept.new.items ≡ kept_with kept.old.items part.now) }
@@ -35,7 +36,7 @@ fn keep_on(kept: &mut Vec<u8>, part: &[u8]) -> Result<(), AllocError>
     kept.extend_from_slice(&part[..room])
 }
 
-// Returns `part`, without its leading zeros if just a zero is kept: they change no number.
+// Returns `part`, without its leading zeros if only a zero is kept, since they change no number.
 fn told_by<'a>(kept: &[u8], part: &'a [u8]) -> &'a [u8]
     ensures { result.now ≡ (if is_lone_zero kept.now then without_zeros part.now else part.now) }
 {
@@ -46,7 +47,6 @@ fn told_by<'a>(kept: &[u8], part: &'a [u8]) -> &'a [u8]
     }
 }
 
-// Returns `part` without the zeros at its start.
 fn without_zeros(part: &[u8]) -> &[u8]
     ensures { result.now ≡ without_zeros part.now }
 {

@@ -1,4 +1,4 @@
-//! Parsing a line of a script.
+//! Parsing a line of a script or a record.
 ghost use Rattle.std.specs.Prelude.{◌≡◌, ◌≢◌, IfOk, OnOk, option_map, position, string_bytes};
 ghost use Rattle.std.specs.List.{after_first, before_first};
 ghost use Rattle.bx_cut.specs.Bodies.{texts_of};
@@ -18,7 +18,7 @@ use bx_message::{Status, number_of};
 use bx_transport::{TransportError, read_get, read_post};
 use std::alloc::{AllocError, Global};
 
-// Media type of a form in HTML.
+// The media type of an HTML form.
 const FORM_TYPE: &[u8] = b"application/x-www-form-urlencoded";
 
 /// The meaning of a line.
@@ -26,19 +26,19 @@ const FORM_TYPE: &[u8] = b"application/x-www-form-urlencoded";
 pub enum Line {
     /// The line is malformed.
     Bad,
-    /// A request whose body or query is rejected.
+    /// A request with a body or query that is rejected.
     Rejected {
         /// The status to print.
         status: Status,
     },
     /// A request or a tick.
     Accepted {
-        /// The name of the callback, for a GET only.
+        /// The name of the callback, if the request is a GET.
         callback: Option<String>,
-        /// The request, with nonce 0, or the tick.
+        /// The request, with the nonce 0, or the tick.
         input: Input,
     },
-    /// The number of shards changes.
+    /// A change of the number of shards.
     Resharded {
         /// The new number of shards, from 1 to 64.
         shards: ShardCount,
@@ -58,16 +58,21 @@ impl Line {
     /// A line is a moment in milliseconds, in decimal digits, a space, and one of:
     ///
     /// - `T`: a tick
-    /// - `P`, a space and a body: a POST
-    /// - `G`, a space and a query: a GET
-    /// - `S`, a space and a number of shards
-    /// - in a record, `F`, a space and a form: a POST
-    /// - in a record, `N`, a space and 32 hexadecimal digits: a nonce
+    /// - `P` and a body: a POST
+    /// - `G` and a query: a GET
+    /// - `S` and a number of shards
     ///
-    /// In a record, the note of an answer has no moment. It is `A`, a space, a place, a space, and
-    /// the 64 hexadecimal digits of a SHA-256.
+    /// In a record, these can follow the moment, too:
     ///
-    /// Copies a body once.
+    /// - `F` and a form: a POST
+    /// - `N` and 32 hexadecimal digits: a nonce
+    ///
+    /// A space separates the letter from what follows it.
+    ///
+    /// The note of an answer has no moment. It is `A`, a space, a place, a space, and the 64
+    /// hexadecimal digits of a SHA-256. Only records have notes.
+    ///
+    /// Any other line is [`Bad`](Line::Bad). Copies a body once.
     ///
     /// # Errors
     ///
@@ -93,7 +98,7 @@ fn read_timed(alloc: Global, dialect: Dialect, text: &[u8]) -> Result<Line, Allo
     }
 }
 
-// Returns what is before the first space, and what is after it.
+// Splits `text` at its first space. Without a space, the second part is empty.
 fn cut_at_space(text: &[u8]) -> (&[u8], &[u8])
     ensures before { result.0.now ≡ before_first is_space text.now }
     ensures behind { result.1.now ≡ after_first is_space text.now }
@@ -141,7 +146,7 @@ fn read_command(
     }
 }
 
-// Parses what may follow the moment in a record only.
+// Parses what can follow the moment only in a record.
 fn read_recorded(alloc: Global, moment: u64, rest: &[u8]) -> Result<Line, AllocError>
     ensures { IfOk result (λ line. said_by line ≡ recorded_command Recorded moment rest.now) }
 {
@@ -207,7 +212,6 @@ fn request(moment: u64, callback: Option<String>, bodies: Bodies) -> Line
     }
 }
 
-// Parses a number of shards.
 fn read_shards(digits: &[u8]) -> Line
     ensures { said_by result ≡ resharded_by digits.now }
 {
@@ -229,7 +233,6 @@ fn shards_of(number: u64) -> Line
     }
 }
 
-// Parses a nonce.
 fn read_nonce(digits: &[u8]) -> Line
     ensures { said_by result ≡ announced_by digits.now }
 {
@@ -239,7 +242,7 @@ fn read_nonce(digits: &[u8]) -> Line
     }
 }
 
-// Parses the note of an answer: a place and a digest.
+// Parses what follows `A` and a space: a place and a digest.
 fn read_note(note: &[u8]) -> Line
     ensures { said_by result ≡ noted_by note.now }
 {

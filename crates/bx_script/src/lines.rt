@@ -9,9 +9,9 @@ use crate::part::Reads;
 use std::alloc::Global;
 use std::io::BufRead;
 
-/// A reader of a script's lines.
+/// A reader of the lines of a script or a record.
 ///
-/// Keeps a bounded part of one line in memory.
+/// It keeps a bounded part of one line in memory.
 #[derive(Drop)]
 pub struct Lines<R> {
     dialect: Dialect,
@@ -21,9 +21,9 @@ pub struct Lines<R> {
 }
 
 impl<R: BufRead> Lines<R> {
-    /// Creates a reader of lines.
+    /// Creates a reader of the lines in `reader`, which it reads a limited number of times.
     ///
-    /// Reads `reader` at most [`MAX_READS`](crate::MAX_READS) times.
+    /// The limit is [`MAX_READS`](crate::MAX_READS). Does not allocate.
     pub fn new(alloc: Global, dialect: Dialect, reader: R) -> Lines<R>
         ensures dialect { read_as result ≡ dialect_of dialect }
         ensures script { unread R.remaining result ≡ R.remaining reader }
@@ -38,17 +38,17 @@ impl<R: BufRead> Lines<R> {
         }
     }
 
-    /// Reads the next line, and returns `None` at the end of the script.
+    /// Reads and parses the next line, or returns `None` at the end of the script.
     ///
-    /// A line ends at a line feed, which is not part of it, or with the script. Bytes of a long
-    /// line that do not matter are not kept.
+    /// A line ends at a line feed, which is not part of it, or at the end of the script.
+    /// Interrupted reads are repeated.
     ///
     /// # Errors
     ///
-    /// - `Memory`: memory ran out.
     /// - `Read`: a read failed, or there were [`MAX_READS`](crate::MAX_READS) reads.
+    /// - `Memory`: memory ran out, at any step.
     ///
-    /// On error a part of the script may be lost.
+    /// On error, a part of the script may be lost.
     pub fn next_line(&mut self, alloc: Global) -> Result<Option<Line>, ScriptFault>
         ensures next { IfOk result (λ next. IfSome (unread R.remaining self.old)
             (λ script. IsNext (read_as self.old) next script (unread R.remaining self.new))) }

@@ -8,10 +8,10 @@ ghost use Rattle.bx_script.specs.Output.{HasFailed, interruptions_left, written}
 use crate::error::ScriptFault;
 use std::io::{Error, ErrorKind, Write};
 
-/// Greatest number of interruptions of a writer: 2^40.
+/// The most interrupted writes that an [`Output`] allows, 2^40.
 pub const MAX_INTERRUPTIONS: u64 = 1_099_511_627_776;
 
-/// A writer, and whether it has failed.
+/// A writer of results, which records whether a write has failed.
 #[derive(Drop)]
 pub struct Output<W> {
     writer: W,
@@ -20,7 +20,7 @@ pub struct Output<W> {
 }
 
 impl<W: Write> Output<W> {
-    /// Creates an output that permits [`MAX_INTERRUPTIONS`] interruptions in all.
+    /// Creates an output to `writer` that allows [`MAX_INTERRUPTIONS`] interrupted writes in all.
     pub fn new(writer: W) -> Output<W>
         ensures written { written W.contents result ≡ W.contents writer }
         ensures interruptions { interruptions_left result ≡ 2 ^ 40 }
@@ -37,7 +37,7 @@ impl<W: Write> Output<W> {
     ///
     /// # Errors
     ///
-    /// `Memory` if the writer is out of memory; otherwise `Write`.
+    /// If the writer fails: `Memory` if it is out of memory, and otherwise `Write`.
     pub fn flush(&mut self) -> Result<(), ScriptFault>
         ensures bytes { Keeps (written W.contents self.old) (written W.contents self.new) }
         ensures fault { IfErr result (λ e. e ≢ ScriptFault.Read) }
@@ -49,8 +49,8 @@ impl<W: Write> Output<W> {
         }
     }
 
-    // Writes some of `text`, which is not empty, and returns the number of bytes. That is 0 if the
-    // write was interrupted.
+    // Writes a first part of `text` and returns its length in bytes. It is 0 if the write was
+    // interrupted. `text` must not be empty.
     pub(crate) fn write_some(&mut self, text: &[u8]) -> Result<usize, ScriptFault>
         ensures within { WritesAtMost result text.now }
         ensures bytes { WriteAppends (written W.contents self.old) (written W.contents self.new) result text.now }
@@ -69,7 +69,7 @@ impl<W: Write> Output<W> {
         }
     }
 
-    // Returns `true` if the write was interrupted, and not too often.
+    // Returns `true` if `error` is an interruption that is still allowed.
     fn may_go_on(&self, error: &Error) -> bool
         ensures { IsTrue result
             ↔ ((error_kind error.now ≡ ErrorKind.Interrupted) × (0 < interruptions_left self.now)) }

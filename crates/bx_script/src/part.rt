@@ -8,7 +8,7 @@ use crate::kept::keep;
 use memchr::memchr;
 use std::io::{BufRead, ErrorKind};
 
-// The result of reading a part of a line.
+// What reading a part of a line results in.
 #[derive(Clone, Copy)]
 enum ReadOutcome {
     // The read was interrupted.
@@ -17,14 +17,14 @@ enum ReadOutcome {
     More,
     // The line is complete.
     Line,
-    // There are no more bytes.
+    // The script is at its end.
     End,
 }
 
-/// Greatest number of reads of a script: 2^40.
+/// The most reads of a script, 2^40. Interrupted reads count.
 pub const MAX_READS: u64 = 1_099_511_627_776;
 
-/// How many reads of a script are left, and whether one has failed.
+/// The number of reads of a script that are left, and whether one has failed.
 #[derive(Drop)]
 pub struct Reads {
     left: u64,
@@ -46,8 +46,8 @@ impl Reads {
         }
     }
 
-    // Reads a line into `kept`, without the bytes that do not matter. Returns `true` if there was a
-    // line.
+    // Reads a line into `kept`, without the bytes that do not matter. Returns `false` if there is
+    // no line.
     pub(crate) fn read_text<R: BufRead>(
         &mut self,
         reader: &mut R,
@@ -97,7 +97,7 @@ impl Reads {
     }
 }
 
-// Returns how many bytes belong to the line, how many to consume, and the outcome.
+// Returns how many of the bytes belong to the line, how many to consume, and the outcome.
 fn cut(shown: &[u8]) -> (usize, usize, ReadOutcome)
     ensures parts { IsCut shown.now result.0 result.1 result.2 }
     ensures before { result.0 ≤ length shown.now }

@@ -1,6 +1,4 @@
-//! Printing the results of a script's lines.
-//!
-//! On error, a first part of the text may have been written.
+//! Printing the results of lines.
 ghost use Rattle.std.specs.Prelude.{◌≡◌, ◌≢◌, ◌++◌, IfErr, IfOk, OnErr, codes, decimal, option_map, string_bytes};
 ghost use Rattle.bx_entry.specs.Inputs.{ReadInput};
 ghost use Rattle.bx_message.specs.Statuses.{code_of};
@@ -21,7 +19,7 @@ use std::io::Write;
 ///
 /// # Errors
 ///
-/// `Memory` or `Write` if a write fails.
+/// `Memory` or `Write` if a write fails. A first part of the line may have been written.
 pub fn write_bad<W: Write>(writer: &mut Output<W>, number: u64) -> Result<(), ScriptFault>
     ensures text { Writes (written W.contents writer.old) (written W.contents writer.new) result
         (line_text number (codes "bad")) }
@@ -31,11 +29,11 @@ pub fn write_bad<W: Write>(writer: &mut Output<W>, number: u64) -> Result<(), Sc
     write_line(writer, number, b"bad", b"")
 }
 
-/// Writes `held` for line `number`, which has a message without an answer.
+/// Writes `held` for line `number`, which has a message without an answer at the end.
 ///
 /// # Errors
 ///
-/// `Memory` or `Write` if a write fails.
+/// `Memory` or `Write` if a write fails. A first part of the line may have been written.
 pub fn write_held<W: Write>(writer: &mut Output<W>, number: u64) -> Result<(), ScriptFault>
     ensures text { Writes (written W.contents writer.old) (written W.contents writer.new) result
         (line_text number (codes "held")) }
@@ -45,11 +43,11 @@ pub fn write_held<W: Write>(writer: &mut Output<W>, number: u64) -> Result<(), S
     write_line(writer, number, b"held", b"")
 }
 
-/// Writes the status with which line `number` is refused.
+/// Writes the code of `status`, with which line `number` is rejected.
 ///
 /// # Errors
 ///
-/// `Memory` or `Write` if a write fails.
+/// `Memory` or `Write` if a write fails. A first part of the line may have been written.
 pub fn write_status<W: Write>(
     writer: &mut Output<W>,
     number: u64,
@@ -66,12 +64,16 @@ pub fn write_status<W: Write>(
 
 /// Writes the result of the input in line `number`.
 ///
-/// That is the status of its refusal, or 200 and the response: an array, or a call of `callback`
-/// with it. Writes nothing for a tick that is not refused.
+/// `tick`: whether the input is a tick. `answer`: the items of the response, or why the input is
+/// rejected.
+///
+/// Writes the status of a rejected input, or 200 and the response. The response is an array, or a
+/// call of `callback` with it. Writes nothing for a tick that is not rejected.
 ///
 /// # Errors
 ///
-/// `Memory` if memory runs out; `Memory` or `Write` if a write fails.
+/// `Memory` if memory runs out; `Memory` or `Write` if a write fails. A first part of the line may
+/// have been written.
 pub fn write_result<W: Write>(
     alloc: Global,
     writer: &mut Output<W>,
@@ -118,7 +120,7 @@ fn body_of(alloc: Global, callback: &Option<String>, items: &[Item]) -> Result<V
     }
 }
 
-// Writes a line: its number, and a text in two parts.
+// Writes a line: its number, a space, `lead` and `text`.
 fn write_line<W: Write>(
     writer: &mut Output<W>,
     number: u64,

@@ -1,4 +1,4 @@
--- Each answer of a body is a step of the patient body; what fails in time.
+-- A body under a time limit yields the same frames; a call under one fails as it did, or is late.
 use Rattle.std.proofs.Common.{◌≡◌, List, [], ◌∷◌, Option, Some, None, Result, Ok, Err, subst, sym, map, inl, inr}
 use Rattle.std.specs.declared.io.Error.{Error}
 use Rattle.futures.specs.Runs.{Runs, After}
@@ -11,12 +11,10 @@ use Rattle.bx_serve.specs.declared.patient.PatientFault.TheVariants.{Body, Late}
 use Rattle.bx_serve.specs.Patience.{Comes, InTime, OrLate, Outlasts}
 
 module _ {D E : Type 0} (old : Runs (Result (Frame D) E)) where
-  -- the first answer, where no frame came before it
   pub first : (o : Option (Result (Frame D) (PatientFault E))) → Comes old [] o → Outlasts old [] o
   first o comes [] is = comes
   first o comes (frame ∷ frames) is = absurd (cc)
 
-  -- what comes behind a frame
   onward : (new : Runs (Result (Frame D) E)) (frame : Frame D) (frames : List (Frame D)) (o : Option (Result (Frame D) (PatientFault E))) →
       After old (Ok frame) new → Comes new frames o → Comes old (frame ∷ frames) o
   onward new frame frames None after came = after _ _ came
@@ -31,12 +29,10 @@ module _ {D E : Type 0} (old : Runs (Result (Frame D) E)) where
       let rest : xs ≡ map Ok frames = cc in
       subst (λ (g : Frame D). Comes old (g ∷ frames) last) same (onward new frame frames last after (outlasts frames rest))
 
-  -- nothing is said of what follows a fault
   pub failing : (fault : PatientFault E) (new : Runs (Result (Frame D) (PatientFault E))) → After (Outlasts old) (Err fault) new
   failing fault new xs last came [] is = absurd (cc)
   failing fault new xs last came (frame ∷ frames) is = absurd (cc)
 
--- what fails in time fails as it did, or too late
 pub in_time : {O : Type 0} (fails : Error → Type 0) (written made : Poll (Result O Error)) →
     InTime written made → IfReadyErr written fails → IfReadyErr made (OrLate fails)
 in_time {O} fails (Ready (Ok x)) made same failed = subst (λ (m : Poll (Result O Error)). IfReadyErr m (OrLate fails)) (sym same) tt

@@ -1,4 +1,4 @@
--- Waiting with a time limit.
+-- Waits with a time limit.
 use Rattle.std.specs.Prelude.{◌≡◌, ◌⊎◌, ℕ, ⊤, List, map, Option, Some, None, Result, Ok, Err, IsSomeAnd}
 use Rattle.std.specs.IoError.{error_kind}
 use Rattle.std.specs.declared.io.Error.{Error}
@@ -20,7 +20,7 @@ TimerNeeds timer source = IsSomeAnd timer (λ sleep. source ≡ sleep_source sle
 abbrev pub OrTimer : (ℕ → Type 0) → Option Sleep → ℕ → Type 0
 OrTimer sources timer source = sources source ⊎ TimerNeeds timer source
 
--- The result of a call under a time limit: its own if ready, otherwise pending or timed out.
+-- The result of a call under a time limit: the call's own if ready, otherwise pending or timed out.
 abbrev pub InTime : {O : Type 0} → Poll (Result O Error) → Poll (Result O Error) → Type 0
 InTime (Ready given) made = made ≡ Ready given
 InTime Pending (Ready (Ok given)) = ⊥
@@ -32,13 +32,13 @@ abbrev pub OrLate : (Error → Type 0) → Error → Type 0
 OrLate fails e = fails e ⊎ (error_kind e ≡ TimedOut)
 
 module _ {D E : Type 0} (source : Runs (Result (Frame D) E)) where
-  -- After these frames the body ended, continued or failed. It may be late at any time.
+  -- After `frames` the body ends, yields a frame or fails. It may be late at any time.
   abbrev pub Comes : List (Frame D) → Option (Result (Frame D) (PatientFault E)) → Type 0
   Comes frames None = source (map Ok frames) None
   Comes frames (Some (Ok frame)) = source (map Ok frames) (Some (Ok frame))
   Comes frames (Some (Err (Body e))) = source (map Ok frames) (Some (Err e))
   Comes frames (Some (Err Late)) = ⊤
 
-  -- What a body under a time limit yields, up to its first fault. What follows is not specified.
+  -- What a body under a time limit yields, up to its first fault. After it, anything may follow.
   abbrev pub Outlasts : Runs (Result (Frame D) (PatientFault E))
   Outlasts xs last = (frames : List (Frame D)) → xs ≡ map Ok frames → Comes frames last

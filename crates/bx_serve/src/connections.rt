@@ -1,4 +1,4 @@
-//! A stream of accepted connections, each as a task.
+//! Accepted connections as a stream of tasks.
 ghost use Rattle.std.specs.Prelude.{◌≡◌, ◌==◌, if◌then◌else◌, IfSome, false};
 ghost use Rattle.futures.specs.Poll.{IfReady, OnPending};
 ghost use Rattle.futures.specs.Task.{Covers, Keeps};
@@ -16,7 +16,7 @@ use tokio::time::Interval;
 /// A stream of the tasks that serve accepted connections.
 ///
 /// After a failed accept, for example if no file descriptor is free, it pauses before it tries
-/// again.
+/// again. A connection is dropped if memory runs out for its task.
 #[derive(Drop)]
 pub struct Connections<R, M> {
     clock: R,
@@ -26,7 +26,7 @@ pub struct Connections<R, M> {
     is_paused: bool,
 }
 
-/// Converts a number of connections, 0 for any number, to a limit.
+/// Returns `count` as a limit on connections, or `usize::MAX` if it is 0.
 pub fn most_of(count: u64) -> usize
     ensures { result ≡ (if count == 0 then 18446744073709551615 else count) }
 {
@@ -38,7 +38,9 @@ pub fn most_of(count: u64) -> usize
 }
 
 impl<R, M> Connections<R, M> {
-    /// Creates the stream for `incoming`, whose pauses last for one period of `pause`.
+    /// Creates the stream of the tasks that `maker` makes for `incoming`.
+    ///
+    /// A pause after a failed accept lasts one period of `pause`.
     pub fn new(clock: R, incoming: Incoming, maker: M, pause: Interval) -> Connections<R, M>
         ensures { result.maker ≡ maker }
     {
@@ -53,7 +55,7 @@ impl<R, M> Connections<R, M> {
 }
 
 impl<R: Clock, M> Connections<R, M> {
-    // Waits until the pause, if any, is over. Returns `false` if there are no timers any more.
+    // Waits until the pause, if any, is over. Returns `false` if the timers have been shut down.
     fn poll_pause(&mut self, cx: &mut Context<'_>) -> Poll<bool>
         ensures maker { self.new.maker ≡ self.old.maker }
         ensures over { IfReady result (λ _. self.new.is_paused ≡ false) }

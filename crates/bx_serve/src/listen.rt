@@ -22,11 +22,11 @@ use tokio::runtime::Runtime;
 // Pause after a failed accept, in milliseconds. Policy of this server.
 const PAUSE: u64 = 20;
 
-// Longest wait for more of a body, or for the peer to take more of what is written, in
-// milliseconds. Policy of this server.
+// Longest wait for more of a body, or for the peer to take more data, in milliseconds. Policy of
+// this server.
 const PATIENCE: u64 = 30_000;
 
-// Longest time for a whole body, from the first wait for more of it, in milliseconds. Policy of
+// Longest time for a complete body, from the first wait for more of it, in milliseconds. Policy of
 // this server.
 const WHOLE: u64 = 300_000;
 
@@ -35,17 +35,20 @@ pub type Entrance<S> = (TcpListener, S);
 
 /// Serves up to `count` connections over HTTP, each as a task, until `end` is ready.
 ///
-/// A `count` of 0 is no limit. At the end it waits for the open connections, up to the runtime's
-/// shutdown timeout.
+/// The connections come from `first` and, if given, `other`. A `count` of 0 is no limit. At the end
+/// it waits for the open connections, up to the runtime's shutdown timeout.
 ///
 /// A connection ends if the head of a request takes more than 30 seconds, or if the peer takes no
-/// written data for 30 seconds. A body fails if no data arrives for 30 seconds, or if it is not
-/// whole in five minutes. A connection for which there is no memory is dropped, and the next one is
-/// served.
+/// data for 30 seconds. A body fails if no data arrives for 30 seconds, or if it is not complete in
+/// five minutes. If memory runs out for a connection, it is dropped and the next one is served.
 ///
 /// # Errors
 ///
-/// The error of a system call, or of memory that runs out before any connection is served.
+/// The error of a system call, or of an allocation that fails before any connection is served.
+///
+/// # Blocking
+///
+/// Blocks until all connections have ended.
 pub fn serve_until<R, S, E, A, T>(
     rt: R,
     runtime: &mut Runtime,
@@ -72,7 +75,7 @@ where
     run_until(&rt, runtime, first, other, most_of(count), end)
 }
 
-// Creates the stream of an entrance's connections.
+// Creates the stream of the tasks that serve an entrance's connections.
 fn connections_of<R, S, E>(
     rt: &R,
     runtime: &Runtime,

@@ -1,4 +1,4 @@
-//! What serves one connection.
+//! The task that serves one connection, and how it is made.
 ghost use Rattle.std.specs.Prelude.{⊤, IfSome};
 
 use crate::patience::Patience;
@@ -42,7 +42,7 @@ impl<F: Future<Output = T>, T: Drop> Future for Quiet<F> {
 pub trait Maker: Drop {
     type Task: Future<Output = ()>;
 
-    // Ghost: what must hold for `make` to be called.
+    // Ghost: what must be true for `make` to be called.
     ghost can_make: { Self → Type 0 } = { λ _. ⊤ };
 
     /// Creates the task that serves `socket`, or returns `None` if memory runs out.
@@ -51,10 +51,12 @@ pub trait Maker: Drop {
         ensures { IfSome result Self.Task.can_poll };
 }
 
-/// A connection whose peer must keep taking data.
+/// A TCP connection with a limit on each wait for the peer to take data.
 pub type Served<R> = Peer<TcpStream, TokioTimer<R>>;
 
 /// The body of a request, as the service gets it.
+///
+/// Its timer is `None` if memory ran out. The body then fails as soon as it would wait.
 pub type Coming<R> = Patient<Incoming<Served<R>>, Option<TokioTimer<R>>>;
 
 /// A [`Maker`] that serves each connection over HTTP with a clone of a service.
@@ -68,7 +70,7 @@ pub struct Server<R, S> {
     pub timer: TokioTimer<R>,
     /// The longest wait for more of a body, or for the peer to take data.
     pub limit: Duration,
-    /// The longest time for a whole body, from the first wait for more of it.
+    /// The longest time for a complete body, from the first wait for more of it.
     pub whole: Duration,
 }
 

@@ -1,4 +1,4 @@
-//! Limits on waiting.
+//! Time limits on waits.
 ghost use Rattle.std.specs.Prelude.{◌≡◌, ◌≤◌, IfSome, Some};
 ghost use Rattle.std.specs.Time.{instant_nanos};
 ghost use Rattle.futures.specs.Poll.{OnPending};
@@ -11,24 +11,27 @@ use hyper::rt::Timer;
 use std::time::{Duration, Instant};
 use tokio::time::Sleep;
 
-/// A limit on each wait for progress, and optionally one on all waits together.
+/// A time limit on each wait for progress, and optionally on the time from the first wait.
 ///
 /// Progress restarts the first limit, but not the second.
 #[derive(Drop)]
 pub struct Patience<T> {
     timer: T,
     limit: Duration,
-    // The limit on the whole, from the first wait. `None` is no limit.
+    // The longest time from the first wait. `None` is no limit.
     whole: Option<Duration>,
-    // When the whole is late. `None` before the first wait, or without a limit on the whole.
+    // When `whole` is over. `None` before the first wait, and without `whole`.
     end: Option<Instant>,
     sleep: Option<Sleep>,
-    // Whether `sleep` runs for the present wait.
+    // Whether `sleep` runs for the current wait.
     is_timed: bool,
 }
 
 impl<T> Patience<T> {
-    /// Creates limits, whose time starts with the first wait.
+    /// Creates limits that start with the first wait.
+    ///
+    /// `limit`: the longest wait for progress. `whole`: the longest time from the first wait.
+    /// `None` is no limit.
     pub fn new(timer: T, limit: Duration, whole: Option<Duration>) -> Patience<T> {
         Patience {
             timer,
@@ -40,7 +43,7 @@ impl<T> Patience<T> {
         }
     }
 
-    /// Records progress, so that the next wait may last for the full limit.
+    /// Records progress, so that the next wait may last for the full `limit`.
     pub fn renew(&mut self)
         ensures sleep { self.new.sleep ≡ self.old.sleep }
         ensures end { self.new.end ≡ self.old.end }
@@ -50,8 +53,8 @@ impl<T> Patience<T> {
 }
 
 impl<T: Timer> Patience<T> {
-    // Returns when a wait that begins now is late, or `None` if the clock cannot be read. The first
-    // call sets `end`.
+    // Returns when a wait that begins now must end. `None` means that the clock cannot be read, or
+    // that the sum overflows. The first call sets `end`.
     fn deadline(&mut self) -> Option<Instant>
         ensures in_time { IfSome result (λ d. IfSome self.new.end (λ e. instant_nanos d ≤ instant_nanos e)) }
         ensures sleep { self.new.sleep ≡ self.old.sleep }
@@ -70,7 +73,7 @@ impl<T: Timer> Patience<T> {
         }
     }
 
-    // Starts the timer, unless it runs. Returns `false` if there is no timer.
+    // Starts the timer unless it runs. Returns `false` if there is no deadline or no timer.
     fn is_begun(&mut self) -> bool
         ensures { IfSome self.old.end (λ e. self.new.end ≡ Some e) }
     {
@@ -91,9 +94,9 @@ impl<T: Timer> Patience<T> {
         true
     }
 
-    /// Waits until this wait or the whole is late.
+    /// Waits until the current wait has reached one of the limits.
     ///
-    /// It is ready at once if the clock cannot be read, or if there is no memory for a timer.
+    /// It is ready at once if the clock cannot be read, or if memory runs out for a timer.
     pub fn poll_over(&mut self, cx: &mut Context<'_>) -> Poll<()>
         ensures waits { OnPending result (Covers cx.new (TimerNeeds self.new.sleep)) }
         ensures kept { Keeps cx.old cx.new }

@@ -19,13 +19,13 @@ use std::time::Duration;
 pub enum PatientFault<E> {
     /// The body itself failed.
     Body(E),
-    /// No data arrived in time, or the body was not whole in time.
+    /// No data arrived in time, or the body was not complete in time.
     Late,
 }
 
-/// A body that fails if no frame arrives in time, or if it is not whole in time.
+/// A body that fails if no frame arrives in time, or if it is not complete in time.
 ///
-/// Each frame restarts the first limit. If the clock cannot be read, or there is no memory for a
+/// Each frame restarts the first limit. If the clock cannot be read, or memory runs out for a
 /// timer, it fails as soon as it would wait.
 #[derive(Drop)]
 pub struct Patient<B, T> {
@@ -34,7 +34,7 @@ pub struct Patient<B, T> {
 }
 
 impl<B, T> Patient<B, T> {
-    /// Creates a body with limits, whose time starts with the first wait.
+    /// Creates a body with the time limits of `patience`, which start with the first wait.
     pub fn new(body: B, patience: Patience<T>) -> Patient<B, T>
         ensures { result.body ≡ body }
     {
@@ -76,7 +76,7 @@ impl<B: Body, T: Timer> Body for Patient<B, T> {
     }
 }
 
-/// A service that calls another, with a time limit on each request's body.
+/// A service that calls another, with time limits on each request's body.
 #[derive(Drop)]
 pub struct Patiently<S, T> {
     /// The inner service.
@@ -85,7 +85,7 @@ pub struct Patiently<S, T> {
     pub timer: T,
     /// The longest wait for a frame.
     pub limit: Duration,
-    /// The longest time for a whole body, from the first wait for more of it.
+    /// The longest time for a complete body, from the first wait for more of it.
     pub whole: Duration,
 }
 
@@ -103,7 +103,7 @@ where
 
     ghost can_call = { λ p. S.can_call p.service };
 
-    // Ghost: a future that the inner service may return for the same request with a patient body.
+    // Ghost: a future that the inner service may return for the same request with a limited body.
     ghost calls = { λ p came future. (handed : Request (Patient B (Option T))) × (IsWithPatience came handed × S.calls p.service handed future) };
 
     fn call(&self, request: Request<B>) -> S::Future {

@@ -1,4 +1,4 @@
-//! A connection whose peer must keep taking what is written.
+//! A connection that fails if its peer stops taking data.
 ghost use Rattle.std.specs.Prelude.{◌≡◌};
 ghost use Rattle.futures.specs.Poll.{OnPending};
 ghost use Rattle.futures.specs.Task.{Covers, Keeps};
@@ -12,10 +12,10 @@ use std::io;
 use std::io::ErrorKind;
 use tokio::io::{AsyncRead, AsyncWrite};
 
-/// A connection whose writes fail with `TimedOut` if the peer takes no data in time.
+/// A connection on which a write, flush or shutdown fails with `TimedOut` if it takes too long.
 ///
-/// Each completed write, flush or shutdown restarts the limit. If the clock cannot be read, or
-/// there is no memory for a timer, a write fails as soon as it would wait.
+/// Each of them that ends, even with an error, restarts the limit. If the clock cannot be read, or
+/// memory runs out for a timer, they fail as soon as they would wait.
 #[derive(Drop)]
 pub struct Peer<I, T> {
     io: I,
@@ -23,7 +23,7 @@ pub struct Peer<I, T> {
 }
 
 impl<I, T> Peer<I, T> {
-    /// Creates a connection with a limit, whose time starts with the first wait.
+    /// Creates a connection with the time limits of `patience`, which start with the first wait.
     pub fn new(io: I, patience: Patience<T>) -> Peer<I, T>
         ensures { result.io ≡ io }
     {
@@ -32,7 +32,7 @@ impl<I, T> Peer<I, T> {
 }
 
 impl<I: AsyncWrite, T: Timer> Peer<I, T> {
-    // Returns the result of a write, or `TimedOut` if it is pending for too long.
+    // Returns `written`, the result of a call, or `TimedOut` if it is pending for too long.
     fn poll_taken<O>(
         &mut self,
         cx: &mut Context<'_>,

@@ -17,14 +17,18 @@ use tokio::runtime::Runtime;
 // How many futures one poll spawns before it yields to other tasks.
 const BUDGET: u32 = 128;
 
-/// Runs up to `count` futures of one stream or two as tasks, until `end` is ready.
+/// Runs up to `count` futures of `first` and `other` as tasks, until `end` is ready.
 ///
-/// At the end it waits for the tasks, up to the runtime's shutdown timeout. A future for which
-/// there is no memory is dropped, and the next one is run.
+/// At the end it waits for the tasks, up to the runtime's shutdown timeout. If memory runs out for
+/// a task, its future is dropped and the next one is run.
 ///
 /// # Errors
 ///
-/// The error of a system call, or of memory that runs out before any task is run.
+/// The error of a system call, or of an allocation that fails before any task is run.
+///
+/// # Blocking
+///
+/// Blocks until all tasks have ended.
 pub fn run_until<R, S, F, A, T>(
     rt: &R,
     runtime: &mut Runtime,
@@ -50,7 +54,7 @@ where
     }
 }
 
-// Does the same for one stream, without `count`.
+// Runs the futures of one stream as tasks, until `end` is ready.
 fn run<R, S, F, A, T>(rt: &R, runtime: &mut Runtime, futures: S, end: A) -> io::Result<()>
 where
     R: Wait + Threads + Clock + RandomSource + AllocGlobal + Sync,
@@ -68,8 +72,8 @@ where
 
 /// A future that spawns each future of a stream as a task.
 ///
-/// It is ready once the stream ends or the set of tasks is shut down. A future for which there is
-/// no memory is dropped.
+/// It is ready once the stream ends or `tasks` is shut down. If memory runs out for a task, its
+/// future is dropped.
 #[derive(Drop)]
 pub struct SpawnEach<'a, F: Future, S> {
     tasks: &'a TaskSet<F>,
@@ -77,7 +81,7 @@ pub struct SpawnEach<'a, F: Future, S> {
 }
 
 impl<'a, F: Future, S> SpawnEach<'a, F, S> {
-    /// Creates the future, which spawns only when it is polled.
+    /// Creates the future, which spawns into `tasks` when it is polled.
     pub fn new(tasks: &'a TaskSet<F>, futures: S) -> SpawnEach<'a, F, S>
         ensures { result.futures ≡ futures }
     {

@@ -14,7 +14,7 @@ use std::test::Fail;
 use std::time::{Clock, Duration, Instant};
 use tokio::time::Driver;
 
-// How many seconds each test of a body lasts.
+// For how many seconds a body is polled at most.
 const SECONDS: u64 = 400;
 
 // A clock that shows the stored number of seconds.
@@ -31,7 +31,7 @@ impl Clock for Told<'_> {
     }
 }
 
-// A body with a frame every `step` seconds, of which `left` are to come.
+// A body with a frame every `step` seconds. `left` frames remain, `next` is the next one's second.
 #[derive(Drop)]
 struct Drips<'a> {
     seconds: &'a AtomicU64,
@@ -58,7 +58,7 @@ impl Body for Drips<'_> {
     }
 }
 
-// How a body ended, and in which second.
+// How a body ended, and in which second. `Open` is not at all.
 #[derive(Clone, Copy, Debug, PartialEq, Eq)]
 enum End {
     Whole(u64),

@@ -1,4 +1,4 @@
--- Each answer of the body is a step of its collection.
+-- The steps of collecting a body: its frames, its end, its failure, and polls without a result.
 use Rattle.std.proofs.Common.{◌≤◌, ◌<◌, ℕ, List, [], ◌∷◌, ◌++◌, length, Some, None, Result, Ok, Err, Vec, Global, sym, ◌∙◌, subst, append_assoc, append-nil}
 use Rattle.futures.specs.Runs.{Runs, After, Within}
 use Rattle.http_body.specs.declared.frame.Frame.{Frame}
@@ -7,22 +7,18 @@ use Rattle.bx_service.specs.declared.collect.CollectError.TheVariants.{TooLarge,
 use Rattle.bx_service.specs.Bodies.{data_bytes, joined_bytes, IsWhole, Faults, Gives, Refuses}
 
 module _ {D E : Type 0} (unread : D → List ℕ) (old : Runs (Result (Frame D) E)) (limit : ℕ) (held : List ℕ) where
-  -- the body has ended
   pub ends : length held ≤ limit → old [] None → IsWhole unread old limit held held
   ends within came = ([], came, sym (append-nil held), within)
 
-  -- it failed
   pub fails : (e : E) → old [] (Some (Err e)) → Faults unread old limit held Failed
   fails e came = ([], (e, came))
 
-  -- a frame was not taken
   pub refuses : (frame : Frame D) (fault : CollectError) → old [] (Some (Ok frame)) → Refuses limit (held ++ data_bytes unread frame) fault → Faults unread old limit held fault
   refuses frame TooLarge came large = ([], (frame, came, subst (λ (bytes : List ℕ). limit < length (bytes ++ data_bytes unread frame)) (sym (append-nil held)) large))
   refuses frame Failed came none = absurd none
   refuses frame Memory came lost = tt
 
   module _ (new : Runs (Result (Frame D) E)) where
-    -- what may still come after a poll that gave nothing
     whole_within : (bytes : List ℕ) → Within old new → IsWhole unread new limit held bytes → IsWhole unread old limit held bytes
     whole_within bytes within whole = (whole.0, within _ _ whole.1, whole.2, whole.3)
 
@@ -31,7 +27,6 @@ module _ {D E : Type 0} (unread : D → List ℕ) (old : Runs (Result (Frame D) 
     faults_within Failed within failed = (failed.0, (failed.1.0, within _ _ failed.1.1))
     faults_within Memory within lost = tt
 
-    -- what may come after a frame that was taken
     whole_after : (frame : Frame D) (bytes : List ℕ) → After old (Ok frame) new → IsWhole unread new limit (held ++ data_bytes unread frame) bytes → IsWhole unread old limit held bytes
     whole_after frame bytes after whole = (
       frame ∷ whole.0,
@@ -52,12 +47,10 @@ module _ {D E : Type 0} (unread : D → List ℕ) (old : Runs (Result (Frame D) 
     faults_after frame Failed after failed = (frame ∷ failed.0, (failed.1.0, after _ _ failed.1.1))
     faults_after frame Memory after lost = tt
 
-    -- what may be given, before and after a poll that gave nothing
     pub gives_within : Within old new → (r : Result (Vec ℕ Global) CollectError) → Gives unread new limit held r → Gives unread old limit held r
     gives_within within (Ok all) = whole_within all.items within
     gives_within within (Err fault) = faults_within fault within
 
-    -- what may be given, before and after a frame
     pub gives_after : (frame : Frame D) → After old (Ok frame) new → (r : Result (Vec ℕ Global) CollectError) → Gives unread new limit (held ++ data_bytes unread frame) r → Gives unread old limit held r
     gives_after frame after (Ok all) = whole_after frame all.items after
     gives_after frame after (Err fault) = faults_after frame fault after

@@ -1,4 +1,4 @@
--- The connects that a request waits for stand in the list that was seen when it was admitted.
+-- The tickets of an admitted request name places in the list that it has seen.
 use Rattle.std.proofs.Common.{◌≡◌, ℕ, ◌+◌, ◌-◌, ◌<◌, ◌≤◌, List, [], ◌∷◌, ◌++◌, length, take, drop, sym, ap, ◌∙◌, subst, arith, length-append}
 use Rattle.std.proofs.lemmas.List.{length-drop, length-map, length-take-le}
 use Rattle.bx_registry.specs.Slots.{given_by, given_from, slots_of}

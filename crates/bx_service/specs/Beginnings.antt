@@ -14,11 +14,11 @@ use Rattle.bx_transport.specs.Statuses.{transport_status}
 use Rattle.bx_transport.specs.declared.error.TransportError.TheVariants.{TooLarge}
 use Rattle.bx_service.specs.Statuses.{route_of}
 
--- The text of the field `content-length`, if there is one.
+-- The text of the field `content-length`, if any.
 abbrev pub length_of : Entries FieldValue → Option (List ℕ)
 length_of fields = option_map (λ (value : FieldValue). value.bytes) (get fields (codes "content-length"))
 
--- Whether `text` is a number above `limit`; a number has digits only and is at most 2^64 - 1.
+-- Whether `text` is a number above `limit`. A number has only digits and is at most 2^64 - 1.
 abbrev pub says_more : ℕ → Option (List ℕ) → Bool
 says_more limit text = option_map_or (nat_lt limit) (option_and_then number_of text) false
 
@@ -27,7 +27,7 @@ abbrev pub query_of : Uri → List ℕ
 query_of uri = unwrap_or (uri_query uri) []
 
 module _ {I B : Type 0} where
-  -- The request collects `body`, up to `limit` bytes, and has no bytes yet.
+  -- The request collects `body`, up to `limit` bytes, and has none yet.
   abbrev pub IsCollecting : ℕ → Option FieldValue → B → State I B → Type 0
   IsCollecting limit content_type body (Collecting value collect) =
       (value ≡ content_type) × (collect.body ≡ body) × (collect.limit ≡ limit) × (collect.bytes.items ≡ [])
@@ -35,16 +35,16 @@ module _ {I B : Type 0} where
   IsCollecting limit content_type body (Held callback items) = ⊥
   IsCollecting limit content_type body (Refused status) = ⊥
 
-  -- The request is refused if it is too large, and otherwise has one of `states`.
+  -- The request is rejected if it is too large. Otherwise its state is one of `states`.
   abbrev pub OrTooLarge : Bool → (State I B → Type 0) → State I B → Type 0
   OrTooLarge true states state = state ≡ Refused (transport_status TooLarge)
   OrTooLarge false states state = states state
 
-  -- The state of a GET, which is refused if its query is longer than `limit`.
+  -- The state of a GET, which is rejected if its query is longer than `limit`.
   abbrev pub IsAsking : ℕ → Uri → State I B → Type 0
   IsAsking limit uri state = OrTooLarge (nat_lt limit (length (query_of uri))) (λ asked. asked ≡ Asked uri) state
 
-  -- The state of a POST, which is refused if its `content-length` is above `limit`.
+  -- The state of a POST, which is rejected if its `content-length` is above `limit`.
   abbrev pub IsPosted : ℕ → Entries FieldValue → B → State I B → Type 0
   IsPosted limit fields body state =
       OrTooLarge (says_more limit (length_of fields)) (IsCollecting limit (get fields (codes "content-type")) body) state

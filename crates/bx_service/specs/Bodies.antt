@@ -1,4 +1,4 @@
--- How a body is collected up to a limit.
+-- How a body is collected, up to a limit.
 use Rattle.std.specs.Prelude.{Vec, ◌≡◌, ◌≤◌, ◌<◌, ℕ, ⊤, List, [], ◌++◌, length, map, flat_map, Option, Some, None, Result, Ok, Err}
 use Rattle.std.specs.Global.{Global}
 use Rattle.futures.specs.Runs.{Runs}
@@ -7,7 +7,7 @@ use Rattle.http_body.specs.Frame.{data_of}
 use Rattle.bx_service.specs.declared.collect.CollectError.{CollectError}
 use Rattle.bx_service.specs.declared.collect.CollectError.TheVariants.{TooLarge, Failed, Memory}
 
--- Bytes are refused because they exceed `limit` or memory runs out.
+-- Why `bytes` cannot be collected: they exceed `limit`, or memory runs out.
 abbrev pub Refuses : ℕ → List ℕ → CollectError → Type 0
 Refuses limit bytes TooLarge = limit < length bytes
 Refuses limit bytes Failed = ⊥
@@ -19,7 +19,7 @@ module _ {D : Type 0} (unread : D → List ℕ) where
   piece_bytes None = []
   piece_bytes (Some piece) = unread piece
 
-  -- The data of a frame; trailers have none.
+  -- The data of a frame. Trailers have none.
   abbrev pub data_bytes : Frame D → List ℕ
   data_bytes frame = piece_bytes (data_of frame)
 
@@ -28,11 +28,11 @@ module _ {D : Type 0} (unread : D → List ℕ) where
   joined_bytes frames = flat_map data_bytes frames
 
   module _ {E : Type 0} (source : Runs (Result (Frame D) E)) (limit : ℕ) (held : List ℕ) where
-    -- The body has ended, and `bytes` are `held` followed by its data, within `limit`.
+    -- The body ends, and `bytes` are `held` followed by its data, within `limit`.
     abbrev pub IsWhole : List ℕ → Type 0
     IsWhole bytes = (frames : List (Frame D)) × source (map Ok frames) None × (bytes ≡ held ++ joined_bytes frames) × (length bytes ≤ limit)
 
-    -- One more frame of the body takes the bytes past `limit`.
+    -- The bytes exceed `limit` with one more frame of the body.
     abbrev pub Passes : Type 0
     Passes = (frames : List (Frame D)) × ((frame : Frame D) × source (map Ok frames) (Some (Ok frame)) × (limit < length (held ++ joined_bytes frames ++ data_bytes frame)))
 
@@ -40,7 +40,7 @@ module _ {D : Type 0} (unread : D → List ℕ) where
     abbrev pub Fails : Type 0
     Fails = (frames : List (Frame D)) × ((e : E) × source (map Ok frames) (Some (Err e)))
 
-    -- What each fault of a collection claims about the body.
+    -- What each error of collecting the body means.
     abbrev pub Faults : CollectError → Type 0
     Faults TooLarge = Passes
     Faults Failed = Fails

@@ -29,48 +29,48 @@ Sent = Response (Pieces (List ℕ))
 abbrev pub Gathered : Type 0
 Gathered = Result (Vec Item Global) Unanswered
 
--- The response for that output: 200 with its items, or 503 if it failed or memory runs out.
+-- The response for that output: 200 with its items, or 503 if it is an error or memory runs out.
 abbrev pub ForItems : Option (List ℕ) → Gathered → Sent → Type 0
 ForItems callback (Ok items) sent = IsAnswer callback items.items sent ⊎ IsRefusal Unavailable sent
 ForItems callback (Err none) sent = IsRefusal Unavailable sent
 
 module _ {I : Type 0} (gives : I → Gathered → Type 0) where
-  -- The response for a future of items, by some output that it may give.
+  -- The response for a future of items, by an output that it may have.
   abbrev pub ForFuture : Option (List ℕ) → I → Sent → Type 0
   ForFuture callback items sent = (gathered : Gathered) × (gives items gathered × ForItems callback gathered sent)
 
-  -- The response for what the backend returned: that for the future, or the status of the fault.
+  -- The response for what the backend returns: that for the future, or the status of the fault.
   abbrev pub ForOutcome : Option (List ℕ) → Result I Declined → Sent → Type 0
   ForOutcome callback (Ok items) sent = ForFuture callback items sent
   ForOutcome callback (Err declined) sent = IsRefusal (post_status declined.fault) sent
 
   module _ (admits : Bodies → Result I Declined → Type 0) where
-    -- The response for `documents`, by some result that the backend may return.
+    -- The response for `documents`, by a result that the backend may return.
     abbrev pub ForDocuments : Option (List ℕ) → List (List ℕ) → Sent → Type 0
     ForDocuments callback documents sent =
         (bodies : Bodies) × ((texts_of bodies ≡ documents) × ((outcome : Result I Declined) × (admits bodies outcome × ForOutcome callback outcome sent)))
 
-    -- The response for a body: that for its documents, or the status of its fault.
+    -- The response for a body as it was read: that for its documents, or the status of the error.
     abbrev pub ForBody : Result (List (List ℕ)) TransportError → Sent → Type 0
     ForBody (Ok documents) sent = ForDocuments None documents sent
     ForBody (Err error) sent = IsRefusal (transport_status error) sent
 
-    -- The response for a query: a call of its callback, or the status of its fault.
+    -- The response for a query as it was read: a call of its callback, or the status of the error.
     abbrev pub ForQuery : Result (List ℕ × List (List ℕ)) TransportError → Sent → Type 0
     ForQuery (Ok taken) sent = ForDocuments (Some taken.0) taken.1 sent
     ForQuery (Err error) sent = IsRefusal (transport_status error) sent
 
-    -- The response for the result of collecting a body; 503 if memory runs out for its documents.
+    -- The response for a collected body, or 503 if memory runs out for its documents.
     abbrev pub ForCollected : Option (List ℕ) → Result (Vec ℕ Global) CollectError → Sent → Type 0
     ForCollected kind (Ok all) sent = ForBody (post_taken kind all.items) sent ⊎ IsRefusal Unavailable sent
     ForCollected kind (Err fault) sent = IsRefusal (body_status fault) sent
 
-    -- The response for a query; 503 if memory runs out for its documents.
+    -- The response for a query, or 503 if memory runs out for its documents.
     abbrev pub ForAsked : List ℕ → Sent → Type 0
     ForAsked query sent = ForQuery (get_taken query) sent ⊎ IsRefusal Unavailable sent
 
     module _ {B D E : Type 0} (unread : D → List ℕ) (yields : B → Runs (Result (Frame D) E)) where
-      -- The response for a request, by its state. While its body arrives, it is that for some
+      -- The response for a request, by its state. While its body arrives, it is that for a possible
       -- result of collecting it.
       abbrev pub MayAnswer : State I B → Sent → Type 0
       MayAnswer (Collecting kind body) sent =

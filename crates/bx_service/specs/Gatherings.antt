@@ -1,4 +1,4 @@
--- The items of a request, and why a request is refused.
+-- The items of a request, and why a request is not admitted.
 use Rattle.std.specs.Prelude.{ℕ, ◌≡◌, ◌<◌, List, [], ◌∷◌, ◌++◌, map, Option, option_map, Some, None, false, Bool, Ok}
 use Rattle.std.specs.{List.AllByRecursion, List.AllByRecursion-prop, Coded.Unit-prop}
 use Rattle.std.proofs.Props.{props}
@@ -36,7 +36,8 @@ are_below-prop end slots = AllByRecursion-prop (IsBelow end) (below-prop end) sl
 abbrev pub items_of : Answer → List Item
 items_of a = map EventItem a.events ++ ReplyItem a.reply ∷ []
 
--- A pending answer: its ticket, the log seen when it was last polled, and whether it was given.
+-- A pending answer: its ticket, the part of the list seen when it was last polled, and whether it
+-- was given.
 pub record Awaited : Type 0 where
   pub ticket : Ticket
   pub seen : List LogStep
@@ -50,7 +51,7 @@ abbrev pub awaited : {J : Type 0} {g : Naming.Ghosts J} → Option (PendingAnswe
 awaited held = option_map (λ h. awaited_as h.ticket h.pass h.is_done) held
 
 module _ (setup : Setup) where
-  -- The items of a pending answer, by some answer that it may give since `seen`.
+  -- The items of a pending answer, by an answer that it may give after `seen`.
   abbrev pub AreItemsSince : Ticket → List LogStep → Bool → List Item → Type 0
   AreItemsSince ticket seen is_done items = (a : Answer)
       × (MayGive setup ticket seen is_done (Ok (Some a)) × (items ≡ items_of a))
@@ -66,20 +67,20 @@ module _ (setup : Setup) where
     AreItems [] items = items ≡ []
     AreItems (slot ∷ slots) items = (first : List Item) × (AreItemsFor slot first × ((rest : List Item) × (AreItems slots rest × (items ≡ first ++ rest))))
 
-    -- The items still to come, first those of the pending answer, if any.
+    -- The remaining items: those of the pending answer, if any, then those of `slots`.
     abbrev pub AreLeft : Option Awaited → List Slot → List Item → Type 0
     AreLeft None slots items = AreItems slots items
     AreLeft (Some w) slots items = (first : List Item) × (AreItemsSince w.ticket w.seen w.is_done first × ((rest : List Item) × (AreItems slots rest × (items ≡ first ++ rest))))
 
-    -- All items: those in `there`, then those still to come.
+    -- All items: those in `there`, then the remaining ones.
     abbrev pub AreAll : List Item → Option Awaited → List Slot → List Item → Type 0
     AreAll there awaited slots items = (rest : List Item) × (AreLeft awaited slots rest × (items ≡ there ++ rest))
 
--- A request with `documents` from one of the listeners, as it is read.
+-- A request with `documents` to the listener `door`, as it is read.
 abbrev pub request_of : Door → ℕ → ℕ → List (List ℕ) → ReadInput
 request_of door moment nonce documents = read_by moment nonce (let_in door (request_messages documents))
 
--- The place of a request's first message, at `first`; a request without messages has none.
+-- The place of a request's first message, `first`. A request without messages has none.
 abbrev pub place_of : ℕ → List Slot → Option ℕ
 place_of first [] = None
 place_of first (slot ∷ slots) = Some first
@@ -97,7 +98,7 @@ module _ (tells draws : ℕ → Type 0) (door : Door) where
     pub slots_at : AreSlotsAt setup (request_of door moment nonce documents) first seen slots
     pub placed : place ≡ place_of first slots
 
-  -- The hub refuses the request with `fault`, at a moment of the clock and with a drawn nonce.
+  -- The hub rejects the request with `fault`, at a moment of the clock and with a drawn nonce.
   pub record IsRefusedWith (documents : List (List ℕ)) (fault : PostFault) : Type 0 where
     pub moment : ℕ
     pub nonce : ℕ

@@ -1,9 +1,9 @@
--- When an exchange may be polled.
+-- When an exchange can be polled.
 use Rattle.std.specs.Prelude.{⊤}
 use Rattle.bx_service.specs.declared.exchange.State.{State}
 use Rattle.bx_service.specs.declared.exchange.State.TheVariants.{Collecting, Asked, Held, Refused}
 
--- The body being collected, or the items being awaited, may be polled.
+-- The body that is collected, or the awaited items, can be polled.
 abbrev pub CanPoll : {I B : Type 0} → (I → Type 0) → (B → Type 0) → State I B → Type 0
 CanPoll items_can body_can (Collecting content_type body) = body_can body.body
 CanPoll items_can body_can (Asked uri) = ⊤

@@ -10,7 +10,7 @@ use Rattle.bx_message.specs.declared.{reply.Item.Item, status.Status.Status}
 use Rattle.bx_message.specs.declared.status.Status.TheVariants.{MethodNotAllowed}
 use Rattle.bx_message.specs.Statuses.{code_of}
 
--- The fields of a response without a body: the allowed methods with 405, otherwise none.
+-- The fields of a response without a body: the allowed methods for 405, otherwise none.
 abbrev pub refusal_fields : Status → Entries FieldValue
 refusal_fields MethodNotAllowed = insert [] (codes "allow") (plain_value (codes "GET, POST"))
 refusal_fields _ = []

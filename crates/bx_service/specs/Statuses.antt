@@ -1,4 +1,4 @@
--- How requests are routed, and the statuses of refused ones.
+-- How requests are routed, and the statuses of those that are not admitted.
 use Rattle.std.specs.Prelude.{ℕ, List, [], ◌∷◌, Bool, true, false, ◌||◌, nat_eq, codes, if◌then◌else◌}
 use Rattle.std.specs.{List.starts_with, Str.bytes_eq, Str.str_eq_ignore_ascii_case}
 use Rattle.http_header.specs.FieldValue.{FieldValue}
@@ -19,7 +19,7 @@ use Rattle.bx_service.specs.declared.route.Route.TheVariants as routes
 abbrev pub is_served : List ℕ → Bool
 is_served path = bytes_eq path (codes "/cometd") || starts_with nat_eq path (codes "/cometd/")
 
--- Whether there is no value, or a single one that is `chunked` in any letter case.
+-- Whether there is no value, or only one, which is `chunked` in any letter case.
 abbrev pub are_plain : List FieldValue → Bool
 are_plain [] = true
 are_plain (value ∷ []) = str_eq_ignore_ascii_case value.bytes (codes "chunked")
@@ -36,13 +36,13 @@ route_of method path fields =
     else (if bytes_eq method (codes "GET") then unless_coded fields routes.Get else routes.Refused MethodNotAllowed))
     else routes.Refused NotFound
 
--- The status of a POST whose body is not collected.
+-- The status of a POST if its body is not collected.
 abbrev pub body_status : CollectError → Status
 body_status bodies.TooLarge = transport_status transports.TooLarge
 body_status bodies.Failed = BadRequest
 body_status bodies.Memory = transport_status transports.Memory
 
--- The status of a request that the hub refuses: that of its refusal, or 503.
+-- The status of a request that the hub does not admit: that of its refusal, or 503.
 abbrev pub post_status : PostFault → Status
 post_status (posts.Refused refusal) = refusal_status refusal
 post_status _ = Unavailable

@@ -1,4 +1,4 @@
-//! What a service needs from the server of messages: a [`Backend`], here over a hub.
+//! The server that a service posts to: the trait [`Backend`], and its implementation over a hub.
 ghost use Rattle.std.specs.Prelude.{⊤, ◌≡◌, ◌⊎◌, ℕ, [], None, Option, Result, IfOk, IfErr};
 ghost use Rattle.std.specs.Arc.{arc_value};
 ghost use Rattle.std.specs.Vec.Iter.{into_iter_items};
@@ -39,7 +39,7 @@ pub trait Nonces {
         ensures { draws self.now result };
 }
 
-/// The error if an answer is unavailable or memory runs out.
+/// The error of a response's items: an answer is unavailable, or memory ran out.
 #[derive(Clone, Copy, Debug, PartialEq, Eq)]
 pub struct Unanswered;
 
@@ -55,33 +55,33 @@ impl<J: Naming> From<Stopped<J>> for Unanswered {
     }
 }
 
-/// Documents that were refused.
+/// Documents that were not admitted.
 #[derive(Drop)]
 pub struct Declined {
-    /// Why they were refused.
+    /// Why they were not admitted.
     pub fault: PostFault,
     /// The documents, unchanged.
     pub bodies: Bodies,
 }
 
-/// A server that answers requests by their documents.
+/// A server that answers requests, given their documents.
 ///
-/// A service knows only this trait, so its types do not name the parts of a hub.
+/// A service depends only on this trait, so its types do not name the parts of a hub.
 pub trait Backend: Drop {
     /// The future of a response's items.
     type Items: Future<Output = Result<Vec<Item>, Unanswered>>;
 
-    // Ghost: which outcomes the documents of a request may have.
+    // Ghost: what `admit` may return for the documents of a request.
     ghost admits: { Self → Bodies → Result Self.Items Declined → Type 0 } = { λ _ _ _. ⊤ };
 
-    // Ghost: which places `place` may return for some items.
+    // Ghost: what `place` may return for the items of a response.
     ghost stands: { Self.Items → Option ℕ → Type 0 } = { λ _ _. ⊤ };
 
     /// Admits the documents of a request, and returns the future of the response's items.
     ///
     /// # Errors
     ///
-    /// [`Declined`] with the documents and the reason, if the request is refused.
+    /// [`Declined`], with the documents and the reason, if they are not admitted.
     fn admit(&self, bodies: Bodies) -> Result<Self::Items, Declined>
         ensures can_poll { IfOk result Self.Items.can_poll }
         ensures back { IfErr result (λ d. d.bodies ≡ bodies) }
@@ -106,8 +106,8 @@ pub struct HubBackend<J: Naming, P: Placing, G: Gate + Drop, R: Wait + Drop, C, 
 impl<J: Naming, P: Placing, G: Gate + Drop, R: Wait + Drop, C, N> HubBackend<J, P, G, R, C, N> {
     /// Creates a backend that posts to `hub`.
     ///
-    /// `door`: the listener by which the requests come. `clock` and `nonces` give each its moment
-    /// and its nonce.
+    /// `door`: the listener of the requests. `clock` and `nonces`: the sources of each request's
+    /// moment and nonce.
     pub fn new(
         rt: R,
         alloc: Global,
@@ -141,8 +141,8 @@ where
 {
     type Items = Gathering<J, P, G, R>;
 
-    // Ghost: on success no items are there yet, and the slots and the place are those that a single
-    // thread gives. On error the documents are unchanged, and the hub refused them or memory ran
+    // Ghost: on success there are no items yet, and the slots and the place are those that a single
+    // thread gives. On error the documents are unchanged, and the hub rejected them or memory ran
     // out.
     ghost admits = { λ backend bodies outcome.
         IfOk outcome (λ g. (g.items.items ≡ []) × (g.held ≡ None)
@@ -154,7 +154,7 @@ where
 
     ghost stands = { λ items place. place ≡ items.first };
 
-    // Clones the handle before the post, so that a declined request is never listed. Locks as
+    // Clones the handle before the post, since no error may follow an admission. Locks as
     // `Hub::post` does.
     fn admit(&self, bodies: Bodies) -> Result<Gathering<J, P, G, R>, Declined> {
         let Ok(hub) = Arc::try_clone(&self.hub) else {

@@ -35,8 +35,8 @@ impl From<AllocError> for CollectError {
 
 /// A future of all the data of a body, in one buffer.
 ///
-/// Each frame's data is copied to the end of the buffer. So no more than the limit is kept, however
-/// small the frames are. Trailers are dropped.
+/// Each frame's data is appended to the buffer, and the frame is dropped. So it never stores more
+/// data than its limit, even if the frames are small. Trailers are dropped.
 #[derive(Drop)]
 pub struct Collect<B> {
     alloc: Global,
@@ -47,7 +47,7 @@ pub struct Collect<B> {
 }
 
 impl<B> Collect<B> {
-    /// Creates a future that collects at most `limit` bytes.
+    /// Creates a future that collects `body`, up to `limit` bytes.
     pub fn new(alloc: Global, body: B, limit: usize) -> Collect<B>
         ensures { (result.body ≡ body) × (result.limit ≡ limit) × (result.bytes.items ≡ []) }
     {
@@ -91,7 +91,7 @@ where
     }
 }
 
-// Appends the data of `frame`, if that stays within `limit`.
+// Appends the data of `frame` if the sum is within `limit`.
 fn add<D: Buf + Drop>(
     bytes: &mut Vec<u8>,
     limit: usize,

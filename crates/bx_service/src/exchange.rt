@@ -44,7 +44,7 @@ use std::sync::Arc;
 #[derive(Drop)]
 pub struct Exchange<S, I, B, O: Observer> {
     pub(crate) alloc: Global,
-    // `None` if a handle on it or on the observer could not be cloned, and after the output.
+    // `None` if its handle or the observer's could not be cloned, and after the output.
     pub(crate) backend: Option<Arc<S, Global>>,
     pub(crate) state: State<I, B>,
     pub(crate) watch: Watch<O>,
@@ -58,24 +58,24 @@ pub(crate) enum State<I, B> {
         content_type: Option<HeaderValue>,
         body: Collect<B>,
     },
-    /// A GET, whose query has the documents.
+    /// A GET. The query of its target has the documents.
     Asked(Uri),
     /// The request was admitted, and waits for its items.
     ///
-    /// With `callback` the response is a script.
+    /// With a `callback` the response is a script that calls it.
     Held {
         callback: Option<String>,
         items: I,
     },
-    /// The request is refused with this status.
+    /// The request gets this status and no body.
     Refused(Status),
 }
 
 impl<I: Future, B: Body> State<I, B> {
     /// Creates the state of a new request, from its head.
     ///
-    /// It is `Refused` if the route refuses it, or if the query of a GET or the `Content-Length` of
-    /// a POST exceeds `limit`.
+    /// It is `Refused` if the route is, or if the query of a GET or the `Content-Length` of a POST
+    /// exceeds `limit`.
     pub(crate) fn new(alloc: Global, limit: BodyLimit, parts: Parts, body: B) -> State<I, B>
         requires { B.can_poll body }
         ensures again { CanPoll I.can_poll B.can_poll result }
@@ -115,7 +115,7 @@ fn query_of(uri: &Uri) -> &str
     uri.query().unwrap_or("")
 }
 
-// Returns `true` if a `Content-Length` is a number that exceeds the limit.
+// Returns `true` if `length`, the `Content-Length`, is a number that exceeds `limit`.
 fn says_more(limit: BodyLimit, length: Option<&HeaderValue>) -> bool
     ensures { result ≡ says_more limit (option_map (λ value. value.bytes) (option_copied length.entry)) }
 {
@@ -128,7 +128,7 @@ fn says_more(limit: BodyLimit, length: Option<&HeaderValue>) -> bool
     }
 }
 
-// Posts the documents of a request, and returns its next state.
+// Posts the documents of a request and returns its next state.
 fn admitted<S, I, B, D, O>(
     backend: &S,
     watch: &mut Watch<O>,
@@ -158,7 +158,7 @@ where
     }
 }
 
-// Reads the collected body of a POST and posts its documents.
+// Reads the collected body of a POST, posts its documents and returns the next state.
 fn posted<S, I, B, D, O>(
     alloc: Global,
     backend: &S,
@@ -187,7 +187,7 @@ where
     }
 }
 
-// Reads the query of a GET and posts its documents.
+// Reads the query of a GET, posts its documents and returns the next state.
 fn asked<S, I, B, D, O>(alloc: Global, backend: &S, watch: &mut Watch<O>, uri: &Uri) -> State<I, B>
 where
     S: Backend<Items = I>,
@@ -205,7 +205,7 @@ where
     }
 }
 
-// Creates the response to a refused request, and reports it to the observer.
+// Creates a response with `status` and no body, and reports it to the observer.
 fn refused<O: Observer>(
     alloc: Global,
     watch: &Watch<O>,
@@ -222,7 +222,8 @@ fn refused<O: Observer>(
     }
 }
 
-// Creates the response to an admitted request: its items, or 503 if they or memory are unavailable.
+// Creates the response to an admitted request, and reports its items and the response to the
+// observer. It is 503 if the items are unavailable or memory runs out.
 fn answered<O: Observer>(
     alloc: Global,
     watch: &Watch<O>,
@@ -252,7 +253,7 @@ where
     D: Buf + Drop,
     O: Observer,
 {
-    // Polls until the request is admitted or refused.
+    // Polls until the state is `Held` or `Refused`.
     fn poll_admitted(&mut self, backend: &S, cx: &mut Context<'_>) -> Poll<()>
         requires { CanPoll I.can_poll B.can_poll self.old.state }
         ensures again { CanPoll I.can_poll B.can_poll self.new.state }
@@ -283,7 +284,7 @@ where
         }
     }
 
-    // Polls until the response is complete.
+    // Polls for the response, if the state is `Held` or `Refused`.
     fn poll_answered(
         &mut self,
         cx: &mut Context<'_>,
@@ -324,7 +325,7 @@ where
 
     ghost can_poll = { λ e. CanPoll I.can_poll B.can_poll e.state };
 
-    // Ghost: the response that the state allows. Without a backend there is none.
+    // Ghost: a response that the state allows. Without a backend there is none.
     ghost gives = { λ e given. IfOk given (λ sent. MatchOption e.backend ⊥
         (λ backend. MayAnswer I.gives (S.admits (arc_value backend)) D.unread B.yields e.state sent)) };
 

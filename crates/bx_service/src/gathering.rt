@@ -23,7 +23,7 @@ use std::vec::IntoIter;
 
 /// The future of the items that answer an admitted request.
 ///
-/// It takes the slots in order, and waits at each connect or rider for its answer. Polling for an
+/// It handles the slots in order, and waits for the answer to each connect or rider. Polling for an
 /// answer locks its shard.
 #[derive(Drop)]
 pub struct Gathering<J: Naming, P: Placing, G: Gate + Drop, R: Wait + Drop> {
@@ -34,13 +34,13 @@ pub struct Gathering<J: Naming, P: Placing, G: Gate + Drop, R: Wait + Drop> {
     items: Vec<Item>,
     held: Option<PendingAnswer<J>>,
     slots: IntoIter<Slot>,
-    // The place of the first message, if there is one.
+    // The place of the first message. `None` if the request has no messages.
     first: Option<u64>,
     ghost within: { AreBelow (length (list_of pass)) (into_iter_items slots) } by { are_below-prop (length (list_of pass)) (into_iter_items slots) },
 }
 
 impl<J: Naming, P: Placing + Drop, G: Gate + Drop, R: Wait + Copy + Drop> Gathering<J, P, G, R> {
-    /// Creates the future for `slots`, which the hub returned for a post with `pass`.
+    /// Creates the future for `slots`, which the hub returned for a post that updated `pass`.
     ///
     /// `first`: the place of the first message.
     pub(crate) fn new(
@@ -112,7 +112,7 @@ impl<J: Naming, P: Placing + Drop, G: Gate + Drop, R: Wait + Copy + Drop> Gather
         Ok(Poll::Ready(()))
     }
 
-    // Handles the next slot: appends its reply, or starts to wait for its answer and polls it.
+    // Handles `slot`: appends its reply, or starts to wait for its answer and polls it.
     fn take(&mut self, slot: Slot, cx: &mut Context<'_>) -> Result<Poll<()>, Unanswered>
         requires below { IsBelow (length (list_of self.old.pass)) slot }
         requires free { self.old.held ≡ None }
@@ -138,7 +138,7 @@ impl<J: Naming, P: Placing + Drop, G: Gate + Drop, R: Wait + Copy + Drop> Gather
         }
     }
 
-    // Polls until all items are there or an answer is still to come.
+    // Polls until all items are appended or an answer is pending.
     fn gather(&mut self, cx: &mut Context<'_>) -> Result<Poll<()>, Unanswered>
         ensures same { OnOk result ((all : List Item)
             → AreAll (setup_of J.config J.placing) self.new.pass self.new.items.items (awaited self.new.held)
@@ -165,7 +165,7 @@ impl<J: Naming, P: Placing + Drop, G: Gate + Drop, R: Wait + Copy + Drop> Future
     for Gathering<J, P, G, R> {
     type Output = Result<Vec<Item>, Unanswered>;
 
-    // Ghost: the awaited connect or rider must be answered.
+    // Ghost: the source that wakes it is that of the awaited answer.
     ghost needs = { λ g s. MatchOption g.held ⊥ (λ h. s ≡ h.source.id) };
 
     ghost gives = { λ g gathered. IfOk gathered (λ items. AreAll (setup_of J.config J.placing) g.pass g.items.items

@@ -1,8 +1,8 @@
-//! The size limit of a request.
+//! The size limit on a request's documents.
 use bx_advice::BODY_LIMIT;
 use std::marker::Model;
 
-/// The most bytes that the body of a POST or the query of a GET may have: 1 to [`BODY_LIMIT`].
+/// The longest body of a POST or query of a GET that is read, in bytes: 1 to [`BODY_LIMIT`].
 ///
 /// Model: the number.
 #[derive(Clone, Copy, Debug, PartialEq, Eq)]
@@ -52,7 +52,7 @@ impl BodyLimit {
         self.bytes
     }
 
-    /// Returns `true` if `count` bytes exceed the limit.
+    /// Returns `true` if `count` bytes are more than the limit.
     pub(crate) fn is_passed_by(self, count: u64) -> bool
         ensures { result ≡ nat_lt self count }
     {

@@ -13,20 +13,22 @@ pub enum Event<'a> {
     Closed,
     /// A request arrived.
     Asked,
-    /// Its documents were admitted; the first message, if any, has this place.
+    /// Its documents were admitted. The number is the place of the first message, if there is one.
     Admitted(Option<u64>),
-    /// Its documents were refused for this reason.
+    /// Its documents were not admitted, for this reason.
     Refused(PostFault),
-    /// The answers are complete, or unavailable if `items` is `None`.
+    /// The items of the response are complete, or unavailable if `items` is `None`.
     ///
     /// `place` is that of [`Admitted`](Event::Admitted).
     Answered {
         place: Option<u64>,
         items: Option<&'a [Item]>,
     },
-    /// The response has this status, or `None` if there was no memory for one.
+    /// The response has this status, or `None` if memory ran out for the response.
     Responded(Option<Status>),
-    /// The future of the response was dropped.
+    /// The future of the response was dropped, which ends the request.
+    ///
+    /// `was_admitted`: whether its documents were admitted.
     Left {
         was_admitted: bool,
     },
@@ -34,7 +36,7 @@ pub enum Event<'a> {
 
 /// A receiver of a service's events.
 ///
-/// It is called for each connection and request. It cannot change a response.
+/// It is called for each connection and request, and cannot change a response.
 pub trait Observer: Drop {
     /// Receives `event`.
     fn see(&self, event: Event<'_>);

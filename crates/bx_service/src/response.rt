@@ -1,4 +1,4 @@
-//! The responses over HTTP: a refusal has a status and no body, an answer a media type and items.
+//! The responses over HTTP: only a status, or the items of an admitted request.
 ghost use Rattle.std.specs.Prelude.{◌≡◌, IfOk, option_map};
 ghost use Rattle.bx_service.specs.Responses.{IsAnswer, IsRefusal};
 
@@ -12,7 +12,7 @@ use std::alloc::{AllocError, Global};
 
 /// Creates a response with `status` and no body.
 ///
-/// A 405 has the field `Allow`.
+/// With status 405 it has the field `Allow`.
 ///
 /// # Errors
 ///

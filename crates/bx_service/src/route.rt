@@ -1,4 +1,4 @@
-//! Which requests are served.
+//! Which requests are served, and where their documents are.
 ghost use Rattle.std.specs.Prelude.{◌≡◌, codes};
 ghost use Rattle.http_header.specs.HeaderMap.{get_all};
 ghost use Rattle.bx_service.specs.Statuses.{are_plain, is_served, route_of, unless_coded};
@@ -14,15 +14,18 @@ pub(crate) enum Route {
     Post,
     /// In the query.
     Get,
-    /// Nowhere: the request is refused with this status.
+    /// Nowhere: the request is rejected with this status.
     Refused(Status),
 }
 
 impl Route {
-    /// Returns the route of a request.
+    /// Returns the route of a request with this method, path and fields.
     ///
-    /// It is refused, in this order, if the path is not served (404), the method is neither POST
-    /// nor GET (405), or the fields name a transfer coding other than one `chunked` (501).
+    /// The request is rejected for the first of these reasons that applies:
+    ///
+    /// - 404: the path is not served.
+    /// - 405: the method is neither POST nor GET.
+    /// - 501: the fields name a transfer coding other than one `chunked`.
     ///
     /// RFC 9112, section 6.1, for 501. The rest is a policy of this server.
     pub(crate) fn of(method: &Method, path: &str, fields: &HeaderMap) -> Route
@@ -41,7 +44,7 @@ impl Route {
         }
     }
 
-    // Returns `self`, or a refusal if the fields name a transfer coding other than one `chunked`.
+    // Returns `self`, or 501 if the fields name a transfer coding other than one `chunked`.
     fn unless_coded(self, fields: &HeaderMap) -> Route
         ensures { result ≡ unless_coded fields.now self }
     {
@@ -53,8 +56,7 @@ impl Route {
     }
 }
 
-// Returns `true` if the fields name no transfer coding, or only `chunked` and only once. Ignores
-// case.
+// Returns `true` if the fields name no transfer coding, or only one `chunked`. Ignores case.
 fn are_plain(fields: &HeaderMap) -> bool
     ensures { result ≡ are_plain (get_all fields.now (codes "transfer-encoding")) }
 {

@@ -1,4 +1,4 @@
-//! The service of a connection, for `hyper`.
+//! The HTTP service of each connection, for `hyper`.
 ghost use Rattle.std.specs.Prelude.{◌≡◌, IfOk, IfSome};
 ghost use Rattle.http.specs.Request.{head_of, body_of};
 ghost use Rattle.bx_advice.specs.declared.config.TheConstants.{BODY_LIMIT};
@@ -25,7 +25,7 @@ use std::sync::Arc;
 /// Why a connection ends without a response.
 #[derive(Clone, Copy, Debug, PartialEq, Eq)]
 pub enum ServiceFault {
-    /// Memory ran out, even for a refusal.
+    /// Memory ran out, even for a response without a body.
     Memory,
 }
 
@@ -49,7 +49,7 @@ pub struct BayeuxService<S, O: Observer = ()> {
 impl<S: Drop> BayeuxService<S, ()> {
     /// Creates a service over `backend`.
     ///
-    /// It accepts bodies and queries of up to [`bx_advice::BODY_LIMIT`] bytes.
+    /// It reads bodies and queries of up to [`bx_advice::BODY_LIMIT`] bytes.
     ///
     /// # Errors
     ///
@@ -63,9 +63,10 @@ impl<S: Drop> BayeuxService<S, ()> {
 }
 
 impl<S: Drop, O: Observer> BayeuxService<S, O> {
-    /// Creates a service like [`new`](Self::new), with an observer.
+    /// Creates a service as [`new`](Self::new) does, with an observer.
     ///
-    /// Each clone counts as a connection, which is open until the clone is dropped.
+    /// The observer sees each clone as a connection, which closes when the clone is dropped. The
+    /// original is no connection.
     ///
     /// # Errors
     ///
@@ -86,7 +87,7 @@ impl<S: Drop, O: Observer> BayeuxService<S, O> {
         })
     }
 
-    /// Returns the service with another limit of bodies and queries.
+    /// Returns the service with `limit` as the size limit of bodies and queries.
     pub fn with_limit(self, limit: BodyLimit) -> BayeuxService<S, O>
         ensures { result ≡ record self { limit = limit } }
     {
@@ -123,11 +124,11 @@ where
 
     type Future = Exchange<S, I, B, O>;
 
-    // Ghost: every body of this type may be polled.
+    // Ghost: every body of this type can be polled.
     ghost can_call = { λ _. (body : B) → B.can_poll body };
 
-    // Ghost: the exchange starts as its request and the limit determine. Its backend, if any, is
-    // the service's.
+    // Ghost: the request and the limit determine the exchange's first state. Its backend, if any,
+    // is the service's.
     ghost calls = { λ service request exchange. Begins service.limit (head_of request) (body_of request) exchange.state
         × IfSome exchange.backend (λ handle. arc_value handle ≡ arc_value service.backend) };
 

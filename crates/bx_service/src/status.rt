@@ -1,4 +1,4 @@
-//! The statuses of refused requests.
+//! The statuses of requests that are not admitted.
 ghost use Rattle.std.specs.Prelude.{◌≡◌};
 ghost use Rattle.bx_message.specs.Statuses.{code_of};
 ghost use Rattle.bx_service.specs.Statuses.{body_status, post_status};
@@ -19,10 +19,11 @@ pub(crate) fn code_of(status: Status) -> StatusCode
     }
 }
 
-/// Returns the status of a POST whose body was not collected.
+/// Returns the status of a POST if its body was not collected.
 ///
-/// If it is too large or memory ran out, the status is that of the same `TransportError`. Policy of
-/// this server.
+/// 400 if the body failed. Otherwise the status of the `TransportError` with the same name.
+///
+/// Policy of this server.
 pub(crate) fn body_status(fault: CollectError) -> Status
     ensures { result ≡ body_status fault }
 {
@@ -33,9 +34,11 @@ pub(crate) fn body_status(fault: CollectError) -> Status
     }
 }
 
-/// Returns the status of a request that the hub refused.
+/// Returns the status of a request that the hub did not admit.
 ///
-/// A `Refused` has its refusal's own status; all others are 503. Policy of this server.
+/// `Refused` has the status of its reason. All others are 503.
+///
+/// Policy of this server.
 pub(crate) fn post_status(fault: PostFault) -> Status
     ensures { result ≡ post_status fault }
 {

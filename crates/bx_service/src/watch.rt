@@ -1,4 +1,4 @@
-//! Handles on an observer, which report the events of connections and requests.
+//! Handles on an observer that report the events of connections and requests.
 ghost use Rattle.std.specs.Prelude.{◌≡◌};
 ghost use Rattle.bx_service.specs.declared.service.ServiceFault.TheVariants.{Memory};
 
@@ -20,6 +20,10 @@ pub(crate) struct Outlook<O: Observer> {
 
 impl<O: Observer> Outlook<O> {
     /// Creates a handle that belongs to no connection.
+    ///
+    /// # Errors
+    ///
+    /// `AllocError` if memory runs out.
     pub(crate) fn new(alloc: Global, observer: O) -> Result<Outlook<O>, AllocError> {
         Ok(Outlook {
             observer: Arc::new(alloc, observer)?,
@@ -27,7 +31,11 @@ impl<O: Observer> Outlook<O> {
         })
     }
 
-    /// Reports a new connection, whose end is reported when the result is dropped.
+    /// Reports a new connection and returns its handle.
+    ///
+    /// # Errors
+    ///
+    /// `AllocError` if memory runs out; nothing is reported.
     pub(crate) fn open(&self) -> Result<Outlook<O>, AllocError> {
         let observer = Arc::try_clone(&self.observer)?;
         observer.see(Event::Opened);
@@ -38,9 +46,17 @@ impl<O: Observer> Outlook<O> {
     }
 
     /// Reports a new request, whose end is reported when the result is dropped.
+    ///
+    /// If the observer cannot be cloned, the request gets no response, which is reported at once.
     pub(crate) fn ask(&self) -> Watch<O> {
-        let observer = Arc::try_clone(&self.observer).ok();
         self.observer.see(Event::Asked);
+        let observer = Arc::try_clone(&self.observer).ok();
+        if observer.is_none() {
+            self.observer.see(Event::Responded(None));
+            self.observer.see(Event::Left {
+                was_admitted: false,
+            });
+        }
         Watch {
             observer,
             is_admitted: false,
@@ -62,6 +78,8 @@ impl<O: Observer> Drop for Outlook<O> {
 }
 
 /// A request's handle on the observer.
+///
+/// Dropping it reports the request's end.
 pub(crate) struct Watch<O: Observer> {
     // `None` if the handle could not be cloned.
     observer: Option<Arc<O, Global>>,
@@ -71,7 +89,7 @@ pub(crate) struct Watch<O: Observer> {
 }
 
 impl<O: Observer> Watch<O> {
-    /// Returns `true` if the observer receives the request's events.
+    /// Returns `true` if the handle reports to an observer.
     pub(crate) fn is_told(&self) -> bool {
         self.observer.is_some()
     }
@@ -92,7 +110,7 @@ impl<O: Observer> Watch<O> {
         self.tell(Event::Admitted(place));
     }
 
-    /// Reports that the documents were refused.
+    /// Reports that the documents were not admitted, because of `fault`.
     pub(crate) fn refuse(&self, fault: PostFault) {
         self.tell(Event::Refused(fault));
     }
@@ -112,7 +130,7 @@ impl<O: Observer> Watch<O> {
         self.tell(Event::Responded(Some(status)));
     }
 
-    /// Reports that there is no memory for a response.
+    /// Reports that memory ran out for a response, and returns that fault.
     pub(crate) fn give_up(&self) -> ServiceFault
         ensures { result ≡ Memory }
     {

@@ -1,4 +1,4 @@
-//! Tests of responses that are written in several pieces.
+//! Tests of responses that are written in several frames.
 use bx_message::{Event, Item, RawJson, SharedEvent, Text};
 use bx_names::ChannelName;
 use bx_pieces::Pieces;
@@ -11,13 +11,13 @@ use std::alloc::{AllocError, Global};
 use std::process::Abort;
 use std::test::*;
 
-// Characters in a large event's data. 64 KiB hold one with a small event, but not two.
+// Characters in a large event's data. 64 KiB have room for one and a small event, but not for two.
 const LARGE: usize = 40_000;
 
-// Number of frames of a response with these events.
+// Number of frames of a response with the events of `items`.
 const FRAMES: usize = 3;
 
-// Returns a JSON text of `count` times `sign`.
+// Returns a JSON string of `count` times `sign`.
 fn data(alloc: Global, sign: &str, count: usize) -> Result<String, AllocError> {
     let mut text = String::new(alloc);
     text.push_str("\"")?;
@@ -28,7 +28,7 @@ fn data(alloc: Global, sign: &str, count: usize) -> Result<String, AllocError> {
     Ok(text)
 }
 
-// Creates an event whose data are `count` times `sign`.
+// Creates an event with `count` times `sign` as its data.
 fn event(alloc: Global, sign: &str, count: usize) -> Result<Item, Fail> {
     let name = ChannelName::read(alloc, "/a/b")?;
     let payload = data(alloc, sign, count)?;
@@ -40,7 +40,7 @@ fn event(alloc: Global, sign: &str, count: usize) -> Result<Item, Fail> {
     Ok(Item::EventItem(SharedEvent::new(alloc, event, name)?))
 }
 
-// Returns three large events, with a small one before the last of them.
+// Returns three large events and, before the last of them, a small one.
 fn items(alloc: Global) -> Result<Vec<Item>, Fail> {
     let mut items = Vec::new(alloc);
     items.push(event(alloc, "x", LARGE)?)?;
@@ -50,7 +50,7 @@ fn items(alloc: Global) -> Result<Vec<Item>, Fail> {
     Ok(items)
 }
 
-// Returns the text of a response with these events; `sign` is the small one's data.
+// Returns the text of a response with these events. `sign`: the small event's data.
 fn wanted(alloc: Global, front: &str, sign: &str, back: &str) -> Result<String, Fail> {
     let mut text = String::new(alloc);
     text.push_str(front)?;
@@ -81,8 +81,8 @@ fn next_data(task: &MockTask, body: &mut Pieces<Bytes>) -> Result<Option<Bytes>,
     }
 }
 
-// Checks that a response's three frames, of at most 64 KiB each, add up to `wanted`, and that the
-// body always knows how many bytes are left.
+// Checks that the three frames of a response have the text `wanted`, and at most 64 KiB each. Also
+// checks that the body always reports how many bytes are left.
 fn check_pieces<R: Abort>(
     rt: &R,
     alloc: Global,
@@ -112,7 +112,7 @@ fn check_left<R: Abort>(rt: &R, body: &Pieces<Bytes>, whole: usize, given: usize
     assert_eq!(rt; body.is_end_stream(), left == 0);
 }
 
-// A long array and a long script are written in three pieces.
+// Checks that a long array and a long script are written in three frames.
 #[test]
 fn responses_of_several_pieces(rt: HostRuntime) -> Result<(), Fail> {
     let alloc = rt.alloc();

@@ -1,4 +1,4 @@
-//! A hub and services over it, for tests of exchanges.
+//! A hub, and services that post to it, for tests of exchanges.
 use bx_entry::ByRemainder;
 use bx_hub::{Hub, OpenGate, Pass};
 use bx_service::{BayeuxService, Clock, Nonces};
@@ -31,7 +31,7 @@ impl Nonces for Zeros {
     }
 }
 
-/// Four services over one hub, and two tasks, neither of them woken.
+/// Four services that post to one hub, and two tasks. Neither task is woken.
 #[derive(Drop)]
 pub struct Bench<J: Naming, S: Drop, H: Wait + Drop> {
     pub alloc: Global,
@@ -41,7 +41,7 @@ pub struct Bench<J: Naming, S: Drop, H: Wait + Drop> {
     pub service: BayeuxService<S>,
     /// At the read-only listener.
     pub readers: BayeuxService<S>,
-    /// With a clock past the greatest moment.
+    /// With a clock at a moment that is too large.
     pub too_late: BayeuxService<S>,
     /// With a small body limit.
     pub small: BayeuxService<S>,
@@ -51,6 +51,10 @@ pub struct Bench<J: Naming, S: Drop, H: Wait + Drop> {
 
 impl<J: Naming, S: Drop, H: Wait + Drop> Bench<J, S, H> {
     /// Posts a tick at `moment`, in milliseconds.
+    ///
+    /// # Errors
+    ///
+    /// If the tick is not appended.
     pub fn tick<W: Wait>(&mut self, rt: &W, moment: u64) -> Result<(), Fail> {
         self.hub
             .tick(rt, self.alloc, &mut self.pass, moment)

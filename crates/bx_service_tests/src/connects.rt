@@ -18,7 +18,7 @@ use std::process::Abort;
 use std::sync::{Arc, Wait};
 use std::test::*;
 
-// One step of a run, with what it must show.
+// A step of a run, and what it checks.
 #[derive(Clone, Copy, Debug)]
 enum Step {
     // A task polls the connect, which waits. The poll does not wake the task.
@@ -27,7 +27,7 @@ enum Step {
     Gives(Task, Want),
     // The first task polls a new future of this ticket and gets `Want`.
     Other(Ticket, Want),
-    // Whether the task has been woken.
+    // Checks whether the task has been woken.
     Woken(Task, bool),
     Post(&'static str),
     Tick(u64),
@@ -54,7 +54,7 @@ const GIVES_EVENT: Step = Step::Gives(Task::First, EVENT);
 
 const GIVES_NOTHING: Step = Step::Gives(Task::First, Want::None);
 
-// A publish answers the connect by its event.
+// A publish answers the connect with its event.
 const PUBLISHED: [Step; 5] = [WAITS, HANDSHAKE, PUBLISH, IS_WOKEN, GIVES_EVENT];
 
 // A newer connect answers the held one.
@@ -73,7 +73,7 @@ const DISCONNECTED: [Step; 4] = [
     Step::Gives(Task::First, Want::Answer(texts::SESSION_ENDED)),
 ];
 
-// A tick at the deadline answers the connect; an earlier one does not.
+// A tick at the deadline answers the connect. An earlier one does not.
 const TIMED_OUT: [Step; 5] = [
     Step::Tick(29_999),
     WAITS,
@@ -93,7 +93,7 @@ const CLOSED: [Step; 4] = [
 // An answer filed before the hub closed can still be taken.
 const FILED_BEFORE: [Step; 4] = [HANDSHAKE, PUBLISH, Step::Close, GIVES_EVENT];
 
-// A taken answer, another message's place and an unknown shard have no answer.
+// A taken answer, the place of another message, and an unknown shard give no answer.
 const TAKEN: [Step; 6] = [
     HANDSHAKE,
     PUBLISH,
@@ -103,7 +103,7 @@ const TAKEN: [Step; 6] = [
     Step::Other(Ticket { place: 2, shard: 2 }, Want::None),
 ];
 
-// A swept answer is gone.
+// A swept answer cannot be taken.
 const SWEPT: [Step; 4] = [WAITS, Step::Tick(30_000), Step::Sweep, GIVES_NOTHING];
 
 // The connect moves to the second task. Only the task that polled last is woken.
@@ -129,7 +129,7 @@ const MOVED_BACK: [Step; 8] = [
     GIVES_EVENT,
 ];
 
-// Repeated polls do not wake the task, and its waker stays.
+// Repeated polls do not wake the task, and keep its waker.
 const POLLED_AGAIN: [Step; 8] = [
     WAITS,
     WAITS,
@@ -270,7 +270,7 @@ fn run_in_hub<J: Naming, R: Wait + Abort>(
     run(rt, &mut bench, steps)
 }
 
-// Held connects return their answers or faults, and wake the task that polled last.
+// Checks that held connects return their answers or faults, and wake the task that polled last.
 #[test]
 fn held_connects(rt: HostRuntime) -> Result<(), Fail> {
     let alloc = rt.alloc();

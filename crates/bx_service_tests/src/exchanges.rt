@@ -38,7 +38,7 @@ where
     check_given(rt, alloc, &mut exchange, task, want)
 }
 
-// Checks that a request waits at its first poll, and drops it.
+// Checks that a POST of `text` waits at its first poll, and drops it.
 fn waits<S, I, R>(
     rt: &R,
     alloc: Global,
@@ -56,7 +56,7 @@ where
     Ok(())
 }
 
-// Checks that a POST of `text` gets 400 wherever its body breaks off.
+// Checks that a POST of `text` gets 400 if its body breaks off, after each number of bytes.
 fn breaks<S, I, R>(
     rt: &R,
     alloc: Global,
@@ -76,7 +76,7 @@ where
     Ok(())
 }
 
-// Returns the request and expected response of a step that is one request to `Bench::service`.
+// Returns the request and the expected response of a step, if it is a request to `Bench::service`.
 fn asked(step: &Step) -> Option<(Ask, Want)> {
     match step {
         Step::Post(text, want) => Some((Ask::post(Content::Whole(*text)), Want::Json(*want))),
@@ -186,7 +186,7 @@ where
     Ok(())
 }
 
-// Makes the exchange of `held` and checks it.
+// Creates the exchange of `held` and checks it.
 fn hold<J, S, I, H, R>(rt: &R, bench: &mut Bench<J, S, H>, held: &Held) -> Result<(), Fail>
 where
     J: Naming,
@@ -200,7 +200,7 @@ where
     watch(rt, bench, &mut exchange, held)
 }
 
-// Takes all steps of the run at index `number`.
+// Executes the run at index `number`.
 fn run<J, S, I, H, R>(rt: &R, bench: &mut Bench<J, S, H>, number: usize) -> Result<(), Fail>
 where
     J: Naming,
@@ -217,7 +217,7 @@ where
     take_all(rt, bench, run.last)
 }
 
-// Creates a backend for `door` whose clock is fixed at `moment`, in milliseconds.
+// Creates a backend for `door` with a clock fixed at `moment`, in milliseconds.
 fn backend_of<'a, J: Naming, R: Wait>(
     rt: &'a R,
     alloc: Global,
@@ -267,7 +267,7 @@ fn run_in_hub<J: Naming, R: Wait + Abort>(
     run(rt, &mut bench, number)
 }
 
-// Exchanges get the responses that their runs expect.
+// Checks that exchanges get the responses that their runs expect.
 #[test]
 fn exchanges(rt: HostRuntime) -> Result<(), Fail> {
     let alloc = rt.alloc();

@@ -10,6 +10,8 @@ mod bench;
 #[cfg(test)]
 mod connects;
 #[cfg(test)]
+mod examples;
+#[cfg(test)]
 mod exchanges;
 #[cfg(test)]
 mod observers;

@@ -1,4 +1,4 @@
-//! Tests of observers: the events that a service reports, over a backend with fixed outcomes.
+//! Tests of observers: the events that a service reports, with a backend of fixed outcomes.
 use crate::requests::{Ask, Content, POST};
 use bx_cut::Bodies;
 use bx_entry::Refusal;
@@ -49,7 +49,7 @@ impl Observer for Digits {
     }
 }
 
-// How a request ends: with items, without them, with a refusal, or never.
+// How a request ends: with items, without them, not admitted, or never.
 #[derive(Clone, Copy)]
 enum Said {
     Items,
@@ -107,7 +107,7 @@ impl Future for Given {
     }
 }
 
-// Two observers each see all events of a connection and its request, in order.
+// Checks that two observers each see all events of a connection and its request, in order.
 #[test]
 fn observers_are_told(rt: HostRuntime) -> Result<(), Fail> {
     let alloc = rt.alloc();

@@ -8,7 +8,7 @@ use std::alloc::{AllocError, Global};
 #[derive(Clone, Copy, Debug)]
 pub struct Broken;
 
-/// A body of one frame, then its end or an error.
+/// A body of one frame, followed by its end or an error.
 #[derive(Drop)]
 pub struct Pieces {
     is_late: bool,
@@ -17,7 +17,11 @@ pub struct Pieces {
 }
 
 impl Pieces {
-    /// Creates a body that is ready at the first poll.
+    /// Creates a body of `text` that is ready at the first poll.
+    ///
+    /// # Errors
+    ///
+    /// `AllocError` if memory runs out.
     pub fn whole(alloc: Global, text: &[u8]) -> Result<Pieces, AllocError> {
         Ok(Pieces {
             is_late: false,
@@ -26,7 +30,11 @@ impl Pieces {
         })
     }
 
-    /// Creates a body whose first poll is pending.
+    /// Creates a body of `text` that is pending at the first poll.
+    ///
+    /// # Errors
+    ///
+    /// `AllocError` if memory runs out.
     pub fn late(alloc: Global, text: &[u8]) -> Result<Pieces, AllocError> {
         let pieces = Pieces::whole(alloc, text)?;
         Ok(Pieces {
@@ -36,6 +44,10 @@ impl Pieces {
     }
 
     /// Creates a body that fails after `text`.
+    ///
+    /// # Errors
+    ///
+    /// `AllocError` if memory runs out.
     pub fn broken(alloc: Global, text: &[u8]) -> Result<Pieces, AllocError> {
         let pieces = Pieces::whole(alloc, text)?;
         Ok(Pieces {

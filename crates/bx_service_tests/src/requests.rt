@@ -27,7 +27,7 @@ pub enum Content {
     Whole(&'static str),
     /// This text, after a first poll that is pending.
     Late(&'static str),
-    /// The first `usize` bytes of this text, after which the body breaks off.
+    /// The first `usize` bytes of this text, followed by an error.
     Broken(&'static str, usize),
     /// This text, padded with spaces to `usize` bytes.
     Padded(&'static str, usize),
@@ -78,7 +78,11 @@ impl Ask {
         }
     }
 
-    /// Builds the request.
+    /// Creates the request.
+    ///
+    /// # Errors
+    ///
+    /// If memory runs out or a part of the request is not valid.
     pub fn request(&self, alloc: Global) -> Result<Request<Pieces>, Fail> {
         let body = self.body(alloc)?;
         let mut builder = Request::builder(alloc)
@@ -137,7 +141,7 @@ impl Want {
     }
 }
 
-/// Checks that a poll of `exchange` is pending, and that it wakes `task` only if `is_woken`.
+/// Checks that a poll of `exchange` is pending, and that it wakes `task` exactly if `is_woken`.
 pub fn check_pending<F: Future<Output = Given>, R: Abort>(
     rt: &R,
     exchange: &mut F,
@@ -154,6 +158,10 @@ pub fn check_pending<F: Future<Output = Given>, R: Abort>(
 }
 
 /// Checks that the next poll of `exchange` returns the response `want`.
+///
+/// # Errors
+///
+/// If the poll is pending or memory runs out.
 pub fn check_given<F: Future<Output = Given>, R: Abort>(
     rt: &R,
     alloc: Global,
@@ -180,7 +188,7 @@ pub fn check_given<F: Future<Output = Given>, R: Abort>(
     Ok(())
 }
 
-// Checks `Content-Type` and `Allow`: their values, and that they are missing if not wanted.
+// Checks the values of `Content-Type` and `Allow`, or that they are missing.
 fn check_fields<R: Abort>(rt: &R, response: &Response<bx_pieces::Pieces<Bytes>>, want: Want) {
     for (name, value) in [(CONTENT_TYPE, want.kind()), (ALLOW, want.allow())] {
         let field = response.headers().get(name);

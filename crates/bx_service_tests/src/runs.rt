@@ -18,17 +18,17 @@ pub enum Step {
     Coded(&'static [&'static str], Want),
     /// A request gets `Want`.
     Ask(Ask, Want),
-    /// A request to a service whose limit is [`SMALL`] bytes gets `Want`.
+    /// A request to a service with a limit of [`SMALL`] bytes gets `Want`.
     Small(Ask, Want),
-    /// A request at the read-only listener gets `Want`.
+    /// A request to the read-only listener gets `Want`.
     Read(Ask, Want),
-    /// A POST of this JSON at the read-only listener gets `Want`.
+    /// A POST of this JSON to the read-only listener gets `Want`.
     ReadText(&'static str, Want),
-    /// A POST of this JSON past the greatest moment gets `Want`.
+    /// A POST of this JSON at a moment that is too large gets `Want`.
     TooLate(&'static str, Want),
     /// A POST of this JSON waits, and is dropped.
     Wait(&'static str),
-    /// A POST of this JSON gets 400 wherever its body breaks off.
+    /// A POST of this JSON gets 400 if its body breaks off, after each number of bytes.
     Break(&'static str),
     Tick(u64),
     Close,
@@ -57,7 +57,7 @@ pub struct Run {
     pub first: &'static [Step],
     pub held: Option<Held>,
     pub last: &'static [Step],
-    /// Whether waiting events ride.
+    /// Whether waiting events are sent with the reply to a rider.
     pub ride: bool,
 }
 
@@ -86,8 +86,8 @@ const CODED: Want = Want::Status(501);
 /// The small limit of a body or query, in bytes.
 pub const SMALL: usize = 16;
 
-// Bodies and queries are accepted at the small limit and refused beyond it. A body whose
-// `Content-Length` is beyond it is refused before any of it has arrived.
+// Bodies and queries up to the small limit are read, and longer ones get 413. With a
+// `Content-Length` above the limit, a request gets 413 before any of the body has arrived.
 const SMALL_LIMIT: Run = Run {
     first: &[
         Step::Small(
@@ -174,7 +174,7 @@ const SMALL_LIMIT: Run = Run {
     ride: false,
 };
 
-// A POST to a path below `/cometd` is answered, as is one whose body arrives late.
+// A POST to a path below `/cometd` is answered. So is a POST if its body arrives late.
 const ANSWERED: Run = Run {
     first: &[Step::Ask(
         Ask {
@@ -195,8 +195,9 @@ const ANSWERED: Run = Run {
     ride: false,
 };
 
-// Paths, methods, transfer codings, documents, bodies past the limit and a late moment are refused,
-// and open no session. A `Content-Length` past the limit is refused before the body arrives.
+// Requests are rejected because of their path, method, transfer coding, documents, length or
+// moment, and open no session. If the `Content-Length` is above the limit, a request is rejected
+// before its body arrives.
 const REFUSED: Run = Run {
     first: &[
         Step::Target("POST", "/cometdx", Want::Status(404)),
@@ -304,7 +305,7 @@ const CLOSED: Run = Run {
     ride: false,
 };
 
-// A form of two documents is answered, and queries are answered by scripts.
+// A form of two documents is answered with JSON, and queries with scripts.
 const OTHER_FORMS: Run = Run {
     first: &[
         Step::Post(texts::HANDSHAKE, texts::HANDSHAKEN),
@@ -377,7 +378,7 @@ const DISCONNECTED: Run = Run {
     ride: false,
 };
 
-// A tick at the deadline answers the held connect; an earlier one does not.
+// A tick at the deadline answers the held connect. An earlier one does not.
 const TIMED_OUT: Run = Run {
     first: &OPENED,
     held: Some(Held {
@@ -450,7 +451,7 @@ const OTHERS_GO_ON: Run = Run {
     ride: false,
 };
 
-// A body that breaks off is refused and opens no session.
+// A body that breaks off is rejected and opens no session.
 const BROKEN_OFF: Run = Run {
     first: &[
         Step::Break(texts::HANDSHAKE),
@@ -462,7 +463,7 @@ const BROKEN_OFF: Run = Run {
 };
 
 // An acknowledging session's held connect is dropped. Its next connect gets the event published
-// meanwhile. The answer that was not taken is swept, once.
+// meanwhile. The answer that nobody took is swept, once.
 const GIVEN_UP: Run = Run {
     first: &OPENED_WITH_ACK,
     held: Some(Held {
@@ -498,8 +499,9 @@ const LOST: Run = Run {
     ride: false,
 };
 
-// Waiting events ride with the session's next publish, also by a query. A held connect gets the
-// first event, and the rider the second. In a paused shard, a rider gets 503.
+// The reply to a session's publish, also by a query, carries its waiting events. With a held
+// connect, the connect gets the first event, and the rider the second. In a paused shard, a rider
+// gets 503.
 const RIDDEN: Run = Run {
     first: &[
         Step::Post(texts::HANDSHAKE, texts::HANDSHAKEN),

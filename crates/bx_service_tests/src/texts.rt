@@ -100,7 +100,7 @@ pub const CONNECTED: &str =
 pub const CONNECTED_WITH_EVENT: &str =
     r#"[{"channel":"/a/b","data":7},{"advice":{"interval":0,"reconnect":"retry","timeout":30000},"channel":"/meta/connect","clientId":"000000000000000000000000000000000000000000000001","successful":true}]"#;
 
-/// The same for an acknowledging session, as its first batch.
+/// The same for an acknowledging session: the event is its first batch.
 pub const ACK_CONNECTED_WITH_EVENT: &str =
     r#"[{"channel":"/a/b","data":7},{"advice":{"interval":0,"reconnect":"retry","timeout":30000},"channel":"/meta/connect","clientId":"000000000000000000000000000000000000000000000001","ext":{"ack":1},"successful":true}]"#;
 
@@ -112,7 +112,7 @@ pub const CONNECTED_WITH_OWN: &str =
 pub const SUPERSEDED: &str =
     r#"[{"channel":"/meta/connect","clientId":"000000000000000000000000000000000000000000000001","error":"408::Superseded connect","successful":false}]"#;
 
-/// The reply to the connect of a session that ends.
+/// The reply to the first session's held connect when it disconnects.
 pub const SESSION_ENDED: &str =
     r#"[{"advice":{"interval":0,"reconnect":"none"},"channel":"/meta/connect","clientId":"000000000000000000000000000000000000000000000001","successful":true}]"#;
 
@@ -126,15 +126,15 @@ pub const PUBLISHED: &str = r#"[{"channel":"/a/b","successful":true}]"#;
 /// The reply to the publish to a service channel.
 pub const PUBLISHED_SERVICE: &str = r#"[{"channel":"/service/a","successful":true}]"#;
 
-/// Two events that ride with the reply to the first session's publish.
+/// Two waiting events, then the reply to the first session's publish.
 pub const OWN_RIDDEN: &str =
     r#"[{"channel":"/a/b","data":7},{"channel":"/a/c","data":8},{"channel":"/a/c","successful":true}]"#;
 
-/// The replies to two publishes, the second after its event.
+/// The replies to two publishes, with the second one's event between them.
 pub const SECOND_RIDDEN: &str =
     r#"[{"channel":"/a/c","successful":true},{"channel":"/a/d","data":9},{"channel":"/a/d","successful":true}]"#;
 
-/// The script of the event and the reply to the query's publish.
+/// A script: the query's event, then the reply to the query's publish.
 pub const SCRIPT_RIDDEN: &str =
     r#"cb.x([{"channel":"/a/b","data":"x\u2028y"},{"channel":"/a/b","successful":true}])"#;
 
@@ -142,10 +142,10 @@ pub const SCRIPT_RIDDEN: &str =
 pub const BOTH_OF_THE_FORM: &str =
     r#"[{"channel":"/meta/subscribe","clientId":"000000000000000000000000000000000000000000000001","subscription":"/a/*","successful":true},{"channel":"/a/x","successful":true}]"#;
 
-/// The script of the reply to the query's publish.
+/// A script: the reply to the query's publish.
 pub const SCRIPT_PUBLISHED: &str = r#"cb.x([{"channel":"/a/b","successful":true}])"#;
 
-/// The script of the query's event and the reply to the query's connect.
+/// A script: the query's event, then the reply to the query's connect.
 pub const SCRIPT_CONNECTED: &str =
     r#"cb.x([{"channel":"/a/b","data":"x\u2028y"},{"advice":{"interval":0,"reconnect":"retry","timeout":30000},"channel":"/meta/connect","clientId":"000000000000000000000000000000000000000000000001","successful":true}])"#;
 

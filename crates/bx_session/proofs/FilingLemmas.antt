@@ -1,4 +1,4 @@
--- An entry gives all its answers at its own place.
+-- Each answer has the place of the entry that gives it.
 use Rattle.std.proofs.Common.{◌≡◌, ℕ, Bool, Option, List, [], ◌∷◌, ◌++◌, map, ◌==◌, refl, sym, ap, ◌∙◌, arith}
 use Rattle.std.proofs.lemmas.{Bool.cond_both, Grind.common_steps, List.map-append}
 use Rattle.bx_advice.specs.declared.{config.Config.Config, advice.Outcome.Outcome}
@@ -11,14 +11,12 @@ use Rattle.bx_entry.specs.Sessions.{Session, Publication, Pending, Filed, releas
 use Rattle.bx_session.specs.Views.{answered_of}
 use Rattle.bx_session.specs.Filing.{filed_as, filed_at}
 
--- the answers are given at this place
 abbrev Here : ℕ → List Filed → Type 0
 Here place fs = map filed_as fs ≡ map (filed_at place) (map answered_of fs)
 
 abbrev HereIn : ℕ → Session → Type 0
 HereIn place t = Here place t.answers
 
--- one more
 pushed : (place : ℕ) (fs : List Filed) (f : Filed) → f.place ≡ place → Here place fs → Here place (fs ++ f ∷ [])
 pushed place fs f e h =
     map-append filed_as fs (f ∷ [])

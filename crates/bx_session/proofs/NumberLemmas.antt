@@ -1,11 +1,10 @@
--- No more batches are formed than there are entries.
+-- A session forms no more batches than there are entries.
 use Rattle.std.proofs.Common.{ℕ, ◌+◌, ◌≤◌, Option, List, [], ◌∷◌, length, fold, arith}
 use Rattle.std.proofs.lemmas.Grind.{common_steps}
 use Rattle.bx_advice.specs.declared.config.Config.{Config}
 use Rattle.bx_entry.specs.declared.entry.{Entry.Entry, EntryKind.EntryKind, Rider.Rider}
 use Rattle.bx_entry.specs.Words.{Session, unopened, step_by, ridden_by, rider_of, step, session, Kept, resumed, kept_step}
 
--- one batch more at most was formed
 step_n : (config : Config) (place moment : ℕ) (t : Session) (kind : EntryKind) → (step_by config place moment t kind).num ≤ t.num + 1
 step_n config place moment t kind = grind (arith, common_steps)
 

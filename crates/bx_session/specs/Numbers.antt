@@ -8,6 +8,6 @@ use Rattle.bx_entry.specs.declared.entry.Entry.{Entry}
 abbrev pub NumbersStep : Type 0
 NumbersStep = (config : Config) (k : Kept) (e : Entry) → (kept_step config k e).num ≤ k.num + 1
 
--- A session forms at most as many batches as there are entries.
+-- A session forms no more batches than there are entries.
 abbrev pub NumbersCount : Type 0
 NumbersCount = (config : Config) (number : ℕ) (es : List Entry) → (session config number es).num ≤ length es

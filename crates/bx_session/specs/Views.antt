@@ -1,4 +1,4 @@
--- A session as the program stores it, and the answers of its calls, in terms of the definition.
+-- A session as the program stores it, and the answers that its calls return.
 use Rattle.std.specs.Prelude.{ℕ, ◌+◌, ◌≤◌, ◌^◌, ◌&&◌, min, length, is_some, Bool, true, false, List, [], ◌∷◌, ◌++◌, nat_lt, if◌then◌else◌, Option, Some, None}
 use Rattle.std.specs.Option.{option_to_list}
 use Rattle.bx_advice.specs.declared.{config.Config.Config, advice.Outcome.Outcome}
@@ -14,7 +14,7 @@ pub record WithRoom : Type 0 where
   pub kept : Kept
   pub spare : ℕ
 
--- At most as many batches were formed as the list may have entries.
+-- The number of batches is at most the greatest length of the list.
 abbrev pub Countable : Kept → Type 0
 Countable k = k.num ≤ greatest_length
 
@@ -22,7 +22,7 @@ Countable k = k.num ≤ greatest_length
 abbrev pub wants_two : Kept → Bool
 wants_two k = k.ack && is_some k.held
 
--- How many events a rider's answer needs room for; the rider's own entry may add one.
+-- For how many events a rider's answer needs room; the rider itself may publish one.
 abbrev pub ride_most : Config → Kept → ℕ
 ride_most config k = if k.ack then 0 else min config.limits.batch (length k.queue + 1)
 
@@ -46,7 +46,7 @@ answered place given reply = record { place = place; answer = record { events = 
 abbrev pub answer_to : Config → Pending → List Event → Outcome → AckReply → Answered
 answer_to config p given outcome ack = answered p.place given (connect_reply config p.client p.id outcome ack)
 
--- An answer as the program gives it: its events without their places.
+-- An answer as the program returns it: its events without their places.
 abbrev pub answered_of : Filed → Answered
 answered_of f = answered f.connect (events_of f.publications) f.reply
 

@@ -1,10 +1,10 @@
-//! What a session returns for a connect or an event.
+//! The answers of a session, and the results of a connect and a delivery.
 use bx_message::Answer;
 
 /// The answer to a connect or a rider.
 #[derive(Drop)]
 pub struct Answered {
-    /// The place of the connect or rider in the list.
+    /// The place of the connect or rider.
     pub place: u64,
     /// The events, oldest first, and the reply.
     pub answer: Answer,

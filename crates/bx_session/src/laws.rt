@@ -2,7 +2,7 @@
 ghost use Rattle.bx_session.specs.Filing.{FilesAlike};
 ghost use Rattle.bx_session.specs.Numbers.{NumbersCount, NumbersStep};
 
-/// Proves that an entry gives all its answers at its own place.
+/// Proves that each answer has the place of the entry that gives it.
 pub fn files_alike()
     ensures { FilesAlike }
 {}
@@ -12,7 +12,7 @@ pub fn numbers_step()
     ensures { NumbersStep }
 {}
 
-/// Proves that no more batches are formed than there are entries.
+/// Proves that a session forms no more batches than there are entries.
 pub fn numbers_count()
     ensures { NumbersCount }
 {}

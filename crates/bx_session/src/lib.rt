@@ -1,4 +1,4 @@
-//! One session: its batches, its held connect, its overflow and its end.
+//! One session: its subscriptions, connects, deliveries and riders.
 #![tactic(auto)]
 
 mod answered;

@@ -43,8 +43,9 @@ impl Model for PendingConnect {
 impl PendingConnect {
     /// Creates the connect at `place` in the list, sent by client id `client`.
     ///
-    /// `id`: the message's, which the reply repeats. `moment`: milliseconds since the server
-    /// started. `hold`: how long the connect may be held from then on, in milliseconds.
+    /// `id`: the message's `id`, which the reply repeats. `moment`: milliseconds since the server
+    /// started. `hold`: how long the connect may be held from then on, in milliseconds. If it is 0,
+    /// the connect is answered at once.
     ///
     /// # Errors
     ///
@@ -84,7 +85,7 @@ impl PendingConnect {
         self.place
     }
 
-    /// Returns the moment at which the hold ends, in milliseconds.
+    /// Returns the moment at which the hold ends, in milliseconds since the server started.
     ///
     /// Returns `None` if that does not fit in 64 bits.
     pub fn deadline(&self) -> Option<u64>

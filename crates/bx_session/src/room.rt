@@ -26,7 +26,7 @@ impl Model for RideRoom {
 }
 
 impl RideRoom {
-    /// Reserves room for `count` events.
+    /// Creates room for `count` events.
     ///
     /// # Errors
     ///

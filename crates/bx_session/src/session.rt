@@ -30,7 +30,7 @@ use std::marker::Model;
 /// events that it sends until its client acknowledges them. A plain session drops them.
 ///
 /// With too many patterns or events a session overflows. It drops its events, and later connects
-/// fail. The caller, which keeps the patterns, must then remove them. A held connect stays held.
+/// fail. The caller, which stores the patterns, must then remove them. A held connect stays held.
 /// Overflow is a policy of this server.
 #[derive(Drop)]
 pub struct Session {
@@ -74,7 +74,7 @@ impl Model for Session {
 }
 
 impl Session {
-    /// Creates a live session.
+    /// Creates live session `number`, without patterns or events.
     ///
     /// `ack`: whether the session acknowledges batches. Does not allocate.
     ///
@@ -107,7 +107,7 @@ impl Session {
         self.patterns
     }
 
-    /// Returns the last batch's number, or 0 before the first.
+    /// Returns the number of the last batch, or 0 before the first.
     pub fn last_batch(&self) -> u64
         ensures { result ≡ self.now.kept.num }
     {
@@ -137,8 +137,8 @@ impl Session {
 
     /// Adds `patterns` and returns `true` if the session overflows.
     ///
-    /// `fresh`: how many active patterns this adds. After an overflow, changes nothing and returns
-    /// `false`.
+    /// It overflows if it would have more than `config.limits.patterns` active patterns. After an
+    /// overflow, changes nothing and returns `false`. `fresh`: how many active patterns this adds.
     pub fn subscribe(&mut self, config: &Config, patterns: &[Pattern], fresh: usize) -> bool
         requires fresh { length self.old.kept.patterns + fresh ≡ length (fold with_pattern self.old.kept.patterns patterns.now) }
         ensures overflows { result ≡ (not self.old.kept.overflow && self.new.kept.overflow) }
@@ -214,7 +214,7 @@ impl Session {
         }
     }
 
-    // Returns how many events a connect acknowledges, and how many after those it gets.
+    // Returns how many events a connect acknowledges, and how many of the following ones it gets.
     fn look_ahead(&self, config: &Config, acked: Option<u64>) -> (usize, usize)
         ensures part { take result.1 (drop result.0 self.now.kept.queue) ≡ given config.now (acknowledged acked (resumed self.now.kept)) }
         ensures none { given config.now (acknowledged acked (resumed self.now.kept)) ≡ [] → result.1 ≡ 0 }
@@ -295,12 +295,14 @@ impl Session {
 
     /// Answers or holds a connect that acknowledges batch `acked`, if any.
     ///
-    /// The connect held before ends as superseded. After an overflow, the new one fails. Otherwise:
+    /// A connect that was held is answered as superseded. After an overflow, the new one fails.
     ///
-    /// - An acknowledging session drops the events that `acked` covers. It sends the outstanding
-    ///   batch again, or forms the next one.
-    /// - A plain session sends its first events and drops them.
-    /// - Without events, the connect is held if it may be, and otherwise answered.
+    /// An acknowledging session drops the outstanding batch if `acked` is at least its number. If a
+    /// batch is still outstanding, the session sends it again. If not, it forms the next one.
+    ///
+    /// A plain session sends its first events, at most one batch, and drops them.
+    ///
+    /// If there are no events to send, the connect is held if it may be, and otherwise answered.
     ///
     /// Bayeux 1.0, connect; CometD's acknowledgement extension. Superseding is a policy of this
     /// server.
@@ -354,7 +356,7 @@ impl Session {
 
     /// Clones `event` for [`deliver`](Self::deliver) if an acknowledging session holds a connect.
     ///
-    /// The event is then both sent and kept.
+    /// The event is then both sent and kept. In all other cases, returns `None`.
     ///
     /// # Errors
     ///
@@ -382,7 +384,7 @@ impl Session {
     ///
     /// Sends it to the held connect, or queues it if no connect is held. An acknowledging session
     /// that sends it also keeps `further`, from [`further`](Self::further), as its next batch. If
-    /// the event would exceed a limit, the session overflows instead.
+    /// the event would exceed a limit of `config`, the session overflows instead.
     ///
     /// Call [`reserve`](Self::reserve) first. The session must not have overflowed. Does not
     /// allocate.
@@ -426,7 +428,8 @@ impl Session {
 
     /// Reserves room for the events sent with the reply to a rider, a request's last message.
     ///
-    /// These are the queued events and one that the rider may publish, up to one batch.
+    /// These are the queued events and one that the rider may publish, at most one batch. An
+    /// acknowledging session sends none.
     ///
     /// # Errors
     ///
@@ -444,7 +447,7 @@ impl Session {
 
     /// Removes the events to send with the reply to a rider, and returns them in `room`.
     ///
-    /// A plain session sends its first events, up to one batch. An acknowledging session sends
+    /// A plain session sends its first events, at most one batch. An acknowledging session sends
     /// none. Does not allocate.
     ///
     /// Policy of this server.
@@ -487,7 +490,7 @@ impl Session {
     }
 }
 
-// Clones `count` of the events after the first `behind`.
+// Clones a part of `events`: at most `count`, after those to skip.
 fn clone_part(
     alloc: Global,
     events: Iter<'_, SharedEvent>,

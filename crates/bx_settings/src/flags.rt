@@ -31,12 +31,12 @@ const CONNECTIONS: &str = "a number";
 
 /// Parses the flags in `words`.
 ///
-/// Without `--shards` there are as many shards as `processors`, at least 1 and at most 64.
+/// `processors`: the number of shards if `--shards` is not given, but at least 1 and at most 64.
 ///
 /// # Errors
 ///
-/// If a flag or a value is wrong, or memory runs out; each error has a text for the user. `--help`
-/// and `--version` are errors too, with their texts.
+/// An error with a text for the user if a flag or a value is wrong, or memory runs out. `--help`
+/// and `--version` also return an error, with the text to print.
 pub fn read_flags<'a>(
     alloc: Global,
     words: &'a [String],
@@ -75,7 +75,7 @@ pub fn read_flags<'a>(
     })
 }
 
-// Returns the configuration that the flags give.
+// Returns the configuration that the flags give: shards, times, options and limits.
 fn read_config(
     alloc: Global,
     command: &mut Command<'_>,
@@ -108,7 +108,8 @@ fn read_config(
     }
 }
 
-// Creates a configuration with the shards that `--shards` gives, or one for each processor.
+// Creates a configuration with the number of shards from `--shards`, or one for each processor.
+// Returns `None` if the number is wrong.
 fn config_of(
     matches: &ArgMatches<'_>,
     processors: usize,
@@ -123,7 +124,7 @@ fn config_of(
     Config::new(shards, timeout, interval, max_interval)
 }
 
-// Applies the value of flag `name`, if it is given. Returns `None` if the value is wrong.
+// Applies `with` to the value of flag `name`, if it is given, or returns `None` if it is wrong.
 fn with_number<F: FnOnce(Config, u32) -> Option<Config>>(
     config: Config,
     matches: &ArgMatches<'_>,
@@ -138,7 +139,8 @@ fn with_number<F: FnOnce(Config, u32) -> Option<Config>>(
     }
 }
 
-// Returns the size limit of a body, or `None` if it is out of range. The default is [`BODY_LIMIT`].
+// Returns the greatest length of a body in bytes, by default `BODY_LIMIT`. Returns `None` if
+// `--body` is wrong.
 fn body_of(matches: &ArgMatches<'_>) -> Option<usize>
     ensures { IfSome result (λ bytes. (1 ≤ bytes) × (bytes ≤ BODY_LIMIT)) }
 {
@@ -152,7 +154,7 @@ fn body_of(matches: &ArgMatches<'_>) -> Option<usize>
     Some(bytes)
 }
 
-// Returns the value of flag `name` in milliseconds. `standard` is its default.
+// Returns the value of flag `name` in milliseconds, by default that of `standard`.
 fn read_time(
     alloc: Global,
     command: &mut Command<'_>,
@@ -166,7 +168,7 @@ fn read_time(
     }
 }
 
-// Returns the value of flag `name`, or `standard`.
+// Returns the value of flag `name`, by default `standard`.
 fn value_of<'a>(matches: &ArgMatches<'a>, name: &str, standard: &'static str) -> &'a str {
     match matches.get_str(name) {
         Some(text) => text,
@@ -174,7 +176,8 @@ fn value_of<'a>(matches: &ArgMatches<'a>, name: &str, standard: &'static str) ->
     }
 }
 
-// Creates the error for a wrong value of flag `name`.
+// Creates the error for a wrong value of flag `name`. `kind`: the name of the value in the help.
+// `right`: the accepted values.
 fn wrong(
     alloc: Global,
     command: &mut Command<'_>,

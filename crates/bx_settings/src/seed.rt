@@ -5,7 +5,9 @@ use std::io::{ErrorKind, Read};
 use std::rt::Files;
 use std::{fs, io};
 
-/// Parses 64 hexadecimal digits, the upper one of each byte first, or returns `None`.
+/// Parses 64 hexadecimal digits, or returns `None` if `digits` are not that.
+///
+/// The first two digits are the first byte, with its upper half first.
 pub fn read_digits(digits: &[u8]) -> Option<[u8; 32]> {
     if digits.len() != 64 {
         return None;
@@ -28,11 +30,12 @@ fn digit_of(digit: u8) -> Option<u8>
     }
 }
 
-/// Reads the seed from a file, which must begin with its 64 hexadecimal digits.
+/// Reads the seed from the file at `path`, which must begin with its 64 hexadecimal digits.
 ///
 /// # Errors
 ///
-/// The file's error if 64 bytes cannot be read; `InvalidData` if these are not hexadecimal digits.
+/// The error of the file if it cannot be opened, or 64 bytes cannot be read; `InvalidData` if these
+/// are not hexadecimal digits.
 pub fn read_seed<R: Files>(rt: &R, path: &str) -> io::Result<[u8; 32]> {
     let mut file = fs::open(rt, path)?;
     let mut digits = [0; 64];

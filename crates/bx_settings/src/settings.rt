@@ -1,3 +1,4 @@
+//! The settings of `bayeuxd`, and where its seed is from.
 ghost use Rattle.std.specs.Prelude.{◌≤◌};
 ghost use Rattle.bx_advice.specs.declared.config.TheConstants.{BODY_LIMIT};
 
@@ -8,26 +9,26 @@ use bx_advice::Config;
 pub enum Seed<'a> {
     /// The operating system.
     Drawn,
-    /// The file of this name, read by [`crate::read_seed`].
+    /// The file with this name, which [`read_seed`](crate::read_seed) reads.
     File(&'a str),
-    /// The arguments, which give the seed itself.
+    /// The arguments. The value is the seed itself.
     Said([u8; 32]),
 }
 
 /// The settings of `bayeuxd`.
 #[derive(Clone, Copy, Debug)]
 pub struct Settings<'a> {
-    /// The address to listen on: a host's name or IP address, a colon and a port.
+    /// The address to listen on: a host name or IP address, and a port, as in `localhost:8087`.
     pub listen: &'a str,
     /// The address of the read-only listener, if any, in the form of `listen`.
     pub readers: Option<&'a str>,
     /// The number of shards, the times in milliseconds, the limits and the options.
     pub config: Config,
-    /// The most bytes that a request's body or query may have: 1 to [`bx_advice::BODY_LIMIT`].
+    /// The greatest length in bytes of a request's body or query: 1 to [`bx_advice::BODY_LIMIT`].
     pub body: usize,
     /// The seed of the generator of nonces.
     pub seed: Seed<'a>,
-    /// How many connections to serve before the server ends, or 0 for any number.
+    /// The number of connections after which the server ends, or 0 if it serves any number.
     pub connections: u64,
     /// The address of the listener for metrics, if any, in the form of `listen`.
     pub figures: Option<&'a str>,

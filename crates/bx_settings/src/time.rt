@@ -1,8 +1,8 @@
-//! Times in the form of flags, such as `30s`.
+//! Times as flags give them, such as `30s`.
 
 /// Converts a text such as `30s`, `500ms` or `500` to milliseconds.
 ///
-/// Returns `None` for any other text, and if the result exceeds 32 bits.
+/// Returns `None` for any other text, or if the result exceeds 32 bits.
 pub(crate) fn milliseconds(text: &str) -> Option<u32> {
     match text.strip_suffix("s") {
         Some(front) => match front.strip_suffix("m") {

@@ -10,15 +10,15 @@ use std::net::SocketAddr;
 
 /// Parses positional arguments, or returns `None` if they are wrong.
 ///
-/// They are, in this order:
+/// The arguments are, in this order:
 ///
-/// - an IP address with a port
-/// - the number of shards, 1 to 64
-/// - `timeout`, `interval` and `max_interval`, in milliseconds, up to 32 bits
-/// - the seed, 64 hexadecimal digits
-/// - the number of connections
-/// - optionally the options, as for [`Options::read`]; `-` for none
-/// - optionally how many events may wait for a session: 1 to 65,536, by default 1,024
+/// - an IP address and a port to listen on
+/// - the number of shards: 1 to 64
+/// - `timeout`, `interval` and `max_interval`: in milliseconds, up to 32 bits
+/// - the seed: 64 hexadecimal digits
+/// - the number of connections after which the server ends: 0 for any number
+/// - optionally the options: as for [`Options::read`]
+/// - optionally the number of events that may wait for a session: 1 to 65,536, by default 1,024
 pub fn read_words(words: &[String]) -> Option<Settings<'_>>
     ensures { IfSome result (IsSaidBy (map string_bytes words.now)) }
 {
@@ -67,7 +67,7 @@ fn config_of(shards: &[u8], timeout: &[u8], interval: &[u8], max_interval: &[u8]
     )
 }
 
-// Applies the optional arguments to `config`.
+// Applies the optional arguments to `config`, or returns `None` if they are wrong.
 fn with_more(config: Config, words: &[String]) -> Option<Config>
     ensures shards { IfSome result (λ c. c.shards ≡ config.shards) }
     ensures times { IfSome result (λ c. (c.timeout ≡ config.timeout) × (c.interval ≡ config.interval) × (c.max_interval ≡ config.max_interval)) }

@@ -1,4 +1,4 @@
--- A shard whose sessions have followed an entry has applied it.
+-- A shard has applied an entry if its sessions have.
 use Rattle.std.proofs.Common.{◌≡◌, ◌≤◌, ◌+◌, ℕ, Bool, None, arith, refl, sym, ap, ◌∙◌}
 use Rattle.bx_advice.specs.declared.config.Config.{Config}
 use Rattle.bx_entry.specs.declared.entry.Entry.{Entry}
@@ -8,11 +8,9 @@ use Rattle.bx_shard.specs.Words.{Followed, Applied, IsSound, State, opens_in}
 use Rattle.bx_shard.proofs.{Gives.given_unanswered, Onwards.begun_none}
 
 module _ (shards : ℕ) (placing : ℕ → ℕ → ℕ) (index : ℕ) (shut : Bool) where
-  -- the state of these sessions at this place
   abbrev pub at_place : ℕ → Sessions → State
   at_place place s = record { setup = record { config = s.config; shards = shards; placing = placing }; index = index; place = place; shut = shut; sessions = s }
 
-  -- sessions that have followed an entry
   pub applied : (place : ℕ) (e : Entry) (old new : Sessions) → e.place ≡ place → Followed (opens_in (at_place place old).setup index e.kind) e old new
       → Applied (at_place place old) e (at_place (place + 1) new)
   applied place e old new here f = record {
@@ -25,7 +23,6 @@ module _ (shards : ℕ) (placing : ℕ → ℕ → ℕ) (index : ℕ) (shut : Bo
     known = f.known;
   }
 
-  -- nothing is known of the places behind the entry
   pub still_fresh : (place : ℕ) (e : Entry) (old new : Sessions) → e.place ≡ place → IsSound (at_place place old)
       → Followed (opens_in (at_place place old).setup index e.kind) e old new → (p : ℕ) → place + 1 ≤ p → connect_at new.connects p ≡ None
   still_fresh place e old new here sound f p behind =

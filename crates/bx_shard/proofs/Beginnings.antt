@@ -1,4 +1,4 @@
--- A connect of a session: the hold that it ends, its own, and what is filed of both.
+-- A connect: the hold that it supersedes, its own hold, and the answers to both.
 use Rattle.std.proofs.Common.{arith, Contains, ◌≡◌, ◌≢◌, ℕ, nat_eq, Bool, cond, Option, Some, None, option_map, is_none, List, [], ◌∷◌, ◌++◌, map, refl, sym, ap, ◌∙◌, true≢false, subst}
 use Rattle.std.specs.Option.{option_map_or}
 use Rattle.std.proofs.lemmas.{Bool.eq-eqb, List.Elements.Contains-append_left, List.Elements.Contains-append_right}
@@ -19,18 +19,15 @@ use Rattle.bx_shard.proofs.Ties as ties
 
 -- ---- several answers
 
--- filing looks at the connects alone
 pub filing_along : (place : ℕ) (answers : List Answered) (C D : ℕ → Option ConnectState) → ((p : ℕ) → C p ≡ D p) → (p : ℕ) → filing_each place answers C p ≡ filing_each place answers D p
 filing_along place answers C D same p = grind arith
 
--- some answers after others
 pub filing_more : (place : ℕ) (first rest : List Answered) (C : ℕ → Option ConnectState) (p : ℕ) → filing_each place (first ++ rest) C p ≡ filing_each place rest (filing_each place first C) p
 filing_more place [] rest C p = filing_along place rest C (filing_each place [] C) (λ q. refl) p
 filing_more place (a ∷ first) rest C p = filing_more place first rest (filing place (Some a) C) p
 
 -- ---- a connect begins
 
--- what became of the connects, with one more, is the same whichever comes first: it is held, or those before it are answered
 module _ (at m : ℕ) (connect : Pending) where
   pub held_first : (answers : List Answered) (C : ℕ → Option ConnectState) → AreElsewhere connect.place answers
       → (p : ℕ) → filing_each at answers (holding m connect C) p ≡ holding m connect (filing_each at answers C) p
@@ -40,21 +37,18 @@ module _ (at m : ℕ) (connect : Pending) where
       filing_along at rest (filing at (Some a) (holding m connect C)) (holding m connect (filing at (Some a) C)) (λ q. grind (arith, first)) p
       ∙ held_first rest (filing at (Some a) C) (λ b there. apart b (Contains-append_right (a ∷ []) rest b there)) p
 
--- ---- a connect of a session that is here
+-- ---- a connect of a session in the shard
 
 module _ (config : Config) (connect : Pending) (acked : Option ℕ) where
-  -- what was answered by the end of the hold
   abbrev pub superseded : Kept → List Answered
   superseded k = map answered_of (answers_of (released config connect.place (Failed SupersededConnect)) k)
 
-  -- and by the connect itself
   abbrev pub own_answers : Kept → List Answered
   own_answers k = map answered_of (answers_of (admitted config connect acked k.overflow) (after unheld k))
 
   pub both_answers : (k : Kept) → superseded k ++ own_answers k ≡ answers_by (connected config connect acked) (Some k)
   both_answers k = connected_answers config connect acked k (superseded k) (own_answers k) refl refl
 
-  -- they are to the connect that the session held, and to the one that it holds then
   pub is_superseded : (k : Kept) (a : Answered) → Contains (superseded k) a → IsTo (Some k) (superseded k) a
   is_superseded k a = is_to (Some k) (Some (kept (released config connect.place (Failed SupersededConnect) (resumed k)))) (superseded k) a (released_e config connect.place (Failed SupersededConnect) k)
 
@@ -67,7 +61,6 @@ module _ (config : Config) (connect : Pending) (acked : Option ℕ) where
       to.own ∙ ap (λ (o : Option Pending). option_map_or (λ (q : Pending). q.place) o connect.place) (sym (to_hold (Some (with_hold connect (after unheld k))) (own_answers k) a to))
 
   module _ (C D : ℕ → Option ConnectState) (S T : ℕ → Option Kept) (m : ℕ) where
-    -- the connect that is superseded is another
     pub others_superseded : (k : Kept) → S m ≡ Some k → Agree C S → C connect.place ≡ None → AreElsewhere connect.place (superseded k)
     others_superseded k here agree fresh a there same =
         let to : IsTo (S m) (superseded k) a = subst (λ o. IsTo o (superseded k) a) (sym here) (is_superseded k a there) in

@@ -1,4 +1,4 @@
--- What holds whether there is a value or none.
+-- A case distinction on an optional value.
 use Rattle.std.proofs.Common.{◌≡◌, Option, Some, None, refl}
 
 pub by_option : {X : Type 0} (G : Option X → Type 0) (o : Option X) → (o ≡ None → G None) → ((x : X) → o ≡ Some x → G (Some x)) → G o

@@ -1,4 +1,4 @@
--- Sessions that close one after another take the connects along that they hold, and no others.
+-- Closing sessions drops the connects that they hold, and no others.
 use Rattle.std.proofs.Common.{arith, ◌≡◌, ℕ, nat_eq, ◌==◌, ◌||◌, ◌+◌, ◌<◌, Bool, cond, Option, Some, None, List, [], length, take, get_or}
 use Rattle.std.specs.List.{list_any}
 use Rattle.std.proofs.lemmas.List.Folds.{list_any_more}
@@ -8,26 +8,21 @@ use Rattle.bx_connects.specs.declared.connects.ConnectState.TheVariants.{Held, F
 use Rattle.bx_shard.specs.Words.{forgetting, held_in, held_until, let_go}
 use Rattle.bx_shard.proofs.Ties.{Agree}
 
--- nothing is known any longer of the connect where this session holds it
 abbrev pub parted_from : ℕ → Option ConnectState → Option ConnectState
 parted_from m None = None
 parted_from m (Some (Held session deadline waker)) = cond (nat_eq m session) None (Some (Held session deadline waker))
 parted_from m (Some (Filed session place answer)) = Some (Filed session place answer)
 
--- a connect that the session holds is let go
 parted_own : (m : ℕ) (o : Option ConnectState) (deadline : Option ℕ) → held_until o m ≡ Some deadline → None ≡ parted_from m o
 parted_own m o deadline h = grind arith
 
--- any other connect stays
 parted_other : (m : ℕ) (o : Option ConnectState) → held_until o m ≡ None → o ≡ parted_from m o
 parted_other m o h = grind arith
 
--- what the end of a session forgets is the connect that it holds
 pub closing_parts : (C : ℕ → Option ConnectState) (S : ℕ → Option Kept) (m : ℕ) → Agree C S
     → (p : ℕ) → forgetting (held_in (S m)) C p ≡ parted_from m (C p)
 closing_parts C S m agree p = grind (arith, agree p m)
 
--- with no session closed nothing is let go
 pub let_go_none : (o : Option ConnectState) → o ≡ let_go [] o
 let_go_none o = grind arith
 
@@ -38,10 +33,8 @@ module _ (numbers : List ℕ) (i : ℕ) (more : i < length numbers) where
   one_more : (n : ℕ) → list_any (λ m. m == n) (take (i + 1) numbers) ≡ (list_any (λ m. m == n) (take i numbers) || nat_eq (get_or numbers i 0) n)
   one_more n = list_any_more (λ m. m == n) numbers i 0 more
 
-  -- one session more lets go what it holds
   pub let_go_more : (o : Option ConnectState) → parted_from (get_or numbers i 0) (let_go (take i numbers) o) ≡ let_go (take (i + 1) numbers) o
   let_go_more o = grind (arith, one_more)
 
-  -- and is gone
   pub gone_more : (n : ℕ) (o : Option Kept) → cond (nat_eq (get_or numbers i 0) n) None (cond (list_any (λ m. m == n) (take i numbers)) None o) ≡ cond (list_any (λ m. m == n) (take (i + 1) numbers)) None o
   gone_more n o = grind (arith, one_more n)

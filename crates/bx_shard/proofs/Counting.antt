@@ -1,4 +1,4 @@
--- An entry lets each session form one batch at most.
+-- A session forms at most one batch at each entry.
 use Rattle.std.proofs.Common.{◌≡◌, ◌≤◌, ◌+◌, ℕ, nat_le, Bool, true, Option, Some, None, IfSome, arith, refl, ap, ◌∙◌}
 use Rattle.std.proofs.Math.Dec.{leb}
 use Rattle.std.proofs.lemmas.{Bool.cond_both, Bool.Decides.nat_tests}
@@ -19,7 +19,6 @@ passed a b h = grind (arith, nat_tests)
 
 -- ---- an entry
 
--- a session that an entry opens has formed none
 opening_none : (stands : Bool) (kind : EntryKind) (n : ℕ) → IfSome (opening stands kind n) (λ (k : Kept). k.num ≡ 0)
 opening_none stands kind n = grind arith
 
@@ -37,7 +36,6 @@ module _ (config : Config) (stands : Bool) (e : Entry) (n count : ℕ) where
   after_few None few = opened_few (opening stands e.kind n) (opening_none stands e.kind n) refl
   after_few (Some k) few = stepped_few k (passed k.num count few)
 
--- after an entry no session has formed more batches than before and one
 pub formed_few : (stands : Bool) (e : Entry) (count : ℕ) (old new : Sessions) → ((n : ℕ) → kept_in new n ≡ session_after old.config stands e n (kept_in old n))
     → ((n : ℕ) → has_formed_at_most count (kept_in old n) ≡ true) → (n : ℕ) → has_formed_at_most (count + 1) (kept_in new n) ≡ true
 formed_few stands e count old new sessions few n = ap (has_formed_at_most (count + 1)) (sessions n) ∙ after_few old.config stands e n count (kept_in old n) (few n)

@@ -1,4 +1,4 @@
--- Sessions stand with their patterns, whatever a change does.
+-- After each change, the tree still has exactly the patterns of the sessions.
 use Rattle.std.proofs.Common.{arith, ◌≡◌, ℕ, nat_eq, true, false, cond, Option, Some, None, option_map, List, [], fold, sym, ◌∙◌}
 use Rattle.std.proofs.lemmas.Grind.{common_steps}
 use Rattle.bx_names.specs.Words.{Glob, with_pattern}
@@ -8,7 +8,6 @@ use Rattle.bx_entry.specs.Sessions.{Publication, Session, published, received, s
 use Rattle.bx_theory.proofs.Keeps.{Keeps}
 use Rattle.bx_shard.specs.Sessions.{IsCounted, IsOwn}
 
--- what is counted of one session is counted of all, where the others are as they were
 pub counts_along : (S T : ℕ → Option Kept) (P : ℕ → List Glob) (m : ℕ) (after : Option Kept) → ((n : ℕ) → IsCounted n (S n) (P n)) → ((n : ℕ) → T n ≡ cond (nat_eq m n) after (S n)) → IsCounted m after (P m) → (n : ℕ) → IsCounted n (T n) (P n)
 counts_along S T P m after counted on own n = grind arith
 
@@ -22,14 +21,12 @@ own_keeps n k t patterns s own = record {
   emptied = λ h. own.emptied (sym s.overflow ∙ h);
 }
 
--- such a change of the session of this number, if it is here
 pub keeps_counts : (change : Session → Session) → ((k : Kept) → Keeps (resumed k) (change (resumed k))) → (n : ℕ) (o : Option Kept) (patterns : List Glob) → IsCounted n o patterns → IsCounted n (option_map (after change) o) patterns
 keeps_counts change keeps n None patterns counted = counted
 keeps_counts change keeps n (Some k) patterns counted = own_keeps n k (change (resumed k)) patterns (keeps k) counted
 
 -- ---- changes of the patterns
 
--- the number and the stage are as they were, and these patterns are left, or none after an overflow
 pub record Leaves (k : Kept) (left : List Glob) (t : Session) : Type 0 where
   pub number : t.number ≡ k.number
   pub stage : t.stage ≡ k.stage
@@ -44,10 +41,8 @@ received_l config e k full = grind (arith, common_steps)
 
 -- ---- stages and answers
 
--- an event leaves the stage
 pub published_stage : (k : Kept) (config : Config) (e : Publication) → (published config e (resumed k)).stage ≡ k.stage
 published_stage k config e = grind (arith, common_steps)
 
--- a subscription answers nothing
 pub subscribed_quiet : (k : Kept) (config : Config) (ps : List Glob) → (subscribed config ps (resumed k)).answers ≡ []
 subscribed_quiet k config ps = grind (arith, common_steps)

@@ -32,18 +32,15 @@ same_numbers change rs ts m = ap numbers m.is ∙ numbers_through change rs m.sa
 
 -- ---- one element
 
--- the entry of a verdict over the registry
 abbrev entry_by : Registry → Listed → Verdict → Entry
 entry_by r x v = (found_at (length r.judged) (max r.clock (moment_of x)) v).entry
 
--- it opens at most the next number, and leaves a session that isn't opened as it is
 record Adds (config : Config) (r : Registry) (x : Listed) (v : Verdict) : Type 0 where
   sessions : numbers v.state.sessions ≡ numbers r.sessions ++ opened_numbers v.kind
   new : (n : ℕ) → n < 1 + length r.sessions → opens_by n v.kind ≡ false
   fresh : (n : ℕ) → length v.state.sessions < n → step config (unopened n) (entry_by r x v) ≡ unopened n
   longer : length r.sessions ≤ length v.state.sessions
 
--- no rider is one of a session that isn't opened
 no_ride : (config : Config) (place n : ℕ) (rides : Option Rider) → ridden_by config place (unopened n) rides ≡ unopened n
 no_ride config place n rides = grind (arith, common_steps)
 
@@ -51,7 +48,6 @@ none_numbered : (k : EntryKind) → ((n : ℕ) → opens_by n k ≡ false) → o
 none_numbered (Opened n ack) none = absurd (let no : true ≡ false = sym (eq-eqb n n refl) ∙ none n in cc)
 none_numbered _ none = refl
 
--- where it opens none
 opens_none : (config : Config) (r : Registry) (x : Listed) (v : Verdict) (change : Registered → Registered) → Mapped change r.sessions v.state.sessions → ((n : ℕ) → opens_by n v.kind ≡ false) →
     ((place moment n : ℕ) → length r.sessions < n → step_by config place moment (unopened n) v.kind ≡ unopened n) → Adds config r x v
 opens_none config r x v change m opens fresh =
@@ -73,7 +69,6 @@ sessionless_fresh config place moment c m n = grind (arith, common_steps)
 tick_fresh : (config : Config) (place moment : ℕ) (numbers : List ℕ) (n : ℕ) → step_by config place moment (unopened n) (Tick numbers) ≡ unopened n
 tick_fresh config place moment numbers n = grind (arith, common_steps)
 
--- the entry that one more element comes to
 abbrev pub entry_next : Config → List Listed → Listed → Entry
 entry_next config ys x = (next_found config (registry config ys) x).entry
 
@@ -116,7 +111,6 @@ pub session_next : (config : Config) (number : ℕ) (ys : List Listed) (x : List
     session config number (entries_of (registry config (ys ++ x ∷ []))) ≡ step config (session config number (entries_of (registry config ys))) (entry_next config ys x)
 session_next config number ys x = ap (session config number) (entries_behind config ys (x ∷ [])) ∙ fold-append (step config) (unopened number) (entries_of (registry config ys)) (entry_next config ys x ∷ [])
 
--- who isn't opened is as at the start
 pub all_fresh : (config : Config) (ys : List Listed) (n : ℕ) → length (registry config ys).sessions < n → session config n (entries_of (registry config ys)) ≡ unopened n
 all_fresh config ys = each_registry config (λ r. (n : ℕ) → length r.sessions < n → session config n (entries_of r) ≡ unopened n) (λ n l. refl) (λ zs x fresh n l.
     let a = adds config zs x in
@@ -124,7 +118,6 @@ all_fresh config ys = each_registry config (λ r. (n : ℕ) → length r.session
     ap (λ (t : Registry). session config n (entries_of t)) (sym (registry_next config zs x)) ∙ session_next config n zs x
     ∙ ap (λ (s : Session). step config s (entry_next config zs x)) (fresh n (omega (arith, long, a.longer))) ∙ a.fresh n long) ys
 
--- a session is opened under a number above all those that are registered
 pub opens_above : (config : Config) (ys : List Listed) (x : Listed) (n : ℕ) (ack : Bool) → (entry_next config ys x).kind ≡ Opened n ack → length (registry config ys).sessions < n
 opens_above config ys x n ack h =
     ⊎_elim (λ (l : n < 1 + length (registry config ys).sessions). absurd (let no : false ≡ true = sym (opens_no_other config ys x n l) ∙ ap (opens_by n) h ∙ eq-eqb n n refl in cc))
@@ -135,7 +128,6 @@ opens_above config ys x n ack h =
 front_of : (n : ℕ) (xs ys list : List Listed) → xs ++ ys ≡ list → length xs ≡ n → take n list ≡ xs
 front_of n xs ys list whole many = ap (take n) (sym whole) ∙ ap (λ (k : ℕ). take k (xs ++ ys)) (sym many) ∙ take-append_seam xs ys
 
--- the element at an entry's place
 pub record Met (config : Config) (list : List Listed) (n : ℕ) (e : Entry) : Type 0 where
   pub element : Listed
   pub next : take (n + 1) list ≡ take n list ++ element ∷ []

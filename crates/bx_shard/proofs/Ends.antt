@@ -1,4 +1,4 @@
--- Each change of a session ends its hold with the answer that it gives, or leaves the hold.
+-- Each change of a session answers its held connect or leaves it held.
 use Rattle.std.proofs.Common.{arith, Contains, subst, ◌≡◌, ◌⊎◌, inl, inr, ℕ, nat_eq, Bool, cond, Option, Some, None, option_map, List, [], ◌∷◌, map, refl, sym, ap, ◌∙◌}
 use Rattle.std.specs.Option.{option_and_then}
 use Rattle.std.proofs.lemmas.{Bool.cond_both, Bool.eq-eqb, Grind.common_steps}
@@ -18,7 +18,6 @@ use Rattle.bx_shard.specs.Sessions.{ends_for, held_until, holds_until}
 use Rattle.bx_shard.proofs.{Keeps.filed_known, Keeps.held_session, Singles.nowhere, Singles.only_one}
 use Rattle.bx_shard.proofs.Ties.{Agree, IsFree, IsNobody, ended, holds_own, still}
 
--- an answer ends the hold of the session
 pub record IsEnd (before after : Option Kept) (answers : List Answered) : Type 0 where
   pub session : Kept
   pub hold : Pending
@@ -29,7 +28,6 @@ pub record IsEnd (before after : Option Kept) (answers : List Answered) : Type 0
   pub own : answer.place ≡ hold.place
   pub free : IsFree after
 
--- there is no answer, and the session holds what it held
 pub record IsKept (before after : Option Kept) (answers : List Answered) : Type 0 where
   pub none : answers ≡ []
   pub same : (p : ℕ) → holds_until after p ≡ holds_until before p
@@ -37,7 +35,6 @@ pub record IsKept (before after : Option Kept) (answers : List Answered) : Type 
 abbrev pub Settles : Option Kept → Option Kept → List Answered → Type 0
 Settles before after answers = IsEnd before after answers ⊎ IsKept before after answers
 
--- an answer that is given is the only one, and is to the connect that the session held
 pub record IsTo (before : Option Kept) (answers : List Answered) (a : Answered) : Type 0 where
   pub session : Kept
   pub hold : Pending
@@ -55,11 +52,9 @@ is_to before after answers a (inr stays) there = absurd (nowhere a (subst (λ gi
 pub to_hold : (before : Option Kept) (answers : List Answered) (a : Answered) (to : IsTo before answers a) → option_and_then (λ (k : Kept). k.held) before ≡ Some to.hold
 to_hold before answers a to = ap (λ (o : Option Kept). option_and_then (λ (k : Kept). k.held) o) to.here ∙ to.held
 
--- so that connect is known as held
 pub held_to : (C : ℕ → Option ConnectState) (S : ℕ → Option Kept) (n : ℕ) (answers : List Answered) (a : Answered) → Agree C S → (to : IsTo (S n) answers a) → held_until (C a.place) n ≡ Some (deadline_of to.hold)
 held_to C S n answers a agree to = agree a.place n ∙ ap (λ o. holds_until o a.place) to.here ∙ ap (holds_until (Some to.session)) to.own ∙ holds_own to.session to.hold to.held
 
--- the only answer is filed, where its connect is known
 pub filed_only : (place n : ℕ) (answers : List Answered) (a : Answered) (C : ℕ → Option ConnectState) → answers ≡ a ∷ [] → session_at (C a.place) ≡ Some n → filing_each place answers C a.place ≡ Some (Filed n place a.answer)
 filed_only place n answers a C only known =
     ap (λ given. filing_each place given C a.place) only
@@ -86,7 +81,6 @@ module _ (C D : ℕ → Option ConnectState) (S T : ℕ → Option Kept) (m : �
   filing_agrees answers place agree on at (inr kept) =
       still C D S T agree (λ p n. ap (λ o. held_until o n) (at p ∙ ap (λ given. filing_each place given C p) kept.none)) (kept_sessions answers on kept)
 
-  -- nothing is known of what a session held that is gone
   pub forgetting_agrees : Agree C S → ((n : ℕ) → T n ≡ cond (nat_eq m n) after (S n)) → ((p : ℕ) → D p ≡ forgetting (held_in (S m)) C p) → IsFree after → Agree D T
   forgetting_agrees agree on at free = by (S m) refl
     where
@@ -103,15 +97,12 @@ module _ (C D : ℕ → Option ConnectState) (S T : ℕ → Option Kept) (m : �
 
 -- ---- the changes of one session
 
--- so it is with a session that this became of it
 abbrev pub From : Kept → Session → Type 0
 From k s = Settles (Some k) (Some (kept s)) (map answered_of s.answers)
 
--- neither its hold nor its answers change
 unchanged : (k : Kept) (s : Session) → s.answers ≡ [] → s.held ≡ k.held → From k s
 unchanged k s none same = inr (record { none = ap (map answered_of) none; same = λ p. ap (λ h. ends_for h p) same })
 
--- its hold is ended by the one answer
 ended_by : (k : Kept) (s : Session) (q : Pending) (a : Answered) → k.held ≡ Some q → map answered_of s.answers ≡ a ∷ [] → a.place ≡ q.place → s.held ≡ None → From k s
 ended_by k s q a held given own free = inl (record { session = k; hold = q; answer = a; here = refl; held = held; given = given; own = own; free = λ p. ap (λ h. ends_for h p) free })
 
@@ -133,9 +124,8 @@ delivered_e config e k held h = grind (arith, common_steps)
 pub received_e : (config : Config) (e : Publication) (k : Kept) → From k (received config e (resumed k))
 received_e config e k = grind (arith, common_steps)
 
--- ---- a connect where none is held
+-- ---- a connect while none is held
 
--- neither its hold nor its answers change by an acknowledgement, nor by what is given
 record Quiet (s t : Session) : Type 0 where
   held : t.held ≡ s.held
   answers : t.answers ≡ s.answers
@@ -146,7 +136,6 @@ acknowledged_q acked s = grind (arith, common_steps)
 gives_q : (config : Config) (s : Session) → Quiet s (gives config s)
 gives_q config s = grind (arith, common_steps)
 
--- a session that holds a connect
 abbrev pub with_hold : Pending → Kept → Kept
 with_hold p k = record k { held = Some p }
 
@@ -163,7 +152,7 @@ module _ (config : Config) (p : Pending) (k : Kept) (free : k.held ≡ None) whe
       (λ h. answered_e [] (Failed QueueOverflow) (resumed k) (record { held = refl; answers = refl }))
       (λ h. settled_e (acknowledged acked (resumed k)) (acknowledged_q acked (resumed k)))
 
--- ---- the changes of a session that is here or not
+-- ---- changes of a session that may be in another shard
 
 pub settles_each : (change : Session → Session) → ((k : Kept) → From k (change (resumed k))) → (o : Option Kept) → Settles o (option_map (after change) o) (answers_by change o)
 settles_each change each o = grind arith
@@ -171,6 +160,5 @@ settles_each change each o = grind arith
 pub tick_settles : (config : Config) (place moment : ℕ) (o : Option Kept) → Settles o (option_map (after (expired config place moment)) o) (answers_by (expired config place moment) o)
 tick_settles config place moment = settles_each (expired config place moment) (expired_e config place moment)
 
--- the end of the session
 pub release_settles : (config : Config) (place : ℕ) (o : Option Kept) → Settles o None (answers_by (released config place Disconnected) o)
 release_settles config place o = grind arith

@@ -1,4 +1,4 @@
--- What a shard has filed after one more entry.
+-- The answers that a shard has filed after one more entry.
 use Rattle.std.proofs.Common.{◌≡◌, ℕ, ◌+◌, Bool, false, Option, Some, None, List, [], ◌∷◌, ◌++◌, length, take, filter, ◌==◌, refl, sym, ap, ◌∙◌, arith, append-nil, flat_map, length-append}
 use Rattle.std.proofs.lemmas.{Bool.cond_both, Bool.cond-true, Bool.cond-false, List.Elements.filter-append, Grind.flat_map-append, List.Folds.find-append, List.Folds.flat_map-map}
 use Rattle.bx_history.proofs.Tests.{either}
@@ -18,7 +18,6 @@ use Rattle.bx_shard.proofs.Stepping.{by_numbers, held_by, one_kept, held_cons, n
 exchange : (a b c d : Option Filed) → ((f g : Filed) → a ≡ None → b ≡ Some f → c ≡ Some g → ⊥) → option_or (option_or a b) (option_or c d) ≡ option_or (option_or a c) (option_or b d)
 exchange a b c d h = grind arith
 
--- earlier answers come first, where only one session has an answer at all
 earlier_first : (place : ℕ) (A B C : ℕ → List Filed) (ns : List ℕ) → ((n : ℕ) → C n ≡ A n ++ B n) → ((n m : ℕ) (f g : Filed) → find_of place (C n) ≡ Some f → find_of place (C m) ≡ Some g → n ≡ m) →
     find_of place (flat_map C ns) ≡ option_or (find_of place (flat_map A ns)) (find_of place (flat_map B ns))
 earlier_first place A B C [] split one = refl
@@ -46,12 +45,10 @@ nothing_more : (xs ys : List Filed) → xs ≡ xs ++ ys → ys ≡ []
 nothing_more xs [] e = refl
 nothing_more xs (y ∷ ys) e = absurd (let l : length xs ≡ length (xs ++ y ∷ ys) = ap length e in omega (arith, l, length-append xs (y ∷ ys)))
 
--- only the session that the connect's slot waits for has an answer to it
 one_waiter : (config : Config) (zs : List Listed) (place n m : ℕ) (f g : Filed) → find_of place (session config n (entries_of (registry config zs))).answers ≡ Some f →
     find_of place (session config m (entries_of (registry config zs))).answers ≡ Some g → n ≡ m
 one_waiter config zs place n m f g x y = let both : Some (Waiting n) ≡ Some (Waiting m) = sym (waits_over config n place zs f x) ∙ waits_over config m place zs g y in cc
 
--- a session that the entry opens has no answers
 opened_nothing : (config : Config) (setup : Setup) (shard : ℕ) (ys : List Listed) (x : Listed) (k : EntryKind) → (entry_next config ys x).kind ≡ k →
     flat_map (λ (n : ℕ). (session config n (entries_of (registry config (ys ++ x ∷ [])))).answers) (filter (λ (n : ℕ). stands_in setup shard n) (opened_numbers k)) ≡ []
 opened_nothing config setup shard ys x (Opened n ack) h =
@@ -64,7 +61,6 @@ opened_nothing config setup shard ys x (Opened n ack) h =
     cond_both (stands_in setup shard n) (n ∷ []) [] (λ (ms : List ℕ). flat_map A ms ≡ []) (λ g. append-nil (A n) ∙ here) (λ g. refl)
 opened_nothing config setup shard ys x _ h = refl
 
--- what the live ones give is what all give
 live_answers : (config : Config) (ys : List Listed) (x : Listed) (ns : List ℕ) →
     flat_map (λ (n : ℕ). kept_answers config (kept (session config n (entries_of (registry config ys)))) (entry_next config ys x)) ns ≡ answers_by config (entry_next config ys x) (held_by config (entries_of (registry config ys)) ns)
 live_answers config ys x [] = refl
@@ -83,7 +79,6 @@ live_answers config ys x (n ∷ ns) =
     ap (λ (fs : List Filed). fs ++ F rest) (nothing_more s.answers (B n) quiet) ∙ sym (ap F (cond-false (is_live s.stage) (kept s ∷ rest) rest h)))
     ∙ sym (ap F (held_cons config es n ns))
 
--- the answers of the shard's sessions over a list
 abbrev answers_over : Setup → ℕ → List Listed → List Filed
 answers_over setup shard xs = flat_map (λ (n : ℕ). (session setup.config n (entries_of (registry setup.config xs))).answers) (numbers_in setup shard xs)
 
@@ -108,7 +103,6 @@ filed_next setup shard place ys x =
     ∙ earlier_first place A B C (filter here ns) split (λ n m f g p q. one_waiter config (ys ++ x ∷ []) place n m f g p q)
     ∙ ap (λ (fs : List Filed). option_or (find_of place (flat_map A (filter here ns))) (find_of place fs)) (live_answers config ys x (filter here ns))
 
--- what is found among those that weren't taken is found among all
 filed_at : (setup : Setup) (list : List Listed) (taken : List ℕ) (shard n place : ℕ) → is_taken taken place ≡ false →
     find_of place (shard_at setup list taken shard n).filed ≡ find_of place (answers_over setup shard (take n list))
 filed_at setup list taken shard n place free =

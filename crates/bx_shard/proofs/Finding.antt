@@ -14,12 +14,10 @@ use Rattle.bx_shard.proofs.{Cases.by_option, Untaken.find_of}
 
 -- ---- numbers
 
--- the number is below each of these
 abbrev pub Above : ℕ → List ℕ → Type 0
 Above n [] = Unit {0}
 Above n (m ∷ ms) = (n < m) × Above n ms
 
--- each is below those behind it
 abbrev pub Apart : List ℕ → Type 0
 Apart [] = Unit {0}
 Apart (n ∷ ns) = Above n ns × Apart ns
@@ -47,7 +45,6 @@ none_above : (m : ℕ) (ks : List Kept) → Above m (numbers_of ks) → find_kep
 none_above m [] h = refl
 none_above m (k ∷ ks) h = grind (arith, none_above m ks h.1, h.0)
 
--- what is found has the number, and all that holds of each
 pub found_each : (P : Kept → Type 0) (m : ℕ) (ks : List Kept) (k : Kept) → find_kept m ks ≡ Some k → All P ks → P k × (k.number ≡ m)
 found_each P m [] k e h = absurd (let no : None ≡ Some k = e in cc)
 found_each P m (j ∷ ks) k e h =
@@ -73,7 +70,6 @@ live_found F m (k ∷ ks) d h =
 abbrev pub steps : Config → Entry → List Kept → List Kept
 steps config e ks = live_of (λ (k : Kept). kept_step config k e) ks
 
--- what the session that was found becomes, where it stays live
 abbrev pub next : Config → Entry → Option Kept → Option Kept
 next config e o = live_then (λ (k : Kept). kept_step config k e) o
 
@@ -85,7 +81,6 @@ steps_found config e m ks d h = live_found (λ (k : Kept). kept_step config k e)
 or_none : (a b : Option Filed) → option_or a b ≡ None → (a ≡ None) × (b ≡ None)
 or_none a b h = grind arith
 
--- where none is found, no session has one
 pub each_none : (A : Kept → List Filed) (p : ℕ) (ks : List Kept) → find_of p (flat_map A ks) ≡ None → All (λ k. find_of p (A k) ≡ None) ks
 each_none A p [] h = All-nil (λ k. find_of p (A k) ≡ None)
 each_none A p (k ∷ ks) h =
@@ -96,7 +91,6 @@ pub none_there : (p : ℕ) (fs : List Filed) → find_of p fs ≡ None → All (
 none_there p [] h = All-nil (λ f. (f.connect == p) ≡ false)
 none_there p (f ∷ fs) h = All-cons (λ g. (g.connect == p) ≡ false) f fs (grind arith) (none_there p fs (grind arith))
 
--- the session that has the answer, and that is found by its number
 pub record GivenBy (A : Kept → List Filed) (ks : List Kept) (p : ℕ) (f : Filed) : Type 0 where
   pub one : Kept
   pub found : find_kept one.number ks ≡ Some one
@@ -113,7 +107,6 @@ given_by A (k ∷ ks) p f d h =
     (λ g a b. record { one = k; found = grind arith; gives = a ∙ b })
     (sym (find-append (λ (g : Filed). g.connect == p) (A k) (flat_map A ks)) ∙ h)
 
--- what is found is one of them
 pub contains_found : (p : ℕ) (fs : List Filed) (f : Filed) → find_of p fs ≡ Some f → Contains (map answered_of fs) (answered_of f)
 contains_found p [] f h = absurd (let no : None ≡ Some f = h in cc)
 contains_found p (g ∷ fs) f h =
@@ -125,7 +118,6 @@ contains_found p (g ∷ fs) f h =
     by_test : (b : Bool) (g : Filed) (o : Option Filed) (f : Filed) (P : Answered → Type 0) → P (answered_of g) → (o ≡ Some f → P (answered_of f)) → cond b (Some g) o ≡ Some f → P (answered_of f)
     by_test b g o f P here later is = grind arith
 
--- what is found is the answer to that connect, given at the place at which all are
 pub placed_found : (p place : ℕ) (fs : List Filed) (f : Filed) → map filed_as fs ≡ map (filed_at place) (map answered_of fs) → find_of p fs ≡ Some f → (answer_of f ≡ placed place (answered_of f).answer) × (f.connect ≡ p)
 placed_found p place [] f e h = absurd (let no : None ≡ Some f = h in cc)
 placed_found p place (g ∷ fs) f e h =

@@ -1,4 +1,4 @@
--- What each kind of entry does to the sessions of a shard, from what the calls promise.
+-- What each kind of entry does to a shard's sessions, from the contracts of the calls.
 use Rattle.std.proofs.Common.{arith, Contains, ◌≡◌, ◌≢◌, ◌⊎◌, inl, inr, ℕ, nat_eq, ◌==◌, Bool, true, false, cond, Option, Some, None, option_map, is_some, List, [], map, refl, sym, ap, ◌∙◌, subst}
 use Rattle.std.specs.{List.list_any, Option.option_and_then, Option.option_map_or}
 use Rattle.std.proofs.lemmas.{Bool.eqb-true, Bool.eq-eqb, List.Elements.Contains-append_cases}
@@ -24,59 +24,48 @@ use Rattle.bx_shard.proofs.{Counts.published_stage, Counts.subscribed_l, Counts.
 use Rattle.bx_shard.proofs.Ends.{IsTo, filed_only, filed_to, held_to, is_to, release_settles}
 use Rattle.bx_shard.proofs.Keeps.{AreElsewhere, filing_each_session, held_session, let_go_session, unfiled}
 
--- without its rider an entry does what one of its kind does
 of_kind : (stands : Bool) (e : Entry) (kind : EntryKind) (old new : Sessions) → e.kind ≡ kind → Followed stands (record e { kind = kind; rides = None }) old new → Followed stands (alone e) old new
 of_kind stands e kind old new is follows = subst (λ (k : EntryKind). Followed stands (record e { kind = k; rides = None }) old new) (sym is) follows
 
 -- ---- one session
 
--- a live session is there
 pub live_there : (t : Session) → t.stage ≡ Live → Some (kept t) ≡ if_live (kept t)
 live_there t live = sym (ap (λ (stage : Stage). cond (is_live stage) (Some (kept t)) None) live)
 
 module _ (n : ℕ) (k : Kept) (patterns : List Glob) (own : IsOwn n k patterns) where
-  -- an entry of the session of this number leaves it live
   own_or_as_it_was : (m : ℕ) (t : Session) → t.stage ≡ k.stage → cond (nat_eq m n) (Some (kept t)) (Some k) ≡ if_live (kept (cond (m == k.number) t (resumed k)))
   own_or_as_it_was m t stage = grind arith
 
-  -- an end of it doesn't
   own_ended : (m : ℕ) (t : Session) → t.stage ≡ k.stage → cond (nat_eq m n) None (Some k) ≡ if_live (kept (cond (m == k.number) (ended t) (resumed k)))
   own_ended m t stage = grind arith
 
-  -- nor does a tick that names it
   closed_or_live : (numbers : List ℕ) (t : Session) → t.stage ≡ k.stage → t.number ≡ k.number
       → cond (list_any (λ m. m == n) numbers) None (Some (kept t)) ≡ if_live (kept (closed_by numbers t))
   closed_or_live numbers t stage number = grind arith
 
-  -- only an entry of its number has answers from it
   own_answers_only : (m : ℕ) (t : Session) → map answered_of (cond (m == k.number) t (resumed k)).answers ≡ cond (nat_eq m n) (map answered_of t.answers) []
   own_answers_only m t = grind arith
 
 -- ---- all sessions
 
--- the sessions with another one of this number, where it is here
 abbrev with_one : ℕ → (Session → Session) → (ℕ → Option Kept) → ℕ → Option Kept
 with_one m change sessions n = cond (nat_eq m n) (option_map (after change) (sessions m)) (sessions n)
 
 pub at_number : (m n : ℕ) (f : Option Kept → Option Kept) (sessions : ℕ → Option Kept) → cond (nat_eq m n) (f (sessions m)) (sessions n) ≡ cond (nat_eq m n) (f (sessions n)) (sessions n)
 at_number m n f sessions = grind arith
 
--- where none is here none comes of it
 pub none_here : (b : Bool) → cond {A = Option Kept} b None None ≡ None
 none_here true = refl
 none_here false = refl
 
--- an answer of the session of one number
 given_of_one : (b : Bool) (answers : List Answered) (a : Answered) → Contains (cond b answers []) a → (b ≡ true) × Contains answers a
 given_of_one b answers a there = grind arith
 
--- an entry of this kind, of one session, that opens none
 module _ (stands : Bool) (e : Entry) (m : ℕ) (old : Sessions) (counted : AreCounted old) (kind : EntryKind) (change : Session → Session)
     (is : (s : Session) → step old.config s (record e { kind = kind; rides = None }) ≡ cond (m == s.number) (change s) s) where
   abbrev follows : Entry
   follows = record e { kind = kind; rides = None }
 
-  -- what it makes of all, where it leaves the session live
   one_stepped : ((n : ℕ) → states.opening stands kind n ≡ None) → ((n : ℕ) (k : Kept) → kept_in old n ≡ Some k → (change (resumed k)).stage ≡ k.stage)
       → (n : ℕ) → with_one m change (kept_in old) n ≡ session_after old.config stands follows n (kept_in old n)
   one_stepped opens stage n = at_number m n (option_map (after change)) (kept_in old) ∙ by (kept_in old n) refl (counted n)
@@ -88,11 +77,9 @@ module _ (stands : Bool) (e : Entry) (m : ℕ) (old : Sessions) (counted : AreCo
       by None here c = none_here (nat_eq m n) ∙ sym (ap (option_and_then F) (opens n))
       by (Some k) here c = own_or_as_it_was n k (patterns_in old n) c m (change (resumed k)) (stage n k here) ∙ sym (ap (λ (t : Session). if_live (kept t)) (is (resumed k)))
 
-  -- and what it answers
   one_answered : (n : ℕ) → answers_by (λ s. step old.config s follows) (kept_in old n) ≡ cond (nat_eq m n) (answers_by change (kept_in old n)) []
   one_answered n = grind arith
 
-  -- all that it answers is of the one session
   one_given : (n : ℕ) (a : Answered) → IsGiven old.config (kept_in old) follows n a → (m ≡ n) × Contains (answers_by change (kept_in old m)) a
   one_given n a g =
       let w = given_of_one (nat_eq m n) (answers_by change (kept_in old n)) a (subst (λ answers. Contains answers a) (one_answered n) g) in
@@ -102,14 +89,12 @@ module _ (stands : Bool) (e : Entry) (m : ℕ) (old : Sessions) (counted : AreCo
   given_one : (a : Answered) → Contains (answers_by change (kept_in old m)) a → IsGiven old.config (kept_in old) follows m a
   given_one a there = subst (λ answers. Contains answers a) (sym (one_answered m ∙ ap (λ b. cond b (answers_by change (kept_in old m)) []) (eq-eqb m m refl))) there
 
-  -- each answer is filed for its session, where those of the one are
   one_filed : (C : ℕ → Option ConnectState) → ((a : Answered) → Contains (answers_by change (kept_in old m)) a → C a.place ≡ Some (Filed m e.place a.answer))
       → (n : ℕ) (a : Answered) → IsGiven old.config (kept_in old) follows n a → C a.place ≡ Some (Filed n e.place a.answer)
   one_filed C filed n a g = let w = one_given n a g in filed a w.1 ∙ ap (λ j. Some (Filed j e.place a.answer)) w.0
 
 -- ---- a handshake
 
--- a session that stands here is opened
 pub followed_opened_here : (stands : Bool) (e : Entry) (m : ℕ) (ack : Bool) (old new : Sessions) → e.kind ≡ kinds.Opened m ack → stands ≡ true → kept_in old m ≡ None
     → ((n : ℕ) → kept_in new n ≡ cond (nat_eq m n) (Some (after (λ s. begun ack s s.stage) (kept (unopened m)))) (kept_in old n))
     → (new.config ≡ old.config) × (new.tree ≡ old.tree) × (new.connects ≡ old.connects)
@@ -139,7 +124,6 @@ followed_opened_here stands e m ack old new kind here gone sessions others count
     none : (n : ℕ) (o : Option Kept) → answers_by (λ s. step old.config s follows) o ≡ []
     none n o = grind arith
 
--- an entry that changes nothing: no session takes a step, and none is opened
 unchanged : (stands : Bool) (e : Entry) (s : Sessions) (kind : EntryKind) → e.kind ≡ kind → ((n : ℕ) → kept_in s n ≡ session_after s.config stands (record e { kind = kind; rides = None }) n (kept_in s n))
     → ((n : ℕ) → answers_by (λ t. step s.config t (record e { kind = kind; rides = None })) (kept_in s n) ≡ [])
     → ((p : ℕ) → connect_at s.connects p ≡ states.begun (kept_in s) (connect_at s.connects) (record e { kind = kind; rides = None }) kind p) → AreCounted s → AreHeld s → Followed stands (alone e) s s
@@ -152,7 +136,6 @@ unchanged stands e s kind is sessions none connects counted held = of_kind stand
   held = held;
 })
 
--- a session that stands elsewhere, or is here, isn't opened
 pub followed_opened_elsewhere : (stands : Bool) (e : Entry) (m : ℕ) (ack : Bool) (old new : Sessions) → e.kind ≡ kinds.Opened m ack → (stands ≡ false) ⊎ (is_some (kept_in old m) ≡ true) → new ≡ old
     → AreCounted old → AreHeld old → Followed stands (alone e) old new
 followed_opened_elsewhere stands e m ack old new kind elsewhere same counted held =
@@ -169,25 +152,19 @@ followed_opened_elsewhere stands e m ack old new kind elsewhere same counted hel
 
 -- ---- a connect
 
--- what becomes of the connects with a fresh one of a session that is here
 module _ (s : Sessions) (m : ℕ) (connect : Pending) (acked : Option ℕ) (k : Kept) (held : AreHeld s) (here : kept_in s m ≡ Some k) (fresh : connect_at s.connects connect.place ≡ None) where
-  -- it is held at first
   abbrev first_held : ℕ → Option ConnectState
   first_held p = holding m connect (connect_at s.connects) p
 
-  -- what it answers
   abbrev its_answers : List Answered
   its_answers = answers_by (connected s.config connect acked) (Some k)
 
-  -- what was known is known
   held_known : (p : ℕ) → session_at (connect_at s.connects p) ≡ Some m → session_at (first_held p) ≡ Some m
   held_known p known = grind arith
 
-  -- the fresh one is known
   fresh_known : (p : ℕ) → p ≡ connect.place → session_at (first_held p) ≡ Some m
   fresh_known p same = grind arith
 
-  -- what it supersedes, and its own answer
   abbrev first : List Answered
   first = superseded s.config connect acked k
 
@@ -199,7 +176,6 @@ module _ (s : Sessions) (m : ℕ) (connect : Pending) (acked : Option ℕ) (k : 
       let to : IsTo (kept_in s m) first a = subst (λ o. IsTo o first a) (sym here) (is_superseded s.config connect acked k a there) in
       held_session (connect_at s.connects a.place) m (deadline_of to.hold) (held_to (connect_at s.connects) (kept_in s) m first a held to)
 
-  -- so each of its answers is filed
   filed_both : (a : Answered) → Contains its_answers a → filing_each connect.place its_answers first_held a.place ≡ Some (Filed m connect.place a.answer)
   filed_both a there =
       ap (λ answers. filing_each connect.place answers first_held a.place) (sym (both_answers s.config connect acked k))
@@ -217,7 +193,6 @@ module _ (s : Sessions) (m : ℕ) (connect : Pending) (acked : Option ℕ) (k : 
           filed_only connect.place m own a (filing_each connect.place first first_held) (is_own s.config connect acked k a last).only
           (filing_each_session connect.place first first_held a.place ∙ fresh_known a.place (to_itself s.config connect acked k a last))
 
--- a connect of a session, by its parts
 followed_pending : (stands : Bool) (e : Entry) (m : ℕ) (client : List ℕ) (id : Option (List ℕ)) (acked : Option ℕ) (hold : ℕ) (old new : Sessions)
     → e.kind ≡ kinds.Connect m client id acked hold → connect_at old.connects e.place ≡ None
     → ((n : ℕ) → kept_in new n ≡ with_one m (connected old.config (pending e.place client id e.moment hold) acked) (kept_in old) n)
@@ -273,7 +248,6 @@ followed_pending stands e m client id acked hold old new kind fresh sessions con
         by (Some k) here = rw here (unfiled e.place (answers_by change (Some k)) (holding m connect (connect_at old.connects)) p
             (λ a there. never m a (given_one stands e m old counted (kinds.Connect m client id acked hold) change (λ s. refl) a (rw here there))))
 
--- a connect of a session that is here, or is not
 pub followed_connect : (stands : Bool) (e : Entry) (m : ℕ) (client : List ℕ) (id : Option (List ℕ)) (acked : Option ℕ) (hold : ℕ) (connect : Pending) (old new : Sessions)
     → e.kind ≡ kinds.Connect m client id acked hold → connect ≡ pending e.place client id e.moment hold
     → connect_at old.connects connect.place ≡ None
@@ -289,7 +263,6 @@ followed_connect stands e m client id acked hold connect old new kind is fresh s
     (λ p. connects p ∙ ap (λ (c : Pending). connect_filing m c (connected old.config c acked) (kept_in old m) (connect_at old.connects) p) is)
     others.0 counts holds counted held
 
--- a connect of a session that is not here
 pub followed_connect_elsewhere : (stands : Bool) (e : Entry) (m : ℕ) (client : List ℕ) (id : Option (List ℕ)) (acked : Option ℕ) (hold : ℕ) (old new : Sessions)
     → e.kind ≡ kinds.Connect m client id acked hold → kept_in old m ≡ None → new ≡ old → AreCounted old → AreHeld old → Followed stands (alone e) old new
 followed_connect_elsewhere stands e m client id acked hold old new kind gone same counted held =
@@ -316,7 +289,6 @@ followed_connect_elsewhere stands e m client id acked hold old new kind gone sam
 
 -- ---- a disconnect
 
--- a session is closed, and its held connect is answered
 pub followed_disconnect : (stands : Bool) (e : Entry) (m : ℕ) (old new : Sessions) → e.kind ≡ kinds.Disconnect m
     → ((n : ℕ) → kept_in new n ≡ cond (nat_eq m n) None (kept_in old n))
     → ((p : ℕ) → connect_at new.connects p ≡ filing_each e.place (answers_by (released old.config e.place Disconnected) (kept_in old m)) (connect_at old.connects) p)
@@ -352,9 +324,8 @@ followed_disconnect stands e m old new kind sessions connects config counts hold
     filed : (a : Answered) → Contains given a → connect_at new.connects a.place ≡ Some (Filed m e.place a.answer)
     filed a there = connects a.place ∙ filed_to (connect_at old.connects) (kept_in old) e.place m given a held (is_to (kept_in old m) None given a (release_settles old.config e.place (kept_in old m)) there)
 
--- ---- a refused message
+-- ---- a rejected message
 
--- a refused message changes nothing
 pub followed_refused : (stands : Bool) (e : Entry) (s : Sessions) → e.kind ≡ kinds.Refused → AreCounted s → AreHeld s → Followed stands (alone e) s s
 followed_refused stands e s is counted held = unchanged stands e s kinds.Refused is (λ n. by n (kept_in s n) (counted n)) (λ n. none (kept_in s n)) (λ p. refl) counted held
   where
@@ -366,7 +337,6 @@ followed_refused stands e s is counted held = unchanged stands e s kinds.Refused
 
 -- ---- patterns
 
--- a change of one session that answers nothing
 followed_quiet : (stands : Bool) (e : Entry) (m : ℕ) (kind : EntryKind) (change : Session → Session) (old new : Sessions) → e.kind ≡ kind
     → ((s : Session) → step old.config s (record e { kind = kind; rides = None }) ≡ cond (m == s.number) (change s) s) → ((n : ℕ) → states.opening stands kind n ≡ None)
     → ((n : ℕ) (k : Kept) → kept_in old n ≡ Some k → (change (resumed k)).stage ≡ k.stage) → ((k : Kept) → (change (resumed k)).answers ≡ [])
@@ -389,7 +359,6 @@ followed_quiet stands e m kind change old new is steps opens stage quiet begins 
     none None = refl
     none (Some k) = ap (map answered_of) (quiet k)
 
--- a subscription changes the patterns of its session, and no connect
 pub followed_subscribe : (stands : Bool) (e : Entry) (m : ℕ) (patterns : List Glob) (old new : Sessions) → e.kind ≡ kinds.Subscribe m patterns
     → ((n : ℕ) → kept_in new n ≡ with_one m (subscribed old.config patterns) (kept_in old) n)
     → new.config ≡ old.config → new.connects ≡ old.connects → AreCounted old → AreCounted new → AreHeld new → Followed stands (alone e) old new
@@ -399,7 +368,6 @@ followed_subscribe stands e m patterns old new is sessions config connects befor
     stage : (n : ℕ) (k : Kept) → kept_in old n ≡ Some k → (subscribed old.config patterns (resumed k)).stage ≡ k.stage
     stage n k here = let own : IsOwn n k (patterns_in old n) = subst (λ o. IsCounted n o (patterns_in old n)) here (before n) in (subscribed_l old.config patterns k (λ h. own.patterns_are ∙ own.emptied h)).stage
 
--- so does an unsubscription
 pub followed_unsubscribe : (stands : Bool) (e : Entry) (m : ℕ) (patterns : List Glob) (old new : Sessions) → e.kind ≡ kinds.Unsubscribe m patterns
     → ((n : ℕ) → kept_in new n ≡ with_one m (unsubscribed patterns) (kept_in old) n)
     → new.config ≡ old.config → new.connects ≡ old.connects → AreCounted old → AreCounted new → AreHeld new → Followed stands (alone e) old new
@@ -408,7 +376,6 @@ followed_unsubscribe stands e m patterns old new is sessions config connects bef
 
 -- ---- a publish
 
--- each session that hears a published event gets it, and its held connect is answered with it
 pub followed_publish : (stands : Bool) (e : Entry) (event : Event) (old new : Sessions) → e.kind ≡ kinds.Publish event
     → ((n : ℕ) → kept_in new n ≡ option_map (after (published old.config (published_at e.place event))) (kept_in old n))
     → ((n : ℕ) (a : Answered) → Contains (answers_by (published old.config (published_at e.place event)) (kept_in old n)) a → connect_at new.connects a.place ≡ Some (Filed n e.place a.answer))
@@ -437,7 +404,6 @@ followed_publish stands e event old new is sessions given kept_at known config b
 
 -- ---- a tick
 
--- A tick ends the holds that are due, whose connects are answered, and then closes sessions, whose held connects are let go.
 pub followed_tick : (stands : Bool) (e : Entry) (numbers : List ℕ) (old between new : Sessions) → e.kind ≡ kinds.Tick numbers
     → ((n : ℕ) → kept_in between n ≡ option_map (after (expired old.config e.place e.moment)) (kept_in old n))
     → ((n : ℕ) (a : Answered) → Contains (answers_by (expired old.config e.place e.moment) (kept_in old n)) a → connect_at between.connects a.place ≡ Some (Filed n e.place a.answer))

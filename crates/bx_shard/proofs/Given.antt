@@ -1,4 +1,4 @@
--- An answer that a shard has filed is the one that the list gives.
+-- A filed answer is the one that the list gives.
 use Rattle.std.proofs.Common.{arith, ◌≡◌, ℕ, ◌<◌, Bool, Option, Some, None, List, take, find, option_map, slice_get, ◌==◌, sym, ap, ◌∙◌}
 use mathlib.Core.List.{IsPrefix}
 use Rattle.bx_advice.specs.declared.config.Config.{Config}
@@ -20,7 +20,6 @@ session_answer config number place xs f e =
     let r : Registry = registry config xs in
     answer_waiting config number place (answer_of f) r (slice_get r.judged place) (waits_over config number place xs f e) (ap (option_map answer_of) e)
 
--- over the entries that the shard has applied
 pub found_answer : (setup : Setup) (list : List Listed) (taken : List ℕ) (k n place : ℕ) (f : Filed) →
     find (λ (g : Filed). g.connect == place) (shard_at setup list taken k n).filed ≡ Some f → answer setup.config (take n list) place ≡ Some (answer_of f)
 found_answer setup list taken k n place f e = let d = found_in setup list taken k n place f e in session_answer setup.config d.one.number place (take n list) f d.found
@@ -28,7 +27,6 @@ found_answer setup list taken k n place f e = let d = found_in setup list taken 
 pub given_filed : (o : Option ConnectState) → filed_answer o ≡ option_map given_of (filed_with_place o)
 given_filed o = grind arith
 
--- what is filed is what one thread gives over the entries that the shard has applied
 pub filed_is_given : FiledIsGiven
 filed_is_given setup list taken k n place s a h e =
     let fs : List Filed = (shard_at setup list taken k n).filed in
@@ -37,13 +35,12 @@ filed_is_given setup list taken k n place s a h e =
     by_option (λ o. option_map given_of (option_map answer_of o) ≡ Some a → option_map given_of (answer setup.config (take n list) place) ≡ Some a) (find test fs)
     (λ i j. cc) (λ f i j. ap (option_map given_of) (found_answer setup list taken k n place f i) ∙ j) (sym given ∙ e)
 
--- and over every longer list
 pub given_longer : (config : Config) (xs ys : List Listed) (place : ℕ) (a : Answer) → 0 < config.limits.batch → IsPrefix xs ys → option_map given_of (answer config xs place) ≡ Some a → option_map given_of (answer config ys place) ≡ Some a
 given_longer config xs ys place a room p e =
     by_option (λ o. option_map given_of o ≡ Some a → option_map given_of (answer config ys place) ≡ Some a) (answer config xs place) (λ i j. cc)
     (λ b i j. ap (λ (zs : List Listed). option_map given_of (answer config zs place)) (sym p.1) ∙ ap (option_map given_of) (answer_more config xs p.0 place b room i) ∙ j) e
 
--- ---- where none was filed, a taking changes nothing
+-- ---- a taking without a filed answer
 
 none_taken : (o : Option ConnectState) → filed_answer o ≡ None → taken_from o ≡ o
 none_taken o e = grind arith

@@ -1,4 +1,4 @@
--- An entry answers only connects that weren't answered before.
+-- An entry answers only connects that were not answered before.
 use Rattle.std.proofs.Common.{◌≡◌, ℕ, ◌⊎◌, ⊎_elim, inl, inr, Bool, true, false, cond, is_some, Option, Some, None, List, [], ◌∷◌, map, ◌==◌, refl, sym, ap, ◌∙◌, subst, arith}
 use Rattle.std.proofs.lemmas.{Bool.cond_both, Grind.common_steps, List.map-append, List.Elements.Contains-append_cases}
 use Rattle.std.specs.List.{All, Contains}
@@ -19,24 +19,20 @@ use Rattle.bx_theory.proofs.Places.{is_connecting}
 use Rattle.bx_shard.proofs.{Cases.by_option, Singles.nowhere, Singles.only_one}
 use Rattle.bx_shard.proofs.Ends.{From, IsTo, is_to, to_hold, admitted_e, released_e, with_hold}
 
--- ---- whom a session answers
+-- ---- the connects that a session answers
 
--- this connect is held
 abbrev pub HoldsIt : Option Pending → ℕ → Type 0
 HoldsIt None p = ⊥
 HoldsIt (Some q) p = q.place ≡ p
 
--- the answer is to the connect at this place, or to the one that is held
 abbrev Due : ℕ → Option Pending → Answered → Type 0
 Due place held a = (a.place ≡ place) ⊎ HoldsIt held a.place
 
--- an answer that ends a hold is to the connect that is held
 held_due : (k : Kept) (t : Session) (a : Answered) → From k t → Contains (map answered_of t.answers) a → HoldsIt k.held a.place
 held_due k t a from there =
     let to : IsTo (Some k) (map answered_of t.answers) a = is_to (Some k) (Some (kept t)) (map answered_of t.answers) a from there in
     subst (λ (h : Option Pending). HoldsIt h a.place) (sym (to_hold (Some k) (map answered_of t.answers) a to)) (sym to.own)
 
--- an entry of another number answers nothing
 of_own : (b : Bool) (k : Kept) (t : Session) (a : Answered) → Contains (map answered_of (cond b t (resumed k)).answers) a → Contains (map answered_of t.answers) a
 of_own b k t a there = grind arith
 
@@ -50,14 +46,12 @@ connected_due config p acked k a there =
     by (inl earlier) = inr (held_due k (released config p.place (Failed SupersededConnect) (resumed k)) a (released_e config p.place (Failed SupersededConnect) k) earlier)
     by (inr its_own) = inl (sym (held_due (with_hold p (after unheld k)) (admitted config p acked k.overflow (resumed (after unheld k))) a (admitted_e config p (after unheld k) refl acked k.overflow) its_own))
 
--- an entry that is no connect ends a hold with an answer, or gives none
 other_e : (config : Config) (place moment : ℕ) (k : Kept) (kind : EntryKind) → is_connecting kind ≡ false → From k (step_by config place moment (resumed k) kind)
 other_e config place moment k kind other = grind (arith, common_steps)
 
 other_due : (config : Config) (place moment : ℕ) (k : Kept) (a : Answered) (kind : EntryKind) → is_connecting kind ≡ false → Contains (map answered_of (step_by config place moment (resumed k) kind).answers) a → HoldsIt k.held a.place
 other_due config place moment k a kind other there = held_due k (step_by config place moment (resumed k) kind) a (other_e config place moment k kind other) there
 
--- every answer that an entry at this place gives
 answers_due : (config : Config) (place moment : ℕ) (k : Kept) (a : Answered) (kind : EntryKind) → Contains (map answered_of (step_by config place moment (resumed k) kind).answers) a → Due place k.held a
 answers_due config place moment k a (Connect m client id acked hold) there =
     let p : Pending = pending place client id moment hold in
@@ -67,12 +61,10 @@ answers_due config place moment k a kind there = inr (other_due config place mom
 no_connect : (kind : EntryKind) (rides : Option Rider) (rider : Rider) → rider_of kind rides ≡ Some rider → is_connecting kind ≡ false
 no_connect kind rides rider is = grind arith
 
--- an entry that may be a rider answers itself nothing but a connect that is held
 pub rider_due : (config : Config) (place moment : ℕ) (k : Kept) (a : Answered) (kind : EntryKind) (rides : Option Rider) (rider : Rider) → rider_of kind rides ≡ Some rider →
     Contains (map answered_of (step_by config place moment (resumed k) kind).answers) a → HoldsIt k.held a.place
 rider_due config place moment k a kind rides rider is there = other_due config place moment k a kind (no_connect kind rides rider is) there
 
--- the answer to a rider is to the entry itself
 ridden_due : (config : Config) (place : ℕ) (k : Kept) (a : Answered) (t : Session) (rides : Option Rider) → (Contains (map answered_of t.answers) a → Due place k.held a) → Contains (map answered_of (ridden_by config place t rides).answers) a → Due place k.held a
 ridden_due config place k a t None own there = own there
 ridden_due config place k a t (Some rider) own there = cond_both (is_riding rider t) (ridden config place rider.reply t) t (λ (u : Session). Contains (map answered_of u.answers) a → Due place k.held a)
@@ -87,7 +79,6 @@ ridden_due config place k a t (Some rider) own there = cond_both (is_riding ride
 pub all_contains : {X : Type 0} (P : X → Type 0) (xs : List X) (x : X) → All P xs → Contains xs x → P x
 all_contains P xs x h c = subst P c.2 (h c.0 x c.1)
 
--- no answer to it is filed, and where nothing is known of it, it is the entry itself
 pub record Unanswered (place p : ℕ) (o : Option ConnectState) : Type 0 where
   pub filed : filed_with_place o ≡ None
   pub own : o ≡ None → p ≡ place
@@ -108,7 +99,6 @@ due_unanswered s place n u a sound here known due =
     (λ e f. absurd (let no : false ≡ true = f in cc)) (λ deadline e f. held_unanswered place a.place n (connect_in s a.place) deadline (tied ∙ e)) (holds_ends u.held a.place h))
     due
 
--- each connect that the entry answers
 pub given_unanswered : (s : State) (e : Entry) (n : ℕ) (a : Answered) → IsSound s → s.place ≡ e.place → IsGiven s.setup.config (session_in s) e n a → Unanswered e.place a.place (connect_in s a.place)
 given_unanswered s e n a sound here g = by (session_in s n) refl g
   where

@@ -1,4 +1,4 @@
--- What comes of an event that is handed to one session after another.
+-- What a publish changes as it is delivered to one session after another.
 use Rattle.std.proofs.Common.{zero, suc, slice_index, IfSome, Contains, IsTrue, ◌↔◌, ◌≤◌, length, arith, ◌<◌, ◌+◌, ◌≡◌, ◌≢◌, ℕ, nat_eq, Bool, true, false, cond, ◌||◌, Option, Some, None, option_map, List, [], ◌∷◌, map, refl, sym, ap, ◌∙◌, true≢false, subst}
 use Rattle.std.specs.{List.All, List.list_any, List.Sorted.IsStrictlyIncreasing}
 use Rattle.std.proofs.lemmas.{Bool.and_right, List.Elements.All-head, List.Elements.All-tail, Bool.eqb-true, Bool.eq-eqb, Bool.ne_eqb}
@@ -20,7 +20,6 @@ use Rattle.bx_shard.specs.Sessions.{AreCountable, AreCounted, AreHeld, IsCounted
 use Rattle.bx_shard.proofs.Ends.{IsTo, filed_to, held_to, is_to, received_e, settles_each}
 use Rattle.bx_shard.proofs.{Keeps.filing_each_session, Keeps.unfiled, Singles.nowhere}
 
--- the other sessions can get their parcels as before
 pub ready_along : (s t : Sessions) (m : ℕ) (xs : List Parcel) → NoneFor m xs → ((n : ℕ) → nat_eq m n ≡ false → kept_in t n ≡ kept_in s n)
     → ((n : ℕ) → nat_eq m n ≡ false → HasRoom s n → HasRoom t n) → AllReady s xs → AllReady t xs
 ready_along s t m [] none sessions room ready = ready
@@ -36,7 +35,6 @@ ready_along s t m (x ∷ xs) none sessions room ready = (
   ready_along s t m xs none.1 sessions room ready.2,
 )
 
--- a parcel is packed by what its session wants
 pub packed-by : (s t : Sessions) (m : ℕ) (e : Event) (further : Option Event) → ((n : ℕ) → kept_in t n ≡ kept_in s n) → HasRoom t m → IfSome (kept_in s m) (λ (k : Kept). wants_two k ≡ true → further ≡ Some e)
     → IsPacked t (record { number = m; event = e; further = further })
 packed-by s t m e further sessions room wants = record {
@@ -44,9 +42,8 @@ packed-by s t m e further sessions room wants = record {
   further = subst (λ o. IfSome o (λ (k : Kept). wants_two k ≡ true → further ≡ Some e)) (sym (sessions m)) wants;
 }
 
--- ---- who gets a parcel
+-- ---- the sessions that get a parcel
 
--- whether a parcel is for the session
 abbrev pub is_for : List Parcel → ℕ → Bool
 is_for xs n = list_any (λ (x : Parcel). nat_eq x.number n) xs
 
@@ -54,25 +51,21 @@ none_for : (xs : List Parcel) (m : ℕ) → NoneFor m xs → is_for xs m ≡ fal
 none_for [] m none = refl
 none_for (x ∷ xs) m none = grind (arith, none_for xs m none.1, none.0)
 
--- each session has one parcel at most
 abbrev pub AreApart : List Parcel → Type 0
 AreApart [] = Unit {0}
 AreApart (x ∷ xs) = NoneFor x.number xs × AreApart xs
 
 -- ---- all turns
 
--- one that gets a parcel has no later one
 turned : (F : Option Kept → Option Kept) (S : ℕ → Option Kept) (m n : ℕ) (later : Bool) (between : Option Kept) → (nat_eq m n ≡ true → later ≡ false) → between ≡ cond (nat_eq m n) (F (S m)) (S n) →
     cond later (F between) between ≡ cond (nat_eq m n || later) (F (S n)) (S n)
 turned F S m n later between once is = grind arith
 
--- the event of all parcels
 abbrev pub AreOf : Event → List Parcel → Type 0
 AreOf e [] = Unit {0}
 AreOf e (x ∷ xs) = (x.event ≡ e) × AreOf e xs
 
 module _ (config : Config) (place : ℕ) (e : Event) where
-  -- what the event does to a session that gets it
   abbrev pub gets : Session → Session
   gets = received config (published_at place e)
 
@@ -83,15 +76,12 @@ module _ (config : Config) (place : ℕ) (e : Event) where
       sessions_turned xs turns.0 new of.1 apart.1 turns.2 n
       ∙ turned (option_map (after gets)) (kept_in old) x.number n (is_for xs n) (kept_in turns.0 n) (λ t. rw (← eqb-true x.number n t) (none_for xs x.number apart.0)) (rw (← of.0) (turns.1.sessions n))
 
-  -- what a session answers, it answers to the connect that it holds
   answers_one : (s : Sessions) (n : ℕ) (a : Answered) → Contains (answers_by gets (kept_in s n)) a → IsTo (kept_in s n) (answers_by gets (kept_in s n)) a
   answers_one s n a = is_to (kept_in s n) (option_map (after gets) (kept_in s n)) (answers_by gets (kept_in s n)) a (settles_each gets (received_e config (published_at place e)) (kept_in s n))
 
-  -- one that is filed is held by nobody
   not_held : (state : Option ConnectState) (j p n : ℕ) (b : Answer) (deadline : Option ℕ) → state ≡ Some (Filed j p b) → held_until state n ≡ Some deadline → ⊥
   not_held state j p n b deadline filed held = grind arith
 
-  -- the first parcel is for none of those that get one later
   later_other : (x : Parcel) (xs : List Parcel) (n : ℕ) → NoneFor x.number xs → is_for xs n ≡ true → nat_eq x.number n ≡ false
   later_other x xs n apart gets_one = grind (arith, none_for xs x.number apart)
 
@@ -99,12 +89,10 @@ module _ (config : Config) (place : ℕ) (e : Event) where
   later_same x xs old between apart turn n gets_one =
       turn.sessions n ∙ ap (λ b. cond b (option_map (after (received config (published_at place x.event))) (kept_in old x.number)) (kept_in old n)) (later_other x xs n apart gets_one)
 
-  -- a session that gets the event answers its held connect with it
   pub record Gives (old : Sessions) (xs : List Parcel) (n : ℕ) (a : Answered) : Type 0 where
     pub gets_one : is_for xs n ≡ true
     pub given : Contains (answers_by gets (kept_in old n)) a
 
-  -- what is given later is given
   gives_before : (x : Parcel) (xs : List Parcel) (old between : Sessions) → NoneFor x.number xs → Turn config place x old between
       → (n : ℕ) (a : Answered) → Gives between xs n a → Gives old (x ∷ xs) n a
   gives_before x xs old between apart turn n a g = record {
@@ -112,7 +100,6 @@ module _ (config : Config) (place : ℕ) (e : Event) where
     given = subst (λ o. Contains (answers_by gets o) a) (later_same x xs old between apart turn n g.gets_one) g.given;
   }
 
-  -- a connect that nobody is answered at is as it was
   connects_kept : (xs : List Parcel) (old new : Sessions) → AreOf e xs → AreApart xs → Turns config place xs old new
       → (p : ℕ) → ((n : ℕ) (a : Answered) → Gives old xs n a → a.place ≢ p) → connect_at new.connects p ≡ connect_at old.connects p
   connects_kept [] old new of apart turns p never = ap (λ s. connect_at s.connects p) (sym turns)
@@ -125,7 +112,6 @@ module _ (config : Config) (place : ℕ) (e : Event) where
         given = there;
       }))
 
-  -- each answer is filed
   answers_filed : (xs : List Parcel) (old new : Sessions) → AreHeld old → AreOf e xs → AreApart xs → Turns config place xs old new
       → (n : ℕ) (a : Answered) → Gives old xs n a → connect_at new.connects a.place ≡ Some (Filed n place a.answer)
   answers_filed [] old new held of apart turns n a g = absurd (true≢false (sym g.gets_one))
@@ -148,9 +134,8 @@ module _ (config : Config) (place : ℕ) (e : Event) where
           ∙ ap (λ k. filing_each place (answers_by gets (kept_in old k)) (connect_at old.connects) a.place) m
           ∙ filed_to (connect_at old.connects) (kept_in old) place n (answers_by gets (kept_in old n)) a held (answers_one old n a g.given))
 
-  -- ---- what stays
+  -- ---- what does not change
 
-  -- no connect changes its session
   sessions_kept : (xs : List Parcel) (old new : Sessions) → Turns config place xs old new → (p : ℕ) → session_at (connect_at new.connects p) ≡ session_at (connect_at old.connects p)
   sessions_kept [] old new turns p = ap (λ s. session_at (connect_at s.connects p)) (sym turns)
   sessions_kept (x ∷ xs) old new turns p =
@@ -165,15 +150,13 @@ module _ (config : Config) (place : ℕ) (e : Event) where
   config_after [] old new turns = ap (λ s. s.config) (sym turns)
   config_after (x ∷ xs) old new turns = config_after xs turns.0 new turns.2 ∙ turns.1.config_is
 
--- ---- a list that is gone through
+-- ---- iteration
 
--- nothing is in an empty list
 pub none_there : (items : List ℕ) (n : ℕ) (b : Bool) → items ≡ [] → b ≡ false → Contains items n ↔ IsTrue b
 none_there items n b empty is = (λ there. absurd (omega (arith, there.1, ap length empty)), λ told. absurd (true≢false (sym told ∙ is)))
 
 -- ---- numbers and their parcels
 
--- whether a number is one of these
 abbrev pub is_one_of : List ℕ → ℕ → Bool
 is_one_of ns n = list_any (λ m. nat_eq m n) ns
 
@@ -190,11 +173,9 @@ containing (m ∷ ms) n told = by (nat_eq m n) refl told (containing ms n)
     by true same h rest = (zero, omega arith, eqb-true m n same)
     by false other h rest = let there = rest h in (suc there.0, omega (arith, there.1), there.2)
 
--- the numbers are those that the test passes
 pub one_of_is : (ns : List ℕ) (n : ℕ) (b : Bool) → (Contains ns n ↔ IsTrue b) → is_one_of ns n ≡ b
 one_of_is ns n b iff = grind (arith, contained ns n, containing ns n)
 
--- what is left of a list that rises still does
 rising_tail : (n : ℕ) (ns : List ℕ) → IsStrictlyIncreasing (n ∷ ns) → IsStrictlyIncreasing ns
 rising_tail n ns rises i within =
     let next : suc i + 1 ≡ suc (i + 1) = omega arith in
@@ -226,13 +207,11 @@ all_ready s (x ∷ xs) apart packed ready = (
   all_ready s xs apart.1 (All-tail (IsPacked s) x xs packed) (λ y there one. ready y (suc there.0, omega (arith, there.1), there.2) one),
 )
 
--- ---- who hears an event
+-- ---- the sessions that an event reaches
 
--- no event reaches where no pattern is
 pub silent : (e : Event) (patterns : List Glob) → patterns ≡ [] → reaches e patterns ≡ false
 silent e patterns empty = ap (reaches e) empty ∙ and_right (is_broadcast e.channel) false refl
 
--- a session hears what reaches its patterns
 pub hears_is : (e : Event) (n : ℕ) (k : Kept) (patterns : List Glob) → IsOwn n k patterns → is_hit (resumed k) e ≡ reaches e patterns
 hears_is e n k patterns own = grind (arith, silent e patterns)
 
@@ -247,7 +226,6 @@ none_heard b = grind arith
 
 -- ---- the whole publish
 
--- each session that hears the event got it, its held connect is answered with it, and nothing else has changed
 pub record Handed (config : Config) (place : ℕ) (e : Event) (old new : Sessions) : Type 0 where
   pub sessions : (n : ℕ) → kept_in new n ≡ option_map (after (published config (published_at place e))) (kept_in old n)
   pub given : (n : ℕ) (a : Answered) → Contains (answers_by (published config (published_at place e)) (kept_in old n)) a → connect_at new.connects a.place ≡ Some (Filed n place a.answer)
@@ -258,7 +236,6 @@ pub record Handed (config : Config) (place : ℕ) (e : Event) (old new : Session
 
 module _ (config : Config) (place : ℕ) (e : Event) (s t new : Sessions) (xs : List Parcel) (counted : AreCounted s) (sessions : (n : ℕ) → kept_in t n ≡ kept_in s n)
     (of : AreOf e xs) (reached : (n : ℕ) → (Contains (numbers_of xs) n ↔ IsTrue (reaches e (patterns_in s n)))) where
-  -- what the publish does to a session
   abbrev hears : Session → Session
   hears = published config (published_at place e)
 
@@ -271,7 +248,6 @@ module _ (config : Config) (place : ℕ) (e : Event) (s t new : Sessions) (xs : 
   answers_if : (n : ℕ) (k : Kept) {b : Bool} → kept_in s n ≡ Some k → is_for xs n ≡ b → answers_by hears (Some k) ≡ cond b (answers_by (gets config place e) (Some k)) []
   answers_if n k {b} here gets_one = heard_answers (gets config place e) k b (is_hit (resumed k) e) (hears_if n k here ∙ gets_one)
 
-  -- each session that hears the event gets it
   all_hear : AreApart xs → Turns config place xs t new → (n : ℕ) → kept_in new n ≡ option_map (after hears) (kept_in s n)
   all_hear apart turns n =
       sessions_turned config place e xs t new of apart turns n
@@ -282,7 +258,6 @@ module _ (config : Config) (place : ℕ) (e : Event) (s t new : Sessions) (xs : 
       by None h = none_heard (is_for xs n)
       by (Some k) h = heard (gets config place e) k (is_for xs n) (is_hit (resumed k) e) (hears_if n k h)
 
-  -- what a session answers to the publish, it answers as one that gets the event
   gives_if : (n : ℕ) (a : Answered) → Contains (answers_by hears (kept_in s n)) a → Gives config place e t xs n a
   gives_if n a there = by (kept_in s n) refl there
     where
@@ -292,7 +267,6 @@ module _ (config : Config) (place : ℕ) (e : Event) (s t new : Sessions) (xs : 
           (λ f. record { gets_one = f; given = rw (sessions n, here) (subst (λ answers. Contains answers a) (answers_if n k here f) in_it) })
           (λ f. absurd (nowhere a (subst (λ answers. Contains answers a) (answers_if n k here f) in_it)))
 
-  -- and the other way round
   if_gives : (n : ℕ) (a : Answered) → Gives config place e t xs n a → Contains (answers_by hears (kept_in s n)) a
   if_gives n a g = by (kept_in s n) refl (rw (sessions n) at g.given)
     where
@@ -300,7 +274,6 @@ module _ (config : Config) (place : ℕ) (e : Event) (s t new : Sessions) (xs : 
       by None here in_it = absurd (nowhere a in_it)
       by (Some k) here in_it = subst (λ answers. Contains answers a) (sym (answers_if n k here g.gets_one)) in_it
 
-  -- who is ready for a parcel
   pub are_ready : AreCountable s → AreApart xs → All (IsPacked t) xs → AllReady t xs
   are_ready countable apart packed = all_ready t xs apart packed ready
     where
@@ -315,7 +288,6 @@ module _ (config : Config) (place : ℕ) (e : Event) (s t new : Sessions) (xs : 
           by (Some k) h c few =
               (either k.overflow (k.overflow ≡ false) (λ g. absurd (true≢false (sym ((reached x.number).0 there) ∙ silent e (patterns_in s x.number) (c.emptied g)))) (λ g. g), few)
 
-  -- all that comes of it
   pub handed : AreApart xs → AreHeld t → t.connects ≡ s.connects → t.config ≡ s.config → Turns config place xs t new → Handed config place e s new
   handed apart held connects same turns = record {
     sessions = all_hear apart turns;

@@ -1,4 +1,4 @@
--- What a shard holds stays so: over a longer list, and after a call that left it as it was.
+-- A shard still agrees with the definitions over a longer list, or if nothing has changed.
 use Rattle.std.proofs.Common.{◌≡◌, ℕ, ◌<◌, Option, Some, None, List, ◌++◌, length, take, map, filter, find, option_map, slice_get, ◌==◌, sym, ap, ◌∙◌, arith, length-append}
 use Rattle.std.proofs.lemmas.List.{take-append-le}
 use Rattle.bx_advice.specs.declared.config.Config.{Config}
@@ -40,20 +40,17 @@ refines_still setup list taken shard n old new h b sound = record {
 
 -- ---- a longer list
 
--- every session of the shard over a list
 abbrev pub sessions_over : Setup → ℕ → List Listed → List Session
 sessions_over setup shard xs =
     let r : Registry = registry setup.config xs in
     map (λ (s : Registered). session setup.config s.number (entries_of r)) (filter (λ (s : Registered). stands_in setup shard s.number) r.sessions)
 
--- what is found of a session, and of an answer, where these are all sessions of the shard
 abbrev found_session : Setup → ℕ → List Session → Option Kept
 found_session setup m ss = find (λ (k : Kept). k.number == m) (map kept (live_among ss))
 
 abbrev found_answer : List ℕ → ℕ → List Session → Option Filed
 found_answer taken p ss = find (λ (f : Filed). f.connect == p) (filed_among taken ss)
 
--- what was found at a place of the list is found there over a longer one
 pub judged_alike : (config : Config) (xs ys : List Listed) (p : ℕ) → p < length xs → slice_get (registry config (xs ++ ys)).judged p ≡ slice_get (registry config xs).judged p
 judged_alike config xs ys p h =
     ap (λ (js : List Judged). slice_get js p) (judged_behind config xs ys) ∙ slice_get_less (registry config xs).judged (found_from config (registry config xs) ys) p (omega (arith, h, judged_length config xs))

@@ -1,4 +1,4 @@
--- What a shard holds: each session is reached and live, and their numbers ascend.
+-- The sessions of a shard are live, and their numbers ascend.
 use Rattle.std.proofs.Common.{◌≡◌, ℕ, zero, suc, ◌+◌, ◌<◌, ◌≤◌, true, List, [], ◌∷◌, length, take, map, filter, slice_index, refl, sym, ap, ◌∙◌, subst, arith, length-take}
 use Rattle.std.proofs.lemmas.{Bool.cond_both, List.length-map, List.Elements.All-nil, List.Elements.All-cons, List.Kept.IsStrictlyIncreasing-filter}
 use Rattle.std.specs.{List.All, List.Sorted.IsStrictlyIncreasing}
@@ -11,9 +11,8 @@ use Rattle.bx_shard.specs.Words.{Setup, shard_at, stands_in, IsReached, Sessions
 use Rattle.bx_shard.proofs.Elements.{numbers, opens_above, Met, met}
 use Rattle.bx_shard.proofs.Stepping.{held_by, held_cons, numbers_in, held_at, EachNumber, numbers_below}
 
--- ---- each that is held
+-- ---- each session of the shard
 
--- what holds of each live session holds of each that is kept
 each_held : (P : Kept → Type 0) (Q : ℕ → Type 0) (config : Config) (es : List Entry) (ns : List ℕ) → ((n : ℕ) → Q n → is_live (session config n es).stage ≡ true → P (kept (session config n es))) →
     EachNumber Q ns → All P (held_by config es ns)
 each_held P Q config es [] h d = All-nil P
@@ -23,9 +22,8 @@ each_held P Q config es (n ∷ ns) h d =
     subst (All P) (sym (held_cons config es n ns))
     (cond_both (is_live s.stage) (kept s ∷ held_by config es ns) (held_by config es ns) (All P) (λ l. All-cons P (kept s) (held_by config es ns) (h n d.0 l) rest) (λ l. rest))
 
--- ---- reached
+-- ---- live sessions
 
--- a live session after these entries is reached wherever so many entries may stand
 session_reached : (config : Config) (number place : ℕ) (es : List Entry) → length es ≤ place → is_live (session config number es).stage ≡ true → IsReached place (kept (session config number es))
 session_reached config number place es many live = record { live = live_stage (session config number es).stage live; numbers = omega (arith, numbers_count config number es) }
 
@@ -38,7 +36,7 @@ holds_reached setup list taken shard n =
     (each_held (IsReached n) (λ m. m < 1 + length (registry setup.config (take n list)).sessions) setup.config es (numbers_in setup shard (take n list))
     (λ m q l. session_reached setup.config m n es many l) (numbers_below setup shard (take n list)))
 
--- ---- standing
+-- ---- the shard of a session
 
 each_standing : (setup : Setup) (shard : ℕ) (ns : List ℕ) → EachNumber (λ n. stands_in setup shard n ≡ true) (filter (λ (n : ℕ). stands_in setup shard n) ns)
 each_standing setup shard [] = tt
@@ -63,7 +61,6 @@ numbers_ascend first rs d k h =
 kept_number : (config : Config) (number : ℕ) (es : List Entry) → (session config number es).number ≡ number
 kept_number config number es = run_number config (unopened number) es
 
--- the numbers of those that are held are those of the live ones
 held_numbers : (config : Config) (es : List Entry) (ns : List ℕ) → map (λ (k : Kept). k.number) (held_by config es ns) ≡ filter (λ (n : ℕ). is_live (session config n es).stage) ns
 held_numbers config es [] = refl
 held_numbers config es (n ∷ ns) = grind (arith, held_numbers config es ns, kept_number config n es)
@@ -77,7 +74,6 @@ sessions_ascend setup list taken shard n =
     (IsStrictlyIncreasing-filter (λ m. is_live (session config m es).stage) (numbers_in setup shard (take n list))
     (IsStrictlyIncreasing-filter (λ m. stands_in setup shard m) (numbers r.sessions) (numbers_ascend 1 r.sessions (numbered config (take n list)))))
 
--- each session that a shard holds stands in it
 pub holds_stand : (setup : Setup) (list : List Listed) (taken : List ℕ) (shard n : ℕ) → All (λ k. stands_in setup shard k.number ≡ true) (shard_at setup list taken shard n).sessions
 holds_stand setup list taken shard n =
     let es : List Entry = entries_of (registry setup.config (take n list)) in

@@ -1,4 +1,4 @@
--- Whatever is filed or let go, a connect has the session that it had.
+-- A connect keeps its session when answers are filed or dropped.
 use Rattle.std.proofs.Common.{arith, Contains, ◌≡◌, ◌≢◌, ℕ, Bool, cond, Option, Some, option_map, List, [], ◌∷◌, refl, ap, ◌∙◌}
 use Rattle.std.proofs.lemmas.{Bool.ne_eqb, List.Elements.Contains-append_left, List.Elements.Contains-append_right}
 use Rattle.bx_message.specs.declared.reply.Answer.{Answer}
@@ -13,39 +13,31 @@ use Rattle.bx_shard.proofs.Singles.{the_one}
 filed_session : (place : ℕ) (answer : Answer) (o : Option ConnectState) → session_at (filed_as place answer o) ≡ session_at o
 filed_session place answer o = grind arith
 
--- where an answer is filed, the session is the same
 pub filing_session : (place : ℕ) (o : Option Answered) (C : ℕ → Option ConnectState) (p : ℕ) → session_at (filing place o C p) ≡ session_at (C p)
 filing_session place o C p = grind arith
 
--- so where several are filed
 pub filing_each_session : (place : ℕ) (answers : List Answered) (C : ℕ → Option ConnectState) (p : ℕ) → session_at (filing_each place answers C p) ≡ session_at (C p)
 filing_each_session place [] C p = refl
 filing_each_session place (a ∷ rest) C p = filing_each_session place rest (filing place (Some a) C) p ∙ filing_session place (Some a) C p
 
--- none of these answers is to the connect at this place
 abbrev pub AreElsewhere : ℕ → List Answered → Type 0
 AreElsewhere p answers = (a : Answered) → Contains answers a → a.place ≢ p
 
--- a connect that none of them answers is as it was
 pub unfiled : (place : ℕ) (answers : List Answered) (C : ℕ → Option ConnectState) (p : ℕ) → AreElsewhere p answers → filing_each place answers C p ≡ C p
 unfiled place [] C p never = refl
 unfiled place (a ∷ rest) C p never =
     unfiled place rest (filing place (Some a) C) p (λ b there. never b (Contains-append_right (a ∷ []) rest b there))
     ∙ ap (λ b. cond b (filed_as place a.answer (C a.place)) (C p)) (ne_eqb a.place p (never a (Contains-append_left (a ∷ []) rest a (the_one a))))
 
--- what isn't let go has the session that it had
 pub let_go_session : (numbers : List ℕ) (o : Option ConnectState) (m : ℕ) → session_at (let_go numbers o) ≡ Some m → session_at o ≡ Some m
 let_go_session numbers o m h = grind arith
 
--- a connect that a session holds is its own
 pub held_session : (o : Option ConnectState) (n : ℕ) (deadline : Option ℕ) → held_until o n ≡ Some deadline → session_at o ≡ Some n
 held_session o n deadline h = grind arith
 
--- the answer to a known connect is filed for its session
 pub filed_known : (place n : ℕ) (answer : Answer) (o : Option ConnectState) → session_at o ≡ Some n → filed_as place answer o ≡ Some (Filed n place answer)
 filed_known place n answer o h = grind arith
 
--- a sweep and wakers change no session
 pub unswept_session : (before : ℕ) (o : Option ConnectState) (m : ℕ) → session_at (unswept before o) ≡ Some m → session_at o ≡ Some m
 unswept_session before o m h = grind arith
 

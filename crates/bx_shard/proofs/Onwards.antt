@@ -1,4 +1,4 @@
--- A shard that has applied an entry holds what the definition's shard holds after it.
+-- A shard still agrees with the definitions after it applies the next entry.
 use Rattle.std.proofs.Common.{◌≡◌, ◌≢◌, ⊎_elim, get_or, ℕ, ◌+◌, ◌<◌, ◌≤◌, Bool, true, false, is_some, Option, Some, None, List, [], ◌∷◌, ◌++◌, length, take, map, filter, flat_map, option_map, slice_get, ◌==◌, refl, sym, ap, ◌∙◌, subst, arith, eq-eqb, length-take}
 use Rattle.std.proofs.lemmas.Bool.{both_ways}
 use Rattle.std.proofs.lemmas.{Grind.common_steps, List.length_push, List.map-append, List.Elements.All-map, List.Elements.filter-append, List.Folds.find-append}
@@ -25,30 +25,25 @@ use Rattle.bx_shard.proofs.Holdings.{holds_reached, holds_stand, sessions_ascend
 use Rattle.bx_shard.proofs.Taking.{connect_of_filed, none_taken}
 use Rattle.bx_shard.proofs.Waits.{WaitsAt, connect_waits, rider_waits}
 
--- an entry by its parts
 abbrev entry : ℕ → ℕ → Option Rider → EntryKind → Entry
 entry place moment rides kind = record { place = place; moment = moment; kind = kind; rides = rides }
 
 -- ---- the sessions
 
--- a session that is opened
 abbrev opened : ℕ → Bool → Kept
 opened n ack = record (kept (unopened n)) { stage = Live; ack = ack }
 
 module _ (config : Config) (e : Entry) where
-  -- what becomes of the session that was found
   abbrev onward : Kept → Option Kept
   onward k = if_live (kept_step config k e)
 
   next_onward : (o : Option Kept) → next config e o ≡ option_and_then onward o
   next_onward o = grind arith
 
--- the session that the entry opens in the shard
 opened_found : (setup : Setup) (index place moment : ℕ) (rides : Option Rider) (m : ℕ) (kind : EntryKind) → find_kept m (steps setup.config (entry place moment rides kind) (opening_by setup index kind))
     ≡ option_and_then (onward setup.config (entry place moment rides kind)) (opening (opens_in setup index kind) kind m)
 opened_found setup index place moment rides m kind = grind (arith, common_steps)
 
--- a session that is there is as the entry leaves it, whatever the entry opens
 onward_first : (config : Config) (stands : Bool) (place moment : ℕ) (rides : Option Rider) (m : ℕ) (k : Kept) (kind : EntryKind) → k.stage ≡ Live →
     option_or (onward config (entry place moment rides kind) k) (option_and_then (onward config (entry place moment rides kind)) (opening stands kind m)) ≡ onward config (entry place moment rides kind) k
 onward_first config stands place moment rides m k kind live = grind arith
@@ -84,11 +79,9 @@ sessions_next s e ks m reached d known =
 
 -- ---- the answers that the entry gives
 
--- what a session that is here answers to an entry
 abbrev given_by_one : State → Entry → Option Kept → List Answered
 given_by_one s e o = effects.answers_by (λ t. step s.setup.config t e) o
 
--- a connect for which none is found is given none
 none_given : (s : State) (e : Entry) (ks : List Kept) (p : ℕ) → Knows s ks → find_of p (answers_by s.setup.config e ks) ≡ None → (n : ℕ) (a : Answered) → IsGiven s.setup.config (session_in s) e n a → a.place ≢ p
 none_given s e ks p known none number a g =
     let config : Config = s.setup.config in
@@ -103,7 +96,6 @@ none_given s e ks p known none number a g =
     (subst (λ o. Contains (given_by_one s e o) a) (known number) g) in
     λ h. both_ways (a.place == p) other (eq-eqb a.place p h)
 
--- the answer that is found is given
 record Gave (s : State) (e : Entry) (p : ℕ) (f : Filed) : Type 0 where
   number : ℕ
   given : IsGiven s.setup.config (session_in s) e number (answered_of f)
@@ -131,17 +123,14 @@ let_go_filed numbers o = grind arith
 let_go_none : (numbers : List ℕ) (o : Option ConnectState) → o ≡ None → let_go numbers o ≡ None
 let_go_none numbers o h = grind arith
 
--- no answer is filed or lost by it
 begun_filed : (s : State) (e : Entry) (kind : EntryKind) (p : ℕ) → connect_in s e.place ≡ None → filed_with_place (begun (session_in s) (connect_in s) e kind p) ≡ filed_with_place (connect_in s p)
 begun_filed s e kind p fresh = grind arith
 
--- and nothing is known of any but the entry's own, where nothing was
 pub begun_none : (s : State) (e : Entry) (kind : EntryKind) (p : ℕ) → connect_in s p ≡ None → p ≢ e.place → begun (session_in s) (connect_in s) e kind p ≡ None
 begun_none s e kind p none other = grind arith
 
 -- ---- one entry of the list
 
--- the shard before the entry, with what is known of what it holds
 record Before (list : List Listed) (taken : List ℕ) (n : ℕ) (e : Entry) (s : State) : Type 0 where
   room : 0 < s.setup.config.limits.batch
   there : slice_get (entries s.setup.config list) n ≡ Some e
@@ -171,7 +160,6 @@ given_at list taken n e s p = find_of p (answers_by s.setup.config e (shard_at s
 abbrev filed_then : List Listed → List ℕ → State → ℕ → ℕ → Option Filed
 filed_then list taken s n p = find_of p (shard_at s.setup list taken s.index n).filed
 
--- where none is given, the same is filed as before
 same_filed : (list : List Listed) (taken : List ℕ) (n : ℕ) (e : Entry) (s : State) (p : ℕ) → Before list taken n e s → given_at list taken n e s p ≡ None → filed_then list taken s (n + 1) p ≡ filed_then list taken s n p
 same_filed list taken n e s p b none =
     let fs : ℕ → List Filed = λ m. flat_map (λ (x : Session). x.answers) (sessions_in s.setup list s.index m) in
@@ -180,7 +168,6 @@ same_filed list taken n e s p b none =
     (λ t. none_taken taken p (fs (n + 1)) t ∙ sym (none_taken taken p (fs n) t))
     (λ u. shards_file s.setup list taken s.index n e p b.room b.there u ∙ ap (option_or o) none ∙ or_none o)
 
--- the connect of an answer that is given is one of the shard
 given_is_connect : (list : List Listed) (taken : List ℕ) (n : ℕ) (e : Entry) (s : State) (p : ℕ) (f : Filed) → Before list taken n e s → given_at list taken n e s p ≡ Some f → IsConnectOf s.setup list s.index p
 given_is_connect list taken n e s p f b some =
     let nobody : List ℕ = [] in
@@ -189,7 +176,6 @@ given_is_connect list taken n e s p f b some =
     by_option (λ o. filed_then list nobody s (n + 1) p ≡ option_or o (Some f) → IsConnectOf s.setup list s.index p) (filed_then list nobody s n p)
     (λ e h. connect_of_filed s.setup list nobody s.index (n + 1) p f h) (λ g e h. connect_of_filed s.setup list nobody s.index (n + 1) p g h) next_filed
 
--- a connect that is answered was not answered before, nor was its answer taken
 record Answers (list : List Listed) (taken : List ℕ) (n : ℕ) (e : Entry) (s : State) (p : ℕ) (f : Filed) : Type 0 where
   gives : Gave s e p f
   unanswered : Unanswered e.place p (connect_in s p)
@@ -217,7 +203,6 @@ answered list taken n e s p f b some =
 untaken_then : (taken : List ℕ) (p : ℕ) → (is_taken taken p ≡ true → ⊥) → is_taken taken p ≡ false
 untaken_then taken p h = either (is_taken taken p) (is_taken taken p ≡ false) (λ t. absurd (h t)) (λ u. u)
 
--- a connect that isn't answered is as it was begun
 unanswered_as : (list : List Listed) (taken : List ℕ) (n : ℕ) (e : Entry) (s new : State) (p : ℕ) → Before list taken n e s → Applied s e new → given_at list taken n e s p ≡ None → connect_in new p ≡ begun (session_in s) (connect_in s) e e.kind p
 unanswered_as list taken n e s new p b a none =
     a.connects.kept p (none_given s e (shard_at s.setup list taken s.index n).sessions p b.holds.sessions none)
@@ -244,7 +229,6 @@ gone_next list taken n e s new p b a t c =
           (λ h. unanswered_as list taken n e s new p b a h ∙ begun_none s e e.kind p g.1 other) (λ f h. absurd ((answered list taken n e s p f b h).free t)),
     )
 
--- a session that the shard holds stands in it
 stands_here : (list : List Listed) (taken : List ℕ) (n : ℕ) (e : Entry) (s : State) (m : ℕ) → Before list taken n e s → is_some (session_in s m) ≡ true → stands_in s.setup s.index m ≡ true
 stands_here list taken n e s m b here =
     let ks : List Kept = (shard_at s.setup list taken s.index n).sessions in
@@ -255,7 +239,6 @@ stands_here list taken n e s m b here =
     subst (λ (q : ℕ). stands_in s.setup s.index q ≡ true) w.1 w.0)
     (b.holds.sessions m)
 
--- a connect or a rider that is known is one of a session that stands in the shard
 owned_next : (list : List Listed) (taken : List ℕ) (n : ℕ) (e : Entry) (s new : State) (p m : ℕ) → Before list taken n e s → Applied s e new → session_at (connect_in new p) ≡ Some m → IsOwn s.setup list s.index p m
 owned_next list taken n e s new p m b a k =
     ⊎_elim (λ h. b.holds.owned p m h)
@@ -288,7 +271,6 @@ onwards list taken n e s new b a sound =
       owned = λ p m k. owned_next list taken n e s new p m b a k;
     }
 
--- the same shard, with the setup and the index that it has
 abbrev with_setup : Setup → ℕ → State → State
 with_setup setup shard s = record { setup = setup; index = shard; place = s.place; shut = s.shut; sessions = s.sessions }
 

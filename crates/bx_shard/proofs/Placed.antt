@@ -1,4 +1,4 @@
--- Each entry of a list stands at its own place.
+-- Each entry of a list is at its own place.
 use Rattle.std.proofs.Common.{◌≡◌, ℕ, Some, List, slice_get, sym, ap, ◌∙◌}
 use Rattle.bx_advice.specs.declared.config.Config.{Config}
 use Rattle.bx_entry.specs.Words.{Judged, Listed, entries}

@@ -1,4 +1,4 @@
--- What a session keeps that gets an event, or has no room for it.
+-- What a session keeps when it gets an event or has no room for it.
 use Rattle.std.proofs.Common.{◌≡◌, ℕ, nat_eq, Bool, true, false, cond, List, Option, Some, refl, sym, ap, subst, ◌∙◌}
 use Rattle.std.proofs.lemmas.Bool.{true≢false, eqb-true}
 use Rattle.bx_advice.specs.declared.config.Config.{Config}
@@ -16,13 +16,11 @@ same_hold : (room : Bool) (d o s : Session) → d.overflow ≡ false → o.held 
 same_hold true d o s within same h = absurd (true≢false (sym h ∙ within))
 same_hold false d o s within same h = same
 
--- a session that has not overflowed then has its patterns
 pub received_patterns : (config : Config) (p : Publication) (k : Kept) → (after (received config p) k).overflow ≡ false → (after (received config p) k).patterns ≡ k.patterns
 received_patterns config p k h =
     let s : Session = resumed k in
     same_patterns (has_room config p.event s) (delivered config p s) (overflowed s) s (delivered_to_k config p (with_event p s) s.held).patterns refl h
 
--- one that has overflowed by that holds the connect that it held
 pub received_hold : (config : Config) (p : Publication) (k : Kept) → k.overflow ≡ false → (after (received config p) k).overflow ≡ true → (after (received config p) k).held ≡ k.held
 received_hold config p k within h =
     let s : Session = resumed k in
@@ -36,7 +34,6 @@ same_stage : (room : Bool) (d o s : Session) → d.stage ≡ s.stage → o.stage
 same_stage true d o s given over = given
 same_stage false d o s given over = over
 
--- the sessions stand with their patterns as before where one gets an event and does not overflow
 module _ (config : Config) (p : Publication) (m : ℕ) (S T : ℕ → Option Kept) (patterns : ℕ → List Glob) (k : Kept) where
   own_on : (n : ℕ) → k.overflow ≡ false → (after (received config p) k).overflow ≡ false → IsOwn n k (patterns n) → IsOwn n (after (received config p) k) (patterns n)
   own_on n within still own =

@@ -1,4 +1,4 @@
--- A rider is answered behind the rest of its entry.
+-- A rider is answered after the rest of its entry is applied.
 use Rattle.std.proofs.Common.{Contains, arith, ◌≡◌, ◌≢◌, ◌≤◌, ◌+◌, ◌&&◌, ◌⊎◌, inl, inr, ⊎_elim, ℕ, nat_eq, ◌==◌, Bool, true, false, cond, Option, Some, None, option_map, IfSome, is_some, List, [], ◌∷◌, length, map, refl, sym, ap, ◌∙◌, subst, true≢false}
 use Rattle.std.specs.Option.{option_and_then}
 use Rattle.std.proofs.lemmas.{Bool.and_parts, Bool.cond_both, Bool.eqb-true, Bool.eq-eqb, Bool.ne_eqb, Grind.common_steps}
@@ -25,35 +25,29 @@ use Rattle.bx_shard.proofs.{Followed.at_number, Followed.live_there, Followed.no
 use Rattle.bx_shard.proofs.Gives.{HoldsIt, holds_ends, rider_due}
 use Rattle.bx_shard.proofs.Singles.{nowhere, only_one, the_one}
 
--- ---- what kinds of entries ride
+-- ---- the kinds of entries that are riders
 
 portion_fits : (config : Config) (k : Kept) (t : Session) (room : ℕ) → t.ack ≡ k.ack → length t.queue ≤ length k.queue + 1 → ride_most config k ≤ room → ride_portion config t ≤ room
 portion_fits config k t room ack longer fits = grind (arith, common_steps)
 
--- none does without a rider
 rider_of_none : (kind : EntryKind) → rider_of kind None ≡ None
 rider_of_none kind = grind arith
 
--- an entry without its rider is one of its kind
 pub alone_step : (config : Config) (s : Session) (e : Entry) → step config s (alone e) ≡ step_by config e.place e.moment s e.kind
 alone_step config s e = ap (ridden_by config e.place (step_by config e.place e.moment s e.kind)) (rider_of_none e.kind)
 
 module _ (kind : EntryKind) (rides : Option Rider) (rider : Rider) (is : rider_of kind rides ≡ Some rider) where
-  -- it opens no session
   rider_opens : (stands : Bool) (n : ℕ) → opening stands kind n ≡ None
   rider_opens stands n = grind arith
 
-  -- and begins no connect
   rider_begins : (sessions : ℕ → Option Kept) (connects : ℕ → Option ConnectState) (e : Entry) (p : ℕ) → begun sessions connects e kind p ≡ connects p
   rider_begins sessions connects e p = grind arith
 
-  -- a session stays what it was
   rider_stays : (config : Config) (place moment : ℕ) (s : Session) → (step_by config place moment s kind).stage ≡ s.stage
   rider_stays config place moment s = grind (arith, (step_by_next config place moment s kind).stage)
 
   -- ---- room
 
-  -- as much is kept and given as before, but for one event
   record OneMore (s t : Session) : Type 0 where
     ack : t.ack ≡ s.ack
     longer : length t.queue ≤ length s.queue + 1
@@ -61,7 +55,6 @@ module _ (kind : EntryKind) (rides : Option Rider) (rider : Rider) (is : rider_o
   rider_adds : (config : Config) (place moment : ℕ) (s : Session) → OneMore s (step_by config place moment s kind)
   rider_adds config place moment s = grind (arith, common_steps, length_push)
 
-  -- so the room that was made before is enough behind the entry's own effect
   rider_fits : (config : Config) (place moment : ℕ) (k : Kept) (room : ℕ) → ride_most config k ≤ room → ride_portion config (step_by config place moment (resumed k) kind) ≤ room
   rider_fits config place moment k room fits =
       let one : OneMore (resumed k) (step_by config place moment (resumed k) kind) = rider_adds config place moment (resumed k) in
@@ -69,25 +62,19 @@ module _ (kind : EntryKind) (rides : Option Rider) (rider : Rider) (is : rider_o
 
 -- ---- one session
 
--- what a session that is live keeps once it has given a rider what waited
 rode : (config : Config) (place : ℕ) (reply : _) (b : Bool) (t : Session) → t.stage ≡ Live → cond b (Some (given_up config (kept t))) (Some (kept t)) ≡ if_live (kept (cond (b && is_live t.stage) (ridden config place reply t) t))
 rode config place reply b t live = grind arith
 
--- the answers of a session with a rider: those that it gives otherwise, and behind them the rider's
 module _ (config : Config) (place : ℕ) (rider : Rider) where
-  -- the rider's answer
   abbrev pub ride_answer : Session → Answered
   ride_answer t = answered_of (ride_filing config place rider.reply t)
 
-  -- what is given otherwise stays given
   still_given : (t : Session) (a : Answered) → Contains (map answered_of t.answers) a → Contains (map answered_of (ridden_by config place t (Some rider)).answers) a
   still_given t a there = grind (arith, common_steps, map-append answered_of t.answers (ride_filing config place rider.reply t ∷ []), Contains-append_left (map answered_of t.answers) (ride_answer t ∷ []) a there)
 
-  -- the rider's is
   ride_given : (t : Session) → is_riding rider t ≡ true → Contains (map answered_of (ridden_by config place t (Some rider)).answers) (ride_answer t)
   ride_given t h = grind (arith, common_steps, map-append answered_of t.answers (ride_filing config place rider.reply t ∷ []), Contains-append_right (map answered_of t.answers) (ride_answer t ∷ []) (ride_answer t) (the_one (ride_answer t)))
 
-  -- and nothing else is
   given_cases : (t : Session) (a : Answered) → Contains (map answered_of (ridden_by config place t (Some rider)).answers) a → Contains (map answered_of t.answers) a ⊎ ((is_riding rider t ≡ true) × (a ≡ ride_answer t))
   given_cases t a = cond_both (is_riding rider t) (ridden config place rider.reply t) t
       (λ (u : Session). Contains (map answered_of u.answers) a → Contains (map answered_of t.answers) a ⊎ ((is_riding rider t ≡ true) × (a ≡ ride_answer t)))
@@ -98,7 +85,6 @@ module _ (config : Config) (place : ℕ) (rider : Rider) where
 
 -- ---- all sessions
 
--- what an entry without its rider asks of a session is asked of no other
 convert : (sessions : ℕ → Option Kept) (e : Entry) (p m : ℕ) → Connects sessions (alone e) p m → Connects sessions e p m
 convert sessions e p m c = record {
   place = c.place;
@@ -106,16 +92,13 @@ convert sessions e p m c = record {
   here = c.here;
 }
 
--- a session of another number than the rider's gives nothing to it
 ridden_other : (config : Config) (place n : ℕ) (t : Session) (rides : Option Rider) → t.number ≡ n → ((rider : Rider) → rides ≡ Some rider → (rider.session == n) ≡ false) → ridden_by config place t rides ≡ t
 ridden_other config place n t rides number away = grind arith
 
--- what an entry opens has no rider
 opened_alone : (config : Config) (stands : Bool) (e : Entry) (n : ℕ) (kind : EntryKind) → session_after config stands (alone (record e { kind = kind })) n None ≡ session_after config stands (record e { kind = kind }) n None
 opened_alone config stands e n (Opened m ack) = refl
 opened_alone config stands e n _ = refl
 
--- sessions that followed an entry without its rider have followed it where no session that is here rides
 pub followed_alone : (stands : Bool) (e : Entry) (old new : Sessions) → ((n : ℕ) (rider : Rider) → rides_of e ≡ Some rider → is_some (kept_in old n) ≡ true → (rider.session == n) ≡ false) → AreCounted old
     → Followed stands (alone e) old new → Followed stands e old new
 followed_alone stands e old new away counted f = record {
@@ -133,7 +116,6 @@ followed_alone stands e old new away counted f = record {
     config : Config
     config = old.config
 
-    -- a session that is here does the same
     same : (n : ℕ) (k : Kept) (patterns : List Glob) → kept_in old n ≡ Some k → IsOwn n k patterns → step config (resumed k) (alone e) ≡ step config (resumed k) e
     same n k patterns here own =
         alone_step config (resumed k) e
@@ -147,11 +129,9 @@ followed_alone stands e old new away counted f = record {
     answers n None here c = refl
     answers n (Some k) here c = ap (λ (s : Session). map answered_of s.answers) (same n k (patterns_in old n) here c)
 
--- no session that is here rides
 pub away : (sessions : ℕ → Option Kept) (e : Entry) → rider_in sessions e ≡ None → (n : ℕ) (rider : Rider) → rides_of e ≡ Some rider → is_some (sessions n) ≡ true → (rider.session == n) ≡ false
 away sessions e none n rider rides here = grind arith
 
--- the entry's rider is one of a session that is here
 pub record Rides (sessions : ℕ → Option Kept) (e : Entry) (rider : Rider) : Type 0 where
   pub rides : rides_of e ≡ Some rider
   pub here : is_some (sessions rider.session) ≡ true
@@ -159,7 +139,6 @@ pub record Rides (sessions : ℕ → Option Kept) (e : Entry) (rider : Rider) : 
 pub rides_here : (sessions : ℕ → Option Kept) (e : Entry) (rider : Rider) → Some rider ≡ rider_in sessions e → Rides sessions e rider
 rides_here sessions e rider is = grind arith
 
--- a connect is held exactly where its session holds it, once a session gave a rider what waited
 pub ridden_held : (config : Config) (place number : ℕ) (events : List Event) (C D : ℕ → Option ConnectState) (S T : ℕ → Option Kept) → Agree C S
     → ((p : ℕ) → D p ≡ cond (nat_eq place p) (completed events (C place)) (C p)) → ((n : ℕ) → T n ≡ cond (nat_eq number n) (option_map (given_up config) (S number)) (S n)) → Agree D T
 ridden_held config place number events C D S T agree at on =
@@ -181,7 +160,6 @@ module _ (stands : Bool) (e : Entry) (rider : Rider) (rides : rides_of e ≡ Som
   abbrev config : Config
   config = old.config
 
-  -- a session behind the entry's own effect
   abbrev effect : Kept → Session
   effect k = step_by config e.place e.moment (resumed k) e.kind
 
@@ -194,7 +172,6 @@ module _ (stands : Bool) (e : Entry) (rider : Rider) (rides : rides_of e ≡ Som
   effect_live : (n : ℕ) (k : Kept) (patterns : List Glob) → IsOwn n k patterns → (effect k).stage ≡ Live
   effect_live n k patterns own = rider_stays e.kind e.rides rider rides config e.place e.moment (resumed k) ∙ own.live
 
-  -- what is kept behind it
   mid_kept : (n : ℕ) → kept_in mid n ≡ session_after config stands (alone e) n (kept_in old n)
   mid_kept n = rw (f.sessions n, seated_config, seated_sessions n)
 
@@ -207,7 +184,6 @@ module _ (stands : Bool) (e : Entry) (rider : Rider) (rides : rides_of e ≡ Som
       mid_kept n ∙ ap (session_after config stands (alone e) n) is
       ∙ ap (option_and_then (λ k. if_live (kept (step config (resumed k) (alone e))))) (rider_opens e.kind e.rides rider rides stands n)
 
-  -- the room for the answer is enough
   pub mid_fits : (room : ℕ) → IfSome (kept_in old rider.session) (λ (k : Kept). ride_most config k ≤ room) → IfSome (kept_in mid rider.session) (λ (k : Kept). ride_portion mid.config (resumed k) ≤ room)
   mid_fits room fits = by (kept_in old rider.session) refl (counted rider.session) fits
     where
@@ -218,14 +194,12 @@ module _ (stands : Bool) (e : Entry) (rider : Rider) (rides : rides_of e ≡ Som
 
   -- ---- its answers
 
-  -- what an entry without its rider gives is given over the sessions as they were before the answer was filed
   given_seated : (n : ℕ) (k : Kept) (a : Answered) → kept_in old n ≡ Some k → Contains (map answered_of (effect k).answers) a → IsGiven seated.config (kept_in seated) (alone e) n a
   given_seated n k a is there = rw (seated_sessions n, is, seated_config, rider_of_none e.kind) there
 
   seated_given : (n : ℕ) (a : Answered) → IsGiven seated.config (kept_in seated) (alone e) n a → Contains (answers_by (λ s. step config s (alone e)) (kept_in old n)) a
   seated_given n a g = rw (seated_config, seated_sessions n) at g
 
-  -- none of them is to the entry itself
   elsewhere : (n : ℕ) (k : Kept) (a : Answered) → kept_in old n ≡ Some k → Contains (map answered_of (effect k).answers) a → a.place ≢ e.place
   elsewhere n k a is there same =
       let holds : HoldsIt k.held a.place = rider_due config e.place e.moment k a e.kind e.rides rider rides there in
@@ -233,7 +207,6 @@ module _ (stands : Bool) (e : Entry) (rider : Rider) (rides : rides_of e ≡ Som
       let none : ends_for k.held e.place ≡ None = sym tied ∙ ap (λ (o : Option ConnectState). held_until o n) fresh in
       true≢false (sym (holds_ends k.held e.place (subst (HoldsIt k.held) same holds)) ∙ ap is_some none)
 
-  -- so the answer that was filed before is there behind the entry's own effect
   mid_filed : connect_at mid.connects e.place ≡ Some (states.Filed rider.session e.place (unridden rider))
   mid_filed = rw (f.connects.kept e.place (λ n a g. by n a (kept_in old n) refl (seated_given n a g)), rider_begins e.kind e.rides rider rides (kept_in seated) (connect_at seated.connects) (alone e) e.place, seated_connects e.place, eq-eqb e.place e.place refl)
     where
@@ -243,7 +216,6 @@ module _ (stands : Bool) (e : Entry) (rider : Rider) (rides : rides_of e ≡ Som
 
   -- ---- the whole
 
-  -- its entry with its rider
   ridden_step : (k : Kept) → step config (resumed k) e ≡ ridden_by config e.place (effect k) (Some rider)
   ridden_step k = ap (ridden_by config e.place (effect k)) rides
 
@@ -261,7 +233,6 @@ module _ (stands : Bool) (e : Entry) (rider : Rider) (rides : rides_of e ≡ Som
             ∙ ap (λ (m : ℕ). if_live (kept (cond ((rider.session == m) && is_live (effect k).stage) (ridden config e.place rider.reply (effect k)) (effect k)))) (sym (effect_number n k (patterns_in old n) c))
             ∙ sym (ap (λ (s : Session). if_live (kept s)) (ridden_step k))
 
-    -- at the rider's own place its answer is complete
     own_answer : (n : ℕ) (k : Kept) (patterns : List Glob) → kept_in old n ≡ Some k → IsOwn n k patterns → is_riding rider (effect k) ≡ true →
         connect_at new.connects e.place ≡ Some (states.Filed n e.place (ride_answer config e.place rider (effect k)).answer)
     own_answer n k patterns is own riding =
@@ -279,7 +250,6 @@ module _ (stands : Bool) (e : Entry) (rider : Rider) (rides : rides_of e ≡ Som
         by (Some k) is c there =
             ⊎_elim (λ earlier. own k is earlier) (λ last. rw last.1 (own_answer n k (patterns_in old n) is c last.0)) (given_cases config e.place rider (effect k) a (rw rides at there))
 
-    -- the rider itself is answered
     answered : (p : ℕ) → ((n : ℕ) (a : Answered) → IsGiven config (kept_in old) e n a → a.place ≢ p) → nat_eq e.place p ≡ false
     answered p others = by (kept_in old rider.session) refl here (counted rider.session)
       where

@@ -1,13 +1,11 @@
--- The answers of a list that has none or one.
+-- Lists with at most one answer.
 use Rattle.std.proofs.Common.{Contains, arith, ◌≡◌, ◌⊎◌, inl, inr, [], ◌∷◌, refl}
 use Rattle.std.proofs.lemmas.List.Elements.{Contains-push_cases}
 use Rattle.bx_session.specs.declared.answered.Answered.{Answered}
 
--- an empty list has no element
 pub nowhere : (a : Answered) → Contains [] a → ⊥
 nowhere a there = omega (arith, there.1)
 
--- of one answer, an element is that one
 pub only_one : (b a : Answered) → Contains (b ∷ []) a → b ≡ a
 only_one b a there = by (Contains-push_cases [] b a there)
   where
@@ -15,6 +13,5 @@ only_one b a there = by (Contains-push_cases [] b a there)
     by (inl before) = absurd (nowhere a before)
     by (inr same) = same
 
--- and is one
 pub the_one : (a : Answered) → Contains (a ∷ []) a
 the_one a = (0, omega arith, refl)

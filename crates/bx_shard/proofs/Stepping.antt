@@ -19,7 +19,6 @@ pub by_numbers : (config : Config) (setup : Setup) (shard : ℕ) (es : List Entr
 by_numbers config setup shard es [] = refl
 by_numbers config setup shard es (r ∷ rs) = grind (arith, by_numbers config setup shard es rs)
 
--- what is kept of the live ones
 abbrev pub held_by : Config → List Entry → List ℕ → List Kept
 held_by config es ns = map kept (filter (λ (s : Session). is_live s.stage) (map (λ (n : ℕ). session config n es) ns))
 
@@ -29,7 +28,6 @@ one_kept s ks = cond (is_live s.stage) (kept s ∷ ks) ks
 pub held_cons : (config : Config) (es : List Entry) (n : ℕ) (ns : List ℕ) → held_by config es (n ∷ ns) ≡ one_kept (session config n es) (held_by config es ns)
 held_cons config es n ns = grind arith
 
--- the numbers of the shard's sessions over a list, and what is kept of those that are live
 abbrev pub numbers_in : Setup → ℕ → List Listed → List ℕ
 numbers_in setup shard xs = filter (λ (n : ℕ). stands_in setup shard n) (numbers (registry setup.config xs).sessions)
 
@@ -47,15 +45,12 @@ held_append config es ns ms =
     let live : Session → Bool = λ s. is_live s.stage in
     ap (λ (ss : List Session). map kept (filter live ss)) (map-append F ns ms) ∙ ap (map kept) (filter-append live (map F ns) (map F ms)) ∙ map-append kept (filter live (map F ns)) (filter live (map F ms))
 
--- a step of each
-
 steps_append : (config : Config) (e : Entry) (ks ls : List Kept) → steps config e (ks ++ ls) ≡ steps config e ks ++ steps config e ls
 steps_append config e ks ls =
     let F : Kept → Kept = λ k. kept_step config k e in
     let live : Kept → Bool = λ k. is_live k.stage in
     ap (filter live) (map-append F ks ls) ∙ filter-append live (map F ks) (map F ls)
 
--- what isn't live and isn't opened stays so
 dead_next : (stage : Stage) (b : Bool) → is_live stage ≡ false → is_live (cond b (stage_after stage) stage) ≡ false
 dead_next stage b h = grind arith
 
@@ -108,7 +103,6 @@ held_step config ys x (n ∷ ns) d =
     ∙ one_step config s e (held_by config es ns) (kept_steps config s e) (λ h. dead_step config s e own h)
     ∙ sym (ap (steps config e) (held_cons config es n ns))
 
--- the session that the entry opens
 opening_step : (setup : Setup) (shard : ℕ) (ys : List Listed) (x : Listed) (k : EntryKind) → (entry_next setup.config ys x).kind ≡ k →
     held_by setup.config (entries_of (registry setup.config (ys ++ x ∷ []))) (filter (λ (n : ℕ). stands_in setup shard n) (opened_numbers k)) ≡ steps setup.config (entry_next setup.config ys x) (opening_by setup shard k)
 opening_step setup shard ys x (Opened n ack) h =

@@ -1,4 +1,4 @@
--- What shards hold once a sweep dropped answers from one of them.
+-- What shards hold after one of them is swept.
 use Rattle.std.proofs.Common.{arith, ◌≡◌, ℕ, Bool, true, false, ◌&&◌, is_some, Option, None, List, filter, nat_eq, ◌==◌, sym, ap, ◌∙◌, eqb-true}
 use Rattle.std.proofs.lemmas.{Map.Made.is_some-lookup, Map.Views.any-filter_same}
 use Rattle.std.specs.{List.list_any, Map.keys_of, Option.IsSome}
@@ -9,7 +9,6 @@ use Rattle.bx_shard.proofs.Taking.{refines_beside_gone, refines_gone}
 
 -- ---- one connect
 
--- an answer that is dropped was filed
 filed_then : (before : ℕ) (o : Option ConnectState) → is_swept before o ≡ true → IsSome (filed_answer o)
 filed_then before o h = grind arith
 
@@ -30,7 +29,6 @@ known_by before held filed said = grind arith
 both : (a b : Bool) → (a ≡ true → b ≡ true) → (a && b) ≡ a
 both a b h = grind arith
 
--- the places of a sweep are those whose answers are filed below it
 swept_is : (before : ℕ) (s : State) (place : ℕ) → is_taken (swept_places before s) place ≡ is_swept before (connect_in s place)
 swept_is before s place =
     let keys : List ℕ = keys_of s.sessions.connects.filed in
@@ -41,7 +39,7 @@ swept_is before s place =
     ∙ known_by before (hold_at s.sessions.connects.held place) (filing_at s.sessions.connects.filed place) h in
     among ∙ both (test place) (is_taken keys place) known
 
--- ---- the shard from which they were dropped, and the others
+-- ---- the swept shard, and the others
 
 filed_swept : (before : ℕ) (s : State) (p : ℕ) → is_taken (swept_places before s) p ≡ true → IsSome (filed_answer (connect_in s p))
 filed_swept before s p e = filed_then before (connect_in s p) (sym (swept_is before s p) ∙ e)

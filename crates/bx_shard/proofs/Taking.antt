@@ -1,4 +1,4 @@
--- What shards hold once the answer to a connect was taken from one of them.
+-- What shards hold after an answer is taken from one of them.
 use Rattle.std.proofs.Common.{◌≢◌, ◌≡◌, ℕ, ◌<◌, Bool, true, false, ◌||◌, is_some, Option, Some, None, List, [], ◌∷◌, ◌++◌, length, take, drop, filter, flat_map, option_map, slice_get, nat_eq, nat_lt, ◌==◌, not, refl, sym, ap, ◌∙◌, subst, arith, eqb-true, ltb-true, ltb-false}
 use Rattle.std.proofs.lemmas.{Bool.both_ways, Bool.cond-true, Bool.cond-false, Bool.or_right, List.take-append-drop, List.Folds.list_any-append}
 use Rattle.std.specs.Option.{IsSome}
@@ -13,12 +13,11 @@ use Rattle.bx_shard.specs.Refining.{Refines, RefinesBeside, RefinesTaken, IsConn
 use Rattle.bx_shard.proofs.{Cases.by_option, Waits.WaitsAt, Waits.waits_over}
 use Rattle.bx_shard.proofs.Untaken.{find_of, find_untaken, found_in, found_kept, untaken}
 
--- ---- which were taken
+-- ---- taken answers
 
 pub taken_own : (taken : List ℕ) (place : ℕ) → is_taken (taken ++ place ∷ []) place ≡ true
 taken_own taken place = list_any-append (λ (t : ℕ). t == place) taken (place ∷ []) ∙ or_right (is_taken taken place) (is_taken (place ∷ []) place) (grind arith)
 
--- those that were taken before, and these
 taken_too : (taken places : List ℕ) (p : ℕ) → is_taken places p ≡ true → is_taken (taken ++ places) p ≡ true
 taken_too taken places p h = list_any-append (λ (t : ℕ). t == p) taken places ∙ or_right (is_taken taken p) (is_taken places p) h
 
@@ -28,11 +27,10 @@ or_false a b h = grind arith
 taken_before : (taken places : List ℕ) (p : ℕ) → is_taken places p ≡ false → is_taken (taken ++ places) p ≡ is_taken taken p
 taken_before taken places p h = list_any-append (λ (t : ℕ). t == p) taken places ∙ or_false (is_taken taken p) (is_taken places p) h
 
--- one place
 is_one : (place p : ℕ) (b : Bool) → is_taken (place ∷ []) p ≡ b → nat_eq place p ≡ b
 is_one place p b h = grind arith
 
--- ---- what is found among the answers that weren't taken
+-- ---- look-ups among the answers that were not taken
 
 pub none_taken : (taken : List ℕ) (p : ℕ) (fs : List Filed) → is_taken taken p ≡ true → find_of p (filter (λ (f : Filed). not (is_taken taken f.connect)) fs) ≡ None
 none_taken taken p fs h =
@@ -46,7 +44,7 @@ same_found taken places p fs h =
     (λ t. none_taken more p fs (same ∙ t) ∙ sym (none_taken taken p fs t))
     (λ u. find_untaken more p fs (same ∙ u) ∙ sym (find_untaken taken p fs u))
 
--- ---- a connect whose answer is filed
+-- ---- a connect with a filed answer
 
 pub filed_below : (s : State) (place : ℕ) → IsSound s → IsSome (filed_answer (connect_in s place)) → place < s.place
 filed_below s place sound some = either (nat_lt place s.place) (place < s.place) (λ l. ltb-true place s.place l)
@@ -59,7 +57,7 @@ gone_from o h = grind arith
 none_filed : (o : Option ConnectState) → IsSome (filed_answer o) → filed_with_place o ≡ None → ⊥
 none_filed o h e = grind arith
 
--- ---- whose connect it is
+-- ---- the session of a connect
 
 abbrev slot_of : Judged → PlaceSlot
 slot_of j = j.slot
@@ -69,7 +67,6 @@ waits_later config xs ys number p w =
     by_option (λ o. option_map slot_of o ≡ Some (Waiting number) → WaitsAt (registry config (xs ++ ys)).judged number p) (slice_get (registry config xs).judged p)
     (λ a b. cc) (λ j a b. ap (option_map slot_of) (judged_more config xs ys p j a) ∙ b) w
 
--- an answer is filed for a connect of a session that stands in the shard
 pub connect_of_filed : (setup : Setup) (list : List Listed) (taken : List ℕ) (shard n p : ℕ) (f : Filed) → find_of p (shard_at setup list taken shard n).filed ≡ Some f → IsConnectOf setup list shard p
 connect_of_filed setup list taken shard n p f e =
     let d = found_in setup list taken shard n p f e in
@@ -80,7 +77,6 @@ connect_of_filed setup list taken shard n p f e =
       stands = d.holds;
     }
 
--- so it is of one shard alone
 pub one_shard : (setup : Setup) (list : List Listed) (a b p : ℕ) → IsConnectOf setup list a p → IsConnectOf setup list b p → a ≡ b
 one_shard setup list a b p c d =
     let both : Some (Waiting c.session) ≡ Some (Waiting d.session) = sym c.waits ∙ d.waits in
@@ -94,7 +90,6 @@ connect_of_known setup list taken shard n p s h some =
 
 -- ---- the shard from which answers were taken
 
--- the answers to the connects at these places are gone, and nothing else has changed
 pub record AreGone (places : List ℕ) (old new : State) : Type 0 where
   pub setup_is : new.setup ≡ old.setup
   pub index_is : new.index ≡ old.index
@@ -129,7 +124,7 @@ refines_gone setup list taken places shard n old new h gone sound =
           (λ e. h.owned p m (sym (ap session_at (gone.there p e)) ∙ k));
     }
 
--- ---- the others
+-- ---- the other shards
 
 pub refines_beside_gone : (setup : Setup) (list : List Listed) (taken places : List ℕ) (shard n : ℕ) (s : State) (other m : ℕ) (beside : State) → Refines setup list taken shard n s →
     ((p : ℕ) → is_taken places p ≡ true → IsSome (filed_answer (connect_in s p))) → other ≢ shard → Refines setup list taken other m beside → Refines setup list (taken ++ places) other m beside
@@ -157,7 +152,7 @@ refines_beside_gone setup list taken places shard n s other m beside h some apar
       owned = g.owned;
     }
 
--- ---- one answer that was taken
+-- ---- one taken answer
 
 filed_one : (place : ℕ) (s : State) → IsSome (filed_answer (connect_in s place)) → (p : ℕ) → is_taken (place ∷ []) p ≡ true → IsSome (filed_answer (connect_in s p))
 filed_one place s some p e = subst (λ (q : ℕ). IsSome (filed_answer (connect_in s q))) (eqb-true place p (is_one place p true e)) some

@@ -1,4 +1,4 @@
--- A tick ends hold after hold, until none is due; every session is then as one tick leaves it.
+-- A tick ends all due holds one by one, with the effect that the definitions give it.
 use Rattle.std.proofs.Common.{⊎_elim, Contains, ◌≡◌, ◌≢◌, ◌⊎◌, inl, inr, ℕ, nat_eq, ◌+◌, ◌<◌, ◌≤◌, ◌^◌, true, false, cond, Option, Some, option_map, [], ◌∷◌, refl, sym, ap, ◌∙◌, arith}
 use Rattle.std.proofs.lemmas.{Bool.eqb-true, Bool.eq-eqb, Bool.ne_eqb, Grind.common_steps}
 use Rattle.bx_history.proofs.Tests.{either}
@@ -16,17 +16,14 @@ use Rattle.bx_shard.specs.Effects.{answers_by, filing_each}
 use Rattle.bx_shard.specs.Sessions.{held_until, holds_until}
 use Rattle.bx_shard.proofs.{Keeps.filing_each_session, Singles.nowhere, Singles.only_one, Singles.the_one, Ties.Agree, Ties.holds_own}
 
--- a hold whose deadline has come is due
 due_by : (moment d : ℕ) (q : Pending) → deadline_of q ≡ Some d → d ≤ moment → ends_by moment q ≡ true
 due_by moment d q e l = grind arith
 
--- a hold whose deadline lies ahead is not due, nor is one that has none
 not_due : (moment : ℕ) (q : Pending) → moment < 2 ^ 64 → ((d : ℕ) → deadline_of q ≡ Some d → moment < d) → ends_by moment q ≡ false
 not_due moment q fits later = grind (arith, later (q.moment + q.hold))
 
 -- ---- who holds a connect
 
--- the connect is held by this session until then
 pub record IsHeldBy (state : Option ConnectState) (n : ℕ) (deadline : Option ℕ) : Type 0 where
   pub waker : Option Waker
   pub is : state ≡ Some (Held n deadline waker)
@@ -34,7 +31,6 @@ pub record IsHeldBy (state : Option ConnectState) (n : ℕ) (deadline : Option �
 held_by : (o : Option ConnectState) (n : ℕ) (deadline : Option ℕ) → held_until o n ≡ Some deadline → IsHeldBy o n deadline
 held_by o n deadline h = grind arith
 
--- the session holds the connect at this place until then
 pub record IsHolding (o : Option Kept) (place : ℕ) (deadline : Option ℕ) : Type 0 where
   pub session : Kept
   pub hold : Pending
@@ -46,18 +42,15 @@ pub record IsHolding (o : Option Kept) (place : ℕ) (deadline : Option ℕ) : T
 holding : (o : Option Kept) (place : ℕ) (deadline : Option ℕ) → holds_until o place ≡ Some deadline → IsHolding o place deadline
 holding o place deadline h = grind arith
 
--- a change that a second one leaves, of one of the sessions
 twice : (F : Option Kept → Option Kept) (T U : ℕ → Option Kept) (m n : ℕ) → U n ≡ cond (nat_eq m n) (F (T m)) (T n) → F (F (T m)) ≡ F (T m) → F (U n) ≡ F (T n)
 twice F T U m n on same = grind arith
 
 -- ---- one session
 
 module _ (config : Config) (place moment : ℕ) where
-  -- what a tick does to a session
   abbrev pub tick : Session → Session
   tick = expired config place moment
 
-  -- a session whose hold is not due gives no answer and stays
   pub record IsIdle (o : Option Kept) : Type 0 where
     pub none : answers_by tick o ≡ []
     pub same : option_map (after tick) o ≡ o
@@ -65,11 +58,9 @@ module _ (config : Config) (place moment : ℕ) where
   idle : (o : Option Kept) → ((k : Kept) (q : Pending) → o ≡ Some k → k.held ≡ Some q → ends_by moment q ≡ false) → IsIdle o
   idle o late = grind (arith, common_steps)
 
-  -- after a tick a second one at the same moment changes nothing, and gives no answer
   idle_after : (o : Option Kept) → IsIdle (option_map (after tick) o)
   idle_after o = grind (arith, common_steps)
 
-  -- the answer of a tick is that of the connect that is due
   pub record IsAnswered (o : Option Kept) (at : ℕ) : Type 0 where
     pub answer : Answered
     pub given : answers_by tick o ≡ answer ∷ []
@@ -85,7 +76,6 @@ module _ (config : Config) (place moment : ℕ) where
         let one : IsAnswered (Some h.session) h.hold.place = answered_due h.session h.hold h.held (due_by moment deadline h.hold h.ends late) in
         record { answer = one.answer; given = ap (answers_by tick) h.here ∙ one.given; own = one.own ∙ h.own }
 
-    -- where no connect is due no session has an answer
     pub none_due : moment < 2 ^ 64 → ((at n deadline : ℕ) → IsHeldBy (C at) n (Some deadline) → moment < deadline) → (n : ℕ) → IsIdle (S n)
     none_due fits later n = idle (S n) (λ k q here holds.
         let held : IsHeldBy (C q.place) n (deadline_of q) = held_by (C q.place) n (deadline_of q) (rw (agree q.place n, here) (holds_own k q holds)) in
@@ -93,7 +83,6 @@ module _ (config : Config) (place moment : ℕ) where
 
   -- ---- some holds have ended
 
-  -- Some sessions got the tick, and the answers that it gives them are filed.
   pub record AreTicked (S T : ℕ → Option Kept) (C D : ℕ → Option ConnectState) : Type 0 where
     pub sessions : (n : ℕ) → option_map (after tick) (T n) ≡ option_map (after tick) (S n)
     pub left : (n : ℕ) (a : Answered) → Contains (answers_by tick (T n)) a → Contains (answers_by tick (S n)) a
@@ -110,7 +99,6 @@ module _ (config : Config) (place moment : ℕ) where
     known = λ p. refl;
   }
 
-  -- one session more gets the tick, whose connect was held
   module _ (S T U : ℕ → Option Kept) (C D E : ℕ → Option ConnectState) (m : ℕ) (deadline : Option ℕ) (waker : Option Waker) (a : Answered) where
     pub one_ticked : AreTicked S T C D → answers_by tick (T m) ≡ a ∷ [] → D a.place ≡ Some (Held m deadline waker)
         → ((n : ℕ) → U n ≡ cond (nat_eq m n) (option_map (after tick) (T m)) (T n)) → ((p : ℕ) → E p ≡ filing_each place (answers_by tick (T m)) D p)
@@ -148,7 +136,7 @@ module _ (config : Config) (place moment : ℕ) where
             (λ t. absurd (let both : Some (Held m deadline waker) ≡ Some (Filed n place x.answer) = sym held ∙ ap D (eqb-true a.place x.place t) ∙ there in cc))
             (λ f. inr (other x.place f ∙ there))
 
-  -- ---- all holds that are due have ended
+  -- ---- all due holds have ended
 
   module _ (S T : ℕ → Option Kept) (C D : ℕ → Option ConnectState) (so : AreTicked S T C D) (idle : (n : ℕ) → IsIdle (T n)) where
     pub all_sessions : (n : ℕ) → T n ≡ option_map (after tick) (S n)

@@ -1,4 +1,4 @@
--- A connect is held exactly where its session holds it, whatever a call does.
+-- Every call preserves that a connect is held if and only if its session holds it.
 use Rattle.std.proofs.Common.{arith, ◌≡◌, ℕ, nat_eq, Bool, true, false, cond, Option, Some, None, refl, sym, ap, ◌∙◌}
 use Rattle.std.proofs.lemmas.Bool.{eqb-true}
 use Rattle.bx_entry.specs.Words.{Pending, Kept}
@@ -9,30 +9,24 @@ use Rattle.bx_shard.specs.Sessions.{held_until, holds_until}
 
 -- ---- look-ups alone
 
--- connects by their places and sessions by their numbers agree on who holds which
 abbrev pub Agree : (ℕ → Option ConnectState) → (ℕ → Option Kept) → Type 0
 Agree connects sessions = (place n : ℕ) → held_until (connects place) n ≡ holds_until (sessions n) place
 
--- nobody holds a connect in this state
 abbrev pub IsNobody : Option ConnectState → Type 0
 IsNobody state = (n : ℕ) → held_until state n ≡ None
 
--- a session that holds nothing
 abbrev pub IsFree : Option Kept → Type 0
 IsFree session = (place : ℕ) → holds_until session place ≡ None
 
 nothing : (b : Bool) (x y : Option (Option ℕ)) → b ≡ false → y ≡ None → cond b x None ≡ y
 nothing b x y e h = grind arith
 
--- what is held by one session is held by no other
 pub held_by_one : (state : Option ConnectState) (m n : ℕ) (deadline : Option ℕ) → held_until state m ≡ Some deadline → nat_eq m n ≡ false → held_until state n ≡ None
 held_by_one state m n deadline h other = grind arith
 
--- a session that holds a connect says so
 pub holds_own : (session : Kept) (q : Pending) → session.held ≡ Some q → holds_until (Some session) q.place ≡ Some (deadline_of q)
 holds_own session q h = grind arith
 
--- and holds no other
 pub holds_one : (session : Kept) (q : Pending) (place : ℕ) → session.held ≡ Some q → nat_eq q.place place ≡ false → holds_until (Some session) place ≡ None
 holds_one session q place h other = grind arith
 

@@ -1,4 +1,4 @@
--- What is found among the answers that weren't taken.
+-- Look-ups among the answers that were not taken.
 use Rattle.std.proofs.Common.{arith, ◌≡◌, ℕ, false, not, Option, Some, None, List, [], ◌∷◌, take, filter, find, flat_map, ◌==◌, refl, sym, ap, ◌∙◌, true}
 use Rattle.std.specs.{List.All, Option.option_or}
 use Rattle.std.proofs.lemmas.{List.Elements.All-head, List.Elements.All-tail, List.Elements.filter_passes, List.Folds.find-append, List.Folds.flat_map-map}
@@ -13,20 +13,17 @@ find_of p fs = find (λ (f : Filed). f.connect == p) fs
 abbrev pub untaken : List ℕ → List Filed → List Filed
 untaken taken fs = filter (λ (f : Filed). not (is_taken taken f.connect)) fs
 
--- what is found among those that weren't taken is found among all
 pub found_kept : (taken : List ℕ) (place : ℕ) (fs : List Filed) (f : Filed) → find (λ (g : Filed). g.connect == place) (filter (λ (g : Filed). not (is_taken taken g.connect)) fs) ≡ Some f →
     (find (λ (g : Filed). g.connect == place) fs ≡ Some f) × (is_taken taken place ≡ false)
 found_kept taken place [] f e = cc
 found_kept taken place (g ∷ fs) f e = grind (arith, found_kept taken place fs f)
 
--- what is found among all is found among those that weren't taken
 pub find_untaken : (taken : List ℕ) (place : ℕ) (fs : List Filed) → is_taken taken place ≡ false → find (λ (g : Filed). g.connect == place) (filter (λ (g : Filed). not (is_taken taken g.connect)) fs) ≡ find (λ (g : Filed). g.connect == place) fs
 find_untaken taken place [] h = refl
 find_untaken taken place (g ∷ fs) h = grind (arith, find_untaken taken place fs h)
 
--- ---- whose answer is found
+-- ---- the session of an answer
 
--- what is found among the answers of some is found among those of one
 pub record FoundBy {X : Type 0} (P : X → Type 0) (A : X → List Filed) (p : ℕ) (f : Filed) : Type 0 where
   pub one : X
   pub holds : P one
@@ -39,7 +36,6 @@ found_by P A p f (x ∷ xs) each e =
     (λ none rest. found_by P A p f xs (All-tail P x xs each) rest) (λ g here same. record { one = x; holds = All-head P x xs each; found = here ∙ same })
     (sym (find-append (λ (g : Filed). g.connect == p) (A x) (flat_map A xs)) ∙ e)
 
--- an answer that the shard has filed is one of a session that stands there
 pub found_in : (setup : Setup) (list : List Listed) (taken : List ℕ) (shard n p : ℕ) (f : Filed) → find_of p (shard_at setup list taken shard n).filed ≡ Some f →
     FoundBy (λ (r : Registered). stands_in setup shard r.number ≡ true) (λ (r : Registered). (session setup.config r.number (entries_of (registry setup.config (take n list)))).answers) p f
 found_in setup list taken shard n p f e =

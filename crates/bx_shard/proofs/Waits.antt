@@ -1,4 +1,4 @@
--- A session answers a connect only where the connect's slot waits for it.
+-- A session answers a connect only if the connect's slot waits for that session.
 use Rattle.std.proofs.Common.{arith, ◌≡◌, ◌==◌, ℕ, zero, suc, Option, Some, None, List, [], ◌∷◌, ◌++◌, length, map, option_map, slice_get, refl, sym, ap, ◌∙◌, subst, eqb-true, append_assoc, Bool}
 use Rattle.std.proofs.lemmas.List.{length_push}
 use Rattle.std.specs.List.{AllByRecursion}
@@ -18,7 +18,6 @@ abbrev WaitsBy : PlaceSlot → EntryKind → Type 0
 WaitsBy slot (Connect n client id acked hold) = slot ≡ Waiting n
 WaitsBy slot _ = Unit {0}
 
--- so does that of a rider
 abbrev RidesBy : PlaceSlot → Option Rider → Type 0
 RidesBy slot None = Unit {0}
 RidesBy slot (Some rider) = slot ≡ Waiting rider.session
@@ -39,7 +38,6 @@ slot_rides (Some rider) slot = refl
 sessionless_waits : (reply : Reply) (c : MessageKind) (m : Message) → WaitsBy (Ready reply) (sessionless_kind c m)
 sessionless_waits reply c m = grind arith
 
--- so it is of each that was judged
 all_waits : (config : Config) (xs : List Listed) → EachWaits (registry config xs).judged
 all_waits config xs = each_found config xs WaitsFor (λ ys x zs whole.
     let r : Registry = registry config ys in
@@ -54,7 +52,6 @@ all_waits config xs = each_found config xs WaitsFor (λ ys x zs whole.
       ticks = λ moment. (tt, tt);
     }) x)
 
--- the slot at this place waits for the session
 abbrev pub WaitsAt : List Judged → ℕ → ℕ → Type 0
 WaitsAt js number place = option_map (λ (j : Judged). j.slot) (slice_get js place) ≡ Some (Waiting number)
 
@@ -67,7 +64,6 @@ rides_allowed P number place slot rides w h = grind arith
 waits_here : (number : ℕ) (front rest : List Judged) (j : Judged) → j.entry.place ≡ length front → j.slot ≡ Waiting number → WaitsAt (front ++ j ∷ rest) number j.entry.place
 waits_here number front rest j p w = ap (λ (k : ℕ). option_map (λ (i : Judged). i.slot) (slice_get (front ++ j ∷ rest) k)) p ∙ ap (option_map (λ (i : Judged). i.slot)) (got_here front j rest) ∙ ap Some w
 
--- the entry is one that a session of this number may answer at places like its own
 abbrev AllowedBy : (ℕ → Type 0) → ℕ → Entry → Type 0
 AllowedBy P number e = Allowed P number e.place e.kind × AllowedRide P number e.place e.rides
 
@@ -84,14 +80,12 @@ allowed_from number front (j ∷ rest) w d =
       subst (λ (js : List Judged). EachEntry (AllowedBy (WaitsAt js number) number) (map (λ (i : Judged). i.entry) rest)) whole (allowed_from number (front ++ j ∷ []) rest w.1 next),
     )
 
--- each connect that the session answered has a slot that waits for it
 pub answered_waits : (config : Config) (number : ℕ) (xs : List Listed) → Only (WaitsAt (registry config xs).judged number) (session config number (entries_of (registry config xs)))
 answered_waits config number xs =
     let r : Registry = registry config xs in
     run_only config (WaitsAt r.judged number) number (unopened number) (entries_of r) refl
     (allowed_from number [] r.judged (all_waits config xs) (entries_in_order config xs)) (only_unopened (WaitsAt r.judged number) number)
 
--- so has that of each connect to which an answer is found
 pub waits_over : (config : Config) (number p : ℕ) (xs : List Listed) (f : Filed) → find_of p (session config number (entries_of (registry config xs))).answers ≡ Some f → WaitsAt (registry config xs).judged number p
 waits_over config number p xs f e =
     let test : Filed → Bool = λ g. g.connect == p in
@@ -112,7 +106,6 @@ judged_at Asks slot (j ∷ js) (suc n) m e w h k = judged_at Asks slot js n m e 
 slot_waits : (slot : PlaceSlot) (k : EntryKind) (m : ℕ) → WaitsBy slot k → connecting k ≡ Some m → slot ≡ Waiting m
 slot_waits slot k m w h = grind arith
 
--- the slot at the place of a connect waits for its session
 pub connect_waits : (config : Config) (xs : List Listed) (n m : ℕ) (e : Entry) → slice_get (entries_of (registry config xs)) n ≡ Some e → connecting e.kind ≡ Some m → WaitsAt (registry config xs).judged m n
 connect_waits config xs n m e h k =
     judged_at (λ x i. connecting x.kind ≡ Some i) (λ j i w c. slot_waits j.slot j.entry.kind i w.0 c) (registry config xs).judged n m e (all_waits config xs) h k
@@ -122,7 +115,6 @@ connect_waits config xs n m e h k =
 ride_waits : (slot : PlaceSlot) (kind : EntryKind) (rides : Option Rider) (m : ℕ) → RidesBy slot rides → riding (rider_of kind rides) ≡ Some m → slot ≡ Waiting m
 ride_waits slot kind rides m w h = grind arith
 
--- the slot at the place of a rider waits for its session
 pub rider_waits : (config : Config) (xs : List Listed) (n m : ℕ) (e : Entry) → slice_get (entries_of (registry config xs)) n ≡ Some e → riding (rider_of e.kind e.rides) ≡ Some m → WaitsAt (registry config xs).judged m n
 rider_waits config xs n m e h k =
     judged_at (λ x i. riding (rider_of x.kind x.rides) ≡ Some i) (λ j i w r. ride_waits j.slot j.entry.kind j.entry.rides i w.1 r) (registry config xs).judged n m e (all_waits config xs) h k

@@ -1,4 +1,4 @@
--- What a shard holds stays so when wakers come and go.
+-- A shard still agrees with the definitions after its wakers change.
 use Rattle.std.proofs.Common.{arith, ◌≡◌, ℕ, nat_eq, if◌then◌else◌, Bool, Option, None, option_map, refl, sym, ap, ◌∙◌}
 use Rattle.futures.specs.declared.task.waker.Waker.{Waker}
 use Rattle.bx_connects.specs.declared.connects.ConnectState.{ConnectState}
@@ -8,22 +8,18 @@ use Rattle.bx_connects.specs.Words.{waker_of, session_at, unwatched, with_waker}
 use Rattle.bx_shard.specs.Words.{completed_by, held_until, connect_in, RefinesShut, RefinesWatched, filed_with_place}
 use Rattle.bx_shard.proofs.Keeps.{unwatched_session, watched_session}
 
--- a waker changes no answer that is filed
 watched_filed : (shut : Bool) (waker : Waker) (o : Option ConnectState) → filed_with_place (with_waker shut waker o) ≡ filed_with_place o
 watched_filed shut waker o = grind arith
 
--- nor is a connect known by it that was not
 pub watched_none : (shut : Bool) (waker : Waker) (o : Option ConnectState) → o ≡ None → with_waker shut waker o ≡ None
 watched_none shut waker o h = grind arith
 
 unwatched_filed : (o : Option ConnectState) → filed_with_place (option_map unwatched o) ≡ filed_with_place o
 unwatched_filed o = grind arith
 
--- nor does it change by which session a connect is held, and until when
 pub watched_held : (shut : Bool) (waker : Waker) (o : Option ConnectState) (n : ℕ) → held_until (with_waker shut waker o) n ≡ held_until o n
 watched_held shut waker o n = grind arith
 
--- where a waker was brought for a connect, each is as it was, with a waker or without
 pub at_each : (P : Option ConnectState → Option ConnectState → Type 0) (shut : Bool) (connect : ℕ) (waker : Waker) (old new : ℕ → Option ConnectState) →
     ((p : ℕ) → new p ≡ (if nat_eq connect p then with_waker shut waker (old connect) else old p)) →
     ((o : Option ConnectState) → P o o) → ((o : Option ConnectState) → P o (with_waker shut waker o)) → (p : ℕ) → P (old p) (new p)
@@ -57,6 +53,5 @@ refines_shut setup list taken shard n old new h w sound = record {
   owned = λ p m k. h.owned p m (sym (ap session_at (w.connects p) ∙ unwatched_session (connect_in old p)) ∙ k);
 }
 
--- the events of a session change no waker
 pub completed_waker : (config : Config) (k : Option Kept) (o : Option ConnectState) → waker_of (completed_by config k o) ≡ waker_of o
 completed_waker config k o = grind arith

@@ -6,7 +6,7 @@ use Rattle.bx_session.specs.Views.{answered_of, deadline_of}
 use Rattle.bx_connects.specs.declared.connects.ConnectState.{ConnectState}
 use Rattle.bx_connects.specs.Connects.{filing, held_by}
 
--- The connects, with one more that session `number` holds.
+-- The connects after session `number` holds one more.
 abbrev pub holding : ℕ → Pending → (ℕ → Option ConnectState) → ℕ → Option ConnectState
 holding number connect connects p = if nat_eq connect.place p then held_by number (deadline_of connect) else connects p
 
@@ -15,12 +15,12 @@ abbrev pub filing_each : ℕ → List Answered → (ℕ → Option ConnectState)
 filing_each place [] connects p = connects p
 filing_each place (a ∷ rest) connects p = filing_each place rest (filing place (Some a) connects) p
 
--- The answers that `change` gives if the shard has the session, in the program's type.
+-- The answers that a session of the shard gives by `change`, in the program's type.
 abbrev pub answers_by : (Session → Session) → Option Kept → List Answered
 answers_by change None = []
 answers_by change (Some k) = map answered_of (answers_of change k)
 
--- A connect is held if its session is here; then the answers that `change` gives are filed.
+-- A connect is held if its session is in the shard. Then the answers by `change` are filed.
 abbrev pub connect_filing : ℕ → Pending → (Session → Session) → Option Kept → (ℕ → Option ConnectState) → ℕ → Option ConnectState
 connect_filing number connect change None connects p = connects p
 connect_filing number connect change (Some k) connects p = filing_each connect.place (answers_by change (Some k)) (holding number connect connects) p

@@ -29,7 +29,7 @@ rider_in sessions e = option_and_then (λ (r : Rider). if is_some (sessions r.se
 abbrev pub unridden : Rider → Answer
 unridden rider = record { events = []; reply = rider.reply }
 
--- A session after a rider got its share of the waiting events.
+-- A session after a rider gets waiting events, at most one batch.
 abbrev pub given_up : Config → Kept → Kept
 given_up config k = after (forgotten (ride_portion config (resumed k))) k
 
@@ -40,7 +40,7 @@ completed_by config (Some k) state = completed (events_of (take (ride_portion co
 
 -- ---- Entries
 
--- The sessions after an entry; `stands`: whether a session that it opens belongs to the shard.
+-- The sessions after an entry. `stands`: whether a session that it opens is placed in the shard.
 pub record Followed (stands : Bool) (e : Entry) (old new : Sessions) : Type 0 where
   pub config : new.config ≡ old.config
   pub sessions : (n : ℕ) → kept_in new n ≡ session_after old.config stands e n (kept_in old n)

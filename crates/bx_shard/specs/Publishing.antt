@@ -11,11 +11,11 @@ use Rattle.bx_shard.specs.declared.{publish.Parcel.Parcel, sessions.Sessions.Ses
 use Rattle.bx_shard.specs.Effects.{answers_by, filing_each}
 use Rattle.bx_shard.specs.Sessions.{AreHeld, HasRoom, kept_in}
 
--- An event with the place of its publish.
+-- An event with the place at which it is published.
 abbrev pub published_at : ℕ → Event → Publication
 published_at place e = record { place = place; event = e }
 
--- Whether an event's channel is broadcast and matches one of the patterns.
+-- Whether an event's channel is a broadcast channel that one of the patterns matches.
 abbrev pub reaches : Event → List Glob → Bool
 reaches e patterns = is_broadcast e.channel && any_matches patterns (segments e.channel)
 
@@ -23,7 +23,7 @@ reaches e patterns = is_broadcast e.channel && any_matches patterns (segments e.
 abbrev pub numbers_of : List Parcel → List ℕ
 numbers_of xs = map (λ (x : Parcel). x.number) xs
 
--- The session has room for the event; the parcel has a second handle if the session needs it.
+-- The session has room for the event. The parcel has a clone if the session needs one.
 pub record IsPacked (s : Sessions) (x : Parcel) : Type 0 where
   pub room : HasRoom s x.number
   pub further : IfSome (kept_in s x.number) (λ (k : Kept). wants_two k ≡ true → x.further ≡ Some x.event)
@@ -38,7 +38,7 @@ abbrev pub NoneFor : ℕ → List Parcel → Type 0
 NoneFor number [] = Unit {0}
 NoneFor number (x ∷ xs) = (nat_eq number x.number ≡ false) × NoneFor number xs
 
--- Each session can receive its parcel, and none has two.
+-- Each session can receive its parcel, and no session has two.
 abbrev pub AllReady : Sessions → List Parcel → Type 0
 AllReady s [] = Unit {0}
 AllReady s (x ∷ xs) = IsReady s x × NoneFor x.number xs × AllReady s xs

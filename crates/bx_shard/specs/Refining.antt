@@ -1,4 +1,4 @@
--- The program's shard agrees with the shard of the definitions.
+-- When a shard of the program agrees with the definitions.
 use Rattle.std.specs.Prelude.{ℕ, ◌+◌, ◌<◌, ◌≤◌, ◌==◌, ◌≡◌, ◌≢◌, length, Bool, true, false, List, [], ◌∷◌, ◌++◌, filter, find, slice_get, nat_eq, if◌then◌else◌, Option, Some, None, option_map, IsSome, take}
 use Rattle.std.specs.Map.{keys_of}
 use Rattle.futures.specs.declared.task.waker.Waker.{Waker}
@@ -12,7 +12,7 @@ use Rattle.bx_entry.specs.Placings.{Setup}
 use Rattle.bx_shard.specs.Shards.{is_taken, shard_at, stands_in}
 use Rattle.bx_shard.specs.States.{Applied, IsAsBefore, IsSound, State, Swept, Watched, WasShut, connect_in, session_in}
 
--- An answer with the place of the entry that gave it.
+-- The answer with the place of the entry that gave it.
 abbrev pub placed : ℕ → Answer → PlacedAnswer
 placed place a = record { place = place; events = a.events; reply = a.reply }
 
@@ -20,7 +20,7 @@ placed place a = record { place = place; events = a.events; reply = a.reply }
 abbrev pub given_of : PlacedAnswer → Answer
 given_of a = record { events = a.events; reply = a.reply }
 
--- The answer that is filed for a connect, with the place where it was given, if any.
+-- The filed answer to a connect, with the place of the entry that gave it, if any.
 abbrev pub filed_with_place : Option ConnectState → Option PlacedAnswer
 filed_with_place None = None
 filed_with_place (Some (states.Held session deadline waker)) = None
@@ -37,9 +37,9 @@ pub record IsOwn (setup : Setup) (list : List Listed) (shard place session : ℕ
   pub waits : option_map (λ (j : Judged). j.slot) (slice_get (registry setup.config list).judged place) ≡ Some (Waiting session)
   pub stands : stands_in setup shard session ≡ true
 
--- Shard `s` agrees with the definitions' shard after `n` entries, without the answers at `taken`.
--- Those places are in the list. A connect of the shard whose answer was taken is below `n` and
--- unknown. Each known connect belongs to a session in the shard.
+-- Shard `s` agrees with the definitions' shard after `n` entries. The answers to the connects at
+-- the places in `taken` were taken. Each of these places is in the list; if its connect is one of
+-- this shard, it is below `n` and no longer known. Each known connect has a session in the shard.
 pub record Refines (setup : Setup) (list : List Listed) (taken : List ℕ) (shard n : ℕ) (s : State) : Type 0 where
   pub setup_is : s.setup ≡ setup
   pub index_is : s.index ≡ shard
@@ -91,7 +91,7 @@ RefinesBeside = (setup : Setup) (list : List Listed) (taken : List ℕ) (shard n
     Refines setup list taken shard n s → IsSome (filed_answer (connect_in s place)) → other ≢ shard → Refines setup list taken other m beside →
     Refines setup list (taken ++ place ∷ []) other m beside
 
--- A shard still agrees after a waker is offered for a connect.
+-- A shard still agrees after a call of `watch`.
 abbrev pub RefinesWatched : Type 0
 RefinesWatched = (setup : Setup) (list : List Listed) (taken : List ℕ) (shard n connect : ℕ) (waker : Waker) (old new : State) →
     Refines setup list taken shard n old → Watched connect waker old new → IsSound new → Refines setup list taken shard n new
@@ -101,16 +101,16 @@ abbrev pub RefinesShut : Type 0
 RefinesShut = (setup : Setup) (list : List Listed) (taken : List ℕ) (shard n : ℕ) (old new : State) →
     Refines setup list taken shard n old → WasShut old new → IsSound new → Refines setup list taken shard n new
 
--- Whether an answer is filed and was given below place `before`.
+-- Whether an answer is filed that was given below place `before`.
 abbrev pub is_swept : ℕ → Option ConnectState → Bool
 is_swept before None = false
 is_swept before (Some state) = is_filed_below before state
 
--- The places of the connects whose answers were given below place `before`.
+-- The places of the connects with filed answers that were given below place `before`.
 abbrev pub swept_places : ℕ → State → List ℕ
 swept_places before s = filter (λ (place : ℕ). is_swept before (connect_in s place)) (keys_of s.sessions.connects.filed)
 
--- A shard still agrees after it drops the answers that were given below place `before`.
+-- A shard still agrees after it drops the answers given below place `before`.
 abbrev pub RefinesSwept : Type 0
 RefinesSwept = (setup : Setup) (list : List Listed) (taken : List ℕ) (shard n before : ℕ) (old new : State) →
     Refines setup list taken shard n old → Swept before old new → IsSound new → Refines setup list (taken ++ swept_places before old) shard n new

@@ -5,7 +5,7 @@ use Rattle.bx_shard.specs.declared.shard.Shard.{Shard}
 use Rattle.bx_entry.specs.Placings.{Setup}
 use Rattle.bx_shard.specs.States.{State}
 
--- The configuration, with the number of shards and the placing of sessions.
+-- The configuration of a shard, with the number of shards and the placing.
 abbrev pub setup_in : {P : Type 0} → (P → ℕ → ℕ → ℕ) → Shard P → Setup
 setup_in place_of s = record { config = s.sessions.config; shards = s.shards; placing = place_of (arc_value s.placing) }
 

@@ -10,7 +10,7 @@ use Rattle.bx_connects.specs.declared.connects.ConnectState.TheVariants.{Held, F
 use Rattle.bx_connects.specs.Connects.{connect_at}
 use Rattle.bx_shard.specs.declared.sessions.Sessions.{Sessions}
 
--- What is kept of session `n`, if it is in the shard.
+-- Session `n`, if it is in the shard.
 abbrev pub kept_in : Sessions → ℕ → Option Kept
 kept_in s n = option_map (λ (x : WithRoom). x.kept) (lookup (nat_eq n) s.by_number.entries)
 
@@ -18,7 +18,7 @@ kept_in s n = option_map (λ (x : WithRoom). x.kept) (lookup (nat_eq n) s.by_num
 abbrev pub patterns_in : Sessions → ℕ → List Glob
 patterns_in s n = patterns_of s.tree n
 
--- Session `n`, if it is in the shard, can take one more event without allocating.
+-- Session `n`, if it is in the shard, can queue one more event without allocating.
 abbrev pub HasRoom : Sessions → ℕ → Type 0
 HasRoom s n = IfSome (lookup (nat_eq n) s.by_number.entries) (λ (x : WithRoom). 0 < x.spare)
 
@@ -28,7 +28,8 @@ AreCountable s = (n : ℕ) → IfSome (kept_in s n) Countable
 
 -- ---- Invariants
 
--- A live session is stored under its number; the tree has its patterns, none after an overflow.
+-- The session is live and stored under its number. The tree has its patterns, none after an
+-- overflow.
 pub record IsOwn (n : ℕ) (k : Kept) (patterns : List Glob) : Type 0 where
   pub number : k.number ≡ n
   pub live : k.stage ≡ Live
@@ -40,18 +41,18 @@ abbrev pub IsCounted : ℕ → Option Kept → List Glob → Type 0
 IsCounted n None patterns = patterns ≡ []
 IsCounted n (Some k) patterns = IsOwn n k patterns
 
--- Until when a connect is held, if session `n` holds it.
+-- The deadline of a connect, if session `n` holds it. A deadline may be missing.
 abbrev pub held_until : Option ConnectState → ℕ → Option (Option ℕ)
 held_until None n = None
 held_until (Some (Held m deadline waker)) n = if nat_eq m n then Some deadline else None
 held_until (Some (Filed session place answer)) n = None
 
--- Until when a connect is held, if it is the one at `place`.
+-- The deadline of a held connect, if it is the one at `place`.
 abbrev pub ends_for : Option Pending → ℕ → Option (Option ℕ)
 ends_for None place = None
 ends_for (Some p) place = if nat_eq p.place place then Some (deadline_of p) else None
 
--- Until when a session holds the connect at `place`, if it does.
+-- The deadline of the connect at `place`, if the session holds it.
 abbrev pub holds_until : Option Kept → ℕ → Option (Option ℕ)
 holds_until None place = None
 holds_until (Some k) place = ends_for k.held place

@@ -1,16 +1,16 @@
--- Which shard a session belongs to, and what each shard holds after `n` entries of the list.
+-- Which shard a session is placed in, and what each shard holds after `n` entries of the list.
 use Rattle.std.specs.Prelude.{ℕ, ◌==◌, not, Bool, List, take, filter, map, flat_map}
 use Rattle.std.specs.List.{list_any}
 use Rattle.bx_entry.specs.Placings.{Setup}
 use Rattle.bx_entry.specs.Words.{Listed, Registered, registry, entries_of, Session, Filed, session, is_live, Kept, kept}
 
--- Whether a session belongs to the shard.
+-- Whether session `number` is placed in the shard.
 abbrev pub stands_in : Setup → ℕ → ℕ → Bool
 stands_in setup shard number = setup.placing number setup.shards == shard
 
 -- ---- Contents of a shard
 
--- A shard: its place, its live sessions by number, and its filed answers that nobody has taken.
+-- A shard: its place, its live sessions in order of number, and its filed answers not taken yet.
 pub record Shard : Type 0 where
   pub place : ℕ
   pub sessions : List Kept
@@ -20,7 +20,7 @@ pub record Shard : Type 0 where
 abbrev pub is_taken : List ℕ → ℕ → Bool
 is_taken taken place = list_any (λ t. t == place) taken
 
--- Each session of the shard, live or not, that the first `n` entries opened.
+-- The sessions of the shard, live or closed, that the first `n` entries opened.
 abbrev pub sessions_in : Setup → List Listed → ℕ → ℕ → List Session
 sessions_in setup list shard n =
     let r = registry setup.config (take n list) in
@@ -30,11 +30,11 @@ sessions_in setup list shard n =
 abbrev pub live_among : List Session → List Session
 live_among ss = filter (λ (s : Session). is_live s.stage) ss
 
--- The sessions' answers that were not taken.
+-- The answers of the sessions, except those that were taken.
 abbrev pub filed_among : List ℕ → List Session → List Filed
 filed_among taken ss = filter (λ (f : Filed). not (is_taken taken f.connect)) (flat_map (λ (s : Session). s.answers) ss)
 
--- The shard after the first `n` entries, without the answers at `taken`.
+-- The shard after the first `n` entries, without the answers to the connects at `taken`.
 abbrev pub shard_at : Setup → List Listed → List ℕ → ℕ → ℕ → Shard
 shard_at setup list taken shard n =
     let ss = sessions_in setup list shard n in

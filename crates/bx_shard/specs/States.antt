@@ -25,11 +25,11 @@ pub record State : Type 0 where
   pub shut : Bool
   pub sessions : Sessions
 
--- The state of the connect at a place of the list, if the shard knows it.
+-- The state of the connect at `place`, if the shard knows it.
 abbrev pub connect_in : State → ℕ → Option ConnectState
 connect_in s place = connect_at s.sessions.connects place
 
--- What is kept of a session of the shard, by its number.
+-- Session `number`, if it is in the shard.
 abbrev pub session_in : State → ℕ → Option Kept
 session_in s number = kept_in s.sessions number
 
@@ -44,7 +44,7 @@ opening stands _ n = None
 abbrev pub if_live : Kept → Option Kept
 if_live k = if is_live k.stage then Some k else None
 
--- Session `n` after the entry, which may open it; a closed session is dropped.
+-- Session `n` after the entry, which may open it. A closed session is dropped.
 abbrev pub session_after : Config → Bool → Entry → ℕ → Option Kept → Option Kept
 session_after config stands e n o = option_and_then (λ k. if_live (kept_step config k e)) (option_or o (opening stands e.kind n))
 
@@ -56,9 +56,9 @@ let_go numbers None = None
 let_go numbers (Some (Held session deadline waker)) = if list_any (λ m. m == session) numbers then None else Some (Held session deadline waker)
 let_go numbers (Some (Filed session place answer)) = Some (Filed session place answer)
 
--- The connects, with the entry's own one held if its session is here. A tick drops those held by
--- the sessions that it closes; in a list there are none, since no session is due before its hold
--- ends.
+-- The connects before the entry's answers are filed. A connect is held if its session is in the
+-- shard. A tick drops the connects that its closed sessions hold; in a list there are none, since
+-- no session is due before its hold ends.
 abbrev pub begun : (ℕ → Option Kept) → (ℕ → Option ConnectState) → Entry → EntryKind → ℕ → Option ConnectState
 begun sessions connects e (Connect m client id acked hold) p = if is_some (sessions m) then holding m (pending e.place client id e.moment hold) connects p else connects p
 begun sessions connects e (Tick numbers) p = let_go numbers (connects p)
@@ -68,7 +68,7 @@ begun sessions connects e _ p = connects p
 abbrev pub IsGiven : Config → (ℕ → Option Kept) → Entry → ℕ → Answered → Type 0
 IsGiven config sessions e number a = Contains (answers_by (λ s. step config s e) (sessions number)) a
 
--- Each answer is filed at `place`, and all other connects are unchanged.
+-- Each given answer is filed at `place`, and all other connects are unchanged.
 pub record Files (place : ℕ) (Given : ℕ → Answered → Type 0) (old new : ℕ → Option ConnectState) : Type 0 where
   pub given : (n : ℕ) (a : Answered) → Given n a → new a.place ≡ Some (Filed n place a.answer)
   pub kept : (p : ℕ) → ((n : ℕ) (a : Answered) → Given n a → a.place ≢ p) → new p ≡ old p
@@ -77,7 +77,7 @@ pub record Files (place : ℕ) (Given : ℕ → Answered → Type 0) (old new : 
 abbrev pub riding : Option Rider → Option ℕ
 riding rides = option_map (λ (r : Rider). r.session) rides
 
--- The session of which an entry of this kind is a connect, if any.
+-- The session for which an entry of this kind is a connect, if any.
 abbrev pub connecting : EntryKind → Option ℕ
 connecting (Connect m client id acked hold) = Some m
 connecting _ = None
@@ -88,7 +88,7 @@ pub record Connects (sessions : ℕ → Option Kept) (e : Entry) (p m : ℕ) : T
   pub session : (connecting e.kind ≡ Some m) ⊎ (riding (rider_of e.kind e.rides) ≡ Some m)
   pub here : is_some (sessions m) ≡ true
 
--- A known connect keeps its session, unless it is the entry itself.
+-- Each known connect has the session that it had before, or belongs to this entry.
 abbrev pub KeepsSessions : (ℕ → Option Kept) → Entry → (ℕ → Option ConnectState) → (ℕ → Option ConnectState) → Type 0
 KeepsSessions sessions e old new = (p m : ℕ) → session_at (new p) ≡ Some m → (session_at (old p) ≡ Some m) ⊎ Connects sessions e p m
 
@@ -109,7 +109,7 @@ pub record Applied (old : State) (e : Entry) (new : State) : Type 0 where
   pub connects : Files e.place (IsGiven old.setup.config (session_in old) e) (begun (session_in old) (connect_in old) e e.kind) (connect_in new)
   pub known : KeepsSessions (session_in old) e (connect_in old) (connect_in new)
 
--- Nothing has changed that can be observed.
+-- Nothing observable has changed.
 pub record IsAsBefore (old new : State) : Type 0 where
   pub place : new.place ≡ old.place
   pub setup : new.setup ≡ old.setup
@@ -127,7 +127,7 @@ pub record IsSound (s : State) : Type 0 where
 
 -- ---- Other calls
 
--- The shard after a waker is offered for the connect at `connect`.
+-- The shard after a call of `watch` for the connect at `connect`.
 pub record Watched (connect : ℕ) (waker : Waker) (old new : State) : Type 0 where
   pub place : new.place ≡ old.place
   pub setup : new.setup ≡ old.setup
@@ -136,7 +136,7 @@ pub record Watched (connect : ℕ) (waker : Waker) (old new : State) : Type 0 wh
   pub sessions : (n : ℕ) → session_in new n ≡ session_in old n
   pub connects : (p : ℕ) → connect_in new p ≡ (if nat_eq connect p then with_waker old.shut waker (connect_in old connect) else connect_in old p)
 
--- The shard without the answers that were given below place `before`.
+-- The shard without the answers given below place `before`.
 pub record Swept (before : ℕ) (old new : State) : Type 0 where
   pub place : new.place ≡ old.place
   pub setup : new.setup ≡ old.setup

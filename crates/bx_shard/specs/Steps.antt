@@ -19,7 +19,7 @@ opening_by setup shard _ = []
 abbrev pub stepped : Setup → ℕ → Entry → List Kept → List Kept
 stepped setup shard e ks = filter (λ (k : Kept). is_live k.stage) (map (λ (k : Kept). kept_step setup.config k e) (ks ++ opening_by setup shard e.kind))
 
--- The live sessions after an entry depend only on those before it and on the entry.
+-- The live sessions after an entry depend only on those before and on the entry.
 abbrev pub ShardsStep : Type 0
 ShardsStep = (setup : Setup) (list : List Listed) (taken : List ℕ) (shard n : ℕ) (e : Entry) → 0 < setup.config.limits.batch → slice_get (entries setup.config list) n ≡ Some e →
     (shard_at setup list taken shard (n + 1)).sessions ≡ stepped setup shard e (shard_at setup list taken shard n).sessions
@@ -30,7 +30,7 @@ ShardsStep = (setup : Setup) (list : List Listed) (taken : List ℕ) (shard n : 
 abbrev pub answers_by : Config → Entry → List Kept → List Filed
 answers_by config e ks = flat_map (λ (k : Kept). kept_answers config k e) ks
 
--- Untaken answers after an entry were filed before it or are given at it by live sessions.
+-- An untaken answer is filed after an entry if it was filed before or a live session gives it.
 abbrev pub ShardsFile : Type 0
 ShardsFile = (setup : Setup) (list : List Listed) (taken : List ℕ) (shard n : ℕ) (e : Entry) (place : ℕ) → 0 < setup.config.limits.batch → slice_get (entries setup.config list) n ≡ Some e → is_taken taken place ≡ false →
     find (λ (f : Filed). f.connect == place) (shard_at setup list taken shard (n + 1)).filed

@@ -15,8 +15,9 @@ use std::alloc::{AllocError, Global};
 impl Sessions {
     /// Applies an entry, and answers its rider last.
     ///
-    /// `stands`: whether a session that the entry opens belongs to this shard. Moves the wakers of
-    /// connects that it answers or forgets to `wakers`. On error, nothing visible has changed.
+    /// `stands`: whether a session that `entry` opens belongs to this shard. Moves the wakers of
+    /// connects that it answers or forgets to `wakers`. On error, no session or connect has
+    /// changed.
     pub(crate) fn follow(
         &mut self,
         alloc: Global,
@@ -49,7 +50,7 @@ impl Sessions {
         Ok(())
     }
 
-    // Applies an entry, except its rider.
+    // Applies an entry without its rider.
     fn follow_alone(
         &mut self,
         alloc: Global,

@@ -1,7 +1,7 @@
 //! Laws of shards, for every configuration, placing and list.
 //!
-//! A shard matches the definition if it holds what `shard_at` of `specs/Shards.antt` gives. Laws on
-//! calls and entries assume that it did so before.
+//! A shard agrees with the definitions if it holds what `shard_at` of `specs/Shards.antt` gives.
+//! The laws about entries and calls assume that the shard agreed before.
 ghost use Rattle.bx_shard.specs.Refining.{FiledIsGiven, RefinesAtFirst, RefinesBeside, RefinesBesideSwept, RefinesLonger, RefinesOnwards, RefinesShut, RefinesStill, RefinesSwept, RefinesTaken, RefinesWatched};
 ghost use Rattle.bx_shard.specs.Holdings.{SessionsReached, NumbersAscend, OpenedIsFresh};
 ghost use Rattle.bx_shard.specs.Steps.{ShardsFile, ShardsStep};
@@ -13,8 +13,8 @@ pub fn shards_step()
 
 /// Proves which answers are filed after an entry.
 ///
-/// An answer that was not taken is filed if it was before, or if a live session of the shard gives
-/// it at the entry.
+/// An answer that was not taken is filed if it was filed before, or if a live session of the shard
+/// gives it at the entry.
 pub fn shards_file()
     ensures { ShardsFile }
 {}
@@ -34,52 +34,54 @@ pub fn opened_is_fresh()
     ensures { OpenedIsFresh }
 {}
 
-/// Proves that a shard that has applied no entry matches the definition.
+/// Proves that a shard that has applied no entry agrees with the definitions.
 pub fn refines_at_first()
     ensures { RefinesAtFirst }
 {}
 
-/// Proves that a shard still matches the definition after a call that changes nothing.
+/// Proves that a shard still agrees with the definitions after a call that changes nothing.
 pub fn refines_still()
     ensures { RefinesStill }
 {}
 
-/// Proves that a shard that matches the definition still does when the list grows.
+/// Proves that a shard still agrees with the definitions when the list grows.
 pub fn refines_longer()
     ensures { RefinesLonger }
 {}
 
-/// Proves that a shard matches the definition after it applies the list's next entry.
+/// Proves that a shard still agrees with the definitions after it applies the next entry.
 pub fn refines_onwards()
     ensures { RefinesOnwards }
 {}
 
-/// Proves that a shard matches the definition after an answer was taken from it.
+/// Proves that a shard still agrees with the definitions after an answer is taken from it.
 pub fn refines_taken()
     ensures { RefinesTaken }
 {}
 
-/// Proves that a shard matches the definition after an answer was taken from another one.
+/// Proves that a shard still agrees with the definitions after another shard's answer is taken.
 pub fn refines_beside()
     ensures { RefinesBeside }
 {}
 
-/// Proves that a shard matches the definition after a call of `watch`.
+/// Proves that a shard still agrees with the definitions after a call of `watch`.
 pub fn refines_watched()
     ensures { RefinesWatched }
 {}
 
-/// Proves that a shard matches the definition after it was shut.
+/// Proves that a shard still agrees with the definitions after it is shut.
 pub fn refines_shut()
     ensures { RefinesShut }
 {}
 
-/// Proves that a shard matches the definition after a sweep, whose answers count as taken.
+/// Proves that a shard still agrees with the definitions after a sweep.
+///
+/// Swept answers count as taken.
 pub fn refines_swept()
     ensures { RefinesSwept }
 {}
 
-/// Proves that a shard matches the definition after another one was swept.
+/// Proves that a shard still agrees with the definitions after another shard is swept.
 pub fn refines_beside_swept()
     ensures { RefinesBesideSwept }
 {}

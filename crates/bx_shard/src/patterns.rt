@@ -17,7 +17,7 @@ use bx_session::Delivery;
 use std::alloc::{AllocError, Global};
 
 impl Sessions {
-    /// Adds `patterns` to session `number`, if it is here and has not overflowed.
+    /// Adds `patterns` to session `number`, if it is in this shard and has not overflowed.
     ///
     /// If the session overflows, removes all its patterns. On error, no session has changed.
     pub(crate) fn subscribe(
@@ -48,7 +48,7 @@ impl Sessions {
         Ok(())
     }
 
-    /// Removes `patterns` from session `number`, if it is here.
+    /// Removes `patterns` from session `number`, if it is in this shard.
     pub(crate) fn unsubscribe(&mut self, number: u64, patterns: &[Pattern])
         requires counted { AreCounted self.old }
         ensures sessions { (n : ℕ) → kept_in self.new n

@@ -19,7 +19,7 @@ use bx_message::SharedEvent;
 use bx_names::is_broadcast;
 use std::alloc::{AllocError, Global};
 
-/// An event for one session, and a clone if the session will both send and keep it.
+/// An event for one session, with a clone if the session will both send and keep it.
 #[derive(Drop)]
 pub(crate) struct Parcel {
     pub(crate) number: u64,
@@ -28,9 +28,9 @@ pub(crate) struct Parcel {
 }
 
 impl Sessions {
-    /// Returns the sessions with a pattern that matches the event's channel, in ascending order.
+    /// Returns the numbers of the sessions with a pattern that matches `event`, in ascending order.
     ///
-    /// The list is empty if that is not a broadcast channel.
+    /// Returns no numbers if the event's channel is not a broadcast channel.
     pub(crate) fn receivers(
         &self,
         alloc: Global,
@@ -48,7 +48,7 @@ impl Sessions {
         Ok(found.numbers)
     }
 
-    // Reserves room for the event in each session of `numbers`, and creates their parcels.
+    // Reserves room for `event` in each session of `numbers`, and creates their parcels.
     fn pack(
         &mut self,
         alloc: Global,
@@ -91,7 +91,8 @@ impl Sessions {
 
     /// Delivers the event published at `place` to each session with a pattern that matches.
     ///
-    /// Moves the wakers of answered connects to `wakers`. On error, no session receives the event.
+    /// Moves the wakers of answered connects to `wakers`. On error, no session has received the
+    /// event.
     pub(crate) fn publish(
         &mut self,
         alloc: Global,

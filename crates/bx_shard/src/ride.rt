@@ -16,7 +16,7 @@ use bx_session::RideRoom;
 use std::alloc::{AllocError, Global};
 
 impl Sessions {
-    /// Returns the entry's rider, if its session is here.
+    /// Returns the rider of `entry`, if its session is in this shard.
     pub(crate) fn rider_here<'e>(&self, entry: &'e Entry) -> Option<&'e Rider>
         ensures { option_copied result ≡ rider_in (kept_in self.now) entry.now }
     {
@@ -28,9 +28,9 @@ impl Sessions {
         }
     }
 
-    /// Files the answer to a rider at `place`, without events, and reserves room for them.
+    /// Files the answer to `rider` at `place`, without events, and reserves room for its events.
     ///
-    /// No connect or answer may be known at `place`. On error, nothing visible has changed.
+    /// No connect or answer may be known at `place`. On error, no session or connect has changed.
     pub(crate) fn prepare_ride(
         &mut self,
         alloc: Global,
@@ -53,7 +53,7 @@ impl Sessions {
         Ok(room)
     }
 
-    // Reserves room for the events that a session, if it is here, sends with a rider's reply.
+    // Reserves room for the events that session `number` sends with a rider's reply.
     fn ride_room(&self, alloc: Global, number: u64) -> Result<RideRoom, AllocError>
         ensures { IfOk result (λ room. IfSome (kept_in self.now number) (λ (k : Kept). ride_most self.now.config k ≤ room)) }
     {
@@ -63,7 +63,9 @@ impl Sessions {
         }
     }
 
-    /// Moves the events that a session sends with a rider's reply into the answer for `place`.
+    /// Moves the events for a rider from session `number` into the answer filed for `place`.
+    ///
+    /// `room`: from [`prepare_ride`](Self::prepare_ride).
     pub(crate) fn ride(&mut self, place: u64, number: u64, room: RideRoom)
         requires room { IfSome (kept_in self.old number) (λ (k : Kept). ride_portion self.old.config (resumed k) ≤ room) }
         ensures sessions { (n : ℕ) → kept_in self.new n
@@ -81,7 +83,7 @@ impl Sessions {
     }
 }
 
-// Returns the entry's rider. Only a subscription, an unsubscription or a publish has one.
+// Returns the rider of `entry`. Only a subscription, an unsubscription or a publish has one.
 fn rider_of(entry: &Entry) -> Option<&Rider>
     ensures { option_copied result ≡ rides_of entry.now }
 {
@@ -93,7 +95,7 @@ fn rider_of(entry: &Entry) -> Option<&Rider>
     }
 }
 
-// Clones a reply. Both share its texts.
+// Clones `reply`. The clone shares its texts.
 fn copy_of(reply: &Reply) -> Result<Reply, AllocError>
     ensures { IfOk result (λ copy. copy ≡ reply.now) }
 {

@@ -48,16 +48,16 @@ impl Sessions {
         }
     }
 
-    /// Returns `true` if session `number` is here.
+    /// Returns `true` if session `number` is in this shard.
     pub(crate) fn has(&self, number: u64) -> bool
         ensures { result ≡ is_some (kept_in self.now number) }
     {
         self.by_number.contains_key(&number)
     }
 
-    /// Opens session `number`, which must not be here.
+    /// Opens session `number`, which must not be in this shard.
     ///
-    /// `ack`: whether it acknowledges batches. On error, no session has changed.
+    /// `ack`: whether the session acknowledges batches. On error, no session has changed.
     pub(crate) fn open(&mut self, alloc: Global, number: u64, ack: bool) -> Result<(), AllocError>
         ensures sessions { OnOk result ((n : ℕ) → kept_in self.new n
             ≡ (if nat_eq number n then Some (after (λ s. begun ack s s.stage) (kept (unopened number))) else kept_in self.old n)) }
@@ -71,10 +71,10 @@ impl Sessions {
         Ok(())
     }
 
-    /// Answers or holds `connect`, if session `number` is here.
+    /// Answers or holds `connect`, if session `number` is in this shard.
     ///
-    /// No connect or answer may be known at its place. Moves the waker of an answered connect to
-    /// `wakers`. On error, nothing visible has changed.
+    /// No connect or answer may be known at the place of `connect`. Moves the waker of a superseded
+    /// connect to `wakers`. On error, no session or connect has changed.
     pub(crate) fn connect(
         &mut self,
         alloc: Global,
@@ -119,7 +119,10 @@ impl Sessions {
         }
     }
 
-    /// Reserves room for an event in a session, and clones it if it will be both sent and kept.
+    /// Reserves room for `event` in session `number`, and clones it if it is to be sent and kept.
+    ///
+    /// Returns the clone. A session that is not in this shard needs neither. On error, no session
+    /// has changed.
     pub(crate) fn reserve(
         &mut self,
         number: u64,
@@ -164,9 +167,9 @@ impl Sessions {
         }
     }
 
-    /// Closes session `number` for a tick.
+    /// Closes session `number`, for a tick.
     ///
-    /// Forgets a connect that it still held, and moves its waker to `wakers`.
+    /// Forgets a connect that the session still holds, and moves the connect's waker to `wakers`.
     pub(crate) fn close(&mut self, number: u64, wakers: &mut Wakers)
         ensures sessions { (n : ℕ) → kept_in self.new n ≡ (if nat_eq number n then None else kept_in self.old n) }
         ensures patterns { (n : ℕ) → patterns_in self.new n ≡ (if nat_eq number n then [] else patterns_in self.old n) }
@@ -186,7 +189,7 @@ impl Sessions {
         }
     }
 
-    /// Closes session `number` for a disconnect, and answers its held connect.
+    /// Closes session `number`, for a disconnect, and answers its held connect.
     ///
     /// `place`: that of the disconnect. Moves the connect's waker to `wakers`.
     pub(crate) fn disconnect(&mut self, place: u64, number: u64, wakers: &mut Wakers)
@@ -207,34 +210,34 @@ impl Sessions {
         self.connects.file_if(place, answered, wakers);
     }
 
-    /// Returns the configuration.
+    /// Returns the configuration with which the sessions were created.
     pub fn config(&self) -> Config
         ensures { result ≡ self.now.config }
     {
         self.config
     }
 
-    /// Returns the connects of these sessions.
+    /// Returns the held connects and the filed answers of these sessions.
     pub fn connects(&self) -> &Connects
         ensures { result.now ≡ self.now.connects }
     {
         &self.connects
     }
 
-    /// Returns the numbers of these sessions.
+    /// Returns the numbers of these sessions, in no particular order.
     pub fn numbers(&self) -> &[u64]
         ensures { result.now ≡ keys_of self.now.by_number.entries }
     {
         self.by_number.keys().as_slice()
     }
 
-    /// Reserves session `number` and copies its patterns from `from`, unless it is here.
+    /// Reserves session `number` and copies its patterns from `from`, unless it is already here.
     ///
-    /// An empty session takes its place until [`settle`](Self::settle) is called.
+    /// An empty session is stored under `number` until [`settle`](Self::settle) is called.
     ///
     /// # Errors
     ///
-    /// `AllocError` if memory runs out. The empty session may then be here, without patterns.
+    /// `AllocError` if memory runs out. The empty session may then remain, without patterns.
     pub fn lend(&mut self, alloc: Global, number: u64, from: &Sessions) -> Result<(), AllocError>
         requires clean { AreClean self.old }
         ensures sessions { OnOk result ((n : ℕ) → is_some (kept_in self.new n) ≡ (nat_eq number n || is_some (kept_in self.old n))) }
@@ -273,9 +276,9 @@ impl Sessions {
         self.connects.lend(place, session, deadline)
     }
 
-    /// Replaces session `number`, if it is here, with `session`.
+    /// Replaces session `number`, which [`lend`](Self::lend) has reserved, with `session`.
     ///
-    /// [`lend`](Self::lend) reserves it.
+    /// Does nothing if session `number` is not here.
     pub fn settle(&mut self, number: u64, session: Session)
         ensures sessions { (n : ℕ) → kept_in self.new n
             ≡ (if nat_eq number n then option_map (λ _. session.kept) (kept_in self.old number) else kept_in self.old n) }

@@ -17,8 +17,9 @@ use std::sync::Arc;
 
 /// One shard of the server.
 ///
-/// Has the live sessions placed in it, their patterns and held connects, and the filed answers that
-/// are not taken yet. It applies the entries of the list in order, whatever other shards do.
+/// Holds the live sessions that are placed in it, their patterns and held connects, and the filed
+/// answers that are not taken yet. It applies the entries of the list in order, independently of
+/// other shards.
 #[derive(Drop)]
 pub struct Shard<P> {
     pub(crate) placing: Arc<P>,
@@ -49,7 +50,7 @@ impl<P: Placing> Shard<P> {
     ghost use Rattle.bx_shard.specs.States.{Applied, IsAsBefore, IsSound, Swept, Watched, WasShut, connect_in, opens_in, session_in, takes_no_memory};
     ghost use Rattle.bx_shard.specs.Seen.{setup_in, state};
 
-    /// Creates shard `index`, without sessions, before the first entry.
+    /// Creates shard `index` without sessions, at place 0.
     ///
     /// `index`: counted from 0.
     pub fn new(alloc: Global, index: usize, config: Config, placing: Arc<P>) -> Shard<P>
@@ -79,7 +80,7 @@ impl<P: Placing> Shard<P> {
         self.index
     }
 
-    /// Returns how many entries the shard has applied: the place of the next one.
+    /// Returns the place of the next entry, which is also the number of applied entries.
     pub fn place(&self) -> u64
         ensures place { result ≡ self.now.place }
         ensures sound { IsSound (state P.place_of self.now) }
@@ -89,11 +90,11 @@ impl<P: Placing> Shard<P> {
 
     /// Applies `entry`, the next entry of the list.
     ///
-    /// `entry.place` must be [`place`](Self::place), and less than 2^62. Disconnects, refused
-    /// messages, ticks and unsubscriptions that are not riders never fail.
+    /// `entry.place` must be [`place`](Self::place), and less than 2^62. Disconnects, rejected
+    /// messages, ticks, and unsubscriptions that are not riders always succeed.
     ///
-    /// Moves the wakers of connects that it answers or forgets to `wakers`. Drop that list after
-    /// the shard is unlocked, to wake their tasks. If memory runs out for the list, a task is woken
+    /// Moves the wakers of connects that it answers or forgets to `wakers`. To wake their tasks,
+    /// drop that list after unlocking the shard. If memory runs out for the list, a task is woken
     /// at once.
     ///
     /// # Errors
@@ -133,7 +134,7 @@ impl<P: Placing> Shard<P> {
 
     /// Removes and returns the answer filed under `ticket`.
     ///
-    /// Returns `None` if there is none, or if `ticket` names another shard.
+    /// Returns `None` if no answer is filed, or if `ticket` names another shard.
     pub fn take(&mut self, ticket: Ticket) -> Option<Answer>
         ensures answer { result ≡ (if nat_eq ticket.shard self.old.index
             then filed_answer (connect_in (state P.place_of self.old) ticket.place) else None) }
@@ -148,9 +149,9 @@ impl<P: Placing> Shard<P> {
         self.sessions.connects.take(ticket.place)
     }
 
-    /// Removes and returns a filed answer, or `None` if there is none.
+    /// Removes and returns any one filed answer, or returns `None` if none is filed.
     ///
-    /// Which one is unspecified. The cost does not depend on how many are filed.
+    /// The cost does not depend on how many answers are filed.
     pub fn take_any(&mut self) -> Option<Filing>
         ensures filed { IfSome result (λ filing. (session : ℕ)
             × (connect_in (state P.place_of self.old) filing.connect ≡ Some (Filed session filing.place filing.answer))) }
@@ -166,8 +167,8 @@ impl<P: Placing> Shard<P> {
     /// Registers `waker` with a held connect, and returns the waker that it replaces.
     ///
     /// Returns `waker` itself if the answer is filed (`Ready`), no connect of this shard is held
-    /// under `ticket` (`Unknown`), or the shard was shut (`Shut`). Otherwise `waker` is woken once
-    /// the connect is answered.
+    /// under `ticket` (`Unknown`), or the shard was shut (`Shut`). A stored waker moves to the list
+    /// of the [`apply`](Self::apply) that answers the connect.
     pub fn watch(&mut self, ticket: Ticket, waker: Waker) -> Watch
         ensures watch { nat_eq ticket.shard self.old.index ≡ true
             → result ≡ watched self.old.is_shut waker (connect_in (state P.place_of self.old) ticket.place) }
@@ -194,7 +195,7 @@ impl<P: Placing> Shard<P> {
         self.sessions.connects.sweep(before)
     }
 
-    /// Drops all wakers, which wakes their tasks, and stores no more from now on.
+    /// Drops all wakers, which wakes their tasks, and stores none from then on.
     ///
     /// Filed answers can still be taken.
     pub fn shut(&mut self)
@@ -207,9 +208,9 @@ impl<P: Placing> Shard<P> {
 
     /// Creates shard `index` of `shards` from `sessions`, after `place` entries.
     ///
-    /// `index`: counted from 0. `shards`: 1 to 64. `sessions` must be consistent with their
-    /// patterns and connects. None may have formed more than `place` batches, and no connect at or
-    /// after `place` may be known.
+    /// `index`: counted from 0. `shards`: 1 to 64. The patterns and connects in `sessions` must be
+    /// those of its sessions. No session may have formed more than `place` batches, and no connect
+    /// at or after `place` may be known.
     pub fn resume(
         placing: Arc<P>,
         index: usize,
@@ -252,7 +253,7 @@ impl<P: Placing> Shard<P> {
 
     /// Converts the shard into its sessions, by number, and its connects.
     ///
-    /// Another shard can take them over.
+    /// They can then move to another shard.
     pub fn into_parts(self) -> (IndexMap<u64, Session>, Connects)
     where
         P: Drop,

@@ -15,10 +15,11 @@ use crate::sessions::Sessions;
 use bx_connects::Wakers;
 
 impl Sessions {
-    /// Ends each hold whose deadline is at or before `moment`, for the tick at `place`.
+    /// Ends each hold with a deadline at or before `moment`, for the tick at `place`.
     ///
     /// `moment`: milliseconds since the server started. Moves the wakers of the answered connects
-    /// to `wakers`. The cost depends on how many holds end, not on how many sessions there are.
+    /// to `wakers`. The cost depends on the number of holds that end, not on the number of
+    /// sessions.
     pub(crate) fn end_holds(&mut self, place: u64, moment: u64, wakers: &mut Wakers)
         requires held { AreHeld self.old }
         ensures sessions { (n : ℕ) → kept_in self.new n ≡ option_map (after (expired self.old.config place moment)) (kept_in self.old n) }
@@ -39,7 +40,7 @@ impl Sessions {
 
     /// Closes each session of `numbers`.
     ///
-    /// Moves the wakers of connects that they still held to `wakers`.
+    /// Forgets the connects that they still hold, and moves the wakers of these to `wakers`.
     pub(crate) fn close_all(&mut self, numbers: &[u64], wakers: &mut Wakers)
         requires held { AreHeld self.old }
         ensures sessions { (n : ℕ) → kept_in self.new n

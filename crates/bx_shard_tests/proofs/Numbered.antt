@@ -1,4 +1,4 @@
--- Entries from the first place of the list on, and shards that have applied none.
+-- Entries at the places from 0 on, and shards that have applied none.
 use Rattle.std.proofs.Common.{zero, suc, ◌≡◌, List, [], ◌∷◌, ◌++◌, refl, ap, sym, subst, arith, ◌∙◌}
 use Rattle.std.proofs.lemmas.Option.{none-some, same_Some}
 use Rattle.bx_entry.specs.declared.entry.Entry.{Entry}

@@ -1,4 +1,4 @@
--- Entries from the first place of the list on, and shards that have applied none.
+-- Entries at the places from 0 on, and shards that have applied none.
 use Rattle.std.specs.Prelude.{ℕ, ◌≡◌, List, slice_get, Some}
 use Rattle.bx_entry.specs.declared.entry.Entry.{Entry}
 use Rattle.bx_shard.specs.declared.shard.Shard.{Shard}

@@ -1,6 +1,6 @@
 //! Tests of `bx_shard` and `bx_workers`.
 //!
-//! A separate crate, because `.ci/run` proves a crate with tests twice.
+//! They are a separate crate because `.ci/run` proves a crate with tests twice.
 #![tactic(auto)]
 
 #[cfg(test)]

@@ -1,4 +1,4 @@
-//! Tests of one shard: which wakers are woken and when, and which answers are there.
+//! Tests of one shard: when tasks are woken, and which answers are filed.
 use bx_advice::{Config, Outcome};
 use bx_entry::{ByRemainder, Entry, EntryKind, Rider, Ticket};
 use bx_message::{
@@ -17,19 +17,19 @@ use std::test::Fail;
 // More entries than any test has.
 const MOST_ENTRIES: u64 = 100;
 
-/// An entry of the list.
+/// What an entry of the list does.
 #[derive(Clone, Copy, Debug)]
 pub enum Deed {
     Open(u64),
     Subscribe(u64, &'static str),
     Connect(u64),
-    /// A channel; the data is 7.
+    /// A publish to this channel. The data is 7.
     Publish(&'static str),
-    /// A publish with a rider of this session.
+    /// A publish to this channel, which is a rider of this session.
     Ride(u64, &'static str),
 }
 
-// Two sessions, of which the first subscribes and connects.
+// Two sessions. The first subscribes, and has a connect at place 3.
 const HELD: [Deed; 4] = [
     Deed::Open(1),
     Deed::Open(2),
@@ -37,7 +37,7 @@ const HELD: [Deed; 4] = [
     Deed::Connect(1),
 ];
 
-// The answer to the connect, by an event at place 4.
+// The answer to this connect, with the event published at place 4.
 const ANSWER: &str =
     r#"{"channel":"/a/b","data":7}{"advice":{"interval":0,"reconnect":"retry","timeout":30000},"channel":"/meta/connect","clientId":"000000000000000000000000000000000000000000000001","successful":true}"#;
 
@@ -51,7 +51,7 @@ const BOTH_HELD: [Deed; 6] = [
     Deed::Connect(2),
 ];
 
-// An event for each of them, at places 6 and 7, and another connect of the first at place 8.
+// An event for each session, at places 6 and 7, and another connect of the first at place 8.
 const ANSWERS: [Deed; 3] = [
     Deed::Publish("/a/b"),
     Deed::Publish("/b/c"),
@@ -65,7 +65,7 @@ fn subscribe(alloc: Global, session: u64, pattern: &str) -> Result<EntryKind, Fa
     Ok(EntryKind::Subscribe { session, patterns })
 }
 
-// Creates a connect. The client id is the session's number in 48 hexadecimal digits.
+// Creates a connect. Its client id is the session's number in 48 hexadecimal digits.
 fn connect(alloc: Global, session: u64) -> Result<EntryKind, AllocError> {
     Ok(EntryKind::Connect {
         session,
@@ -86,7 +86,11 @@ fn publish(alloc: Global, channel: &str) -> Result<EntryKind, Fail> {
     Ok(EntryKind::Publish(SharedEvent::new(alloc, event, name)?))
 }
 
-/// Returns the entry's kind.
+/// Returns the kind of the entry.
+///
+/// # Errors
+///
+/// `Fail` if a pattern or a channel is not valid, or memory runs out.
 pub fn kind(alloc: Global, deed: Deed) -> Result<EntryKind, Fail> {
     match deed {
         Deed::Open(session) => Ok(EntryKind::Opened {
@@ -99,7 +103,7 @@ pub fn kind(alloc: Global, deed: Deed) -> Result<EntryKind, Fail> {
     }
 }
 
-// Returns the entry's rider.
+// Returns the rider of the entry, if any.
 fn rides(alloc: Global, deed: Deed) -> Result<Option<Rider>, AllocError> {
     let Deed::Ride(session, channel) = deed else {
         return Ok(None);
@@ -117,7 +121,7 @@ fn rides(alloc: Global, deed: Deed) -> Result<Option<Rider>, AllocError> {
     Ok(Some(Rider { session, reply }))
 }
 
-// Applies `deeds`, and returns the wakers of the connects that they answer.
+// Applies entries, and returns the wakers of the connects that they answer.
 fn apply(alloc: Global, shard: &mut Shard<ByRemainder>, deeds: &[Deed]) -> Result<Wakers, Fail> {
     let mut wakers = Wakers::new(alloc);
     for deed in deeds {
@@ -137,7 +141,7 @@ fn apply(alloc: Global, shard: &mut Shard<ByRemainder>, deeds: &[Deed]) -> Resul
     Ok(wakers)
 }
 
-// Creates the only shard, and applies `deeds`.
+// Creates the only shard, and applies entries to it.
 fn shard(alloc: Global, deeds: &[Deed]) -> Result<Shard<ByRemainder>, Fail> {
     let config = Config::new(1, 30_000, 0, 10_000).ok_or("no configuration")?;
     let placing = Arc::new(alloc, ByRemainder)?;
@@ -161,14 +165,14 @@ fn waker(task: &MockTask) -> Result<Waker, Fail> {
     Ok(slot.ok_or("no waker")?)
 }
 
-// Returns `true` if `task` was woken since the last call, or since a waker of it was made.
+// Returns `true` if `task` was woken since the last call, or since a waker of it was created.
 fn was_woken(task: &MockTask) -> bool {
     let woken = task.is_woken();
     task.enter(|_cx| ());
     woken
 }
 
-// Lets `task` wait for the connect at `place`.
+// Registers a waker of `task` with the connect at `place`.
 fn watch(shard: &mut Shard<ByRemainder>, place: u64, task: &MockTask) -> Result<Watch, Fail> {
     Ok(shard.watch(ticket(place), waker(task)?))
 }
@@ -185,7 +189,7 @@ fn check_stored<R: Abort>(
     Ok(())
 }
 
-// Checks that dropping `wakers` wakes `tasks`, and that none is woken before.
+// Checks that dropping `wakers` wakes `tasks`, and that no task is woken before.
 fn check_woken<R: Abort>(rt: &R, wakers: Wakers, tasks: &[&MockTask]) {
     assert_eq!(rt; wakers.len(), tasks.len());
     for task in tasks {
@@ -197,7 +201,7 @@ fn check_woken<R: Abort>(rt: &R, wakers: Wakers, tasks: &[&MockTask]) {
     }
 }
 
-// Takes the answer to the connect at `place`: the texts of its events and of its reply.
+// Takes the answer to the connect at `place`, and returns the texts of its events and reply.
 fn taken(
     alloc: Global,
     shard: &mut Shard<ByRemainder>,
@@ -215,7 +219,7 @@ fn taken(
 }
 
 // Checks that the connect at place 3 has no answer while it is held, and that its waker is stored.
-// Once answered, the waker and the answer are each returned once.
+// After the answer, checks that the waker and the answer are each returned once.
 fn check_answered<R: Abort>(
     rt: &R,
     alloc: Global,
@@ -236,7 +240,7 @@ fn check_answered<R: Abort>(
     Ok(())
 }
 
-// A subscribed session, an event that waits for it, and at place 3 a publish with its rider.
+// A subscribed session, an event that waits for it, and at place 3 a publish that is its rider.
 const RIDDEN: [Deed; 4] = [
     Deed::Open(1),
     Deed::Subscribe(1, "/a/*"),
@@ -248,7 +252,7 @@ const RIDDEN: [Deed; 4] = [
 const RIDE: &str =
     r#"{"channel":"/a/b","data":7}{"channel":"/a/c","data":7}{"channel":"/a/c","successful":true}"#;
 
-// Checks that a rider gets, once, the waiting event and its own. A connect at place 4 then waits.
+// Checks that a rider gets the waiting event and its own, once. A connect at place 4 is then held.
 fn check_ridden<R: Abort>(
     rt: &R,
     alloc: Global,
@@ -263,7 +267,6 @@ fn check_ridden<R: Abort>(
     check_stored(rt, shard, 4, task)
 }
 
-// A rider gets the waiting events.
 #[test]
 fn a_rider_is_given_what_waits(rt: HostRuntime) -> Result<(), Fail> {
     let alloc = rt.alloc();
@@ -271,7 +274,6 @@ fn a_rider_is_given_what_waits(rt: HostRuntime) -> Result<(), Fail> {
     check_ridden(&rt, alloc, &mut shard(alloc, &RIDDEN)?, &task)
 }
 
-// An answer wakes the task that waits for it.
 #[test]
 fn an_answer_wakes_who_waits_for_it(rt: HostRuntime) -> Result<(), Fail> {
     let alloc = rt.alloc();
@@ -279,7 +281,7 @@ fn an_answer_wakes_who_waits_for_it(rt: HostRuntime) -> Result<(), Fail> {
     check_answered(&rt, alloc, &mut shard(alloc, &HELD)?, &task)
 }
 
-// Checks that two answered connects wake both tasks when the wakers are dropped, and not before.
+// Checks that answers to two connects wake both tasks when the wakers are dropped, and not before.
 fn check_both<R: Abort>(
     rt: &R,
     alloc: Global,
@@ -294,7 +296,6 @@ fn check_both<R: Abort>(
     Ok(())
 }
 
-// Several answers wake all tasks that wait for them.
 #[test]
 fn several_answers_wake_all_who_wait(rt: HostRuntime) -> Result<(), Fail> {
     let alloc = rt.alloc();
@@ -302,8 +303,8 @@ fn several_answers_wake_all_who_wait(rt: HostRuntime) -> Result<(), Fail> {
     check_both(&rt, alloc, &mut shard(alloc, &BOTH_HELD)?, &first, &second)
 }
 
-// Checks that a second waker for a connect replaces the first. Dropping the first wakes its task;
-// the answer wakes only the other task.
+// Checks that a second waker for a connect replaces the first. Dropping the first must wake its
+// task. The answer must then wake only the other task.
 fn check_replaced<R: Abort>(
     rt: &R,
     alloc: Global,
@@ -327,7 +328,6 @@ fn check_replaced<R: Abort>(
     Ok(())
 }
 
-// A newer waker replaces an older one.
 #[test]
 fn a_newer_waker_replaces_an_older_one(rt: HostRuntime) -> Result<(), Fail> {
     let alloc = rt.alloc();
@@ -335,8 +335,8 @@ fn a_newer_waker_replaces_an_older_one(rt: HostRuntime) -> Result<(), Fail> {
     check_replaced(&rt, alloc, &mut shard(alloc, &HELD)?, &older, &newer)
 }
 
-// Checks that shutting the shard wakes both stored wakers, and that it stores none from then on.
-// Later answers wake no task and can be taken.
+// Checks that shutting the shard wakes both waiting tasks, and that it then stores no waker. Later
+// answers must wake no task, and can be taken.
 fn check_shut<R: Abort>(
     rt: &R,
     alloc: Global,
@@ -364,7 +364,6 @@ fn check_shut<R: Abort>(
     Ok(())
 }
 
-// Shutting a shard wakes all waiting tasks.
 #[test]
 fn a_shard_that_is_shut_wakes_all(rt: HostRuntime) -> Result<(), Fail> {
     let alloc = rt.alloc();
@@ -372,14 +371,14 @@ fn a_shard_that_is_shut_wakes_all(rt: HostRuntime) -> Result<(), Fail> {
     check_shut(&rt, alloc, &mut shard(alloc, &BOTH_HELD)?, &first, &second)
 }
 
-// Sweeps below each place in `sweeps`, and checks the number of answers dropped.
+// Sweeps below each place in `sweeps`, and checks how many answers each sweep drops.
 fn check_sweeps<R: Abort>(rt: &R, shard: &mut Shard<ByRemainder>, sweeps: &[(u64, usize)]) {
     for (before, dropped) in sweeps {
         assert_eq!(rt; shard.sweep(*before), *dropped, "below {before}");
     }
 }
 
-// Checks that sweeps keep an answer filed later, and a held connect.
+// Checks that sweeps keep an answer that was filed later, and a held connect.
 fn check_kept<R: Abort>(
     rt: &R,
     shard: &mut Shard<ByRemainder>,
@@ -392,7 +391,6 @@ fn check_kept<R: Abort>(
     check_stored(rt, shard, 8, task)
 }
 
-// A sweep drops only answers filed below its place.
 #[test]
 fn a_sweep_drops_what_was_filed_before(rt: HostRuntime) -> Result<(), Fail> {
     let alloc = rt.alloc();
@@ -402,7 +400,6 @@ fn a_sweep_drops_what_was_filed_before(rt: HostRuntime) -> Result<(), Fail> {
     check_kept(&rt, &mut filed, &task)
 }
 
-// A sweep counts the answers that it drops.
 #[test]
 fn a_sweep_counts_what_it_drops(rt: HostRuntime) -> Result<(), Fail> {
     let alloc = rt.alloc();
@@ -415,8 +412,9 @@ fn a_sweep_counts_what_it_drops(rt: HostRuntime) -> Result<(), Fail> {
     Ok(())
 }
 
-// Checks tickets without a connect in this shard: one of another shard, one of another entry, and
-// one past the list's end.
+// Checks that no waker is stored for a ticket without a connect in this shard.
+//
+// The tickets are one of another shard, one of another entry, and one past the end of the list.
 fn check_unknown<R: Abort>(
     rt: &R,
     shard: &mut Shard<ByRemainder>,
@@ -436,7 +434,6 @@ fn check_unknown<R: Abort>(
     Ok(())
 }
 
-// No waker is stored for a ticket without a connect.
 #[test]
 fn only_a_connect_of_the_shard_is_waited_for(rt: HostRuntime) -> Result<(), Fail> {
     let alloc = rt.alloc();

@@ -18,10 +18,10 @@ use std::thread::Threads;
 // The place of the connect.
 const CONNECT: u64 = 2;
 
-// How often a held worker checks whether it may go on.
+// How often a held worker checks whether it may continue, before it gives up.
 const LOOKS: u32 = 10_000_000;
 
-// Appends an entry of `kind`.
+// Appends an entry of `kind` at the next place.
 fn add(entries: &mut Vec<Entry>, kind: EntryKind) -> Result<(), AllocError>
     requires { AreNumbered entries.old.items }
     ensures { AreNumbered entries.new.items }
@@ -36,7 +36,7 @@ fn add(entries: &mut Vec<Entry>, kind: EntryKind) -> Result<(), AllocError>
     Ok(())
 }
 
-// Creates a handshake of session 1, its subscription and connect, and a publish that answers it.
+// Creates four entries: session 1 is opened, subscribes and connects, and a publish answers it.
 fn entries(alloc: Global) -> Result<Vec<Entry>, Fail>
     ensures { IfOk result (λ es. AreNumbered es.items) }
 {
@@ -64,7 +64,7 @@ fn shards<P: Placing + Drop>(
     Ok(shards)
 }
 
-// Creates `count` shards, advances them, and returns them with how many stayed behind.
+// Creates `count` shards, advances them, and returns them with the number of shards that lag.
 fn brought_up_by<R: Threads + Sync, G: Gate + Sync, P: Placing + Drop + Send + Sync>(
     rt: &R,
     alloc: Global,
@@ -80,7 +80,7 @@ fn brought_up_by<R: Threads + Sync, G: Gate + Sync, P: Placing + Drop + Send + S
     Ok((shards, behind))
 }
 
-// The same, with sessions placed by remainder.
+// Calls `brought_up_by` with a placing by remainder.
 fn brought_up<R: Threads + Sync, G: Gate + Sync>(
     rt: &R,
     alloc: Global,
@@ -92,7 +92,7 @@ fn brought_up<R: Threads + Sync, G: Gate + Sync>(
     brought_up_by(rt, alloc, &placing, gate, workers, count)
 }
 
-// Every shard reaches the end, with several numbers of workers and shards.
+// Checks that every shard reaches the end, for several numbers of workers and shards.
 #[test]
 fn all_are_brought_up(rt: HostRuntime) -> Result<(), Fail> {
     let alloc = rt.alloc();
@@ -113,7 +113,7 @@ fn all_are_brought_up(rt: HostRuntime) -> Result<(), Fail> {
     Ok(())
 }
 
-// A gate that holds one worker before its work until another is done.
+// A gate that holds one worker before its work until another worker has finished.
 #[derive(Drop)]
 struct Holding {
     held: usize,
@@ -142,7 +142,7 @@ impl Gate for Holding {
     }
 }
 
-// Shows that workers run concurrently, which no clause states. If the thread that calls `bring_up`
+// Checks that workers run concurrently, which no clause states. If the thread that calls `bring_up`
 // did all work in turn, worker 0 or worker 1 would give up.
 #[test]
 fn workers_run_beside_one_another(rt: HostRuntime) -> Result<(), Fail> {
@@ -160,7 +160,7 @@ fn workers_run_beside_one_another(rt: HostRuntime) -> Result<(), Fail> {
     Ok(())
 }
 
-// A gate that adds 10 to the power of the worker's number at each call: a digit for each worker.
+// A gate that counts its calls, with one decimal digit for each worker.
 #[derive(Drop)]
 struct Counting {
     before: AtomicU64,
@@ -186,8 +186,8 @@ impl Gate for Counting {
     }
 }
 
-// Shows that each worker with a part of the shards passes the gate once, which no clause states.
-// All parts but the last have the same size.
+// Checks that each worker with a part of the shards passes the gate once, which no clause states.
+// All parts except the last have the same size.
 #[test]
 fn each_worker_passes_the_gate_once(rt: HostRuntime) -> Result<(), Fail> {
     let alloc = rt.alloc();
@@ -212,8 +212,8 @@ fn each_worker_passes_the_gate_once(rt: HostRuntime) -> Result<(), Fail> {
     Ok(())
 }
 
-// A placing of all sessions in the first shard. It counts its calls, one for each handshake that a
-// shard applies.
+// A placing of all sessions in the first shard. It counts its calls: one each time that a shard
+// applies the opening of a session.
 #[derive(Drop)]
 struct Asked {
     times: AtomicU64,
@@ -230,7 +230,7 @@ impl Placing for Asked {
     }
 }
 
-// A gate that notes how often the placing was called before the work, and after it.
+// A gate that records how often the placing was called, before the work and after it.
 #[derive(Drop)]
 struct Looking {
     placing: Arc<Asked>,
@@ -250,7 +250,7 @@ impl Gate for Looking {
     }
 }
 
-// Returns how often the placing was called before a worker's work, and after it.
+// Returns how often the placing was called, before the work of a worker and after it.
 fn asked_at_the_gate<R: Threads + Sync>(rt: &R, alloc: Global) -> Result<(u64, u64), Fail> {
     let times = AtomicU64::new(0);
     let placing = Arc::new(alloc, Asked { times })?;
@@ -266,7 +266,6 @@ fn asked_at_the_gate<R: Threads + Sync>(rt: &R, alloc: Global) -> Result<(u64, u
     ))
 }
 
-// A worker passes the gate before its work and after it.
 #[test]
 fn the_gate_is_passed_before_the_work_and_behind_it(rt: HostRuntime) -> Result<(), Fail> {
     assert_eq!(rt; asked_at_the_gate(&rt, rt.alloc())?, (0, 1));

@@ -1,4 +1,4 @@
-//! Tests of requests with several documents, of the readers' listener, and of placings.
+//! Tests of requests with several documents, of the read-only listener, and of placings.
 use crate::same::same;
 use bx_cut::Bodies;
 use bx_entry::{
@@ -50,7 +50,7 @@ fn read(alloc: Global, documents: &[&str]) -> Result<Found, Fail> {
     found_in(&read_messages(alloc, &bodies(alloc, documents)?))
 }
 
-// Reads a request that came by `door`.
+// Reads a request that arrived at `door`.
 fn read_at(alloc: Global, door: Door, documents: &[&str]) -> Result<Found, Fail> {
     let arrival = Arrival {
         moment: 0,
@@ -61,7 +61,7 @@ fn read_at(alloc: Global, door: Door, documents: &[&str]) -> Result<Found, Fail>
     found_in(&arrival.read(alloc))
 }
 
-// Messages keep their order over all documents.
+// Checks that messages keep their order over all documents.
 #[test]
 fn messages_come_in_order(rt: HostRuntime) -> Result<(), Fail> {
     let documents = [
@@ -86,7 +86,7 @@ const FAULTS: [(&str, &str, BodyError); 4] = [
     ),
 ];
 
-// `NotJson` in any document comes before `NotObject`, and that before `NoChannel`.
+// Checks that `NotJson` in any document comes before `NotObject`, and that before `NoChannel`.
 #[test]
 fn faults_are_ordered_over_all_documents(rt: HostRuntime) -> Result<(), Fail> {
     for (first, second, fault) in &FAULTS {
@@ -122,7 +122,7 @@ const COUNTS: [(usize, usize, Found); 3] = [
     (257, 0, Found::Fault(BodyError::TooMany)),
 ];
 
-// The limit of messages counts all documents.
+// Checks that the limit of messages counts the messages of all documents.
 #[test]
 fn messages_are_counted_over_all_documents(rt: HostRuntime) -> Result<(), Fail> {
     for (first, second, wanted) in &COUNTS {
@@ -134,7 +134,7 @@ fn messages_are_counted_over_all_documents(rt: HostRuntime) -> Result<(), Fail> 
 
 const FORBIDDEN: Found = Found::Fault(BodyError::Forbidden);
 
-// Channels in JSON, each with the result of a request to it on the readers' listener.
+// Channels in JSON, each with the result of a request to it on the read-only listener.
 const CHANNELS: [(&str, Found); 28] = [
     ("/meta/handshake", Found::Messages(1)),
     ("/meta/connect", Found::Messages(1)),
@@ -166,7 +166,7 @@ const CHANNELS: [(&str, Found); 28] = [
     ("a", FORBIDDEN),
 ];
 
-// The readers' listener takes only messages to meta and service channels.
+// Checks that the read-only listener accepts only messages to meta and service channels.
 #[test]
 fn readers_are_let_in_by_channels(rt: HostRuntime) -> Result<(), Fail> {
     let alloc = rt.alloc();
@@ -180,8 +180,8 @@ fn readers_are_let_in_by_channels(rt: HostRuntime) -> Result<(), Fail> {
     Ok(())
 }
 
-// Two documents, with the result of their request on the publishers' and on the readers' listener.
-// Faults of the documents come first.
+// Two documents, with the results of their request: first on the publishers' listener, then on the
+// read-only one. Faults of the documents come before `Forbidden`.
 const REQUESTS: [(&str, &str, Found, Found); 18] = [
     ("[]", "[]", Found::Messages(0), Found::Messages(0)),
     (CONNECT, "[]", Found::Messages(1), Found::Messages(1)),
@@ -218,8 +218,8 @@ const PUBLISH: &str = "{\"channel\":\"/a\"}";
 // A message to the empty channel.
 const NO_NAME: &str = "[{\"channel\":\"\"}]";
 
-// Three messages, the first of them to a broadcast channel. In the next two constants it is the
-// second and the third.
+// Three messages, the first to a broadcast channel. In the next two constants, it is the second and
+// the third.
 const FIRST: &str =
     "[{\"channel\":\"/a\"},{\"channel\":\"/meta/connect\"},{\"channel\":\"/service/a\"}]";
 
@@ -229,7 +229,7 @@ const MIDDLE: &str =
 const LAST: &str =
     "[{\"channel\":\"/meta/connect\"},{\"channel\":\"/service/a\"},{\"channel\":\"/a\"}]";
 
-// The readers' listener refuses a request with any other message.
+// Checks that the read-only listener rejects a request with any other message.
 #[test]
 fn readers_publish_nothing(rt: HostRuntime) -> Result<(), Fail> {
     for (first, second, at_publishers, at_readers) in &REQUESTS {
@@ -241,10 +241,10 @@ fn readers_publish_nothing(rt: HostRuntime) -> Result<(), Fail> {
     Ok(())
 }
 
-// As many publishes as a request may have, and one more, with the results.
+// The greatest number of publishes in a request, and one more, each with its result.
 const PUBLISHES: [(usize, Found); 2] = [(256, FORBIDDEN), (257, Found::Fault(BodyError::TooMany))];
 
-// The limit of messages is checked before the listener.
+// Checks that the limit of messages is tested before the listener.
 #[test]
 fn too_many_come_before_the_door(rt: HostRuntime) -> Result<(), Fail> {
     for (count, wanted) in &PUBLISHES {
@@ -261,7 +261,7 @@ fn check_place<P: Placing>(rt: &impl Abort, placing: &P, places: &[(u64, usize)]
     }
 }
 
-// Shows the shards that each placing chooses.
+// Checks the shards that each placing chooses.
 #[test]
 fn places_by_rule(rt: HostRuntime) -> Result<(), Fail> {
     check_place(&rt, &ByRemainder, &[(1, 1), (2, 0)]);

@@ -11,6 +11,10 @@ use std::process::Abort;
 use std::test::Fail;
 
 /// Creates a message to `channel` with client id `client` and no other members.
+///
+/// # Errors
+///
+/// `AllocError` if memory runs out.
 pub fn message(alloc: Global, channel: &str, client: TextMember) -> Result<Message, AllocError> {
     Ok(Message {
         channel: Text::new(alloc, channel)?,
@@ -28,7 +32,11 @@ pub fn message(alloc: Global, channel: &str, client: TextMember) -> Result<Messa
     })
 }
 
-/// Creates a handshake.
+/// Creates a valid handshake, without `ack`.
+///
+/// # Errors
+///
+/// `AllocError` if memory runs out.
 pub fn hello(alloc: Global) -> Result<Message, AllocError> {
     let mut hello = message(alloc, "/meta/handshake", TextMember::Absent)?;
     hello.version = TextMember::Text(Text::new(alloc, "1.0")?);
@@ -68,7 +76,7 @@ fn case_of(plan: &Plan) -> Option<Outcome> {
     }
 }
 
-// Returns the text of the first message's reply, or an empty one if the message waits.
+// Returns the text of the first message's reply, or an empty text if the message waits.
 fn first_reply(alloc: Global, plan: &Plan) -> Result<Vec<u8>, AllocError> {
     match plan.slots.as_slice().first() {
         Some(Slot::Ready(reply)) => reply_text(alloc, reply),
@@ -76,7 +84,7 @@ fn first_reply(alloc: Global, plan: &Plan) -> Result<Vec<u8>, AllocError> {
     }
 }
 
-/// Commits `plan`, made for `registry`.
+/// Commits `plan`, which `registry` made.
 pub fn commit(registry: &mut Registry, plan: Plan)
     requires { LeadsTo registry.old plan.change plan.elements }
 {
@@ -169,7 +177,7 @@ fn check_closed(rt: &impl Abort, alloc: Global, registry: &mut Registry) -> Resu
     Ok(())
 }
 
-// Returns why a request without messages is refused at `moment`, if it is.
+// Returns the error of a request without messages at `moment`, if any.
 fn fault_at(alloc: Global, registry: &mut Registry, moment: u64) -> Option<AdmitFault> {
     registry.plan(alloc, &ByRemainder, moment, 0, &[]).err()
 }
@@ -213,28 +221,28 @@ fn check_room(rt: &impl Abort, alloc: Global, registry: &mut Registry) -> Result
     Ok(())
 }
 
-// A plan changes nothing until it is committed.
+// Checks that a plan changes nothing until it is committed.
 #[test]
 fn a_plan_changes_nothing(rt: HostRuntime) -> Result<(), Fail> {
     let alloc = rt.alloc();
     check_unchanged(&rt, alloc, &mut Registry::new(alloc, config(2))?)
 }
 
-// A handshake opens a session, and a tick closes it.
+// Checks that a handshake opens a session, and that a tick closes it.
 #[test]
 fn a_session_is_opened_and_closed(rt: HostRuntime) -> Result<(), Fail> {
     let alloc = rt.alloc();
     check_closed(&rt, alloc, &mut Registry::new(alloc, config(2))?)
 }
 
-// Moments after the greatest are refused.
+// Checks that moments after the greatest one are rejected.
 #[test]
 fn moments_have_an_end(rt: HostRuntime) -> Result<(), Fail> {
     let alloc = rt.alloc();
     check_moments(&rt, alloc, &mut Registry::new(alloc, config(1))?)
 }
 
-// The standard limit of sessions is exact.
+// Checks that the standard limit of sessions is exact.
 #[test]
 fn there_is_room_for_the_standard_limit(rt: HostRuntime) -> Result<(), Fail> {
     let alloc = rt.alloc();

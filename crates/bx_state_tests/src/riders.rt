@@ -9,10 +9,10 @@ use std::alloc::{AllocError, Global};
 use std::process::Abort;
 use std::test::Fail;
 
-// A message, with its session's number. Sessions 1 to 3 are live, and 3 acknowledges.
+// A message, with its session's number. Sessions 1 to 3 are live, and only 3 acknowledges.
 #[derive(Clone, Copy, Debug)]
 enum Sent {
-    // A handshake, which has no session yet.
+    // A handshake, which names no session.
     Hello,
     // A sessionless publish.
     Anonymous,
@@ -101,7 +101,7 @@ fn to_messages(alloc: Global, sent: &[Sent]) -> Result<Vec<Message>, AllocError>
     Ok(messages)
 }
 
-// Opens a session whose handshake has `ack`.
+// Opens a session by a handshake with `ack`.
 fn open(alloc: Global, registry: &mut Registry, ack: AckMember) -> Result<(), Fail> {
     let mut message = hello(alloc)?;
     message.ack = ack;
@@ -110,7 +110,7 @@ fn open(alloc: Global, registry: &mut Registry, ack: AckMember) -> Result<(), Fa
     Ok(())
 }
 
-// Creates a registry with sessions 1 to 3, of which the last acknowledges.
+// Creates a registry with live sessions 1 to 3. Only session 3 acknowledges.
 fn registry(alloc: Global, options: Options) -> Result<Registry, Fail> {
     let mut registry = Registry::new(alloc, config(9).with(options))?;
     open(alloc, &mut registry, AckMember::NoAck)?;
@@ -119,7 +119,7 @@ fn registry(alloc: Global, options: Options) -> Result<Registry, Fail> {
     Ok(registry)
 }
 
-// Writes how a message is answered. The shard of a ticket equals its session's number.
+// Appends how a message is answered. The shard of a ticket equals its session's number.
 fn push_slot(alloc: Global, slot: &Slot, text: &mut String) -> Result<(), AllocError> {
     match slot {
         Slot::Ready(_) => text.push_str("ready; "),
@@ -129,7 +129,7 @@ fn push_slot(alloc: Global, slot: &Slot, text: &mut String) -> Result<(), AllocE
     }
 }
 
-// Writes the rider of `entry`, if any, with the channel of its reply.
+// Appends the rider of `entry`, if any, with the channel of its reply.
 fn push_rider(alloc: Global, entry: &Entry, text: &mut String) -> Result<(), AllocError> {
     if let Some(rider) = &entry.rides {
         let place = entry.place;
@@ -172,7 +172,7 @@ fn check_request(
     Ok(())
 }
 
-// Shows which messages are riders.
+// Checks which messages are riders.
 #[test]
 fn the_last_message_of_one_session_rides(rt: HostRuntime) -> Result<(), Fail> {
     let alloc = rt.alloc();
@@ -187,7 +187,7 @@ fn the_last_message_of_one_session_rides(rt: HostRuntime) -> Result<(), Fail> {
     Ok(())
 }
 
-// There are no riders unless `ride` is set.
+// Checks that there are no riders unless `ride` is set.
 #[test]
 fn no_message_rides_unless_it_is_asked_for(rt: HostRuntime) -> Result<(), Fail> {
     let alloc = rt.alloc();

@@ -1,8 +1,8 @@
-//! Comparison of a found value with the expected one.
+//! Comparison of an actual value with the expected one.
 use std::fmt::Debug;
 use std::process::Abort;
 
-/// Aborts the test unless `found` equals `wanted`. `at` is printed if not.
+/// Aborts the test and prints `at`, unless `found` equals `wanted`.
 // Prover: a test that calls this is proved faster than one that compares in place.
 pub fn same<T: PartialEq + Debug + Copy, A: Debug + Copy>(
     rt: &impl Abort,

@@ -35,7 +35,11 @@ fn json(alloc: Global, number: u64) -> Result<RawJson, AllocError> {
     RawJson::new(alloc, text.as_str())
 }
 
-/// Creates an event with `number` as its data.
+/// Creates an event with `number` as its data, on channel `/a/b`.
+///
+/// # Errors
+///
+/// `Fail` if memory runs out.
 pub fn event(alloc: Global, number: u64) -> Result<SharedEvent, Fail> {
     let name = ChannelName::read(alloc, "/a/b")?;
     let channel = Text::new(alloc, "/a/b")?;
@@ -58,7 +62,7 @@ fn numbers(alloc: Global, answered: &Answered) -> Result<Vec<u64>, Fail> {
     Ok(numbers)
 }
 
-// Writes an answer: its place, its outcome, its `ack` and its events.
+// Appends an answer to `text`: its place, its outcome, its `ack` and its events.
 fn push_text(alloc: Global, answered: &Answered, text: &mut String) -> Result<(), Fail> {
     let outcome = match answered.answer.reply.outcome {
         Outcome::Connected => "ok",
@@ -81,7 +85,11 @@ fn push_ack(alloc: Global, ack: AckReply, text: &mut String) -> Result<(), Alloc
     }
 }
 
-/// Writes the length of `numbers`, and the first and the last of them.
+/// Appends to `text` the count of `numbers`, and the first and the last of them.
+///
+/// # Errors
+///
+/// `AllocError` if memory runs out.
 pub fn push_numbers(alloc: Global, numbers: &[u64], text: &mut String) -> Result<(), AllocError> {
     let count = numbers.len();
     match numbers {
@@ -116,7 +124,7 @@ fn push_delivery(answers: &mut Vec<Answered>, delivery: Delivery) -> Result<(), 
     }
 }
 
-// Creates a connect with this place, moment and hold.
+// Creates a connect from its place, its moment and its hold.
 fn pending(
     alloc: Global,
     (place, moment, hold): (u64, u64, u64),
@@ -208,7 +216,7 @@ fn answers_to(
     Ok(answers)
 }
 
-// Writes `answers`.
+// Returns the texts of `answers`, one after another.
 fn text_of(alloc: Global, answers: &[Answered]) -> Result<String, Fail> {
     let mut text = String::new(alloc);
     for answered in answers {
@@ -217,7 +225,7 @@ fn text_of(alloc: Global, answers: &[Answered]) -> Result<String, Fail> {
     Ok(text)
 }
 
-// Applies `step` at `place`, and writes the answers.
+// Applies `step` at `place`, and returns the text of the answers.
 fn told(alloc: Global, session: &mut Session, place: u64, step: Step) -> Result<String, Fail> {
     text_of(alloc, &answers_to(alloc, session, place, step)?)
 }
@@ -256,7 +264,7 @@ fn check_says(rt: &impl Abort, session: &Session, says: Says) {
     }
 }
 
-// Applies `steps` at places from 0 on, and checks each step's answers. Then checks `says`.
+// Applies `steps` at places from 0 on, and checks the answers to each. Then checks `says`.
 fn run_in(
     rt: &impl Abort,
     alloc: Global,
@@ -275,7 +283,7 @@ fn run_in(
     Ok(())
 }
 
-// Runs `steps` in session 7, which acknowledges if `ack`.
+// Runs `steps` in session 7, which acknowledges if `ack` is `true`.
 fn run(
     rt: &impl Abort,
     alloc: Global,
@@ -306,7 +314,7 @@ const BATCHES: [(Step, &str); 14] = [
     (Step::Connect(Some(5), 0, 9), "13 ok ack 6 44: 262..305;"),
 ];
 
-// Batches are sent again until they are acknowledged.
+// Checks that batches are sent again until they are acknowledged.
 #[test]
 fn batches_are_given_until_they_are_acknowledged(rt: HostRuntime) -> Result<(), Fail> {
     let says = [Says::Number(7), Says::LastBatch(6)];
@@ -323,7 +331,7 @@ const PLAIN: [(Step, &str); 7] = [
     (Step::Connect(None, 0, 0), "6 ok plain 0: none;"),
 ];
 
-// A plain session drops the events that it sends.
+// Checks that a plain session drops the events that it sends.
 #[test]
 fn plain_sessions_forget_what_they_give(rt: HostRuntime) -> Result<(), Fail> {
     run(&rt, rt.alloc(), false, &PLAIN, &[])
@@ -344,7 +352,7 @@ const HOLDS: [(Step, &str); 9] = [
     (Step::Connect(None, 3_000, 500), ""),
 ];
 
-// A hold ends by a tick, by another connect or by a disconnect.
+// Checks that a tick, another connect or a disconnect ends a hold.
 #[test]
 fn holds_end(rt: HostRuntime) -> Result<(), Fail> {
     run(&rt, rt.alloc(), true, &HOLDS, &[Says::Held(true)])
@@ -367,7 +375,7 @@ const OVERFLOW: [(Step, &str); 8] = [
     ),
 ];
 
-// An overflow drops all events, and later connects fail.
+// Checks that an overflow drops all events, and that later connects fail.
 #[test]
 fn overflows_drop_the_events(rt: HostRuntime) -> Result<(), Fail> {
     let says = [Says::Overflowed(true), Says::Patterns(0)];
@@ -418,7 +426,7 @@ fn unsubscribe(session: &mut Session, tree: &mut Tree, patterns: &[Pattern])
     session.unsubscribe(patterns, gone);
 }
 
-// Subscribes to as many patterns as are allowed, and replaces one of them.
+// Subscribes to the greatest number of patterns, and replaces one of them.
 fn reach_the_limit(
     rt: &impl Abort,
     alloc: Global,
@@ -459,7 +467,7 @@ fn pass_the_limit(
     Ok(())
 }
 
-// Checks that a held connect stays held when patterns make the session overflow.
+// Checks that a connect stays held when patterns make the session overflow. Later connects fail.
 fn check_limit(rt: &impl Abort, alloc: Global, session: &mut Session) -> Result<(), Fail> {
     check_told(rt, alloc, session, 3, Step::Connect(None, 0, 9), "")?;
     if session.patterns() != 0 {
@@ -471,7 +479,7 @@ fn check_limit(rt: &impl Abort, alloc: Global, session: &mut Session) -> Result<
     check_told(rt, alloc, session, 6, Step::Connect(None, 9, 9), refused)
 }
 
-// Too many patterns leave a connect held.
+// Checks an overflow by too many patterns while a connect is held.
 #[test]
 fn patterns_past_their_limit_leave_a_connect_held(rt: HostRuntime) -> Result<(), Fail> {
     let alloc = rt.alloc();
@@ -500,15 +508,17 @@ fn check_closed(rt: &impl Abort, alloc: Global, session: &mut Session) -> Result
     }
 }
 
-// The reply to a connect has the connect's client id and id.
+// Checks that the reply to a connect repeats the connect's client id and `id`.
 #[test]
 fn replies_repeat_what_the_connect_had(rt: HostRuntime) -> Result<(), Fail> {
     let alloc = rt.alloc();
     check_closed(&rt, alloc, &mut Session::open(alloc, 7, true))
 }
 
-// An acknowledging session as its client sees it: the next event to publish, the first event not
-// acknowledged, and the number and length of the last batch.
+// An acknowledging session as its client sees it.
+//
+// The fields are the next event to be published, the first unacknowledged event, the number of the
+// last batch, and how many of its events are outstanding.
 #[derive(Drop)]
 struct Seen {
     published: u64,
@@ -538,8 +548,8 @@ impl Seen {
         }
     }
 
-    // Checks that an answer with a batch number has the first events not acknowledged, in order. An
-    // outstanding batch must come again.
+    // Checks that an answer with a batch number has the first unacknowledged events, in order. An
+    // outstanding batch must be sent again.
     fn gets(&mut self, rt: &impl Abort, alloc: Global, answered: &Answered) -> Result<(), Fail> {
         if let AckReply::AckNumber(number) = answered.answer.reply.ack {
             let events = numbers(alloc, answered)?;
@@ -566,7 +576,7 @@ impl Seen {
 }
 
 // Returns the step that `random` chooses. While fewer than 900 events are unacknowledged, half of
-// the steps publish. A connect acknowledges no batch, the last one, the one before it or the
+// the steps publish. A connect acknowledges no batch, the last one, the one before it, or the
 // greatest number.
 fn step_of(random: u64, seen: &Seen, place: u64) -> Step {
     let acked = match random / 16 % 4 {
@@ -631,7 +641,7 @@ fn see_steps(
     Ok(())
 }
 
-// Each event is acknowledged once, in order.
+// Checks that each event is sent in order, and acknowledged once.
 #[test]
 fn each_event_comes_once_and_in_order(rt: HostRuntime) -> Result<(), Fail> {
     let alloc = rt.alloc();

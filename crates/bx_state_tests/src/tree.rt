@@ -8,7 +8,7 @@ use std::alloc::{AllocError, Global};
 use std::process::Abort;
 use std::test::Fail;
 
-// Reads patterns from `texts`.
+// Parses `texts` as patterns.
 fn read_all(alloc: Global, texts: &[&str]) -> Result<Vec<Pattern>, Fail> {
     let mut patterns = Vec::new(alloc);
     for text in texts {
@@ -17,7 +17,7 @@ fn read_all(alloc: Global, texts: &[&str]) -> Result<Vec<Pattern>, Fail> {
     Ok(patterns)
 }
 
-// Writes `patterns`, each followed by a space.
+// Returns the texts of `patterns`, each followed by a space.
 fn texts_of(alloc: Global, patterns: &[Pattern]) -> Result<String, AllocError> {
     let mut all = String::new(alloc);
     for pattern in patterns {
@@ -41,7 +41,8 @@ fn plant(alloc: Global, tree: &mut Tree) -> Result<(), Fail> {
     Ok(())
 }
 
-// Names under `/a` and elsewhere, with the numbers found for them and the most lists visited.
+// Names under `/a` and elsewhere. For each: the numbers that a search finds, and the greatest
+// number of lists that it may visit.
 const FINDS: [(&str, &[u64], usize); 7] = [
     ("/a/b", &[1, 2], 9),
     ("/a/c", &[1], 9),
@@ -86,7 +87,7 @@ fn remove(alloc: Global, tree: &mut Tree, text: &str, number: u64) -> Result<boo
     }
 }
 
-// Patterns to remove and whether they are there; the patterns then left for 1, and the numbers
+// Patterns to remove, and whether they are there. Then the remaining patterns of 1, and the numbers
 // found for `/a/b`.
 const REMOVES: [(&str, u64, bool, &str, &[u64]); 4] = [
     ("/a/**", 2, false, "/a/* /a/** ", &[1, 2]),
@@ -132,7 +133,7 @@ fn assert_one_by_one(rt: &impl Abort, alloc: Global, tree: &mut Tree) -> Result<
     assert_adds(rt, alloc, tree)
 }
 
-// Single patterns are added, found and removed.
+// Checks that single patterns are added, found and removed.
 #[test]
 fn patterns_come_and_go_one_by_one(rt: HostRuntime) -> Result<(), Fail> {
     let mut tree = Tree::new(rt.alloc());
@@ -193,7 +194,7 @@ fn assert_at_once(rt: &impl Abort, alloc: Global, tree: &mut Tree) -> Result<(),
     assert_finds(rt, alloc, tree)
 }
 
-// Several patterns are added and removed at once.
+// Checks that several patterns are added and removed at once.
 #[test]
 fn several_come_and_go_at_once(rt: HostRuntime) -> Result<(), Fail> {
     let mut tree = Tree::new(rt.alloc());
@@ -222,7 +223,7 @@ fn assert_few_visited(rt: &impl Abort, alloc: Global, tree: &mut Tree) -> Result
     assert_finds_deep(rt, alloc, tree)
 }
 
-// Finds visit few lists among thousands of patterns.
+// Checks that a search among thousands of patterns visits few lists.
 #[test]
 fn visits_few_lists(rt: HostRuntime) -> Result<(), Fail> {
     let mut tree = Tree::new(rt.alloc());
@@ -331,7 +332,7 @@ fn change(alloc: Global, state: &mut u64, both: &mut Both) -> Result<bool, Fail>
     }
 }
 
-// Returns `true` if both find the same for `name`, the tree in at most 15 lists.
+// Returns `true` if both find the same for `name`, and the tree visits at most 15 lists.
 fn agrees_on(alloc: Global, both: &Both, name: &ChannelName) -> Result<bool, Fail> {
     let expected = plain_find(alloc, both.pairs.as_slice(), name)?;
     let found = both.tree.nodes().find(alloc, name)?;
@@ -354,7 +355,7 @@ fn assert_agree(rt: &impl Abort, alloc: Global, both: &mut Both) -> Result<(), F
     Ok(())
 }
 
-// The tree finds what a plain list finds.
+// Checks that the tree finds what a plain list finds.
 #[test]
 fn agrees_with_a_plain_list(rt: HostRuntime) -> Result<(), Fail> {
     let mut both = Both {

@@ -1,4 +1,4 @@
-//! Tests of a window, by what a connect sees of it.
+//! Tests of a window: its batches, its limits, and what a connect would get.
 ghost use Rattle.std.specs.Prelude.{◌≡◌};
 
 use crate::same::same;
@@ -9,7 +9,7 @@ use std::alloc::Global;
 use std::process::Abort;
 use std::test::Fail;
 
-// The limit of events in these tests.
+// Limit of events in these tests.
 const LIMIT: usize = 1_024;
 
 // More batches than any test forms.
@@ -27,7 +27,7 @@ enum Move {
     Clear,
 }
 
-// Writes the number of events, the last batch's number, and the outstanding events.
+// Returns a text with the number of events, the last batch's number, and the outstanding events.
 fn text_of(alloc: Global, window: &Window) -> Result<String, Fail> {
     let given = window.given();
     let mut numbers = Vec::new(alloc);
@@ -107,7 +107,7 @@ const BATCHES: [(Move, &str); 10] = [
     (Move::Give(256), "0, batch 2 of 0: none;"),
 ];
 
-// A batch is sent again until it is acknowledged.
+// Checks that a batch stays outstanding until it is acknowledged.
 #[test]
 fn a_batch_is_given_until_it_is_acknowledged(rt: HostRuntime) -> Result<(), Fail> {
     let alloc = rt.alloc();
@@ -121,14 +121,15 @@ const FULL: [(Move, &str); 4] = [
     (Move::Acknowledge(1), "768, batch 1 of 0: none;"),
 ];
 
-// A window at its limit is full.
+// Checks that a window at its limit is full.
 #[test]
 fn a_full_window_takes_no_more(rt: HostRuntime) -> Result<(), Fail> {
     let alloc = rt.alloc();
     run(&rt, alloc, &mut Window::new(alloc), &FULL)
 }
 
-// Adds as many events as a configuration may allow, after which the window is full.
+// Appends the greatest number of events that a configuration allows. Checks that the window is full
+// after the last of them, and not before.
 fn check_most(rt: &impl Abort, alloc: Global, window: &mut Window) -> Result<(), Fail> {
     let most = MAX_EVENTS as usize;
     let next = event(alloc, 1)?;
@@ -141,7 +142,7 @@ fn check_most(rt: &impl Abort, alloc: Global, window: &mut Window) -> Result<(),
     Ok(())
 }
 
-// The greatest limit of events is exact.
+// Checks that the greatest limit of events is exact.
 #[test]
 fn a_window_takes_as_many_events_as_its_limit(rt: HostRuntime) -> Result<(), Fail> {
     let alloc = rt.alloc();
@@ -157,7 +158,7 @@ const CLEARED: [(Move, &str); 6] = [
     (Move::Give(256), "1, batch 2 of 1: 4;"),
 ];
 
-// A cleared window goes on from its last batch's number.
+// Checks that a cleared window keeps the number of its last batch.
 #[test]
 fn a_cleared_window_keeps_its_number(rt: HostRuntime) -> Result<(), Fail> {
     let alloc = rt.alloc();
@@ -175,15 +176,16 @@ fn check_forget(rt: &impl Abort, alloc: Global, window: &mut Window) -> Result<(
     Ok(())
 }
 
-// Events sent without a batch are dropped.
+// Checks that events sent without a batch are dropped.
 #[test]
 fn events_without_batches_are_forgotten(rt: HostRuntime) -> Result<(), Fail> {
     let alloc = rt.alloc();
     check_forget(&rt, alloc, &mut Window::new(alloc))
 }
 
-// Checks what a connect that acknowledges `number` would get: `done` events are dropped, and
-// `portions` are the sizes of its batch for limits of 9 and 1.
+// Checks what a connect that acknowledges `number` would get.
+//
+// `done`: how many events it drops. `portions`: how many it then gets for batch limits of 9 and 1.
 fn check_ahead(rt: &impl Abort, window: &Window, number: u64, done: usize, portions: [usize; 2]) {
     same(rt, window.acknowledged(number), done, number);
     let done = window.acknowledged(number);
@@ -192,7 +194,8 @@ fn check_ahead(rt: &impl Abort, window: &Window, number: u64, done: usize, porti
     }
 }
 
-// Checks a batch of three of five events: it is given until acknowledged, then the other two.
+// Checks what a connect would get of five events, three of them in a batch. It would get the batch
+// until that is acknowledged, and then the other two.
 fn look_ahead(rt: &impl Abort, alloc: Global, window: &mut Window) -> Result<(), Fail> {
     check_ahead(rt, window, 0, 0, [0, 0]);
     apply(rt, alloc, window, Move::Push(1, 5))?;
@@ -206,14 +209,15 @@ fn look_ahead(rt: &impl Abort, alloc: Global, window: &mut Window) -> Result<(),
     Ok(())
 }
 
-// A window predicts what a connect gets.
+// Checks that a window predicts what a connect gets.
 #[test]
 fn a_look_ahead_says_what_a_connect_is_given(rt: HostRuntime) -> Result<(), Fail> {
     let alloc = rt.alloc();
     look_ahead(&rt, alloc, &mut Window::new(alloc))
 }
 
-// The text of each event has 27 bytes, for example `{"channel":"/a/b","data":7}`.
+// Checks that events count until they are dropped. The text of each is 27 bytes long, for example
+// `{"channel":"/a/b","data":7}`.
 fn check_bytes(rt: &impl Abort, alloc: Global, window: &mut Window) -> Result<(), Fail>
     requires { window.old.contents.out ≡ 0 }
 {
@@ -261,7 +265,7 @@ fn check_bytes(rt: &impl Abort, alloc: Global, window: &mut Window) -> Result<()
     Ok(())
 }
 
-// An event's bytes count until the event is dropped.
+// Checks that the bytes of an event count until it is dropped.
 #[test]
 fn bytes_count_until_their_event_is_given_for_good(rt: HostRuntime) -> Result<(), Fail> {
     let alloc = rt.alloc();

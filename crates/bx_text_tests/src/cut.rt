@@ -1,4 +1,4 @@
-//! Tests of cutting bodies into messages, and of looking up members and texts.
+//! Tests of splitting bodies into messages, and of looking up members and texts.
 use crate::same::same;
 use bx_cut::{
     Bodies, CutError, Document, MAX_MESSAGES, elements_of, member_of, plain_text_of, spells,
@@ -18,7 +18,7 @@ fn check(rt: &impl Abort, alloc: Global, body: &str, wanted: Result<usize, CutEr
     same(rt, count_of(alloc, body.as_bytes()), wanted, body);
 }
 
-// Checks the texts of the pieces of `body`.
+// Checks the texts of the messages in `body`.
 fn check_pieces(
     rt: &impl Abort,
     alloc: Global,
@@ -34,7 +34,7 @@ fn check_pieces(
     Ok(())
 }
 
-// Shows the pieces that documents are cut into.
+// Checks the messages that documents are split into.
 #[test]
 fn documents_have_their_pieces(rt: HostRuntime) -> Result<(), Fail> {
     let table: [(&str, &[&str]); 8] = [
@@ -62,7 +62,7 @@ fn documents_have_their_pieces(rt: HostRuntime) -> Result<(), Fail> {
     Ok(())
 }
 
-// Checks the member `name` of the only message, by its piece and by its text.
+// Checks the value of member `name` of the only message, by its piece and by its text.
 fn check_member(
     rt: &impl Abort,
     alloc: Global,
@@ -80,7 +80,7 @@ fn check_member(
     Ok(())
 }
 
-// The last member of a name counts.
+// Checks that keys are compared after unescaping, and that the last member of a name counts.
 #[test]
 fn members_are_the_last_of_their_name(rt: HostRuntime) -> Result<(), Fail> {
     let table: [(&str, &str, Option<&str>); 16] = [
@@ -111,7 +111,7 @@ fn members_are_the_last_of_their_name(rt: HostRuntime) -> Result<(), Fail> {
     Ok(())
 }
 
-// Shows the error for each kind of bad body.
+// Checks the error of each kind of invalid body.
 #[test]
 fn faults_are_told_in_order(rt: HostRuntime) -> Result<(), Fail> {
     let table: [(&[u8], CutError); 30] = [
@@ -152,7 +152,7 @@ fn faults_are_told_in_order(rt: HostRuntime) -> Result<(), Fail> {
     Ok(())
 }
 
-// No proper front of a document is a document.
+// Checks that no proper prefix of a document is a document.
 #[test]
 fn no_front_of_a_document_is_one(rt: HostRuntime) {
     let body = br#"[{"a\u0062":[1.5e-3,true,"\ud83d\ude00\\"]},{"c":null}]"#;
@@ -163,7 +163,7 @@ fn no_front_of_a_document_is_one(rt: HostRuntime) {
     same(&rt, count_of(rt.alloc(), body), Ok(2), body.len());
 }
 
-// Writes `front`, `count` times `part`, and `back`.
+// Returns `front`, followed by `count` times `part` and then `back`.
 fn repeated(
     alloc: Global,
     front: &str,
@@ -179,7 +179,7 @@ fn repeated(
     Ok(text)
 }
 
-// Checks a body of a front, `count` parts and a back.
+// Checks the body of `front`, `count` times `part`, and `back`.
 fn check_repeated(
     rt: &impl Abort,
     alloc: Global,
@@ -192,7 +192,7 @@ fn check_repeated(
     Ok(())
 }
 
-// The limits of messages and nesting are exact.
+// Checks that the limits of messages and nesting are exact, and that digits have no limit.
 #[test]
 fn limits_are_exact(rt: HostRuntime) -> Result<(), Fail> {
     same(&rt, MAX_MESSAGES, 256, "the limit");
@@ -218,7 +218,7 @@ fn limits_are_exact(rt: HostRuntime) -> Result<(), Fail> {
     Ok(())
 }
 
-// Returns the length of the member `a` of the only message.
+// Returns the length in bytes of the value of member `a` of the only message.
 fn length_of_a(alloc: Global, body: &str) -> Result<usize, Fail> {
     let document = Document::read(alloc, body.as_bytes())?;
     match document.pieces() {
@@ -227,7 +227,7 @@ fn length_of_a(alloc: Global, body: &str) -> Result<usize, Fail> {
     }
 }
 
-// Bodies are checked up to their last byte.
+// Checks that bodies are parsed up to their last byte.
 #[test]
 fn bodies_are_read_to_their_end(rt: HostRuntime) {
     let broken: [&str; 21] = [
@@ -258,7 +258,7 @@ fn bodies_are_read_to_their_end(rt: HostRuntime) {
     }
 }
 
-// A message must be an object.
+// Checks that a message must be an object.
 #[test]
 fn only_objects_are_messages(rt: HostRuntime) {
     for body in [
@@ -287,7 +287,7 @@ fn check_number(
     check_repeated(rt, alloc, (front, number, back), 1, wanted)
 }
 
-// Numbers in the range of a 64-bit float are read.
+// Checks that numbers in the range of a 64-bit float are accepted.
 #[test]
 fn numbers_in_range_are_read(rt: HostRuntime) -> Result<(), Fail> {
     for number in [
@@ -319,7 +319,7 @@ fn numbers_in_range_are_read(rt: HostRuntime) -> Result<(), Fail> {
     Ok(())
 }
 
-// Numbers too large for a 64-bit float are refused.
+// Checks that numbers too large for a 64-bit float are rejected.
 #[test]
 fn numbers_too_large_for_a_float_are_no_json(rt: HostRuntime) -> Result<(), Fail> {
     for number in [
@@ -349,7 +349,7 @@ fn numbers_too_large_for_a_float_are_no_json(rt: HostRuntime) -> Result<(), Fail
     Ok(())
 }
 
-// Checks a body with `inside` nested `depth` deep, between `front` and `back`.
+// Checks a body with `depth` levels of nesting around `inside`, between `front` and `back`.
 fn check_nested(
     rt: &impl Abort,
     alloc: Global,
@@ -362,7 +362,7 @@ fn check_nested(
     check_repeated(rt, alloc, (front, open, end.as_str()), depth, wanted)
 }
 
-// Values may nest 127 deep.
+// Checks that values may have 127 levels of nesting, and no more.
 #[test]
 fn values_nest_127_deep(rt: HostRuntime) -> Result<(), Fail> {
     let arrays = ("[", "", "]");
@@ -382,7 +382,7 @@ fn values_nest_127_deep(rt: HostRuntime) -> Result<(), Fail> {
     Ok(())
 }
 
-// Only messages count toward the limit, and other errors come before `TooMany`.
+// Checks that only messages count toward the limit, and that other errors come before `TooMany`.
 #[test]
 fn only_messages_are_counted(rt: HostRuntime) -> Result<(), Fail> {
     for (parts, count, wanted) in [
@@ -409,7 +409,7 @@ fn check_elements(rt: &impl Abort, array: &str, wanted: &[&str]) {
     }
 }
 
-// Shows how elements and members are found in nested values.
+// Checks the elements of arrays and the members of objects, and that other values have none.
 #[test]
 fn nested_values_are_cut_too(rt: HostRuntime) {
     check_elements(
@@ -426,7 +426,7 @@ fn nested_values_are_cut_too(rt: HostRuntime) {
     }
 }
 
-// Lookups do not fail on malformed text.
+// Checks that lookups in malformed texts do not fail.
 #[test]
 fn no_text_is_too_odd_to_cut(rt: HostRuntime) {
     for odd in [
@@ -453,7 +453,7 @@ fn no_text_is_too_odd_to_cut(rt: HostRuntime) {
     }
 }
 
-// Checks the string that `value` spells, if it is one.
+// Checks the unescaped text of `value`, or that it is not a string.
 fn check_text(
     rt: &impl Abort,
     alloc: Global,
@@ -465,7 +465,7 @@ fn check_text(
     Ok(())
 }
 
-// Shows how escapes in strings are read.
+// Checks how strings are unescaped.
 #[test]
 fn strings_are_unescaped(rt: HostRuntime) -> Result<(), Fail> {
     let table: [(&str, &str); 7] = [
@@ -489,7 +489,7 @@ fn strings_are_unescaped(rt: HostRuntime) -> Result<(), Fail> {
     Ok(())
 }
 
-// Shows which strings need no unescaping.
+// Checks which strings have no escapes.
 #[test]
 fn strings_without_escapes_stand_as_they_are(rt: HostRuntime) {
     let table: [(&str, Option<&str>); 7] = [
@@ -524,7 +524,7 @@ fn decoded(alloc: Global, texts: &[&str]) -> Result<Bodies, AllocError> {
     Ok(Bodies::Decoded(all))
 }
 
-// Shows the number of bodies and each body by its index.
+// Checks the number of documents, and each document by its index.
 #[test]
 fn bodies_are_counted_from_zero(rt: HostRuntime) -> Result<(), Fail> {
     let whole = Bodies::Whole(b"[]".to_vec(rt.alloc())?);

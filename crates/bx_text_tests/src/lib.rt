@@ -1,10 +1,12 @@
 //! Tests of the crates that read and write the texts of messages.
 //!
-//! A separate crate, because `.ci/run` proves a crate with tests twice.
+//! They are a separate crate, because `.ci/run` proves a crate with tests twice.
 #![tactic(auto)]
 
 #[cfg(test)]
 mod cut;
+#[cfg(test)]
+mod examples;
 #[cfg(test)]
 mod message;
 #[cfg(test)]

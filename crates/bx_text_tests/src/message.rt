@@ -1,4 +1,4 @@
-//! Tests of reading messages, and of writing replies, events and responses.
+//! Tests of parsing messages, and of formatting replies, events and responses.
 use crate::same::same;
 use bx_advice::{Config, Error, Outcome};
 use bx_cut::{Document, Piece};
@@ -48,7 +48,7 @@ fn message(
     })
 }
 
-// Writes the reply to `message`.
+// Formats the reply to `message`.
 fn replied(
     alloc: Global,
     message: &Message,
@@ -61,7 +61,7 @@ fn replied(
     Ok(reply_text(alloc, &reply)?)
 }
 
-// Checks the reply to a message with this channel and id, and with a subscription.
+// Checks the reply to a message with `channel`, `id` and a subscription.
 fn check_reply(
     rt: &impl Abort,
     alloc: Global,
@@ -87,7 +87,7 @@ fn check_replied(
     Ok(())
 }
 
-// Shows the members of each kind of reply.
+// Checks the members of the reply to each kind of message.
 #[test]
 fn replies_have_their_members(rt: HostRuntime) -> Result<(), Fail> {
     let alloc = rt.alloc();
@@ -157,7 +157,7 @@ fn replies_have_their_members(rt: HostRuntime) -> Result<(), Fail> {
     Ok(())
 }
 
-// The reply to a refused handshake has no client id.
+// Checks that the reply to a rejected handshake has no client id.
 #[test]
 fn a_refused_handshake_has_no_client(rt: HostRuntime) -> Result<(), Fail> {
     let alloc = rt.alloc();
@@ -201,7 +201,7 @@ fn check_event(
     Ok(())
 }
 
-// An event has its publish's channel, data and id.
+// Checks that an event has the channel, data and id of its publish.
 #[test]
 fn events_are_their_publishes(rt: HostRuntime) -> Result<(), Fail> {
     let alloc = rt.alloc();
@@ -266,7 +266,7 @@ fn connected(alloc: Global) -> Result<Item, Fail> {
     Ok(Item::ReplyItem(reply))
 }
 
-// A response is an array of its items.
+// Checks that a response is the array of its items.
 #[test]
 fn a_body_is_the_array_of_its_items(rt: HostRuntime) -> Result<(), Fail> {
     let alloc = rt.alloc();
@@ -276,7 +276,7 @@ fn a_body_is_the_array_of_its_items(rt: HostRuntime) -> Result<(), Fail> {
     check_body(&rt, alloc, items(alloc)?.as_slice(), wanted)
 }
 
-// A message's kind depends on its whole channel.
+// Checks that the kind of a message depends on its whole channel.
 #[test]
 fn columns_go_by_the_whole_channel(rt: HostRuntime) {
     for (channel, message_kind) in [
@@ -333,7 +333,7 @@ fn add_ack(alloc: Global, out: &mut String, ack: AckMember) -> Result<(), AllocE
     }
 }
 
-// Writes all fields but the channel, in the order in which `Message` declares them.
+// Appends all fields except the channel, in the order in which `Message` declares them.
 fn add_fields(alloc: Global, out: &mut String, m: &Message) -> Result<(), AllocError> {
     add_json(out, "id", &m.id)?;
     add_text(out, "client", &m.client)?;
@@ -408,7 +408,7 @@ fn check_fields(
     Ok(())
 }
 
-// Members and the fields that they result in.
+// Members of a message, and the fields that they result in.
 const MEMBERS: [(&str, &str); 52] = [
     ("", "/a"),
     (r#","channel":"/b""#, "/b"),
@@ -488,7 +488,7 @@ const MEMBERS: [(&str, &str); 52] = [
     (r#","advice":{"timeout":5},"advice":5"#, "/a"),
 ];
 
-// Shows the fields that each member results in.
+// Checks the fields that members result in.
 #[test]
 fn members_are_the_fields(rt: HostRuntime) -> Result<(), Fail> {
     for (members, wanted) in MEMBERS {
@@ -497,7 +497,7 @@ fn members_are_the_fields(rt: HostRuntime) -> Result<(), Fail> {
     Ok(())
 }
 
-// A message is refused unless its `channel` is a string.
+// Checks that a message is rejected unless its `channel` is a string.
 #[test]
 fn a_message_has_a_channel(rt: HostRuntime) -> Result<(), Fail> {
     let alloc = rt.alloc();

@@ -1,4 +1,4 @@
-//! Tests of names and patterns at their limits, and of which match.
+//! Tests of names and patterns at their limits, and of matching.
 use crate::same::same;
 use bx_names::{
     ChannelKind, ChannelName, MAX_NAME_BYTES, MAX_NAME_SEGMENTS, NameError, Pattern, Tail, kind_of,
@@ -8,7 +8,7 @@ use std::alloc::{AllocError, Global};
 use std::process::Abort;
 use std::test::Fail;
 
-// Writes `start` followed by `count` times `part`.
+// Returns `start`, followed by `count` times `part`.
 fn repeated(alloc: Global, start: &str, part: &str, count: usize) -> Result<String, AllocError> {
     let mut text = String::from_str(alloc, start)?;
     for _ in 0..count {
@@ -17,13 +17,13 @@ fn repeated(alloc: Global, start: &str, part: &str, count: usize) -> Result<Stri
     Ok(text)
 }
 
-// Checks that `text` is a name, or has `fault`.
+// Checks that `text` has `fault`, or that it is a name if there is none.
 fn check_name(rt: &impl Abort, alloc: Global, text: &str, fault: Option<NameError>) {
     same(rt, name_fault(text), fault, text);
     same(rt, ChannelName::read(alloc, text).err(), fault, text);
 }
 
-// Checks a name of `start` followed by `count` times `part`.
+// Checks the text of `start`, followed by `count` times `part`.
 fn check_repeated(
     rt: &impl Abort,
     alloc: Global,
@@ -36,7 +36,7 @@ fn check_repeated(
     Ok(())
 }
 
-// Shows which texts are channel names, and the fault of the others.
+// Checks which texts are channel names, and the faults of the others.
 #[test]
 fn names(rt: HostRuntime) -> Result<(), Fail> {
     let table = [
@@ -83,7 +83,7 @@ fn names(rt: HostRuntime) -> Result<(), Fail> {
     Ok(())
 }
 
-// Checks that `text` is a pattern with `own` segments and `tail`.
+// Checks that `text` is a pattern with `own` segments and the wildcard `tail`.
 fn check_pattern(
     rt: &impl Abort,
     alloc: Global,
@@ -98,20 +98,20 @@ fn check_pattern(
     Ok(())
 }
 
-// Checks that `text` is not a pattern, by `fault`.
+// Checks that `text` is not a pattern, because of `fault`.
 fn check_refused(rt: &impl Abort, alloc: Global, text: &str, fault: NameError) {
     same(rt, pattern_fault(text), Some(fault), text);
     same(rt, Pattern::read(alloc, text).err(), Some(fault), text);
 }
 
-// Returns the fault of a pattern of 31 segments followed by `end`.
+// Returns the fault of 31 segments followed by `end`, or `None` if this is a pattern.
 fn fault_behind(alloc: Global, end: &str) -> Result<Option<NameError>, AllocError> {
     let mut text = repeated(alloc, "", "/a", 31)?;
     text.push_str(end)?;
     Ok(pattern_fault(text.as_str()))
 }
 
-// Shows which texts are patterns, and the fault of the others.
+// Checks which texts are patterns, and the faults of the others.
 #[test]
 fn patterns(rt: HostRuntime) -> Result<(), Fail> {
     let read = [
@@ -152,7 +152,7 @@ fn is_match(alloc: Global, pattern: &str, name: &str) -> Result<bool, NameError>
     Ok(matches(&pattern, &name))
 }
 
-// Shows which patterns match which names.
+// Checks which patterns match which names.
 #[test]
 fn matching(rt: HostRuntime) -> Result<(), Fail> {
     let table = [
@@ -178,7 +178,7 @@ fn matching(rt: HostRuntime) -> Result<(), Fail> {
     Ok(())
 }
 
-// Shows the kind of each channel.
+// Checks the kinds of channels.
 #[test]
 fn kinds(rt: HostRuntime) -> Result<(), Fail> {
     let table = [
@@ -200,7 +200,7 @@ fn kinds(rt: HostRuntime) -> Result<(), Fail> {
     Ok(())
 }
 
-// Joins the segments of `name`.
+// Returns the segments of `name`, joined.
 fn joined(alloc: Global, name: &ChannelName) -> Result<String, AllocError> {
     let mut joined = String::new(alloc);
     for segment in name.segments() {
@@ -230,7 +230,7 @@ fn check_pattern_parts(rt: &impl Abort, alloc: Global, pattern: &Pattern) -> Res
     Ok(())
 }
 
-// Shows the parts of names and patterns, and that copies are equal.
+// Checks the parts of names and patterns, and that copies are equal.
 #[test]
 fn parts(rt: HostRuntime) -> Result<(), Fail> {
     let name = ChannelName::read(rt.alloc(), "/a/bc/d")?.clone()?;
@@ -239,7 +239,7 @@ fn parts(rt: HostRuntime) -> Result<(), Fail> {
     check_pattern_parts(&rt, rt.alloc(), &pattern)
 }
 
-// Shows the text of a fault.
+// Checks the text of a fault.
 #[test]
 fn faults_have_texts(rt: HostRuntime) -> Result<(), Fail> {
     let refused = ChannelName::read(rt.alloc(), "/a*").err();

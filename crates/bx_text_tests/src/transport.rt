@@ -1,4 +1,4 @@
-//! Tests of taking documents from bodies and queries, and of writing responses.
+//! Tests of reading documents from bodies and queries, and of writing responses.
 use crate::same::same;
 use bx_advice::{BODY_LIMIT, Config, Outcome};
 use bx_cut::Bodies;
@@ -11,7 +11,7 @@ use std::test::Fail;
 
 const FORM: &str = "application/x-www-form-urlencoded";
 
-// Writes the documents between vertical bars, with U+FFFD for bytes that are not UTF-8.
+// Returns the documents between vertical bars, with U+FFFD for bytes that are not UTF-8.
 fn listed(alloc: Global, bodies: &Bodies) -> Result<String, AllocError> {
     let mut text = String::new(alloc);
     for i in 0..bodies.len() {
@@ -22,7 +22,7 @@ fn listed(alloc: Global, bodies: &Bodies) -> Result<String, AllocError> {
     Ok(text)
 }
 
-// Takes the documents of a POST, and writes them.
+// Returns the documents of a POST, as `listed` formats them.
 fn post(alloc: Global, content_type: Option<&str>, body: &str) -> Result<String, TransportError> {
     let content_type = content_type.map(str::as_bytes);
     let bodies = read_post(
@@ -33,14 +33,14 @@ fn post(alloc: Global, content_type: Option<&str>, body: &str) -> Result<String,
     Ok(listed(alloc, &bodies)?)
 }
 
-// Takes a query, and writes the callback's name, a space and the documents.
+// Returns the callback's name in a query, a space, and the documents as `listed` formats them.
 fn get(alloc: Global, query: &str) -> Result<String, TransportError> {
     let (name, bodies) = read_get(alloc, query.as_bytes())?;
     let documents = listed(alloc, &bodies)?;
     Ok(format!(in alloc; "{name} {documents}")?)
 }
 
-// Checks the text or the error.
+// Checks the documents or the error.
 fn check(
     rt: &impl Abort,
     taken: Result<String, TransportError>,
@@ -53,7 +53,7 @@ fn check(
     }
 }
 
-// Checks that there is no error, or this one.
+// Checks that the error is `fault`, if any.
 fn check_fault(
     rt: &impl Abort,
     taken: Result<String, TransportError>,
@@ -63,7 +63,7 @@ fn check_fault(
     same(rt, taken.err(), fault, at);
 }
 
-// Shows which content types are forms.
+// Checks which content types are forms.
 #[test]
 fn content_types_tell_forms(rt: HostRuntime) -> Result<(), Fail> {
     let alloc = rt.alloc();
@@ -104,7 +104,7 @@ fn content_types_tell_forms(rt: HostRuntime) -> Result<(), Fail> {
     Ok(())
 }
 
-// Shows how forms are decoded, and which have no message.
+// Checks how forms are decoded, and which have no message.
 #[test]
 fn forms_are_decoded(rt: HostRuntime) -> Result<(), Fail> {
     let alloc = rt.alloc();
@@ -132,7 +132,7 @@ fn forms_are_decoded(rt: HostRuntime) -> Result<(), Fail> {
     Ok(())
 }
 
-// Shows how a query names its callback, and which queries are refused.
+// Checks how a query names its callback, and which queries are rejected.
 #[test]
 fn queries_name_their_callback(rt: HostRuntime) -> Result<(), Fail> {
     let alloc = rt.alloc();
@@ -162,7 +162,7 @@ fn queries_name_their_callback(rt: HostRuntime) -> Result<(), Fail> {
     Ok(())
 }
 
-// Checks whether a callback name of `length` characters is taken.
+// Checks the error of a callback name of `length` characters.
 fn check_length(
     rt: &impl Abort,
     alloc: Global,
@@ -175,7 +175,7 @@ fn check_length(
     Ok(())
 }
 
-// The limit of a callback name is exact.
+// Checks that the limit of a callback's name is exact.
 #[test]
 fn names_have_256_characters_at_most(rt: HostRuntime) -> Result<(), Fail> {
     for (length, fault) in [(1, None), (256, None), (257, Some(TransportError::BadName))] {
@@ -185,6 +185,8 @@ fn names_have_256_characters_at_most(rt: HostRuntime) -> Result<(), Fail> {
 }
 
 // Checks the errors of `size` spaces as JSON, as a form and as a query.
+//
+// `plain` is the error as JSON, and `form` the error as a form and as a query.
 fn check_size(
     rt: &impl Abort,
     alloc: Global,
@@ -200,7 +202,7 @@ fn check_size(
     Ok(())
 }
 
-// The limit of a body's size is exact.
+// Checks that the limit of a body's length is exact.
 #[test]
 fn sizes_are_limited(rt: HostRuntime) -> Result<(), Fail> {
     let none = TransportError::NoMessage;
@@ -269,7 +271,7 @@ fn check_both(rt: &impl Abort, alloc: Global, items: &[Item; 2]) -> Result<(), F
     )
 }
 
-// Callbacks escape U+2028 and U+2029, and plain responses do not.
+// Checks that callbacks escape U+2028 and U+2029, and that other responses do not.
 #[test]
 fn callbacks_hold_no_line_ends(rt: HostRuntime) -> Result<(), Fail> {
     let alloc = rt.alloc();

@@ -1,4 +1,4 @@
--- What is open stands in the order of the inputs, and in that of the places of their messages.
+-- The open inputs are in the order of their numbers and of their places.
 use Rattle.std.proofs.Common.{◌≡◌, ℕ, zero, suc, ◌+◌, ◌<◌, ◌≤◌, ⊎_elim, Bool, true, not, Option, Some, None, List, [], ◌∷◌, ◌++◌, length, map, filter, fold, slice_index, sym, subst, arith, length-append}
 use Rattle.std.proofs.lemmas.{Bool.cond_both, Bool.both_ways, Bool.cases_lt, Bool.not-true, Grind.common_steps}
 use Rattle.std.specs.List.Sorted.{IsStrictlyIncreasing}
@@ -9,7 +9,6 @@ use Rattle.bx_theory.specs.Opens.{Numbered, numbered_from, is_whole}
 use Rattle.bx_theory.specs.Sole.{OpensAscend}
 use Rattle.bx_theory.proofs.Sole.{none_missing}
 
--- each number is above the one before it, and the first is at least this
 abbrev Climbs : ℕ → List ℕ → Type 0
 Climbs low [] = Unit {0}
 Climbs low (n ∷ ns) = (low ≤ n) × Climbs (n + 1) ns
@@ -27,15 +26,14 @@ climbs_increase low (n ∷ m ∷ ns) c (suc k) h =
     let rest : slice_index (m ∷ ns) k < slice_index (m ∷ ns) (k + 1) = climbs_increase (n + 1) (m ∷ ns) c.1 k (omega arith) in
     subst (λ (i : ℕ). slice_index (m ∷ ns) k < slice_index (n ∷ m ∷ ns) i) (sym same) rest
 
--- ---- numbers
+-- ---- Numbers
 
 numbers_climb : (test : Numbered → Bool) (number : ℕ) (ds : List Intake) → Climbs number (map (λ (o : Numbered). o.number) (filter test (numbered_from number ds)))
 numbers_climb test number [] = tt
 numbers_climb test number (d ∷ ds) = grind (arith, common_steps, numbers_climb test (number + 1) ds, climbs_lower number (number + 1))
 
--- ---- places
+-- ---- Places
 
--- the messages of each stand behind those of the one before it
 abbrev Follow : ℕ → ℕ → List Intake → Type 0
 Follow low end [] = low ≤ end
 Follow low end (d ∷ ds) = (low ≤ d.first) × Follow (d.first + d.count) end ds
@@ -52,7 +50,6 @@ run_follow : (t : Taking) (inputs : List ReadInput) → Follow 0 (length t.list)
 run_follow t [] f = f
 run_follow t (i ∷ inputs) f = run_follow (take_in t i) inputs (taken_as_follow t i (refusal_of (length t.list) i) f)
 
--- what is not whole has a message
 has_one : (config : Config) (list : List Listed) (o : Numbered) → not (is_whole config (registry config list) o) ≡ true → 0 < o.intake.count
 has_one config list o h = ⊎_elim
     (λ l. l)

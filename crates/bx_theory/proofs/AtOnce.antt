@@ -1,4 +1,4 @@
--- A message that is not its request's only one is answered at once, and so is a rider.
+-- A rider is answered at once, and so is a message that is not alone in its request.
 use Rattle.std.proofs.Common.{◌≡◌, ℕ, ◌+◌, ◌<◌, max, ◌+◌, Bool, true, false, cond, ◌&&◌, ◌||◌, is_some, Option, Some, None, List, [], ◌∷◌, ◌++◌, length, map, find, option_map, slice_get, ◌==◌, refl, sym, ap, ◌∙◌, subst, append_assoc, eq-eqb, arith}
 use Rattle.std.proofs.lemmas.{Bool.cond_both, Bool.cond-true, Bool.cond-false, List.map-append, List.length_push, Grind.common_steps, List.Sums.fold-append}
 use Rattle.bx_history.proofs.Tests.{either}
@@ -15,12 +15,11 @@ use Rattle.bx_theory.proofs.Verdicts.{by_verdict, got_here, registry_next}
 use Rattle.bx_theory.proofs.{Lists.answer_more, Lists.judged_length, Closings.run_number, Stages.step_by_next, Stages.live_reading, Senders.sender_reads, Lives.found_of}
 use Rattle.bx_theory.proofs.Counts.{freed, connected_by, ride_both}
 
--- an answer that is there
 pub record There (o : Option PlacedAnswer) : Type 0 where
   pub answer : PlacedAnswer
   pub is : o ≡ Some answer
 
--- ---- a connect that may not be held
+-- ---- Connects that may not be held
 
 filed_last : (place : ℕ) (fs : List Filed) (f : Filed) → f.connect ≡ place → There (filed_for place (fs ++ f ∷ []))
 filed_last place [] f h = record { answer = answer_of f; is = ap (option_map answer_of) (cond-true (f.connect == place) (Some f) None (eq-eqb f.connect place h)) }
@@ -45,7 +44,6 @@ connected_there config p acked s h =
     connected_by config p acked s (λ (u : Session). There (filed_for p.place u.answers))
     (λ e. answered_there config p p.place [] (Failed QueueOverflow) (released config p.place (Failed SupersededConnect) s)) (λ e. answered_or_held_there config p (freed config p acked s) h)
 
--- its session answers it at its own entry
 step_there : (config : Config) (s : Session) (e : Entry) (number : ℕ) (client : List ℕ) (id : Option (List ℕ)) (acked : Option ℕ) → s.number ≡ number → e.kind ≡ Connect number client id acked 0 →
     There (filed_for e.place (step config s e).answers)
 step_there config s e number client id acked n k =
@@ -63,7 +61,6 @@ session_there config es e number client id acked k =
     subst (λ (u : Session). There (filed_for e.place u.answers)) (sym (fold-append (step config) (unopened number) es (e ∷ [])))
     (step_there config (session config number es) e number client id acked (run_number config (unopened number) es) k)
 
--- a rider is answered at its own place, where its session is live behind its own entry
 rider_there : (config : Config) (es : List Entry) (e : Entry) (number : ℕ) (reply : Reply) → rider_of e.kind e.rides ≡ Some (record { session = number; reply = reply }) →
     (step_by config e.place e.moment (session config number es) e.kind).stage ≡ (session config number es).stage → is_live (session config number es).stage ≡ true →
     There (filed_for e.place (session config number (es ++ e ∷ [])).answers)
@@ -78,20 +75,17 @@ rider_there config es e number reply rides same live =
     subst (λ (v : Session). There (filed_for e.place v.answers)) (sym (fold-append (step config) (unopened number) es (e ∷ []) ∙ taken))
     (filed_last e.place u.answers (ride_filing config e.place reply u) refl)
 
--- ---- one more message
+-- ---- One more message
 
--- what was found at the last place answers there
 last_there : (config : Config) (r t : Registry) (j : Judged) → t.judged ≡ r.judged ++ j ∷ [] → There (answer_by config (entries_of t) (length r.judged) j.slot) → There (answer_in config t (length r.judged))
 last_there config r t j e a = record {
   answer = a.answer;
   is = ap (answer_at config (entries_of t) (length r.judged)) (ap (λ (js : List Judged). slice_get js (length r.judged)) e ∙ got_here r.judged j []) ∙ a.is;
 }
 
--- the entry of an accepted message at a place
 abbrev entry_with : ℕ → ℕ → EntryKind → Option Rider → Entry
 entry_with place moment kind rides = record { place = place; moment = moment; kind = kind; rides = rides }
 
--- a message that is no connect is answered at once, as a rider too
 ready_there : (config : Config) (es : List Entry) (place moment number : ℕ) (kind : EntryKind) (reply : Reply) (b : Bool) →
     (b ≡ true → (rider : Rider) → (rider_of kind (Some rider) ≡ Some rider) × ((step_by config place moment (session config number es) kind).stage ≡ (session config number es).stage)) → is_live (session config number es).stage ≡ true →
     There (answer_by config (es ++ entry_with place moment kind (rider_for b number (Ready reply)) ∷ []) place (slot_with (rider_for b number (Ready reply)) (Ready reply)))
@@ -100,7 +94,6 @@ ready_there config es place moment number kind reply true same live =
     rider_there config es (entry_with place moment kind (Some rider)) number reply (same refl rider).0 (same refl rider).1 live
 ready_there config es place moment number kind reply false same live = record { answer = _; is = refl }
 
--- so is a connect that may not be held
 connect_there : (config : Config) (es : List Entry) (place moment number : ℕ) (client : List ℕ) (id : Option (List ℕ)) (acked : Option ℕ) (b : Bool) →
     There (answer_by config (es ++ entry_with place moment (Connect number client id acked 0) (rider_for b number (Waiting number)) ∷ []) place (slot_with (rider_for b number (Waiting number)) (Waiting number)))
 connect_there config es place moment number client id acked true = session_there config es (entry_with place moment (Connect number client id acked 0) None) number client id acked refl
@@ -114,7 +107,6 @@ served_slot config es place moment p c s b still live = ready_there config es pl
 no_waiting : {A : Type 0} (b : Bool) (n m : ℕ) (rider : Rider) → rider_for b n (Waiting m) ≡ Some rider → A
 no_waiting b n m rider e = absurd (let no : ⊥ = grind (arith, common_steps) in no)
 
--- a rider is, whether or not it is sole
 rider_slot : (config : Config) (es : List Entry) (place moment : ℕ) (p : Posted) (c : MessageKind) (s : Registered) (hold : ℕ) (b : Bool) → (may_ride c ≡ false → b ≡ false) → is_live (session config s.number es).stage ≡ true →
     (rider : Rider) → rider_for b s.number (slot_for config c p s) ≡ Some rider →
     There (answer_by config (es ++ entry_with place moment (kind_for c p s hold) (rider_for b s.number (slot_for config c p s)) ∷ []) place (slot_with (rider_for b s.number (slot_for config c p s)) (slot_for config c p s)))
@@ -124,7 +116,6 @@ rider_slot config es place moment p c s hold b still live rider e = served_slot 
 may_not : (config : Config) (r : Registry) (p : Posted) (c : MessageKind) (s : Registered) → may_ride c ≡ false → is_rider config r.senders c p s ≡ false
 may_not config r p c s h = grind (arith, common_steps)
 
--- an accepted message that is answered among the entries with its own is answered at its place
 placed_there : (config : Config) (r : Registry) (moment : ℕ) (p : Posted) (c : MessageKind) (s : Registered) (hold : ℕ) →
     There (answer_by config (entries_of r ++ (found_of config r moment p c s hold).entry ∷ []) (length r.judged) (found_of config r moment p c s hold).slot) →
     There (answer_in config (noted r moment (served config (state_of r) moment p c s hold)) (length r.judged))
@@ -144,11 +135,9 @@ accepted_there config r moment p s hold h live =
     subst (λ (n : ℕ). There (answer_in config (noted r moment (served config (state_of r) moment p (message_kind_of p.message.channel) s n)) (length r.judged))) (sym h)
     (placed_there config r moment p c s 0 (served_slot config (entries_of r) (length r.judged) moment p c s (is_rider config r.senders c p s) (may_not config r p c s) live))
 
--- what has its reply at once answers with it
 ready_last : (config : Config) (r : Registry) (moment : ℕ) (v : Verdict) (reply : Reply) → v.slot ≡ Ready reply → There (answer_in config (noted r moment v) (length r.judged))
 ready_last config r moment v reply e = last_there config r (noted r moment v) _ refl (record { answer = _; is = ap (answer_by config (entries_of (noted r moment v)) (length r.judged)) e })
 
--- a message that is not sole is answered at its own place
 message_there : (config : Config) (xs : List Listed) (p : Posted) → p.sole ≡ false → There (answer config (xs ++ Post p ∷ []) (length xs))
 message_there config xs p h =
     let r : Registry = registry config xs in
@@ -160,14 +149,13 @@ message_there config xs p h =
     (ready_last config r moment (sessionless config (state_of r) p (message_kind_of p.message.channel)) _ refl)
     (λ s e. accepted_there config r moment p s (hold_of config p) (cond-false (p.sole && is_connect p.message) _ 0 (ap (λ (b : Bool). b && is_connect p.message) h)) (live_reading config s.number (entries_of r) ∙ sender_reads config xs p s e))))
 
--- what is answered at the end of a list is over a longer one too
 pub there_stays : (config : Config) (list xs ys : List Listed) (x : Listed) → 0 < config.limits.batch → xs ++ (x ∷ ys) ≡ list → There (answer config (xs ++ x ∷ []) (length xs)) → There (answer_in config (registry config list) (length xs))
 there_stays config list xs ys x room e a = record {
   answer = a.answer;
   is = ap (λ (zs : List Listed). answer config zs (length xs)) (sym e ∙ sym (append_assoc xs (x ∷ []) ys)) ∙ answer_more config (xs ++ x ∷ []) ys (length xs) a.answer room a.is;
 }
 
--- ---- the messages of a request
+-- ---- The messages of a request
 
 abbrev pub AllThere : List (Option PlacedAnswer) → Type 0
 AllThere [] = Unit {0}
@@ -178,7 +166,6 @@ latest_there place [] d = refl
 latest_there place (None ∷ os) d = let no : None ≡ Some d.0.answer = d.0.is in cc
 latest_there place (Some a ∷ os) d = latest_there (max place a.place) os d.1
 
--- those of a request with more than one are all answered
 pub messages_there : (config : Config) (list xs ys : List Listed) (moment nonce : ℕ) (seen : Bool) (ms : List Message) → 0 < config.limits.batch → xs ++ (listed_from moment nonce false seen ms ++ ys) ≡ list →
     AllThere (map (answer_in config (registry config list)) (numbers_from (length xs) (length (listed_from moment nonce false seen ms))))
 messages_there config list xs ys moment nonce seen [] room e = tt

@@ -1,4 +1,4 @@
--- A batch is given again until it is acknowledged.
+-- A batch is sent again until it is acknowledged.
 use Rattle.std.proofs.Common.{◌≡◌, ℕ, ◌+◌, ◌<◌, ◌≤◌, ◌⊎◌, inl, inr, ⊎_elim, true, false, cond, Option, Some, None, List, [], ◌∷◌, ◌++◌, length, fold, ◌==◌, refl, sym, ap, ◌∙◌, subst, arith, append_assoc, eq-eqb, eq-zero-or-pos}
 use Rattle.std.proofs.lemmas.{Bool.cond_both, Bool.cond-true, Bool.cases_lt, Grind.common_steps, List.Sums.fold-append}
 use Rattle.bx_history.proofs.Tests.{either}
@@ -13,7 +13,6 @@ use Rattle.bx_theory.specs.Laws.{InStep, Repeats, LastAnswer, LastGiven, SameBat
 use Rattle.bx_theory.proofs.Counts.{Freed, freed, freed_leaves, connected_by, stays_in_step, all_in_step, unopened_in_step}
 use Rattle.bx_theory.proofs.{Moves.ride_num, Runs.Grown, Runs.run_grown, Runs.all_places}
 
--- the session's last answer gave its outstanding batch
 record Formed (u : Session) : Type 0 where
   first : Filed
   last : LastAnswer u first
@@ -25,7 +24,7 @@ record Formed (u : Session) : Type 0 where
 abbrev Forms : ℕ → Session → Type 0
 Forms num u = (u.num ≡ num) ⊎ Formed u
 
--- ---- what forms a batch
+-- ---- Entries that form a batch
 
 given_forms : (config : Config) (p : Pending) (s : Session) → s.overflow ≡ false → Forms s.num (answered config p p.place (given config s) Connected (gives config s))
 given_forms config p s full = either s.ack (Forms s.num (answered config p p.place (given config s) Connected (gives config s)))
@@ -50,7 +49,6 @@ connected_forms config p acked s =
     connected_by config p acked s (Forms s.num) (λ h. inl (grind (arith, common_steps)))
     (λ h. subst (λ (n : ℕ). Forms n (answered_or_held config p (freed config p acked s))) f.num (answered_or_held_forms config p (freed config p acked s) (f.overflow ∙ h)))
 
--- an event that is given to a held connect is a batch
 delivered_to_forms : (config : Config) (e : Publication) (s : Session) (held : Option Pending) → s.held ≡ held → s.overflow ≡ false → InStep config s → Forms s.num (delivered_to config e (with_event e s) held)
 delivered_to_forms config e s None h full i = inl refl
 delivered_to_forms config e s (Some p) h full i =
@@ -80,12 +78,11 @@ step_by_forms config place moment s (Connect n client id acked hold) i =
 step_by_forms config place moment s (Publish e) i = published_forms config (record { place = place; event = e }) s i
 step_by_forms config place moment s _ i = inl (grind (arith, common_steps))
 
--- ---- a rider behind it
+-- ---- A rider after it
 
 step_num : (config : Config) (s : Session) (e : Entry) → (step config s e).num ≡ (step_by config e.place e.moment s e.kind).num
 step_num config s e = ride_num config e.place (step_by config e.place e.moment s e.kind) (rider_of e.kind e.rides)
 
--- an acknowledging session's last answer is followed by none that has events
 ride_last : (config : Config) (place : ℕ) (s : Session) (rides : Option Rider) (f : Filed) → s.ack ≡ true → LastAnswer s f → LastGiven place rides (ridden_by config place s rides) f
 ride_last config place s None f acks l = record { rest = l.0; behind = []; answers = l.1; last = inl refl }
 ride_last config place s (Some rider) f acks l =
@@ -98,7 +95,6 @@ ride_last config place s (Some rider) f acks l =
     })
     (λ h. record { rest = l.0; behind = []; answers = l.1; last = inl refl })
 
--- a session whose last answer, but for that to a rider, gave its outstanding batch
 record FormedBy (place : ℕ) (rides : Option Rider) (u : Session) : Type 0 where
   first : Filed
   last : LastGiven place rides u first
@@ -106,7 +102,6 @@ record FormedBy (place : ℕ) (rides : Option Rider) (u : Session) : Type 0 wher
   number : first.reply.ack ≡ AckNumber u.num
   full : u.overflow ≡ false
 
--- what an answer to a rider leaves of an acknowledging session
 record Leaves (s u : Session) : Type 0 where
   num : u.num ≡ s.num
   overflow : u.overflow ≡ s.overflow
@@ -126,14 +121,12 @@ ride_formed config place s rides f =
       full = l.overflow ∙ f.full;
     }
 
--- an entry after which the number has grown has formed a batch
 grown_formed : (config : Config) (s : Session) (e : Entry) → InStep config s → (step config s e).num ≡ s.num + 1 → FormedBy e.place (rider_of e.kind e.rides) (step config s e)
 grown_formed config s e i n = ⊎_elim (λ h. absurd (let g : (step_by config e.place e.moment s e.kind).num ≡ s.num = h in omega (arith, step_num config s e, n)))
     (λ f. ride_formed config e.place (step_by config e.place e.moment s e.kind) (rider_of e.kind e.rides) f) (step_by_forms config e.place e.moment s e.kind i)
 
--- ---- a connect that acknowledges nothing new
+-- ---- Connects that acknowledge nothing new
 
--- what a release leaves alone
 record SameCounts (s t : Session) : Type 0 where
   ack : t.ack ≡ s.ack
   overflow : t.overflow ≡ s.overflow
@@ -144,13 +137,11 @@ record SameCounts (s t : Session) : Type 0 where
 released_same : (config : Config) (place : ℕ) (outcome : Outcome) (s : Session) → SameCounts s (released config place outcome s)
 released_same config place outcome s = grind (arith, common_steps)
 
--- an outstanding batch is given as it is
 connected_again : (config : Config) (p : Pending) (acked : Option ℕ) (s : Session) → s.ack ≡ true → s.overflow ≡ false → 0 < s.out → Repeats s.num acked → InStep config s →
     connected config p acked s ≡ answered config p p.place (batch (released config p.place (Failed SupersededConnect) s)) Connected (released config p.place (Failed SupersededConnect) s)
 connected_again config p None s acks full out r i = grind (arith, common_steps)
 connected_again config p (Some n) s acks full out r i = grind (arith, common_steps)
 
--- where one list ends as another, both have the same last answer
 last_same : (xs ys : List Filed) (f g : Filed) → xs ++ f ∷ [] ≡ ys ++ g ∷ [] → f ≡ g
 last_same [] [] f g e = cc
 last_same [] (y ∷ []) f g e = cc
@@ -159,7 +150,7 @@ last_same (x ∷ []) [] f g e = cc
 last_same (x ∷ z ∷ xs) [] f g e = cc
 last_same (x ∷ xs) (y ∷ ys) f g e = last_same xs ys f g (let h : xs ++ f ∷ [] ≡ ys ++ g ∷ [] = cc in h)
 
--- ---- the law
+-- ---- The law
 
 pub acks_with_batch : (config : Config) (s : Session) → InStep config s → 0 < s.out → s.ack ≡ true
 acks_with_batch config s i out = grind (arith, common_steps)
@@ -186,14 +177,12 @@ repeated_at config former s t p acked i j f g num out full r =
       same_number = cond-true free.ack (AckNumber free.num) NoAck (c.ack ∙ acks) ∙ ap AckNumber (c.num ∙ num);
     })
 
--- an entry raises the number by one at most
 num_by : (config : Config) (place moment : ℕ) (s : Session) (k : EntryKind) → (step_by config place moment s k).num ≤ s.num + 1
 num_by config place moment s k = grind (arith, common_steps)
 
 next_num : (config : Config) (s : Session) (e : Entry) → (step config s e).num ≤ s.num + 1
 next_num config s e = omega (arith, step_num config s e, num_by config e.place e.moment s e.kind)
 
--- where the number has grown over a run, some entry formed the batch of that number
 record Forming (config : Config) (s : Session) (es : List Entry) : Type 0 where
   before : List Entry
   forming : Entry
@@ -248,7 +237,6 @@ repetition config number es e p acked room here out full r is =
           (repeated_at config f.forming s1 (fold (step config) s es) p acked i1 (all_in_step config s es room i) (grown_formed config s0 f.forming i0 f.grew) g (sym f.current) out full r));
     }
 
--- a connect of the session is one at its entry
 connect_step : (config : Config) (number : ℕ) (es : List Entry) (e : Entry) (client : List ℕ) (id : Option (List ℕ)) (acked : Option ℕ) (hold : ℕ) → 0 < config.limits.batch → e.kind ≡ Connect number client id acked hold →
     step config (session config number es) e ≡ connected config (record { place = e.place; client = client; id = id; moment = e.moment; hold = hold }) acked (session config number es)
 connect_step config number es e client id acked hold room kind =
@@ -260,7 +248,6 @@ connect_step config number es e client id acked hold room kind =
 pub batch_repeats : BatchRepeats
 batch_repeats config number es e client id acked hold room out full kind r = repetition config number es e _ acked room refl out full r (connect_step config number es e client id acked hold room kind)
 
--- the last answer behind such a connect gives the batch that was outstanding
 pub gives_batch : (config : Config) (number : ℕ) (es : List Entry) (e : Entry) (client : List ℕ) (id : Option (List ℕ)) (acked : Option ℕ) (hold : ℕ) (f : Filed) → 0 < config.limits.batch →
     0 < (session config number es).out → (session config number es).overflow ≡ false → e.kind ≡ Connect number client id acked hold → Repeats (session config number es).num acked →
     LastAnswer (step config (session config number es) e) f → f.publications ≡ batch (session config number es)

@@ -1,4 +1,4 @@
--- An answer is given at a place of the list, and so is the latest of some answers.
+-- Answers are given at places of the list.
 use Rattle.std.proofs.Common.{◌≡◌, ℕ, ◌+◌, ◌<◌, ◌≤◌, max, ⊎_elim, Bool, Option, Some, None, List, [], ◌∷◌, ◌==◌, length, map, find, fold, option_map, refl, sym, ap, ◌∙◌, subst, arith}
 use Rattle.std.proofs.lemmas.Bool.{cases_lt}
 use Rattle.bx_advice.specs.declared.config.Config.{Config}
@@ -8,7 +8,7 @@ use Rattle.bx_theory.specs.Laws.{Each, InStep, PlacesFrom}
 use Rattle.bx_theory.proofs.{Counts.stays_in_step, Counts.unopened_in_step, Runs.EachEntry, Lists.entries_in_order, Lists.entries_length, Lists.find_each, Wholes.beyond}
 use Rattle.bx_theory.proofs.Moves.{Moved, each_map, each_append, step_moved}
 
--- ---- what a session files
+-- ---- Answers that a session files
 
 places_below : (bound n : ℕ) (es : List Entry) → n + length es ≤ bound → PlacesFrom n es → EachEntry (λ e. e.place < bound) es
 places_below bound n [] h d = tt
@@ -42,7 +42,7 @@ filed_below config xs number place a room e =
     omega arith in
     (elim (find test fs) as P [ None ↦ at_none | Some f ↦ at_some f ]) refl e
 
--- ---- one answer
+-- ---- One answer
 
 below_by : (config : Config) (xs : List Listed) (place : ℕ) (a : PlacedAnswer) (slot : PlaceSlot) → 0 < config.limits.batch → place < length xs → answer_by config (entries_of (registry config xs)) place slot ≡ Some a → a.place < length xs
 below_by config xs place a (Ready reply) room l e =
@@ -60,7 +60,7 @@ answer_below config xs place a room e = ⊎_elim
     (λ l. absurd (let none : answer config xs place ≡ None = beyond config xs place l in let no : None ≡ Some a = sym none ∙ e in cc))
     (cases_lt place (length xs))
 
--- ---- the latest of some answers
+-- ---- The latest of several answers
 
 below_one : (bound m k : ℕ) (o : Option PlacedAnswer) (os : List (Option PlacedAnswer)) → ((a : PlacedAnswer) → o ≡ Some a → a.place < bound) → ((q : ℕ) → q < bound → m < bound) →
     ((n : ℕ) → n < bound → latest n os ≡ Some k → k < bound) → latest m (o ∷ os) ≡ Some k → k < bound
@@ -74,6 +74,5 @@ latest_below : (bound m k : ℕ) (f : ℕ → Option PlacedAnswer) (ps : List �
 latest_below bound m k f [] h l e = let same : m ≡ k = cc in omega arith
 latest_below bound m k f (p ∷ ps) h l e = below_one bound m k (f p) (map f ps) (h p) (λ q s. l) (λ n s d. latest_below bound n k f ps h s d) e
 
--- where there is one at least
 pub first_below : (bound k : ℕ) (f : ℕ → Option PlacedAnswer) (p : ℕ) (ps : List ℕ) → ((p : ℕ) (a : PlacedAnswer) → f p ≡ Some a → a.place < bound) → latest 0 (map f (p ∷ ps)) ≡ Some k → k < bound
 first_below bound k f p ps h e = below_one bound 0 k (f p) (map f ps) (h p) (λ q s. omega arith) (λ n s d. latest_below bound n k f ps h s d) e

@@ -1,4 +1,4 @@
--- Nothing more comes of a closed session.
+-- A closed session holds no connect, and its events and answers stay as they are.
 use Rattle.std.proofs.Common.{◌≡◌, ℕ, ◌+◌, ◌<◌, ◌≤◌, max, Bool, true, false, cond, Option, Some, None, List, [], ◌∷◌, ◌++◌, length, fold, ◌==◌, refl, sym, ap, ◌∙◌, subst, arith, append-nil, append_assoc, eqb-true}
 use Rattle.std.proofs.lemmas.{Bool.cond_both, Bool.both_ways, Grind.common_steps, List.Sums.fold-append}
 use Rattle.std.specs.List.{list_any}
@@ -14,7 +14,7 @@ use Rattle.bx_theory.proofs.{Counts.ride_both, Verdicts.by_verdict, Verdicts.eac
 use Rattle.bx_theory.proofs.Stages.{live_reading, step_number, step_by_next}
 use Rattle.bx_theory.proofs.Dues.{each_session_push, each_session_through, left_each}
 
--- ---- due moments only rise
+-- ---- Due moments only rise
 
 abbrev DueFrom : ℕ → ℕ → List Registered → Type 0
 DueFrom number b rs = EachSession (λ q. q.number ≡ number → b ≤ q.due) rs
@@ -27,7 +27,6 @@ extended_rises number n due rs b d =
     each_session_through (λ q. q.number ≡ number → b ≤ q.due) (λ q. q.number ≡ number → b ≤ q.due) (λ q. cond (q.number == n) (record q { due = max q.due due }) q) rs
     (λ q h k. grind (arith, common_steps)) d
 
--- the session whose message was accepted is due no earlier than this
 extended_here : (number due b : ℕ) (rs : List Registered) → b ≤ due → DueFrom number b (extended number due rs)
 extended_here number due b [] h = tt
 extended_here number due b (r ∷ rs) h = ((λ k. grind (arith, common_steps)), extended_here number due b rs h)
@@ -40,7 +39,6 @@ swept_rises number now rs b d =
     each_session_through (λ q. q.number ≡ number → b ≤ q.due) (λ q. q.number ≡ number → b ≤ q.due) (λ q. cond (is_overdue now q) (record q { live = false }) q) rs
     (λ q h k. grind (arith, common_steps)) d
 
--- a session that a tick names is due before it
 named_due : (number now b : ℕ) (rs : List Registered) → list_any (λ n. n == number) (overdue now rs) ≡ true → DueFrom number b rs → b < now
 named_due number now b [] h d = cc
 named_due number now b (r ∷ rs) h d =
@@ -48,20 +46,18 @@ named_due number now b (r ∷ rs) h d =
     let rest : list_any (λ n. n == number) (overdue now rs) ≡ true → b < now = λ g. named_due number now b rs g d.1 in
     grind (arith, common_steps)
 
--- ---- a held connect's session is live and due behind the hold
+-- ---- The session of a held connect is live, and due after the hold
 
 record Holding (number : ℕ) (s : Session) (rs : List Registered) : Type 0 where
   live : (q : Pending) → s.held ≡ Some q → s.stage ≡ Live
   due : (q : Pending) → s.held ≡ Some q → DueFrom number (q.moment + q.hold) rs
 
--- what is held was held before, by a session that is live
 abbrev StillHeld : Session → Session → Type 0
 StillHeld s u = (q : Pending) → u.held ≡ Some q → (s.held ≡ Some q) × (u.stage ≡ Live)
 
 still : (number : ℕ) (s u : Session) (rs ts : List Registered) → StillHeld s u → Rises number rs ts → Holding number s rs → Holding number u ts
 still number s u rs ts k r h = record { live = λ q e. (k q e).1; due = λ q e. r (q.moment + q.hold) (h.due q (k q e).0) }
 
--- only the new connect may be held
 connected_only : (config : Config) (p : Pending) (acked : Option ℕ) (s : Session) (q : Pending) → (connected config p acked s).held ≡ Some q → q ≡ p
 connected_only config p acked s q e = grind (arith, common_steps)
 
@@ -75,7 +71,7 @@ connected_holds config p acked number s rs ts b live due rises h =
     })
     (λ g. still number s s rs ts (λ q e. (e, h.live q e)) rises h)
 
--- ---- a tick
+-- ---- Ticks
 
 pub closed_by_held : (numbers : List ℕ) (s : Session) → (closed_by numbers s).held ≡ s.held
 closed_by_held numbers s = grind (arith, common_steps)
@@ -86,7 +82,7 @@ tick_still config place now s rs h q e =
     let early : list_any (λ n. n == s.number) (overdue now rs) ≡ true → q.moment + q.hold < now = λ k. named_due s.number now (q.moment + q.hold) rs k (h.due q was) in
     (was, grind (arith, common_steps, h.live q was))
 
--- ---- a closed session
+-- ---- Closed sessions
 
 pub live_stage : (stage : Stage) → is_live stage ≡ true → stage ≡ Live
 live_stage Live h = refl
@@ -95,7 +91,6 @@ live_stage _ h = cc
 over_same : (s : Session) → s.stage ≡ Closed → s.held ≡ None → NothingMore s s
 over_same s c n = record { stage = c; held = n; events = refl; answers = refl }
 
--- whether an entry is one of the session, which no kind but these four changes once it is closed
 abbrev is_of : ℕ → EntryKind → Bool
 is_of number (Connect n client id acked hold) = n == number
 is_of number (Subscribe n ps) = n == number
@@ -109,7 +104,7 @@ step_by_over config place moment s k own c n = grind (arith, common_steps)
 ride_over : (config : Config) (place : ℕ) (s u : Session) (rides : Option Rider) → NothingMore s u → NothingMore s (ridden_by config place u rides)
 ride_over config place s u rides n = grind (arith, common_steps)
 
--- ---- a session that isn't live gives nothing
+-- ---- A session that is not live gives no answers
 
 step_by_idle : (config : Config) (place moment : ℕ) (s : Session) (k : EntryKind) → (is_of s.number k ≡ true → s.stage ≡ Live) → is_live s.stage ≡ false → s.held ≡ None → (step_by config place moment s k).answers ≡ s.answers
 step_by_idle config place moment s k own c n = grind (arith, common_steps)
@@ -119,9 +114,8 @@ ride_idle : (config : Config) (place : ℕ) (s u : Session) (rides : Option Ride
 ride_idle config place s u None same own c e = e
 ride_idle config place s u (Some rider) same own c e = let live : (rider.session == s.number) ≡ true → s.stage ≡ Live = own rider refl in grind (arith, common_steps)
 
--- ---- one element
+-- ---- One element
 
--- the entry of an element is no message of a session that isn't live, and has no rider of one
 record Goes (config : Config) (number : ℕ) (s : Session) (r t : Registry) : Type 0 where
   entry : Entry
   more : entries_of t ≡ entries_of r ++ entry ∷ []
@@ -136,11 +130,9 @@ goes_idle : (config : Config) (number : ℕ) (s : Session) (r t : Registry) (g :
 goes_idle config number s r t g c n =
     ride_idle config g.entry.place s _ (rider_of g.entry.kind g.entry.rides) (step_by_next config g.entry.place g.entry.moment s g.entry.kind).number g.rides c (step_by_idle config g.entry.place g.entry.moment s g.entry.kind g.own c n)
 
--- the sessions behind a message of one of them
 abbrev behind_served : Config → ℕ → MessageKind → Registered → ℕ → List Registered → List Registered
 behind_served config moment c q hold rs = left_by c q.number (extended q.number (due_of config moment hold) rs)
 
--- what an accepted message's entry leaves held
 served_holding : (config : Config) (place moment : ℕ) (c : MessageKind) (p : Posted) (q : Registered) (hold number : ℕ) (s : Session) (rs : List Registered) → s.number ≡ number → ((q.number == s.number) ≡ true → s.stage ≡ Live) → Holding number s rs →
     Holding number (step_by config place moment s (kind_for c p q hold)) (behind_served config moment c q hold rs)
 served_holding config place moment c p q hold number s rs same live h = by c
@@ -157,14 +149,12 @@ served_holding config place moment c p q hold number s rs same live h = by c
         connected_holds config x (acked_by p.message.ack) number s rs (behind_served config moment MessageKind.Connect q hold rs) (q.number == s.number) live here (rises MessageKind.Connect) h
     by d = still number s (step_by config place moment s (kind_for d p q hold)) rs (behind_served config moment d q hold rs) (λ x e. grind (arith, common_steps, h.live x)) (rises d) h
 
--- a served message is of the session that is found, and so is its rider
 served_own : (c : MessageKind) (p : Posted) (q : Registered) (hold number : ℕ) → is_of number (kind_for c p q hold) ≡ true → (q.number == number) ≡ true
 served_own c p q hold number h = grind (arith, common_steps)
 
 served_rides : (k : EntryKind) (b : Bool) (n : ℕ) (slot : PlaceSlot) (rider : Rider) → rider_of k (rider_for b n slot) ≡ Some rider → rider.session ≡ n
 served_rides k b n slot rider h = grind (arith, common_steps)
 
--- a session that is opened with the next number isn't held by anyone yet
 opened_goes : (config : Config) (number : ℕ) (s : Session) (r : Registry) (moment : ℕ) (p : Posted) → s.number ≡ number → (length r.sessions < number → is_live s.stage ≡ false) → Holding number s r.sessions →
     Goes config number s r (noted r moment (opened config (state_of r) moment p (length r.sessions + 1)))
 opened_goes config number s r moment p same fresh h =
@@ -182,7 +172,6 @@ opened_goes config number s r moment p same fresh h =
       rides = λ rider e. cc;
     }
 
--- a message of no session
 sessionless_holding : (config : Config) (place moment : ℕ) (c : MessageKind) (m : Message) (number : ℕ) (s : Session) (rs : List Registered) → Holding number s rs → Holding number (step_by config place moment s (sessionless_kind c m)) rs
 sessionless_holding config place moment c m number s rs h = still number s (step_by config place moment s (sessionless_kind c m)) rs rs (λ q e. grind (arith, common_steps, h.live q)) (λ b g. g) h
 
@@ -192,13 +181,12 @@ sessionless_own c m number = grind (arith, common_steps)
 sessionless_rides : (c : MessageKind) (m : Message) (rider : Rider) → rider_of (sessionless_kind c m) None ≡ Some rider → ⊥
 sessionless_rides c m rider e = grind (arith, common_steps)
 
--- ---- a rider
+-- ---- Riders
 
--- it changes neither what is held nor the stage
 ride_holding : (config : Config) (place number : ℕ) (s : Session) (rs : List Registered) (rides : Option Rider) → Holding number s rs → Holding number (ridden_by config place s rides) rs
 ride_holding config place number s rs rides h = ride_both config place s rides (λ (u : Session). Holding number u rs) h (λ rider g. record { live = h.live; due = h.due })
 
--- ---- a message
+-- ---- Messages
 
 judged_by_goes : (config : Config) (number : ℕ) (s : Session) (r : Registry) (moment : ℕ) (p : Posted) (sender : Option Registered) (error : Option Error) → s.number ≡ number → (length r.sessions < number → is_live s.stage ≡ false) →
     ((q : Registered) → sender ≡ Some q → (q.number == s.number) ≡ true → s.stage ≡ Live) → Holding number s r.sessions → Goes config number s r (noted r moment (judged_by config (state_of r) moment p sender error))
@@ -253,9 +241,8 @@ judge_goes config number ys (messages.Tick moment) h =
       rides = λ rider e. cc;
     }
 
--- ---- all elements
+-- ---- All elements
 
--- the session behind one more element
 next_at : (config : Config) (number : ℕ) (ys : List Listed) (x : Listed) (g : Goes config number (at config number ys) (registry config ys) (judge config (registry config ys) x)) →
     at config number (ys ++ x ∷ []) ≡ step config (at config number ys) g.entry
 next_at config number ys x g =
@@ -289,7 +276,6 @@ over_from config number ys (x ∷ xs) c =
     subst (λ (zs : List Listed). NothingMore (at config number ys) (at config number zs)) (append_assoc ys (x ∷ []) xs)
     (more_over s (at config number (ys ++ x ∷ [])) (at config number ((ys ++ x ∷ []) ++ xs)) one (over_from config number (ys ++ x ∷ []) xs one.stage))
 
--- a session that isn't live gives no answer at the next element
 pub idle_next : (config : Config) (number : ℕ) (ys : List Listed) (x : Listed) → is_live (session config number (entries_of (registry config ys))).stage ≡ false →
     (session config number (entries_of (registry config (ys ++ x ∷ [])))).answers ≡ (session config number (entries_of (registry config ys))).answers
 idle_next config number ys x c =

@@ -1,5 +1,7 @@
--- The counts of a session never pass each other, whatever entry comes. Here and in the other files on one session a claim about each entry is made of all
--- kinds at once, and `grind` takes their cases apart; a connect has too many, and is taken in its parts (`connected_by`).
+-- The queue, the batch and the counts of a session always agree.
+--
+-- In the files about one session, `grind` splits a claim about an entry by the kind of the entry. A
+-- connect has too many cases, so it is split first (`connected_by`).
 use Rattle.std.proofs.Common.{◌≡◌, ℕ, ◌<◌, ◌≤◌, true, false, Option, Some, None, List, [], ◌∷◌, ◌++◌, length, drop, fold, nat_lt, ◌==◌, refl, ◌∙◌, arith}
 use Rattle.std.proofs.lemmas.{Bool.cond_both, Bool.cond-false, Grind.common_steps}
 use Rattle.std.proofs.Math.Seq.{drop-append_seam}
@@ -12,11 +14,10 @@ use Rattle.bx_entry.specs.declared.entry.EntryKind.TheVariants.{Connect, Subscri
 use Rattle.bx_entry.specs.Sessions.{Session, Publication, Pending, Filed, answered, released, acknowledged, answered_or_held, connected, overflowed, with_patterns, subscribed, published, step_by, step, unopened, ridden, is_riding, ridden_by, rider_of}
 use Rattle.bx_theory.specs.Laws.{InStep, CountsAgree, Each}
 
--- the queue has the events behind those that are given for good
 pub queue_is : (config : Config) (s : Session) → InStep config s → s.overflow ≡ false → s.queue ≡ drop s.done s.events
 queue_is config s i full = i.queue ∙ cond-false s.overflow [] (drop s.done s.events) full
 
--- ---- a connect
+-- ---- Connects
 
 pub released_in : (config : Config) (place : ℕ) (outcome : Outcome) (s : Session) → InStep config s → InStep config (released config place outcome s)
 released_in config place outcome s i = grind (arith, common_steps)
@@ -27,25 +28,20 @@ acknowledged_in config acked s i = grind (arith, common_steps)
 answered_or_held_in : (config : Config) (p : Pending) (s : Session) → 0 < config.limits.batch → s.overflow ≡ false → s.held ≡ None → InStep config s → InStep config (answered_or_held config p s)
 answered_or_held_in config p s room full free i = grind (arith, common_steps)
 
--- the session behind the release and the acknowledgement with which a connect begins
 abbrev pub freed : Config → Pending → Option ℕ → Session → Session
 freed config p acked s = acknowledged acked (released config p.place (Failed SupersededConnect) s)
 
--- the answers that are behind those of the first session
 abbrev pub behind : Session → Session → List Filed
 behind s t = drop (length s.answers) t.answers
 
--- answers of this place, without events
 abbrev pub Empty : ℕ → List Filed → Type 0
 Empty place fs = Each (λ f. (f.place ≡ place) × (f.publications ≡ [])) fs
 
--- a change that files no others
 pub record Quiet (place : ℕ) (s t : Session) : Type 0 where
   pub done : s.done ≤ t.done
   pub answers : t.answers ≡ s.answers ++ behind s t
   pub empty : Empty place (behind s t)
 
--- what they leave of the session
 pub record Freed (place : ℕ) (s u : Session) : Type 0 where
   pub overflow : u.overflow ≡ s.overflow
   pub held : u.held ≡ None
@@ -59,7 +55,6 @@ freed_leaves config p acked s = grind (arith, common_steps, drop-append_seam)
 pub freed_in : (config : Config) (p : Pending) (acked : Option ℕ) (s : Session) → InStep config s → InStep config (freed config p acked s)
 freed_in config p acked s i = let free : Session = released config p.place (Failed SupersededConnect) s in acknowledged_in config acked free (released_in config p.place (Failed SupersededConnect) s i)
 
--- a connect is refused after an overflow, or answered or held behind them
 pub connected_by : (config : Config) (p : Pending) (acked : Option ℕ) (s : Session) (P : Session → Type 0) →
     (s.overflow ≡ true → P (answered config p p.place [] (Failed QueueOverflow) (released config p.place (Failed SupersededConnect) s))) →
     (s.overflow ≡ false → P (answered_or_held config p (freed config p acked s))) → P (connected config p acked s)
@@ -71,16 +66,14 @@ connected_in config p acked s room i =
     connected_by config p acked s (InStep config) (λ h. grind (arith, common_steps))
     (λ h. answered_or_held_in config p (freed config p acked s) room (f.overflow ∙ h) f.held (freed_in config p acked s i))
 
--- ---- an entry
+-- ---- Entries
 
--- a subscription leaves a session as it is, ends it by an overflow, or changes its patterns
 pub subscribed_by : (config : Config) (ps : List Glob) (s : Session) (P : Session → Type 0) → P s → P (overflowed s) → P (record s { patterns = fold with_pattern s.patterns ps }) → P (subscribed config ps s)
 subscribed_by config ps s P same full more =
     let patterns : List Glob = fold with_pattern s.patterns ps in
     cond_both s.overflow s (with_patterns config patterns s) P (λ h. same)
     (λ h. cond_both (nat_lt config.limits.patterns (length patterns)) (overflowed s) (record s { patterns = patterns }) P (λ g. full) (λ g. more))
 
--- of no pattern none is left
 none_left : (ps : List Glob) → fold without_pattern [] ps ≡ []
 none_left [] = refl
 none_left (p ∷ ps) = none_left ps
@@ -95,14 +88,12 @@ step_by_in config place moment s (Connect n client id acked hold) room i =
 step_by_in config place moment s (Publish e) room i = published_in config (record { place = place; event = e }) s room i
 step_by_in config place moment s _ room i = grind (arith, common_steps, none_left)
 
--- ---- a rider
+-- ---- Riders
 
--- a session is as it was, or answers a rider of its own
 pub ride_both : (config : Config) (place : ℕ) (s : Session) (rides : Option Rider) (P : Session → Type 0) → P s → ((rider : Rider) → is_riding rider s ≡ true → P (ridden config place rider.reply s)) → P (ridden_by config place s rides)
 ride_both config place s None P same rides = same
 ride_both config place s (Some rider) P same rides = cond_both (is_riding rider s) (ridden config place rider.reply s) s P (λ h. rides rider h) (λ h. same)
 
--- an entry has its rider or none, by its kind
 pub rider_of_both : (k : EntryKind) (rides : Option Rider) (P : Option Rider → Type 0) → P None → P rides → P (rider_of k rides)
 rider_of_both (Subscribe n ps) rides P none some = some
 rider_of_both (Unsubscribe n ps) rides P none some = some
@@ -112,7 +103,7 @@ rider_of_both _ rides P none some = none
 ride_in : (config : Config) (place : ℕ) (s : Session) (rides : Option Rider) → InStep config s → InStep config (ridden_by config place s rides)
 ride_in config place s rides i = grind (arith, common_steps)
 
--- ---- entries
+-- ---- Lists of entries
 
 pub stays_in_step : (config : Config) (s : Session) (e : Entry) → 0 < config.limits.batch → InStep config s → InStep config (step config s e)
 stays_in_step config s e room i = ride_in config e.place (step_by config e.place e.moment s e.kind) (rider_of e.kind e.rides) (step_by_in config e.place e.moment s e.kind room i)

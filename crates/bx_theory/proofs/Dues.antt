@@ -1,4 +1,4 @@
--- The registry's running values are what they stand for over the whole list.
+-- The clock and the due moments of the registry, over the whole list.
 use Rattle.std.proofs.Common.{◌≡◌, ℕ, ◌+◌, ◌<◌, max, Bool, true, false, cond, Option, Some, None, List, [], ◌∷◌, ◌++◌, length, map, filter, find, fold, ◌==◌, refl, sym, ap, ◌∙◌, subst, arith, eq-eqb, ne_eqb, map-id}
 use Rattle.std.proofs.lemmas.{Bool.cond_both, Bool.cond-true, Bool.cond-false, Grind.common_steps, List.Elements.filter-append, List.Sums.fold-append}
 use Rattle.std.proofs.lemmas.List.{length-map, length_push, map-append}
@@ -12,7 +12,7 @@ use Rattle.bx_entry.specs.Listing as messages
 use Rattle.bx_theory.proofs.Verdicts.{each_judge, each_registry, judge_is, next_noted}
 use Rattle.bx_theory.specs.Readings.{is_from, given_moments, EachSession, DueReading, moment_of, ClockReading}
 
--- ---- the clock
+-- ---- The clock
 
 clock_run : (config : Config) (r : Registry) (xs : List Listed) → (fold (judge config) r xs).clock ≡ fold max r.clock (map moment_of xs)
 clock_run config r [] = refl
@@ -21,9 +21,8 @@ clock_run config r (x ∷ xs) = clock_run config (judge config r x) xs ∙ ap (�
 pub clock_reading : ClockReading
 clock_reading config list = clock_run config _ list
 
--- ---- sessions
+-- ---- Sessions
 
--- the numbers are consecutive
 abbrev pub NumberedFrom : ℕ → List Registered → Type 0
 NumberedFrom n [] = Unit {0}
 NumberedFrom n (r ∷ rs) = (r.number ≡ n) × NumberedFrom (n + 1) rs
@@ -44,7 +43,6 @@ pub each_session_push : (P : Registered → Type 0) (rs : List Registered) (r : 
 each_session_push P [] r d h = (h, tt)
 each_session_push P (q ∷ rs) r d h = (d.0, each_session_push P rs r d.1 h)
 
--- each session changed by f
 pub each_session_through : (P Q : Registered → Type 0) (f : Registered → Registered) (rs : List Registered) → ((r : Registered) → P r → Q (f r)) → EachSession P rs → EachSession Q (map f rs)
 each_session_through P Q f [] h d = tt
 each_session_through P Q f (r ∷ rs) h d = (h r d.0, each_session_through P Q f rs h d.1)
@@ -78,23 +76,19 @@ named_session P rs MessageKind.Handshake m r e d = cc
 named_session P rs MessageKind.UnknownMeta m r e d = cc
 named_session P rs _ m r e d = sender_session P rs m.client r e d
 
--- ---- what becomes of the sessions
+-- ---- What an element changes in the sessions
 
--- a session that keeps its number, and whether it acknowledges
 pub record Same (s t : Registered) : Type 0 where
   pub number : t.number ≡ s.number
   pub ack : t.ack ≡ s.ack
 
--- each of the sessions is changed so
 pub record Mapped (change : Registered → Registered) (rs ts : List Registered) : Type 0 where
   pub same : (s : Registered) → Same s (change s)
   pub is : ts ≡ map change rs
 
--- none is changed
 pub unchanged : (rs : List Registered) → Mapped (λ s. s) rs rs
 unchanged rs = record { same = λ s. record { number = refl; ack = refl }; is = sym (map-id rs) }
 
--- those that pass a test are closed
 abbrev pub shut : (Registered → Bool) → Registered → Registered
 shut test s = let t : Registered = record s { live = false } in cond (test s) t s
 
@@ -107,11 +101,9 @@ shut_due test s = grind (arith, common_steps)
 pub swept_sessions : (now : ℕ) (rs : List Registered) → Mapped (shut (is_overdue now)) rs (swept now rs)
 swept_sessions now rs = record { same = shut_same (is_overdue now); is = refl }
 
--- the due moment of one moves on
 abbrev pub moved : ℕ → ℕ → Registered → Registered
 moved number due s = let t : Registered = record s { due = max s.due due } in cond (s.number == number) t s
 
--- and it is closed by its disconnect
 abbrev pub left : MessageKind → ℕ → Registered → Registered
 left MessageKind.Disconnect number s = shut (λ q. q.number == number) s
 left _ number s = s
@@ -143,7 +135,6 @@ served_sessions c number due rs = record {
   is = left_map c number (extended number due rs) ∙ map_twice (moved number due) (left c number) rs;
 }
 
--- their numbers are consecutive, whatever comes
 pub numbered : (config : Config) (list : List Listed) → NumberedFrom 1 (registry config list).sessions
 numbered config list =
     each_registry config (λ r. NumberedFrom 1 r.sessions) tt
@@ -158,12 +149,11 @@ numbered config list =
     through : (change : Registered → Registered) (rs ts : List Registered) → Mapped change rs ts → NumberedFrom 1 rs → NumberedFrom 1 ts
     through change rs ts m d = subst (NumberedFrom 1) (sym m.is) (numbered_through change 1 rs (λ s. (m.same s).number) d)
 
--- ---- what a session's messages gave
+-- ---- The due moments that messages set
 
 abbrev greatest : Config → ℕ → List Judged → ℕ
 greatest config number js = fold max 0 (given_moments config number js)
 
--- with one more place
 greatest_push : (config : Config) (number : ℕ) (js : List Judged) (j : Judged) → greatest config number (js ++ j ∷ []) ≡ cond (is_from number j.sender) (max (greatest config number js) (due_of config j.entry.moment j.hold)) (greatest config number js)
 greatest_push config number js j =
     let test : Judged → Bool = λ k. is_from number k.sender in
@@ -171,7 +161,7 @@ greatest_push config number js j =
     ap (λ (ks : List Judged). fold max 0 (map gave ks)) (filter-append test js (j ∷ [])) ∙ ap (fold max 0) (map-append gave (filter test js) (filter test (j ∷ []))) ∙ fold-append max 0 (given_moments config number js) (map gave (filter test (j ∷ [])))
     ∙ (elim (is_from number j.sender) as (λ b. fold max (greatest config number js) (map gave (cond b (j ∷ []) [])) ≡ cond b (max (greatest config number js) (gave j)) (greatest config number js)) [ true ↦ refl | false ↦ refl ])
 
--- ---- the invariant
+-- ---- The invariant
 
 abbrev SenderBelow : ℕ → Option ℕ → Type 0
 SenderBelow n None = Unit {0}
@@ -192,7 +182,6 @@ sender_later : (n : ℕ) (o : Option ℕ) → SenderBelow n o → SenderBelow (n
 sender_later n None h = tt
 sender_later n (Some m) h = let l : m < n = h in omega arith
 
--- who has sent nothing
 not_from : (n : ℕ) (o : Option ℕ) → SenderBelow n o → is_from n o ≡ false
 not_from n None h = refl
 not_from n (Some m) h = let l : m < n = h in ne_eqb n m (λ e. omega arith)
@@ -208,7 +197,6 @@ record Due (config : Config) (r : Registry) : Type 0 where
   senders : EachJudged (λ j. SenderBelow (length r.sessions + 1) j.sender) r.judged
   due : EachSession (λ s. s.due ≡ greatest config s.number r.judged) r.sessions
 
--- one more place, where the due moment of each session moves on as the place says
 due_next : (config : Config) (r : Registry) (x : Listed) (v : Verdict) (change : Registered → Registered) → Mapped change r.sessions v.state.sessions → SenderBelow (length r.sessions + 1) v.sender →
     ((s : Registered) → (change s).due ≡ cond (is_from s.number v.sender) (max s.due (due_of config (max r.clock (moment_of x)) v.hold)) s.due) → Due config r → Due config (next_noted r x v)
 due_next config r x v change m below moves d =
@@ -222,7 +210,6 @@ due_next config r x v change m below moves d =
           (λ s h. moves s ∙ ap (λ (n : ℕ). cond (is_from s.number v.sender) (max n gave) n) h ∙ sym (greatest_push config s.number r.judged j) ∙ ap (λ (n : ℕ). greatest config n (r.judged ++ j ∷ [])) (sym (m.same s).number)) d.due);
     }
 
--- a new session
 due_opened : (config : Config) (r : Registry) (p : Posted) → NumberedFrom 1 r.sessions → Due config r → Due config (next_noted r (Post p) (opened config (state_of r) (max r.clock p.moment) p (length r.sessions + 1)))
 due_opened config r p numbers d =
     let moment : ℕ = max r.clock p.moment in

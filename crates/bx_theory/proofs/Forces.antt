@@ -1,4 +1,4 @@
--- A pattern is in force where its last mention is in a subscribe.
+-- A pattern is active exactly if a subscription mentioned it last, without an overflow.
 use Rattle.std.proofs.Common.{◌≡◌, ℕ, Bool, true, false, not, ◌&&◌, ◌||◌, Option, Some, None, List, [], ◌∷◌, fold, filter_map, refl, sym, ap, ◌∙◌, arith}
 use Rattle.std.proofs.lemmas.{Bool.cond-true, Bool.cond-false, Bool.false_from_ne_true, Bool.both_ways, Grind.common_steps}
 use Rattle.std.specs.List.{cons_option}
@@ -11,7 +11,7 @@ use Rattle.bx_entry.specs.Sessions.{Session, step_by, step, unopened, ridden_by,
 use Rattle.bx_theory.specs.Readings.{mention_by, last_of, InForceReading}
 use Rattle.bx_theory.proofs.{Keeps.or_false, Stages.step_number}
 
--- ---- one pattern more or less
+-- ---- One pattern more or less
 
 with_force : (qs : List Glob) (q p : Glob) → in_force (with_pattern qs q) p ≡ (in_force qs p || same_glob p q)
 with_force qs q p = grind (arith, common_steps, same_glob-decides)
@@ -44,13 +44,12 @@ without_all : (qs ps : List Glob) (p : Glob) → in_force (fold without_pattern 
 without_all qs [] p = grind (arith, common_steps)
 without_all qs (q ∷ ps) p = grind (arith, common_steps, without_all (without_pattern qs q) ps p, without_force qs q p)
 
--- ---- one entry
+-- ---- One entry
 
 abbrev next : Bool → Option Bool → Bool
 next b None = b
 next b (Some c) = c
 
--- the pattern is in force where this says so, and after an overflow it is not
 abbrev Says : Glob → Bool → Session → Type 0
 Says p b s = in_force s.patterns p ≡ (not s.overflow && b)
 

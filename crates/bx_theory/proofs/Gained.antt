@@ -1,4 +1,4 @@
--- What a session gains by an entry: the event of a publish that it gets, and nothing else.
+-- The events of a session are the publishes that reach it.
 use Rattle.std.proofs.Common.{◌≡◌, ℕ, ◌+◌, ◌<◌, ◌≤◌, Bool, true, false, cond, not, ◌&&◌, ◌||◌, List, [], ◌∷◌, ◌++◌, fold, refl, sym, ap, ◌∙◌, subst, append-nil, append_assoc, filter_map, arith}
 use Rattle.std.proofs.lemmas.{Bool.cond_both, Bool.cond-true, Bool.and_parts, List.Sums.fold-append, Grind.common_steps}
 use Rattle.std.proofs.ByRecursion.{All-append, All-push, All-weaker}
@@ -16,7 +16,7 @@ use Rattle.bx_theory.specs.Laws.{EachOf, PlacesFrom}
 use Rattle.bx_theory.specs.Events.{IsEvent, GetsPublish, Rising, EventsWerePublished, PublishesAreEvents, EventsRise}
 use Rattle.bx_theory.proofs.{Keeps.ride_k, Keeps.overflow_reading, Stages.live_reading, Forces.in_force_reading}
 
--- ---- one entry
+-- ---- One entry
 
 gains_by : Config → Session → ℕ → EntryKind → List Publication
 gains_by config s place (Publish e) = cond (is_hit s e && has_room config e s) (record { place = place; event = e } ∷ []) []
@@ -33,7 +33,7 @@ pub step_gains : (config : Config) (s : Session) (e : Entry) → (step config s 
 unfolding gains
 step_gains config s e = (ride_k config e.place (step_by config e.place e.moment s e.kind) (rider_of e.kind e.rides)).events ∙ step_by_gains config e.place e.moment s e.kind
 
--- ---- many entries
+-- ---- Many entries
 
 record More (s t : Session) : Type 0 where
   later : List Publication
@@ -45,15 +45,13 @@ run_more config s (e ∷ es) =
     let m : More (step config s e) (fold (step config) (step config s e) es) = run_more config (step config s e) es in
     record { later = gains config s e ++ m.later; events = m.events ∙ ap (λ (ps : List Publication). ps ++ m.later) (step_gains config s e) ∙ append_assoc s.events (gains config s e) m.later }
 
--- ---- places
+-- ---- Places
 
--- at most one event, of this place
 abbrev LaterAt : ℕ → List Publication → Type 0
 LaterAt place [] = Unit {0}
 LaterAt place (e ∷ []) = e.place ≡ place
 LaterAt place (e ∷ f ∷ fs) = ⊥
 
--- rising, and all below a place
 record RisingBelow (n : ℕ) (events : List Publication) : Type 0 where
   rising : Rising events
   below : EachOf (λ p. p.place < n) events
@@ -87,9 +85,8 @@ rising_run config n s (e ∷ es) d r = rising_run config (n + 1) (step config s 
 pub events_rise : EventsRise
 events_rise config number es d = rising_run config 0 (unopened number) es d (record { rising = tt; below = tt })
 
--- ---- a hit, in the subject's words
+-- ---- When a publish reaches a session
 
--- some pattern in force matches
 record Matching (ps : List Glob) (name : List (List ℕ)) : Type 0 where
   pattern : Glob
   force : in_force ps pattern ≡ true
@@ -107,7 +104,6 @@ matching_any (q ∷ ps) name p f m = either (same_glob p q) (any_matches (q ∷ 
     (λ g. ap (λ b. b || any_matches ps name) (sym (ap (λ (x : Glob). matches x name) ((same_glob-decides p q).0 g)) ∙ m))
     (λ g. let rest : in_force ps p ≡ true → any_matches ps name ≡ true = λ k. matching_any ps name p k m in grind (arith, common_steps))
 
--- what makes an event one of the session
 record Hit (config : Config) (s : Session) (e : Event) : Type 0 where
   live : is_live s.stage ≡ true
   within : s.overflow ≡ false
@@ -159,7 +155,7 @@ reads_hit config number before e i =
       fits = i.fits;
     })
 
--- ---- each event is such a publish
+-- ---- Each event is such a publish
 
 gains_gets : (config : Config) (number : ℕ) (before : List Entry) (e : Entry) (behind : List Entry) (k : EntryKind) → e.kind ≡ k →
     EachOf (GetsPublish config number (before ++ e ∷ behind)) (gains_by config (session config number before) e.place k)
@@ -188,7 +184,7 @@ gets_run config number before (e ∷ es) d =
 pub events_were_published : EventsWerePublished
 events_were_published config number es = gets_run config number [] es tt
 
--- ---- each such publish is an event
+-- ---- Each such publish is an event
 
 gains_one : (config : Config) (s : Session) (place : ℕ) (e : Event) (k : EntryKind) → k ≡ Publish e → (is_hit s e && has_room config e s) ≡ true → gains_by config s place k ≡ record { place = place; event = e } ∷ []
 unfolding gains_by

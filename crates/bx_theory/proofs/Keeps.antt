@@ -1,4 +1,4 @@
--- What connects, deliveries and ticks leave alone, and the readings of live, overflow and the queue's bound.
+-- What connects, deliveries and ticks do not change in a session, and the bounds of its queue.
 use Rattle.std.proofs.Common.{◌≡◌, ℕ, ◌≤◌, Bool, true, false, ◌||◌, Option, List, [], ◌∷◌, ◌++◌, ◌==◌, length, fold, refl, ap, ◌∙◌, arith, append_assoc}
 use Rattle.std.proofs.lemmas.{Bool.cond_both, Grind.common_steps, List.length-append}
 use Rattle.std.proofs.Math.Seq.{drop-append_seam}
@@ -15,7 +15,6 @@ use Rattle.bx_entry.specs.Sessions.{Session, Publication, Pending, Filed, Stage,
 use Rattle.bx_theory.proofs.Counts.{behind}
 use Rattle.bx_theory.specs.Readings.{Bounded, overfills_by, some_overfills, OverflowReading, QueueBounded}
 
--- what they leave alone of a session
 record Lasting : Type 0 where
   number : ℕ
   stage : Stage
@@ -70,7 +69,6 @@ keeps_after s t u k l = record {
 pub released_from_k : (config : Config) (place : ℕ) (outcome : Outcome) (s : Session) (held : Option Pending) → Keeps s (released_from config place outcome s held)
 released_from_k config place outcome s held = keeps s _ (grind (arith, common_steps)) (grind (arith, common_steps)) (grind (arith, common_steps, bytes_of_none, bytes_of_drop)) (grind (arith, common_steps, drop-append_seam))
 
--- what comes after the release of the held connect
 pub freed_k : (config : Config) (p : Pending) (acked : Option ℕ) (s : Session) → Keeps (released config p.place (Failed SupersededConnect) s) (connected config p acked s)
 freed_k config p acked s = keeps _ _ (grind (arith, common_steps)) (grind (arith, common_steps)) (grind (arith, common_steps, bytes_of_none, bytes_of_drop)) (grind (arith, common_steps, drop-append_seam))
 
@@ -86,7 +84,7 @@ expired_from_k config place moment s held = keeps s _ (grind (arith, common_step
 pub ride_k : (config : Config) (place : ℕ) (s : Session) (rides : Option Rider) → Keeps s (ridden_by config place s rides)
 ride_k config place s rides = keeps s _ (grind (arith, common_steps)) (grind (arith, common_steps)) (grind (arith, common_steps, bytes_of_none, bytes_of_drop)) (grind (arith, common_steps, drop-append_seam))
 
--- ---- overflow
+-- ---- Overflow
 
 pub or_false : (b : Bool) → b ≡ (b || false)
 or_false true = refl
@@ -105,7 +103,7 @@ overflow_reading config s (e ∷ es) = overflow_reading config (step config s e)
     ∙ ap (λ (b : Bool). b || some_overfills config (step config s e) es) ((ride_k config e.place (step_by config e.place e.moment s e.kind) (rider_of e.kind e.rides)).overflow ∙ step_by_overflow config e.place e.moment s e.kind)
     ∙ or_assoc s.overflow (overfills_by config s e.kind) (some_overfills config (step config s e) es)
 
--- ---- the bounds of the queue
+-- ---- The bounds of the queue
 
 lessened : (config : Config) (s t : Session) → Keeps s t → Bounded config s → Bounded config t
 lessened config s t k b = record { events = omega (arith, k.shorter, b.events); bytes = omega (arith, k.lighter, b.bytes) }

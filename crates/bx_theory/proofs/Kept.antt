@@ -1,4 +1,4 @@
--- What is kept of a session is kept step by step, and stays in its bounds.
+-- What is kept of a session, entry by entry, and its bounds.
 use Rattle.std.proofs.Common.{◌≡◌, List, [], ◌∷◌, drop, fold, refl, ap, ◌∙◌}
 use Rattle.std.proofs.lemmas.{Bool.cond_both, List.drop_all}
 use Rattle.bx_advice.specs.declared.config.Config.{Config}
@@ -19,7 +19,7 @@ run_kept config s k (e ∷ es) h = run_kept config (step config s e) (kept_step 
 pub kept_runs : KeptRuns
 kept_runs config number es = run_kept config (unopened number) (kept (unopened number)) es refl
 
--- ---- bounds
+-- ---- Bounds
 
 pub kept_in_bounds : KeptInBounds
 kept_in_bounds config number es room =

@@ -1,4 +1,4 @@
--- What is printed for more lines begins with what is printed for fewer.
+-- What more lines print begins with what fewer lines print.
 use Rattle.std.proofs.Common.{◌≡◌, ℕ, zero, suc, ◌+◌, ◌<◌, ◌≤◌, Bool, cond, Option, List, [], ◌∷◌, ◌++◌, length, map, flat_map, slice_get, codes, decimal, refl, sym, ap, ◌∙◌, subst, arith, append-nil, append_assoc, length-append}
 use Rattle.std.proofs.lemmas.{Grind.common_steps, Grind.flat_map-append, List.map-append, List.append_cancel_left, List.length-map, List.Sums.fold-append}
 use Rattle.bx_advice.specs.declared.config.Config.{Config}
@@ -7,7 +7,7 @@ use Rattle.bx_script.specs.Replay.{Line, Bad, Rejected, Accepted, Resharded, Ann
 use Rattle.bx_theory.specs.Lines.{inputs_in, printed_so_far, AddsOuts, outs_text, line_prints, InputsGoOn, LinesGoOn, HeldComeLast}
 use Rattle.bx_theory.proofs.Wholes.{Took, took, whole_push, numbers_split, flat_same, Grows, grows, ends_of, many_of}
 
--- ---- one line, and the lines behind it
+-- ---- One line, and the lines after it
 
 first_input : (number : ℕ) (l : Line) (ls : List Line) → inputs_from number (l ∷ ls) ≡ inputs_from number (l ∷ []) ++ inputs_from (number + 1) ls
 first_input number Bad ls = refl
@@ -56,7 +56,7 @@ prints_on ws numbered number index (l ∷ ls) ms =
     ∙ sym (append_assoc first rest (printed_from ws numbered (number + length (l ∷ ls)) last ms))
     ∙ ap (λ (t : List ℕ). t ++ printed_from ws numbered (number + length (l ∷ ls)) last ms) (sym (first_prints ws numbered number index l ls))
 
--- ---- what earlier inputs make whole
+-- ---- What earlier inputs make whole
 
 prints_same : (ws us : List Whole) (numbered many : List Numbered) (number index end : ℕ) (ls : List Line) → index + length (inputs_from number ls) ≤ end →
     ((j : ℕ) → j < end → outs_at ws numbered j ≡ outs_at us many j) → printed_from ws numbered number index ls ≡ printed_from us many number index ls
@@ -98,9 +98,8 @@ same_texts numbered ones (o ∷ os) h =
     ap (λ (n : Option Numbered). out_by o n ++ outs_text (numbered ++ ones) os) (get_front numbered ones o.input h.0)
     ∙ ap (λ (t : List ℕ). out_by o (slice_get numbered o.input) ++ t) (same_texts numbered ones os h.1)
 
--- ---- inputs
+-- ---- Inputs
 
--- what an input makes whole stays
 whole_stays : (config : Config) (inputs more : List ReadInput) (j : ℕ) → 0 < config.limits.batch → j < length inputs → whole_at j (wholes config (inputs ++ more)) ≡ whole_at j (wholes config inputs)
 whole_stays config inputs more j room h =
     let m : Took (taken_in inputs) (taken_in (inputs ++ more)) (length more) =
@@ -121,7 +120,7 @@ outs_last config inputs input room =
     ∙ ap (λ (os : List Out). os ++ flat_map F (numbers_from (0 + n) 1)) (flat_same n F G 0 n (omega arith) (λ j h. whole_stays config inputs (input ∷ []) j room h))
     ∙ ap (λ (os : List Out). outs config inputs ++ os) (append-nil (F (0 + n)) ∙ ap F (let l : 0 + n ≡ length inputs = omega arith in l))
 
--- ---- the laws
+-- ---- The laws
 
 inputs_of : List Numbered → List ReadInput
 inputs_of numbered = map (λ (n : Numbered). n.input) numbered

@@ -1,4 +1,4 @@
--- The registry's list grows with the list, and an answer stays.
+-- The registry grows with the list, and answers stay.
 use Rattle.std.proofs.Common.{◌≡◌, ℕ, zero, suc, ◌+◌, ◌<◌, ◌≤◌, ⊎_elim, Bool, true, Option, Some, None, List, [], ◌∷◌, ◌++◌, length, take, drop, map, find, fold, option_map, slice_get, ◌==◌, refl, sym, ap, ◌∙◌, subst, arith, eqb-true, length-take, take-append-drop, take_all}
 use Rattle.std.proofs.lemmas.{Bool.cases_lt, List.length-map, List.length_push, List.Sums.fold-append, List.Folds.find-append, Grind.common_steps}
 use Rattle.std.proofs.Math.Seq.{take-append_seam}
@@ -15,7 +15,7 @@ use Rattle.bx_theory.proofs.Places.{Only, run_only, only_unopened, all_allowed}
 abbrev entry_of : Judged → Entry
 entry_of j = j.entry
 
--- ---- finding
+-- ---- Finding
 
 pub find_each : (P : Filed → Type 0) (test : Filed → Bool) (fs : List Filed) (f : Filed) → find test fs ≡ Some f → Each P fs → P f
 find_each P test [] f e d = cc
@@ -31,7 +31,7 @@ slice_get_less [] ys k h = absurd (omega arith)
 slice_get_less (x ∷ xs) ys zero h = refl
 slice_get_less (x ∷ xs) ys (suc k) h = slice_get_less xs ys k (omega arith)
 
--- ---- an answer over a longer list
+-- ---- An answer over a longer list
 
 find_more : (test : Filed → Bool) (fs gs : List Filed) (a : PlacedAnswer) → option_map answer_of (find test fs) ≡ Some a → option_map answer_of (find test (fs ++ gs)) ≡ Some a
 find_more test fs gs a e =
@@ -62,7 +62,6 @@ answer_at_more : (config : Config) (es more : List Entry) (place : ℕ) (o u : O
 answer_at_more config es more place None u a room h e = cc
 answer_at_more config es more place (Some j) u a room h e = ap (answer_at config (es ++ more) place) (h j refl) ∙ answer_by_more config es more place j.slot a room e
 
--- what was found at a place is found there over a longer list
 pub judged_more : (config : Config) (xs ys : List Listed) (place : ℕ) (j : Judged) → slice_get (registry config xs).judged place ≡ Some j → slice_get (registry config (xs ++ ys)).judged place ≡ Some j
 judged_more config xs ys place k e =
     ap (λ (js : List Judged). slice_get js place) (judged_behind config xs ys) ∙ slice_get_more (registry config xs).judged (found_from config (registry config xs) ys) place k e
@@ -74,7 +73,7 @@ answer_more config xs ys place a room e =
     ap (λ (es : List Entry). answer_at config es place (slice_get t.judged place)) (entries_behind config xs ys)
     ∙ answer_at_more config (entries_of r) (map entry_of (found_from config r ys)) place (slice_get r.judged place) (slice_get t.judged place) a room (judged_more config xs ys place) e
 
--- ---- an answer over a shorter list
+-- ---- An answer over a shorter list
 
 pub find_true : {X : Type 0} (test : X → Bool) (fs : List X) (f : X) → find test fs ≡ Some f → test f ≡ true
 find_true test [] f e = cc
@@ -87,7 +86,6 @@ places_above first n (e ∷ es) h d = (omega (arith, d.0), places_above first (n
 pub entries_length : (config : Config) (xs : List Listed) → length (entries_of (registry config xs)) ≡ length xs
 entries_length config xs = length-map (registry config xs).judged entry_of ∙ judged_length config xs
 
--- the first entries are those of the first elements
 pub entries_within : (config : Config) (list : List Listed) (n : ℕ) → n ≤ length list → entries_of (registry config (take n list)) ≡ take n (entries_of (registry config list))
 entries_within config list n h =
     let es : List Entry = entries_of (registry config (take n list)) in
@@ -96,7 +94,6 @@ entries_within config list n h =
     sym (ap (λ (zs : List Listed). take n (entries_of (registry config zs))) (sym (take-append-drop n list)) ∙ ap (take n) (entries_behind config (take n list) (drop n list))
     ∙ ap (λ (k : ℕ). take k (es ++ rest)) (sym count) ∙ take-append_seam es rest)
 
--- each stands at its own place, as many behind the registry as elements come
 found_places : (config : Config) (r : Registry) (xs : List Listed) → PlacesFrom (length r.judged) (map entry_of (found_from config r xs))
 found_places config r [] = tt
 found_places config r (x ∷ xs) =
@@ -106,13 +103,11 @@ found_places config r (x ∷ xs) =
 pub entries_in_order : EntriesInOrder
 entries_in_order config list = subst (PlacesFrom 0) (sym (ap (map entry_of) (judged_behind config [] list))) (found_places config empty_registry list)
 
--- every connect that was answered over the list stands in it
 answered_within : (config : Config) (number : ℕ) (xs : List Listed) → Only (λ n. n < length xs) (session config number (entries_of (registry config xs)))
 answered_within config number xs =
     run_only config (λ n. n < length xs) number (unopened number) (entries_of (registry config xs)) refl
     (all_allowed (length xs) number 0 (entries_of (registry config xs)) (let l = entries_length config xs in omega arith) (entries_in_order config xs)) (only_unopened (λ n. n < length xs) number)
 
--- what the two lists have in common, where the longer one gives an answer that was given within the shorter one
 record Shared (config : Config) (xs : List Listed) (r t : Registry) : Type 0 where
   more : List Judged
   judged : t.judged ≡ r.judged ++ more
@@ -134,7 +129,6 @@ shared config xs ys room =
           (session_grown config number (length xs) (entries_of r) (map entry_of more) room above);
     }
 
--- a connect's answer that was given within the shorter list was found there
 record FoundThere (place : ℕ) (count : ℕ) (fs : List Filed) (a : PlacedAnswer) : Type 0 where
   there : filed_for place fs ≡ Some a
   within : place < count
@@ -182,7 +176,7 @@ pub answer_less : (config : Config) (xs ys : List Listed) (place : ℕ) (a : Pla
 answer_less config xs ys place a room h e =
     answer_at_less config xs (registry config xs) (registry config (xs ++ ys)) place a (slice_get (registry config (xs ++ ys)).judged place) (shared config xs ys room) h refl e
 
--- ---- the law
+-- ---- The law
 
 answer_front : (config : Config) (list : List Listed) (place : ℕ) (a : PlacedAnswer) → 0 < config.limits.batch → answer config list place ≡ Some a → answer config (take (a.place + 1) list) place ≡ Some a
 answer_front config list place a room e =
@@ -195,7 +189,6 @@ answer_front config list place a room e =
     (λ h. ap (λ (zs : List Listed). answer config zs place) (take_all (a.place + 1) list (omega (arith, h))) ∙ e)
     (cases_lt a.place (length list))
 
--- an answer below a place is the answer over the list up to there
 pub answer_within : (config : Config) (list : List Listed) (n place : ℕ) (a : PlacedAnswer) → 0 < config.limits.batch → a.place < n → answer config list place ≡ Some a → answer config (take n list) place ≡ Some a
 answer_within config list n place a room l e =
     let whole : take n list ++ drop n list ≡ list = take-append-drop n list in

@@ -1,4 +1,4 @@
--- Who is live by the registry is live by the entries.
+-- The registry and the entries agree on which sessions are live.
 use Rattle.std.proofs.Common.{◌≡◌, ℕ, ◌+◌, ◌<◌, ◌≤◌, max, Bool, true, false, cond, not, ◌&&◌, ◌||◌, Option, Some, None, List, [], ◌∷◌, ◌++◌, length, map, filter, ◌==◌, refl, sym, ap, ◌∙◌, subst, arith, eq-eqb, ne_eqb}
 use Rattle.std.proofs.lemmas.{Bool.cond_both, Bool.cond-true, Bool.cond-false, List.map-append, List.length-map, List.length_push, Grind.common_steps, List.Folds.list_any-append}
 use Rattle.std.specs.List.{list_any}
@@ -16,7 +16,7 @@ use Rattle.bx_theory.proofs.Dues.{NumberedFrom, Mapped, each_session_all, each_s
 reading : ℕ → List Entry → Bool
 reading number es = unclosed number (since_opening number es)
 
--- ---- one more entry
+-- ---- One more entry
 
 since_push : (number : ℕ) (es : List Entry) (e : Entry) → since_opening number (es ++ e ∷ []) ≡ elim (since_opening number es) [ None ↦ cond (opens_by number e.kind) (Some []) None | Some rest ↦ Some (rest ++ e ∷ []) ]
 since_push number [] e = refl
@@ -37,7 +37,6 @@ and_false : (b : Bool) → false ≡ (b && false)
 and_false true = refl
 and_false false = refl
 
--- an entry that opens nothing closes at most
 reading_push : (number : ℕ) (es : List Entry) (e : Entry) → opens_by number e.kind ≡ false → reading number (es ++ e ∷ []) ≡ (reading number es && not (closes number e))
 unfolding reading
 reading_push number es e h = ap (unclosed number) (since_push number es e)
@@ -50,7 +49,7 @@ reading_same number es e h c = reading_push number es e h ∙ ap (λ b. reading 
 none_push : (number : ℕ) (es : List Entry) (e : Entry) → since_opening number es ≡ None → opens_by number e.kind ≡ false → since_opening number (es ++ e ∷ []) ≡ None
 none_push number es e n h = since_push number es e ∙ ap (λ (o : Option (List Entry)). elim o [ None ↦ cond (opens_by number e.kind) (Some []) None | Some rest ↦ Some (rest ++ e ∷ []) ]) n ∙ cond-false (opens_by number e.kind) (Some []) None h
 
--- ---- the invariant
+-- ---- The invariant
 
 record Agrees (r : Registry) : Type 0 where
   later : (n : ℕ) → length r.sessions < n → since_opening n (entries_of r) ≡ None
@@ -59,7 +58,6 @@ record Agrees (r : Registry) : Type 0 where
 pub entries_push : (r t : Registry) (j : Judged) → t.judged ≡ r.judged ++ j ∷ [] → entries_of t ≡ entries_of r ++ j.entry ∷ []
 entries_push r t j e = ap (map (λ (k : Judged). k.entry)) e ∙ map-append (λ (k : Judged). k.entry) r.judged (j ∷ [])
 
--- one more place that opens no session, and where those are closed that its entry closes
 agrees_next : (r : Registry) (x : Listed) (v : Verdict) (change : Registered → Registered) → Mapped change r.sessions v.state.sessions → ((n : ℕ) → opens_by n v.kind ≡ false) →
     EachSession (λ s. (change s).live ≡ (s.live && not (closes_by s.number v.kind))) r.sessions → Agrees r → Agrees (next_noted r x v)
 agrees_next r x v change m opens lives a =
@@ -74,14 +72,13 @@ agrees_next r x v change m opens lives a =
           (λ s h c. c ∙ ap (λ b. b && not (closes_by s.number v.kind)) h ∙ sym (reading_push s.number (entries_of r) e (opens s.number)) ∙ ap (reading s.number) (sym more) ∙ ap (λ (n : ℕ). reading n (entries_of t)) (sym (m.same s).number)) a.live lives));
     }
 
--- an entry that closes nothing, where the sessions stay live
 all_stay : (change : Registered → Registered) (k : EntryKind) (rs : List Registered) → ((s : Registered) → (change s).live ≡ s.live) → ((n : ℕ) → closes_by n k ≡ false) → EachSession (λ s. (change s).live ≡ (s.live && not (closes_by s.number k))) rs
 all_stay change k rs h c = each_session_all (λ s. (change s).live ≡ (s.live && not (closes_by s.number k))) rs (λ s. h s ∙ sym (ap (λ b. s.live && not b) (c s.number) ∙ and_true s.live))
 
 shut_live : (test : Registered → Bool) (s : Registered) → (shut test s).live ≡ (s.live && not (test s))
 shut_live test s = grind (arith, common_steps)
 
--- ---- a tick
+-- ---- Ticks
 
 none_overdue : (now n k : ℕ) (rs : List Registered) → n < k → NumberedFrom k rs → list_any (λ m. m == n) (overdue now rs) ≡ false
 none_overdue now n k [] l d = refl
@@ -108,7 +105,7 @@ named_overdue now k (r ∷ rs) d = (
     later s l h = cond_both (is_overdue now r) (r ∷ filter (is_overdue now) rs) (filter (is_overdue now) rs) (λ (qs : List Registered). list_any (λ m. m == s.number) (map (λ (q : Registered). q.number) qs) ≡ is_overdue now s)
         (λ g. ap (λ b. b || list_any (λ m. m == s.number) (overdue now rs)) (ne_eqb r.number s.number (λ e. omega (arith, d.0, e))) ∙ h) (λ g. h)
 
--- ---- a new session
+-- ---- New sessions
 
 fresh : (n : ℕ) (es : List Entry) (e : Entry) (fs : List Entry) → since_opening n es ≡ None → opens_by n e.kind ≡ true → fs ≡ es ++ e ∷ [] → true ≡ reading n fs
 unfolding reading
@@ -132,25 +129,22 @@ opened_agrees config r p numbers a =
           (fresh (length r.sessions + 1) (entries_of r) e (entries_of t) (a.later (length r.sessions + 1) (omega arith)) (eq-eqb (length r.sessions + 1) (length r.sessions + 1) refl) more);
     }
 
--- ---- a message of a session
+-- ---- Messages of a session
 
 moved_live : (number due : ℕ) (s : Registered) → (moved number due s).live ≡ s.live
 moved_live number due s = grind (arith, common_steps)
 
--- of its kinds, the entry of a disconnect alone closes its session
 served_live : (c : MessageKind) (p : Posted) (s : Registered) (hold due : ℕ) (q : Registered) → (left c s.number (moved s.number due q)).live ≡ (q.live && not (closes_by q.number (kind_for c p s hold)))
 served_live c p s hold due q = grind (arith, common_steps)
 
 pub served_opens : (c : MessageKind) (p : Posted) (s : Registered) (hold n : ℕ) → opens_by n (kind_for c p s hold) ≡ false
 served_opens c p s hold n = grind (arith, common_steps)
 
--- what is found of it
 abbrev pub found_of : Config → Registry → ℕ → Posted → MessageKind → Registered → ℕ → Judged
 found_of config r moment p c s hold = found_at (length r.judged) moment (served config (state_of r) moment p c s hold)
 
--- ---- a message of no session
+-- ---- Sessionless messages
 
--- it neither opens a session nor closes one
 pub none_opened : (c : MessageKind) (m : Message) (n : ℕ) → opens_by n (sessionless_kind c m) ≡ false
 none_opened c m n = grind (arith, common_steps)
 

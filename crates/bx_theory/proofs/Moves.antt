@@ -1,4 +1,4 @@
--- What one entry changes of a session, and what many do: events and answers are added at the end, counts go up, and answers have slices of the events.
+-- What one entry changes in a session. Events and answers are appended, and counts grow.
 use Rattle.std.proofs.Common.{◌≡◌, ℕ, ◌+◌, ◌<◌, ◌≤◌, true, false, cond, Option, Some, None, List, [], ◌∷◌, ◌++◌, length, take, drop, ◌==◌, refl, sym, ap, ◌∙◌, subst, arith, length-append, length-drop, append-nil, append_assoc}
 use Rattle.std.proofs.lemmas.{Bool.cond_both, Grind.common_steps, List.drop-append-le, List.take-append-le, List.drop_at, List.length_push}
 use Rattle.std.proofs.Math.Seq.{drop-append_seam}
@@ -13,7 +13,6 @@ use Rattle.bx_theory.specs.Laws.{InStep, Each, Slice}
 use Rattle.bx_theory.proofs.Counts.{behind, Quiet, Freed, freed, freed_leaves, freed_in, connected_by, ride_both, step_by_in}
 use Rattle.bx_theory.proofs.{Done.done_by, Done.done_step, Stages.step_number, Gained.gains, Gained.step_gains}
 
--- the batch that is outstanding is the one that was, unless a new one was formed
 abbrev pub Still : Session → Session → Type 0
 Still s t = t.num ≡ s.num → 0 < t.out → (t.out ≡ s.out) × (t.done ≡ s.done)
 
@@ -29,12 +28,12 @@ pub record Moved (place : ℕ) (s t : Session) : Type 0 where
   pub slices : (low : ℕ) → (t.ack ≡ true → low ≤ t.done) → (t.ack ≡ false → low ≤ s.done) → Each (λ f. Slice t.events low f.publications) filed
   pub still : Still s t
 
--- ---- lists of answers
+-- ---- Lists of answers
 
 pub each_map : (P Q : Filed → Type 0) (fs : List Filed) → ((f : Filed) → P f → Q f) → Each P fs → Each Q fs
 each_map P Q fs h e = All-weaker P Q h fs e
 
--- ---- slices
+-- ---- Slices
 
 pub empty_slice : (events : List Publication) (low : ℕ) → Slice events low []
 empty_slice events low = record { from = 0; count = 0; above = λ h. absurd (omega arith); within = omega arith; is = refl }
@@ -52,9 +51,8 @@ longer_slice events later given low s = record {
       ∙ take-append-le s.count (drop s.from events) later (omega (arith, s.within, length-drop s.from events)));
 }
 
--- ---- the answers of an entry
+-- ---- The answers of an entry
 
--- what a change files at a place
 record Files (place : ℕ) (s t : Session) : Type 0 where
   filed : List Filed
   answers : t.answers ≡ s.answers ++ filed
@@ -65,7 +63,6 @@ files_one : (place : ℕ) (s t : Session) (f : Filed) → t.answers ≡ s.answer
     ((low : ℕ) → (t.ack ≡ true → low ≤ t.done) → (t.ack ≡ false → low ≤ s.done) → Slice t.events low f.publications) → Files place s t
 files_one place s t f answers here slice = record { filed = f ∷ []; answers = answers; here = (here, tt); slices = λ low a b. (slice low a b, tt) }
 
--- behind answers without events
 files_behind : (place : ℕ) (s u t : Session) → Quiet place s u → Files place u t → Files place s t
 files_behind place s u t q m = record {
   filed = behind s u ++ m.filed;
@@ -76,11 +73,9 @@ files_behind place s u t q m = record {
       (m.slices low a (λ h. let l : low ≤ s.done = b h in omega (arith, q.done)));
 }
 
--- no others
 files_none : (place : ℕ) (s t : Session) → Quiet place s t → Files place s t
 files_none place s t q = files_behind place s t t q (record { filed = []; answers = sym (append-nil t.answers); here = tt; slices = λ low a b. tt })
 
--- what a connect is given begins behind what is given for good
 given_slice : (config : Config) (s : Session) (low : ℕ) → s.overflow ≡ false → InStep config s → ((gives config s).ack ≡ true → low ≤ (gives config s).done) → ((gives config s).ack ≡ false → low ≤ s.done) →
     Slice (gives config s).events low (given config s)
 given_slice config s low full i a b = record { from = s.done; count = length (given config s); above = grind (arith, common_steps); within = grind (arith, common_steps); is = grind (arith, common_steps) }
@@ -101,7 +96,6 @@ connected_files config p acked s i =
 last_slice : (e : Publication) (events : List Publication) (low : ℕ) → low ≤ length events → Slice (events ++ e ∷ []) low (e ∷ [])
 last_slice e events low h = record { from = length events; count = 1; above = λ c. h; within = omega (arith, length_push events e); is = sym (ap (take 1) (drop_at events (e ∷ []) (length events) refl)) }
 
--- an event is given to the held connect
 delivered_to_files : (config : Config) (e : Publication) (s : Session) (held : Option Pending) → InStep config s → Files e.place s (delivered_to config e (with_event e s) held)
 delivered_to_files config e s None i = files_none e.place s (with_event e s) (grind (arith, common_steps, drop-append_seam))
 delivered_to_files config e s (Some p) i = files_one e.place s _ (filing config p e.place (e ∷ []) Connected (gives_one (unheld (with_event e s)))) (grind (arith, common_steps)) refl
@@ -122,11 +116,9 @@ step_by_files config place moment s (Connect n client id acked hold) i =
 step_by_files config place moment s (Publish e) i = published_files config (record { place = place; event = e }) s i
 step_by_files config place moment s k i = files_none place s _ (grind (arith, common_steps, drop-append_seam))
 
--- what a rider is given begins there too
 ride_slice : (config : Config) (s : Session) (low : ℕ) → InStep config s → (s.ack ≡ false → low ≤ s.done) → Slice s.events low (take (ride_portion config s) s.queue)
 ride_slice config s low i b = record { from = s.done; count = length (take (ride_portion config s) s.queue); above = grind (arith, common_steps); within = grind (arith, common_steps); is = grind (arith, common_steps) }
 
--- the answer to a rider behind the others
 ride_files : (config : Config) (place : ℕ) (s t : Session) (rides : Option Rider) → InStep config t → s.done ≤ t.done → Files place s t → Files place s (ridden_by config place t rides)
 ride_files config place s t rides i done m = ride_both config place t rides (Files place s) m (λ rider h.
     let f : Filed = ride_filing config place rider.reply t in
@@ -139,7 +131,7 @@ ride_files config place s t rides i done m = ride_both config place t rides (Fil
           (ride_slice config t low i (λ h. let l : low ≤ s.done = b h in omega (arith, done)), tt);
     })
 
--- ---- the batch
+-- ---- The batch
 
 connected_still : (config : Config) (p : Pending) (acked : Option ℕ) (s : Session) → InStep config s → Still s (connected config p acked s)
 connected_still config p acked s i =
@@ -166,7 +158,7 @@ num_by config place moment s k = grind (arith, common_steps)
 pub ride_num : (config : Config) (place : ℕ) (s : Session) (rides : Option Rider) → (ridden_by config place s rides).num ≡ s.num
 ride_num config place s rides = ride_both config place s rides (λ (u : Session). u.num ≡ s.num) refl (λ rider h. refl)
 
--- ---- an entry
+-- ---- Entries
 
 pub step_moved : (config : Config) (s : Session) (e : Entry) → 0 < config.limits.batch → InStep config s → Moved e.place s (step config s e)
 step_moved config s e room i =

@@ -1,4 +1,4 @@
--- Which nonces the requests of a script have.
+-- The nonces of the requests in a script.
 use Rattle.std.proofs.Common.{◌≡◌, ℕ, Bool, true, false, cond, List, [], ◌∷◌, ◌++◌, map, drop, fold, Option, Some, None, Result, Ok, Err, refl, ap, ◌∙◌}
 use Rattle.std.specs.{List.list_all, List.before_first, List.after_first}
 use Rattle.std.proofs.lemmas.Bool.{and_parts}
@@ -10,7 +10,7 @@ use Rattle.bx_entry.specs.Words.{read_by, request_messages}
 use Rattle.bx_script.specs.Replay.{Dialect, Line, Bad, Recorded, Rejected, Accepted, Resharded, Announced, Noted, Script, Taken, Refused, Documents, announces, body_taken, command, form_taken, handed_by, is_space, line_by, line_of, line_with, nonce_behind, nonce_of, noted_by, query_taken, recorded_command, resharded_by, reshards, timed_line, with_nonce, with_nonces}
 use Rattle.bx_theory.specs.Lines.{NoncesGoOn, NoncesStay, ScriptsSayNone, says_no_nonce}
 
--- ---- one line, and the lines behind it
+-- ---- One line, and the lines after it
 
 pub nonces_on : (nonce : ℕ) (ls ms : List Line) → with_nonces nonce (ls ++ ms) ≡ with_nonces nonce ls ++ with_nonces (fold nonce_behind nonce ls) ms
 nonces_on nonce [] ms = refl
@@ -19,9 +19,8 @@ nonces_on nonce (l ∷ ls) ms = ap (λ (us : List Line). line_with nonce l ∷ u
 pub nonces_go_on : NoncesGoOn
 nonces_go_on ls l = nonces_on 0 ls (l ∷ [])
 
--- ---- lines as they are read
+-- ---- Lines as they are read
 
--- a line whose request, if it is one, has the nonce 0
 HasNone : Line → Type 0
 HasNone l = line_with 0 l ≡ l
 
@@ -108,9 +107,8 @@ nonces_stay d (text ∷ texts) h =
     ∙ ap (λ (n : ℕ). line ∷ with_nonces n (map (line_of d) texts)) (stays line parts.0)
     ∙ ap (λ (us : List Line). line ∷ us) (nonces_stay d texts parts.1)
 
--- ---- scripts
+-- ---- Scripts
 
--- a line that says no nonce
 SaysNone : Line → Type 0
 SaysNone l = says_no_nonce l ≡ true
 

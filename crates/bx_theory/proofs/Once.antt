@@ -1,4 +1,4 @@
--- The events of a plain session's answers, one answer after another, are its first `done` events.
+-- A plain session sends its first `done` events, in order, each once.
 use Rattle.std.proofs.Common.{◌≡◌, ℕ, ◌<◌, false, Option, List, [], ◌∷◌, ◌++◌, take, fold, ◌==◌, refl, ap, ◌∙◌, arith, append-nil}
 use Rattle.std.proofs.lemmas.{Bool.cond_both, List.take-append-le, List.drop_at, Grind.common_steps, Grind.flat_map-append}
 use Rattle.std.proofs.Math.Seq.{take-add}
@@ -37,7 +37,6 @@ step_by_o config place moment s (Connect n client id acked hold) i o =
 step_by_o config place moment s (Publish e) i o = published_o config (record { place = place; event = e }) s i o
 step_by_o config place moment s _ i o = λ a. grind (arith, common_steps, given_push, append-nil, o)
 
--- a rider is given what waits behind the first `done` events
 ride_o : (config : Config) (place : ℕ) (s : Session) (rides : Option Rider) → InStep config s → Once s → Once (ridden_by config place s rides)
 ride_o config place s rides i o a = grind (arith, common_steps, given_push, append-nil, take-add, o)
 

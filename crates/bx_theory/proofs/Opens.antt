@@ -1,4 +1,4 @@
--- One more input makes whole what waits for its places, and the rest stays open.
+-- One more input makes some open inputs whole, and the others stay open.
 use Rattle.std.proofs.Common.{◌≡◌, ℕ, zero, suc, ◌+◌, ◌<◌, ◌≤◌, ⊎_elim, Bool, true, false, cond, not, ◌&&◌, is_some, is_none, Option, Some, None, List, [], ◌∷◌, ◌++◌, length, map, filter, flat_map, fold, nat_lt, refl, sym, ap, ◌∙◌, subst, arith, append-nil, length-append, ne_eqb, eq-eqb, lt-ltb}
 use Rattle.std.proofs.lemmas.{Bool.cond-true, Bool.cases_lt, List.map-append, List.Elements.filter-append, List.Sums.fold-append, Grind.common_steps, Grind.flat_map-append}
 use Rattle.std.specs.List.{position, position_or_len}
@@ -9,7 +9,7 @@ use Rattle.bx_theory.proofs.Wholes.{EachIntake, Took, took, beyond, AheadAll, ah
 use Rattle.bx_theory.specs.Opens.{Numbered, numbered_from, is_whole, out_of, registry_after, open_after, intake_as, newest, OutsAdd, OpensGoOn, OpenIsHeld}
 use Rattle.bx_theory.proofs.Below.{answer_below, first_below}
 
--- ---- one more input
+-- ---- One more input
 
 record Newly (t u : Taking) (d : Intake) : Type 0 where
   more : List Listed
@@ -22,7 +22,7 @@ newly : (t : Taking) (input : ReadInput) (o : Option Refusal) → Newly t (taken
 newly t input None = record { more = added_by input; list = refl; intake = refl; first = refl; end = sym (length-append t.list (added_by input)) }
 newly t input (Some refusal) = record { more = []; list = sym (append-nil t.list); intake = refl; first = refl; end = omega arith }
 
--- ---- the input that has a place
+-- ---- The input at a place
 
 has : (k : ℕ) (d : Intake) → d.first ≤ k → k < d.first + d.count → has_place k d ≡ true
 has k d h l = grind (arith, common_steps)
@@ -34,7 +34,6 @@ where_here test (e ∷ ds) d g = grind (arith, common_steps, where_here test ds 
 position_there : (test : Intake → Bool) (ds : List Intake) → position_or_len test ds < length ds → position test ds ≡ Some (position_or_len test ds)
 position_there test ds l = cond-true (nat_lt (position_or_len test ds) (length ds)) (Some (position_or_len test ds)) None (lt-ltb (position_or_len test ds) (length ds) l)
 
--- each place of the list is an input's
 Covers : Taking → Type 0
 Covers t = (k : ℕ) → k < length t.list → position_or_len (has_place k) t.intake < length t.intake
 
@@ -71,9 +70,8 @@ late_place t u d k n ends h l =
     ∙ position_there (has_place k) (t.intake ++ d ∷ []) (omega (arith, here, length-append t.intake (d ∷ [])))
     ∙ ap Some (let same : position_or_len (has_place k) (t.intake ++ d ∷ []) ≡ length t.intake = omega (arith, here, late) in same)
 
--- ---- one input at the newest one
+-- ---- Whether the newest input makes an input whole
 
--- what is known of the answers before and after it, and of who has their places; the list has these two lengths, and it is the n-th
 record Round (f g : ℕ → Option PlacedAnswer) (intake : List Intake) (end last n : ℕ) : Type 0 where
   ahead : AheadAll end f g
   none : (p : ℕ) → end ≤ p → f p ≡ None
@@ -97,7 +95,6 @@ was_whole f g intake end last n i p k ps r h =
     ∙ ap (λ (o : Option ℕ). is_at n (placed intake o)) h
     ∙ r.old k (first_below end k f p ps r.low h)
 
--- an earlier one is whole there if it was open, and has all answers
 earlier_at : (f g : ℕ → Option PlacedAnswer) (intake : List Intake) (end last n i : ℕ) (ps : List ℕ) → Round f g intake end last n → i < n →
     is_at n (whole_by intake i (map g ps)) ≡ (not (is_some (latest 0 (map f ps))) && is_some (latest 0 (map g ps)))
 earlier_at f g intake end last n i [] r l = ne_eqb i n (λ e. omega arith)
@@ -107,7 +104,6 @@ earlier_at f g intake end last n i (p ∷ ps) r l =
     let at_some : (k : ℕ) → P (Some k) = λ k e. was_whole f g intake end last n i p k ps r e in
     (elim (latest 0 (map f (p ∷ ps))) as P [ None ↦ at_none | Some k ↦ at_some k ]) refl
 
--- the newest one if it has all answers
 these_at : (f g : ℕ → Option PlacedAnswer) (intake : List Intake) (end last n first count : ℕ) → Round f g intake end last n → end ≤ first →
     is_at n (whole_by intake n (map g (numbers_from first count))) ≡ is_some (latest 0 (map g (numbers_from first count)))
 these_at f g intake end last n first zero r h = eq-eqb n n refl
@@ -119,7 +115,7 @@ newest_at : (f g : ℕ → Option PlacedAnswer) (intake : List Intake) (end last
 newest_at f g intake end last n d (Request moment nonce ms) r h = these_at f g intake end last n d.first d.count r h
 newest_at f g intake end last n d _ r h = eq-eqb n n refl
 
--- ---- filtering
+-- ---- Filtering
 
 twice_push : (p q : Numbered → Bool) (o : Numbered) (os : List Numbered) → filter p (filter q (o ∷ os)) ≡ cond (q o && p o) (o ∷ filter p (filter q os)) (filter p (filter q os))
 twice_push p q o os = grind (arith, common_steps)
@@ -127,12 +123,11 @@ twice_push p q o os = grind (arith, common_steps)
 map_cond : {B : Type 0} (h : Numbered → B) (b : Bool) (o : Numbered) (os : List Numbered) → map h (cond b (o ∷ os) os) ≡ cond b (h o ∷ map h os) (map h os)
 map_cond h b o os = grind (arith, common_steps)
 
--- where what passes the last test passes the first one
 filter_twice : (p q : Numbered → Bool) (os : List Numbered) → ((o : Numbered) → p o ≡ (q o && p o)) → filter p os ≡ filter p (filter q os)
 filter_twice p q [] h = refl
 filter_twice p q (o ∷ os) h = grind (arith, common_steps, h o, filter_twice p q os h)
 
--- ---- all inputs
+-- ---- All inputs
 
 numbered_split : (i : ℕ) (ds es : List Intake) → numbered_from i (ds ++ es) ≡ numbered_from i ds ++ numbered_from (i + length ds) es
 numbered_split i [] es = ap (λ (n : ℕ). numbered_from n es) (let l : i ≡ i + 0 = omega arith in l)
@@ -164,7 +159,7 @@ newest_outs config r s intake end last n d k l =
     ∙ ap (λ (b : Bool). cond b (w.out ∷ []) []) (newest_at (answer_in config r) (answer_in config s) intake end last n d d.input k l)
     ∙ sym (map_cond (out_of config s) (is_whole config s o) o [])
 
--- ---- a run
+-- ---- Runs
 
 covers_of : (inputs : List ReadInput) → Covers (taken_in inputs)
 covers_of inputs = covers_all (record { list = []; intake = [] }) inputs covers_none
@@ -188,7 +183,6 @@ round_of config t u d room n c ends = record {
   late = λ k h l. late_place t u d k n ends h l;
 }
 
--- the outs of the newest input
 round_outs : (config : Config) (t u : Taking) (d : Intake) → 0 < config.limits.batch → Newly t u d → Covers t → EachIntake (λ d. d.first + d.count ≤ length t.list) t.intake →
     whole_at (length t.intake) (wholes_in config u) ≡ map (out_of config (registry config u.list)) (filter (is_whole config (registry config u.list))
     (filter (λ (o : Numbered). not (is_whole config (registry config t.list) o)) (numbered_from 0 t.intake) ++ record { number = length t.intake; intake = d } ∷ []))
@@ -226,7 +220,7 @@ outs_add config inputs input room =
     ∙ round_outs config (taken_in inputs) (taken_in (inputs ++ input ∷ [])) (newest inputs input).intake room (newly_of inputs input) (covers_of inputs) (ends_of inputs)
     ∙ ap (λ (i : ℕ). map (out_of config s) (filter (is_whole config s) (open_after config inputs ++ record { number = i; intake = (newest inputs input).intake } ∷ []))) (many_of inputs))
 
--- ---- what stays open
+-- ---- Inputs that stay open
 
 stays_whole : (end : ℕ) (f g : ℕ → Option PlacedAnswer) (ps : List ℕ) → AheadAll end f g →
     not (is_some (latest 0 (map g ps))) ≡ (not (is_some (latest 0 (map f ps))) && not (is_some (latest 0 (map g ps))))
@@ -258,9 +252,8 @@ opens_go_on config inputs input room =
     round_opens config (taken_in inputs) (taken_in (inputs ++ input ∷ [])) (newest inputs input).intake room (newly_of inputs input)
     ∙ ap (λ (i : ℕ). filter (λ (o : Numbered). not (is_whole config s o)) (open_after config inputs ++ record { number = i; intake = (newest inputs input).intake } ∷ [])) (many_of inputs)
 
--- ---- what is held
+-- ---- Held inputs
 
--- what is known of the answers and of who has their places
 record Standing (f : ℕ → Option PlacedAnswer) (intake : List Intake) (end : ℕ) : Type 0 where
   low : (p : ℕ) (a : PlacedAnswer) → f p ≡ Some a → a.place < end
   some : (k : ℕ) → k < end → is_none (position (has_place k) intake) ≡ false

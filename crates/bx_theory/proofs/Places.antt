@@ -1,4 +1,4 @@
--- An answer is one to a connect or a rider that was there.
+-- Each answer of a session is to one of its connects or riders.
 use Rattle.std.proofs.Common.{◌≡◌, refl, false, sym, ◌∙◌, true, ◌≤◌, ℕ, ◌+◌, ◌<◌, Bool, cond, Option, Some, None, List, [], ◌∷◌, ◌++◌, length, fold, ◌==◌, subst, arith}
 use Rattle.std.proofs.lemmas.{Bool.cond_both, Grind.common_steps}
 use Rattle.bx_advice.specs.declared.{config.Config.Config, advice.Outcome.Outcome}
@@ -14,7 +14,6 @@ abbrev HeldOnly : (ℕ → Type 0) → Option Pending → Type 0
 HeldOnly P None = Unit {0}
 HeldOnly P (Some p) = P p.place
 
--- the held connect and those that were answered stand at such places
 pub record Only (P : ℕ → Type 0) (s : Session) : Type 0 where
   pub held : HeldOnly P s.held
   pub answers : Each (λ f. P f.connect) s.answers
@@ -22,7 +21,6 @@ pub record Only (P : ℕ → Type 0) (s : Session) : Type 0 where
 one_answer : (P : ℕ → Type 0) (fs : List Filed) (f : Filed) → Each (λ g. P g.connect) fs → P f.connect → Each (λ g. P g.connect) (fs ++ f ∷ [])
 one_answer P fs f d h = each_append (λ g. P g.connect) fs (f ∷ []) d (h, tt)
 
--- a connect of the session has an allowed place
 abbrev pub Allowed : (ℕ → Type 0) → ℕ → ℕ → EntryKind → Type 0
 Allowed P number place (Connect n client id acked hold) = (n == number) ≡ true → P place
 Allowed P number place _ = Unit {0}
@@ -30,7 +28,6 @@ Allowed P number place _ = Unit {0}
 released_b : (P : ℕ → Type 0) (config : Config) (place : ℕ) (outcome : Outcome) (s : Session) → Only P s → Only P (released config place outcome s)
 released_b P config place outcome s b = record { held = grind (arith, common_steps); answers = grind (arith, common_steps, one_answer) }
 
--- a connect, behind the release of the one that is held
 freed_b : (P : ℕ → Type 0) (config : Config) (p : Pending) (acked : Option ℕ) (s t : Session) → P p.place → Only P t →
     Only P (cond s.overflow (answered config p p.place [] (Failed QueueOverflow) t) (answered_or_held config p (acknowledged acked t)))
 freed_b P config p acked s t h b = record { held = grind (arith, common_steps); answers = grind (arith, common_steps, one_answer) }
@@ -48,7 +45,6 @@ step_by_b P config place moment s (Connect m client id acked hold) l b =
     cond_both (m == s.number) (connected config p acked s) s (Only P) (λ h. freed_b P config p acked s (released config place (Failed SupersededConnect) s) (l h) (released_b P config place (Failed SupersededConnect) s b)) (λ h. b)
 step_by_b P config place moment s k l b = other_b P config place moment s k refl b
 
--- and so has a rider of it
 abbrev pub AllowedRide : (ℕ → Type 0) → ℕ → ℕ → Option Rider → Type 0
 AllowedRide P number place None = Unit {0}
 AllowedRide P number place (Some rider) = (rider.session == number) ≡ true → P place
@@ -67,7 +63,6 @@ run_only config P number s (e ∷ es) h d b =
 pub only_unopened : (P : ℕ → Type 0) (number : ℕ) → Only P (unopened number)
 only_unopened P number = record { held = tt; answers = tt }
 
--- all places below a bound are allowed
 below_allowed : (bound number place : ℕ) (k : EntryKind) → place < bound → Allowed (λ n. n < bound) number place k
 below_allowed bound number place (Connect n client id acked hold) h = λ e. h
 below_allowed bound number place _ h = tt

@@ -1,4 +1,4 @@
--- Riders, where they are.
+-- The riders of a list, and their sessions.
 use Rattle.std.proofs.Common.{◌≡◌, ℕ, ◌+◌, ◌<◌, max, Bool, true, false, cond, not, ◌&&◌, Option, Some, None, List, [], ◌∷◌, ◌++◌, length, map, fold, ◌==◌, refl, sym, ap, ◌∙◌, subst, arith, true≢false, ⊎_elim, append-nil, append_assoc, eqb-true, eq-eqb}
 use Rattle.std.proofs.lemmas.{Bool.cond-true, Bool.and_parts, Bool.not-true, Grind.common_steps, List.Sums.fold-append}
 use Rattle.bx_advice.specs.declared.{error.Error.Error, config.Config.Config}
@@ -18,7 +18,7 @@ use Rattle.bx_theory.proofs.{Counts.ride_both, Counts.rider_of_both, Counts.all_
 use Rattle.bx_theory.proofs.Stages.{step_number, step_next, next_opened, next_unopened}
 use Rattle.bx_theory.proofs.Dues.{Mapped, each_session_map, each_session_push, each_session_through, named_session, served_sessions, swept_sessions, unchanged}
 
--- ---- none is there unasked
+-- ---- Without `--ride`, there are no riders
 
 unasked : (config : Config) (state : State) (moment : ℕ) (p : Posted) (sender : Option Registered) (error : Option Error) → config.ride ≡ false → (judged_by config state moment p sender error).rides ≡ None
 unasked config state moment p sender error h = grind (arith, common_steps)
@@ -27,7 +27,6 @@ none_unasked : (config : Config) (r : Registry) (x : Listed) → config.ride ≡
 none_unasked config r (Post p) h = unasked config (state_of r) (max r.clock p.moment) p (named_by r.sessions (message_kind_of p.message.channel) p.message) (refusal config r.sessions p) h
 none_unasked config r (messages.Tick moment) h = refl
 
--- what holds of the entry of each that was judged holds of each entry
 pub entries_all : (P : Entry → Type 0) (js : List Judged) → AllByRecursion (λ j. P j.entry) js → AllByRecursion P (map (λ (j : Judged). j.entry) js)
 entries_all P [] d = tt
 entries_all P (j ∷ js) d = (d.0, entries_all P js d.1)
@@ -36,9 +35,8 @@ pub no_riders_unasked : NoRidersUnasked
 no_riders_unasked config list h =
     entries_all (λ (e : Entry). e.rides ≡ None) (registry config list).judged (each_found config list (λ j. j.entry.rides ≡ None) (λ ys x zs whole. none_unasked config (registry config ys) x h))
 
--- ---- a session acknowledges from its opening on, or never
+-- ---- A session acknowledges from its opening on, or never
 
--- opened, whether or not it was closed since
 abbrev pub WasOpened : Session → Type 0
 WasOpened s = s.stage ≡ Unopened → ⊥
 
@@ -54,7 +52,6 @@ step_a config s e w =
 step_opened : (config : Config) (s : Session) (e : Entry) → WasOpened s → WasOpened (step config s e)
 step_opened config s e w = λ h. next_opened s.stage (opens_by s.number e.kind) (closes_by s.number e.kind) w (sym (step_next config s e).stage ∙ h)
 
--- a session that no entry opens is unopened
 none_opens : (b : Bool) (es : List Entry) (o : Option (List Entry)) → cond b (Some es) o ≡ None → (b ≡ false) × (o ≡ None)
 none_opens true es o h = cc
 none_opens false es o h = (refl, h)
@@ -67,9 +64,8 @@ stays_unopened config s (e ∷ es) h n =
     stays_unopened config (step config s e) es (k.stage ∙ next_unopened s.stage (opens_by s.number e.kind) (closes_by s.number e.kind) m.0 h)
     (ap (λ (number : ℕ). since_opening number es) k.number ∙ m.1)
 
--- ---- what the registry knows
+-- ---- What the registry records
 
--- the session was opened by these entries, and acknowledges or doesn't
 record Acks (config : Config) (es : List Entry) (number : ℕ) (ack : Bool) : Type 0 where
   opened : WasOpened (session config number es)
   same : (session config number es).ack ≡ ack
@@ -82,7 +78,6 @@ acks_on config es e number ack k =
       same = ap (λ (u : Session). u.ack) next ∙ step_a config (session config number es) e k.opened ∙ k.same;
     }
 
--- the session that an entry opens
 acks_new : (config : Config) (es : List Entry) (place moment number : ℕ) (ack : Bool) → since_opening number es ≡ None →
     Acks config (es ++ record { place = place; moment = moment; kind = entries.Opened number ack; rides = None } ∷ []) number ack
 acks_new config es place moment number ack n =
@@ -96,11 +91,9 @@ acks_new config es place moment number ack n =
     ∙ ap (begun ack (session config number es)) fresh in
     record { opened = subst WasOpened (sym next) (λ h. cc); same = ap (λ (u : Session). u.ack) next }
 
--- what the registry says of each session is so by its entries
 abbrev Known : Config → Registry → Type 0
 Known config r = EachSession (λ s. Acks config (entries_of r) s.number s.ack) r.sessions
 
--- where each session keeps its number, and whether it acknowledges
 known_next : (config : Config) (r : Registry) (x : Listed) (v : Verdict) (change : Registered → Registered) → Mapped change r.sessions v.state.sessions → Known config r → Known config (next_noted r x v)
 known_next config r x v change m k =
     let e : Entry = (found_at (length r.judged) (max r.clock (moment_of x)) v).entry in
@@ -138,14 +131,12 @@ acks_more : (config : Config) (es fs : List Entry) (number : ℕ) (ack : Bool) �
 acks_more config es [] number ack k = subst (λ (xs : List Entry). Acks config xs number ack) (sym (append-nil es)) k
 acks_more config es (f ∷ fs) number ack k = subst (λ (xs : List Entry). Acks config xs number ack) (append_assoc es (f ∷ []) fs) (acks_more config (es ++ f ∷ []) fs number ack (acks_on config es f number ack k))
 
--- over any longer list a session that was opened acknowledges where the registry says so
 pub acks_later : (config : Config) (ys zs : List Listed) → EachSession (λ s. (session config s.number (entries_of (registry config (ys ++ zs)))).ack ≡ s.ack) (registry config ys).sessions
 acks_later config ys zs =
     let r : Registry = registry config ys in
     each_session_map (λ s. Acks config (entries_of r) s.number s.ack) (λ s. (session config s.number (entries_of (registry config (ys ++ zs)))).ack ≡ s.ack) r.sessions
     (λ s a. ap (λ (es : List Entry). (session config s.number es).ack) (entries_behind config ys zs) ∙ (acks_more config (entries_of r) (map (λ (j : Judged). j.entry) (found_from config r zs)) s.number s.ack a).same) (known config ys)
 
--- a rider's session is one that doesn't acknowledge
 rides_plain : (config : Config) (senders : Senders) (c : MessageKind) (p : Posted) (s : Registered) → is_rider config senders c p s ≡ true → s.ack ≡ false
 rides_plain config senders c p s h =
     let a = and_parts config.ride (p.last && (not s.ack && (is_one (joined senders s.number) && may_ride c))) h in
@@ -175,13 +166,12 @@ riders_are_plain config list =
       ticks = λ moment. tt;
     }) x))
 
--- ---- the answer that formed a batch is the last one
+-- ---- The answer that formed a batch is the last one
 
 all_at : (P : Entry → Type 0) (before : List Entry) (e : Entry) (behind : List Entry) → AllByRecursion P (before ++ e ∷ behind) → P e
 all_at P [] e behind d = d.0
 all_at P (b ∷ before) e behind d = all_at P before e behind d.1
 
--- whether a rider is one of the session of this number
 abbrev rides_for : ℕ → Option Rider → Bool
 rides_for number None = false
 rides_for number (Some rider) = rider.session == number
@@ -192,7 +182,6 @@ not_its_own config es number (Some rider) acks k = either (rider.session == numb
     (λ h. absurd (true≢false (sym acks ∙ subst (λ (n : ℕ). (session config n es).ack ≡ false) (eqb-true rider.session number h) k)))
     (λ h. h)
 
--- no entry of a list has a rider of an acknowledging session
 pub none_of_acknowledging : (config : Config) (list : List Listed) (before : List Entry) (e : Entry) (behind : List Entry) (number : ℕ) → entries_of (registry config list) ≡ before ++ e ∷ behind →
     (session config number (entries_of (registry config list))).ack ≡ true → rides_for number (rider_of e.kind e.rides) ≡ false
 none_of_acknowledging config list before e behind number split acks =
@@ -207,7 +196,6 @@ last_alone place rides s f l h =
     (λ ride. absurd (true≢false (sym (ap (rides_for s.number) ride.is ∙ eq-eqb ride.rider.session s.number ride.session) ∙ h)))
     l.last
 
--- so over a list the answer that formed the outstanding batch was the last one then
 pub batch_last : (config : Config) (list : List Listed) (number : ℕ) (e : Entry) → 0 < config.limits.batch → 0 < (session config number (entries_of (registry config list))).out →
     (r : Repetition config number (entries_of (registry config list)) e) → LastAnswer (step config (session config number r.before) r.forming) r.same.first
 batch_last config list number e room out r =

@@ -1,4 +1,4 @@
--- Which messages are riders, over whole requests, and what a rider is given.
+-- Which messages of a request are riders, and what a rider gets.
 use Rattle.std.proofs.Common.{take-append-drop, ◌≡◌, ◌↔◌, ℕ, suc, ◌+◌, ◌<◌, ◌||◌, ne_eqb, max, Bool, true, false, cond, not, ◌&&◌, Option, Some, None, List, [], ◌∷◌, ◌++◌, length, take, drop, flat_map, fold, ◌==◌, refl, sym, ap, ◌∙◌, subst, arith, true≢false, append-nil, append_assoc, eqb-true, eq-eqb}
 use Rattle.std.proofs.lemmas.Bool.{cond_both, cond-true, cond-false, and_parts, both_ways, not-true}
 use Rattle.std.proofs.lemmas.{List.length_push, Grind.common_steps, List.Sums.fold-append}
@@ -19,7 +19,7 @@ use Rattle.bx_theory.proofs.Verdicts.{by_verdict, each_found, found_from, judged
 use Rattle.bx_theory.proofs.{Dues.named_session, Lists.judged_length, Lives.found_of, Stages.Next, Stages.next_by, Stages.step_by_next}
 use Rattle.bx_theory.proofs.Riders.{WasOpened, step_by_a, acks_later, entries_all}
 
--- ---- the messages of one session
+-- ---- Messages of one session
 
 abbrev Own : ℕ → List Judged → Type 0
 Own number js = AllByRecursion (λ (i : Judged). is_own number i ≡ true) js
@@ -49,7 +49,7 @@ none_own n j e h = true≢false (sym (sym (ap (is_from n) e) ∙ (and_parts (is_
 own_is : (m : ℕ) (j : Judged) → j.sender ≡ Some m → opens_by m j.entry.kind ≡ false → is_own m j ≡ true
 own_is m j e o = ap (λ (sender : Option ℕ). is_from m sender && not (opens_by m j.entry.kind)) e ∙ ap (λ (b : Bool). (m == m) && not b) o ∙ ap (λ (b : Bool). b && true) (eq-eqb m m refl)
 
--- ---- what the running value says of the messages of a request so far
+-- ---- The senders of a request so far
 
 abbrev Says : Senders → List Judged → Type 0
 Says NoneYet js = js ≡ []
@@ -83,9 +83,8 @@ one_owner : (x : Senders) (js : List Judged) → Says x js → is_one x ≡ true
 one_owner (Only n) js h e = record { number = n; own = h.1 }
 one_owner _ js h e = absurd (true≢false (sym e))
 
--- ---- what is found of a message
+-- ---- The result of a message
 
--- what makes it a rider, where these messages of its request stand before it
 record Makes (config : Config) (es : List Entry) (number : ℕ) (is_last : Bool) (js : List Judged) (j : Judged) : Type 0 where
   asked : config.ride ≡ true
   plain : (session config number es).ack ≡ false
@@ -97,7 +96,6 @@ record Reads (config : Config) (es : List Entry) (last : Bool) (js : List Judged
   to : (number : ℕ) → rider_session j.entry.rides ≡ Some number → Makes config es number last js j
   from : (number : ℕ) → Makes config es number last js j → rider_session j.entry.rides ≡ Some number
 
--- one of no session, or a handshake
 unowned_reads : (config : Config) (es : List Entry) (last : Bool) (js : List Judged) (j : Judged) → ((n : ℕ) → is_own n j ≡ true → ⊥) → j.entry.rides ≡ None → Reads config es last js j
 unowned_reads config es last js j h none = record {
   to = λ number e. absurd (let n : rider_session j.entry.rides ≡ None = ap rider_session none in cc);
@@ -116,7 +114,6 @@ rides_then config c p s b e m = grind (arith, common_steps)
 rides_by : (b : Bool) (m n : ℕ) (slot : PlaceSlot) → rider_session (rider_for b m slot) ≡ Some n → (b ≡ true) × (m ≡ n)
 rides_by b m n slot h = grind (arith, common_steps)
 
--- what a rider's test says
 record Tested (config : Config) (senders : Senders) (c : MessageKind) (p : Posted) (s : Registered) : Type 0 where
   asked : config.ride ≡ true
   last : p.last ≡ true
@@ -127,7 +124,6 @@ record Tested (config : Config) (senders : Senders) (c : MessageKind) (p : Poste
 tested : (config : Config) (senders : Senders) (c : MessageKind) (p : Posted) (s : Registered) → is_rider config senders c p s ≡ true → Tested config senders c p s
 tested config senders c p s h = grind (arith, common_steps)
 
--- an accepted one of a session
 served_reads : (config : Config) (es : List Entry) (r : Registry) (moment : ℕ) (p : Posted) (c : MessageKind) (s : Registered) (hold : ℕ) (js : List Judged) → Says r.senders js →
     (session config s.number es).ack ≡ s.ack → Reads config es p.last js (found_of config r moment p c s hold)
 served_reads config es r moment p c s hold js says acks =
@@ -156,7 +152,7 @@ served_reads config es r moment p c s hold js says acks =
           rides_then config c p s (is_rider config r.senders c p s) rider may ∙ ap Some (sym same);
     }
 
--- ---- one message of a request
+-- ---- One message of a request
 
 record Judging (config : Config) (es : List Entry) (js : List Judged) (p : Posted) (r t : Registry) : Type 0 where
   found : Judged
@@ -169,7 +165,6 @@ record Judging (config : Config) (es : List Entry) (js : List Judged) (p : Poste
 opened_own : (n m : ℕ) → ((n == m) && not (m == n)) ≡ true → ⊥
 opened_own n m h = let a = and_parts (n == m) (not (m == n)) h in both_ways (m == n) (not-true (m == n) a.1) (eq-eqb m n (sym (eqb-true n m a.0)))
 
--- one of no session, or a handshake, leaves a request that is of several
 unowned_judging : (config : Config) (es : List Entry) (js : List Judged) (p : Posted) (r t : Registry) (j : Judged) → t.judged ≡ r.judged ++ j ∷ [] → t.senders ≡ senders_behind p Mixed → ((n : ℕ) → is_own n j ≡ true → ⊥) → j.entry.rides ≡ None → Judging config es js p r t
 unowned_judging config es js p r t j judged senders h none = record { found = j; judged = judged; now = Mixed; senders = senders; says = mixed_says js j h; reads = unowned_reads config es p.last js j h none }
 
@@ -197,7 +192,7 @@ judging config ys zs js p says =
     judged_by_judging config (entries config (ys ++ zs)) js r (max r.clock p.moment) p (named_by r.sessions (message_kind_of p.message.channel) p.message) (refusal config r.sessions p) says
     (λ s e. named_session (λ q. (session config q.number (entries_of (registry config (ys ++ zs)))).ack ≡ q.ack) r.sessions (message_kind_of p.message.channel) p.message s e (acks_later config ys zs))
 
--- ---- behind whole inputs nothing is known of the next request
+-- ---- After whole requests, there are no senders yet
 
 last_ends : (config : Config) (r : Registry) (p : Posted) → p.last ≡ true → (judge config r (Post p)).senders ≡ NoneYet
 last_ends config r p h =
@@ -222,7 +217,7 @@ inputs_end config r (i ∷ inputs) h =
     ap (λ (t : Registry). t.senders) (fold-append (judge config) r (added_by i) (flat_map added_by inputs))
     ∙ inputs_end config (fold (judge config) r (added_by i)) inputs (input_ends config r i h)
 
--- ---- the messages of a request
+-- ---- The messages of a request
 
 abbrev EachReads : Config → List Entry → List Judged → List Judged → Type 0
 EachReads config es js [] = Unit {0}
@@ -234,7 +229,6 @@ record RequestReads (config : Config) (es : List Entry) (js : List Judged) (coun
   many : length more ≡ count
   reads : EachReads config es js more
 
--- the last message may be a rider, and no other one is
 reads_row : (config : Config) (es : List Entry) (js : List Judged) (j : Judged) (behind : List Judged) → Reads config es (length behind == 0) js j → EachReads config es (js ++ j ∷ []) behind → EachReads config es js (j ∷ behind)
 reads_row config es js j [] a d = (
   λ number. (
@@ -298,7 +292,6 @@ reads_at config es first (i ∷ js) (b ∷ before) j behind number d e =
     subst (λ (bs : List Judged). (rider_session j.entry.rides ≡ Some number) ↔ IsRiderOf number config es bs j behind) (append_assoc first (b ∷ []) before)
     (reads_at config es (first ++ b ∷ []) js before j behind number (subst (λ (k : Judged). EachReads config es (first ++ k ∷ []) js) one d.1) rest)
 
--- what is found of the request is what is judged behind the inputs before it
 found_is : (config : Config) (ys xs zs : List Listed) (more : List Judged) → (registry config (ys ++ xs)).judged ≡ (registry config ys).judged ++ more → length more ≡ length xs → found_behind config ys xs zs ≡ more
 found_is config ys xs zs more judged many =
     let r : Registry = registry config ys in
@@ -334,7 +327,7 @@ nothing_rides_beside config inputs moment nonce ms more before other behind firs
     let k = (rider_reading config inputs moment nonce ms more first j rest number here).0 e in
     none_own number other none (own_at number before other behind (subst (Own number) (sym here ∙ there) k.own)))
 
--- ---- nothing else rides
+-- ---- Nothing else is a rider
 
 unridden_by : (config : Config) (state : State) (moment : ℕ) (p : Posted) (sender : Option Registered) (error : Option Error) →
     may_have_rider (judged_by config state moment p sender error).kind ≡ false → (judged_by config state moment p sender error).rides ≡ None
@@ -349,9 +342,8 @@ others_never_ride config list =
     entries_all (λ (e : Entry). may_have_rider e.kind ≡ false → e.rides ≡ None) (registry config list).judged
     (each_found config list (λ j. may_have_rider j.entry.kind ≡ false → j.entry.rides ≡ None) (λ ys x zs whole. unridden config (registry config ys) x))
 
--- ---- what a rider is given
+-- ---- What a rider gets
 
--- an entry with a rider opens and closes nothing
 rider_stays : (number : ℕ) (stage : Stage) (k : EntryKind) (rides : Option Rider) (rider : Rider) → rider_of k rides ≡ Some rider → next_by number stage k ≡ stage
 rider_stays number stage k rides rider h = grind (arith, common_steps)
 

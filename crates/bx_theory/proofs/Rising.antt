@@ -1,4 +1,4 @@
--- A session's events stand at rising places, so what is given once more is another event.
+-- The events of a session have rising places, so no event is sent twice.
 use Rattle.std.proofs.Common.{◌≡◌, ℕ, zero, suc, ◌+◌, ◌-◌, ◌<◌, ◌≤◌, cond, List, [], ◌∷◌, ◌++◌, take, drop, fold, refl, sym, ap, ◌∙◌, subst, arith}
 use Rattle.std.proofs.lemmas.{List.drop-drop, List.Sums.fold-append}
 use Rattle.std.proofs.ByRecursion.{All-weaker}
@@ -9,7 +9,7 @@ use Rattle.bx_theory.specs.Events.{Rising}
 use Rattle.bx_theory.specs.Laws.{EachOf, AllBelow, Slice, GivesFrom, GivesLater, NoEventTwice}
 use Rattle.bx_theory.proofs.{Gained.events_rise, Moves.each_map, Runs.never_given_again}
 
--- ---- apart
+-- ---- Answers without done events
 
 rising_apart : (n : ℕ) (ps : List Publication) → Rising ps → AllBelow (take n ps) (drop n ps)
 rising_apart zero ps r = tt

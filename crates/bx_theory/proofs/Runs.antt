@@ -1,4 +1,4 @@
--- What many entries change of a session.
+-- What many entries change in a session.
 use Rattle.std.proofs.Common.{◌≡◌, ℕ, ◌<◌, ◌≤◌, cond, List, [], ◌∷◌, ◌++◌, fold, refl, sym, ap, ◌∙◌, subst, arith, append-nil, append_assoc, le_refl}
 use Rattle.std.proofs.lemmas.Bool.{cond_both, cond-false}
 use Rattle.bx_advice.specs.declared.config.Config.{Config}
@@ -8,7 +8,6 @@ use Rattle.bx_theory.specs.Laws.{InStep, Each, Slice, GivesFrom, NeverGivenAgain
 use Rattle.bx_theory.proofs.Counts.{stays_in_step, all_in_step, unopened_in_step}
 use Rattle.bx_theory.proofs.Moves.{Still, Moved, step_moved, each_map, each_append, lower_slice, longer_slice}
 
--- each answer was given at this place or a later one
 pub record Grown (first : ℕ) (s t : Session) : Type 0 where
   pub number : t.number ≡ s.number
   pub done : s.done ≤ t.done
@@ -25,7 +24,6 @@ abbrev pub EachEntry : (Entry → Type 0) → List Entry → Type 0
 EachEntry P [] = Unit {0}
 EachEntry P (e ∷ es) = P e × EachEntry P es
 
--- no condition on the places
 pub all_places : (es : List Entry) → EachEntry (λ e. 0 ≤ e.place) es
 all_places [] = tt
 all_places (e ∷ es) = (omega arith, all_places es)
@@ -84,7 +82,7 @@ run_grown config first s (e ∷ es) room i d =
     (moved_grown first e.place s (step config s e) d.0 (step_moved config s e room i))
     (run_grown config first (step config s e) es room (stays_in_step config s e room i) d.1)
 
--- ---- never given again
+-- ---- Events that are never sent again
 
 gives_from : (config : Config) (place : ℕ) (s u t : Session) → Moved place s u → Grown 0 u t → GivesFrom config s u t
 gives_from config place s u t m g =

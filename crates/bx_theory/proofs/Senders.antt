@@ -1,4 +1,4 @@
--- An accepted message stands where its session is live.
+-- The session of an accepted message is live.
 use Rattle.std.proofs.Common.{length, ◌≡◌, ℕ, Bool, true, false, ◌&&◌, Some, slice_get, take, List, ◌∷◌, map, ◌==◌, sym, ap, ◌∙◌, subst, eq-eqb}
 use Rattle.std.proofs.lemmas.Bool.{and_parts, both_ways}
 use Rattle.std.proofs.Math.Seq.{take-append_seam}
@@ -13,7 +13,7 @@ use Rattle.bx_theory.specs.Readings.{opens_by, since_opening, unclosed, Accepted
 use Rattle.bx_theory.proofs.Verdicts.{FoundOf, each_verdict, found_of_place, got_here, judged_before, verdict_of}
 use Rattle.bx_theory.proofs.{Dues.named_session, Lists.find_true, Lives.same_live}
 
--- ---- the sender is live
+-- ---- The sender is live
 
 sender_live : (rs : List Registered) (m : TextMember) (r : Registered) → sender_of rs m ≡ Some r → r.live ≡ true
 sender_live rs (Text client) r e = (and_parts r.live (bytes_eq r.client client) (find_true (λ q. q.live && bytes_eq q.client client) rs r e)).0
@@ -24,22 +24,19 @@ named_live rs MessageKind.Handshake m r e = cc
 named_live rs MessageKind.UnknownMeta m r e = cc
 named_live rs _ m r e = sender_live rs m.client r e
 
--- ---- one element
+-- ---- One element
 
 abbrev pub live_by : ℕ → List Entry → Bool
 live_by number es = unclosed number (since_opening number es)
 
--- a handshake opens the session that it is of
 own_opening : (number m : ℕ) → Some m ≡ Some number → (m == number) ≡ false → ⊥
 own_opening number m s o = let same : m ≡ number = cc in both_ways (m == number) o (eq-eqb m number same)
 
--- by the entries before it
 pub sender_reads : (config : Config) (ys : List Listed) (p : Posted) (s : Registered) → named_by (registry config ys).sessions (message_kind_of p.message.channel) p.message ≡ Some s → live_by s.number (entries_of (registry config ys)) ≡ true
 sender_reads config ys p s e =
     let rs : List Registered = (registry config ys).sessions in
     sym (named_session (λ q. q.live ≡ live_by q.number (entries_of (registry config ys))) rs (message_kind_of p.message.channel) p.message s e (same_live config ys)) ∙ named_live rs (message_kind_of p.message.channel) p.message s e
 
--- it is accepted where its session is live, unless it opens it
 accepted_live : (config : Config) (ys : List Listed) (x : Listed) (number : ℕ) → (verdict_of config (registry config ys) x).sender ≡ Some number →
     opens_by number (verdict_of config (registry config ys) x).kind ≡ false → live_by number (entries_of (registry config ys)) ≡ true
 accepted_live config ys x number =
@@ -52,7 +49,7 @@ accepted_live config ys x number =
       ticks = λ moment s o. cc;
     }) x
 
--- ---- all elements
+-- ---- All elements
 
 pub accepted_while_live : AcceptedWhileLive
 accepted_while_live config list before j behind number whole sender opens =

@@ -1,4 +1,4 @@
--- A publish without a client id is of no session.
+-- A publish without a client id has no session.
 use Rattle.std.proofs.Common.{◌≡◌, ℕ, max, Bool, true, false, cond, not, ◌&&◌, is_some, is_none, Option, None, List, [], ◌∷◌, refl, sym, ap, ◌∙◌, subst}
 use Rattle.bx_names.specs.Faults.{first_case, name_fault}
 use Rattle.bx_advice.specs.declared.{config.Config.Config, error.Error.Error}
@@ -11,14 +11,12 @@ use Rattle.bx_entry.specs.declared.entry.EntryKind.TheVariants.{Publish, Refused
 use Rattle.bx_theory.proofs.Verdicts.{registry_next}
 use Rattle.bx_theory.specs.Readings.{PublishesOfNone, IsOfNone}
 
--- what such a publish comes to, where it is known whether they are taken, whether the channel has a fault, and whether there is no data
 record IsOf (taken faulty empty : Bool) (m : Message) (state : State) (v : Verdict) : Type 0 where
   kind : v.kind ≡ cond (taken && (not faulty && not empty)) (Publish (event_of m)) Refused
   sender : v.sender ≡ None
   rides : v.rides ≡ None
   sessions : v.state.sessions ≡ state.sessions
 
--- what refuses it
 abbrev fault_by : Bool → Bool → Bool → Option Error
 fault_by taken faulty empty = first_case ((not taken && true, NoClientId) ∷ (not taken && true, UnknownClient) ∷ (faulty, InvalidChannel) ∷ (empty, MissingData) ∷ [])
 

@@ -1,4 +1,4 @@
--- What is open is a request of one message, a connect that its session has not answered.
+-- An open input is a request of one message, a held connect.
 use Rattle.std.proofs.Common.{◌≡◌, ℕ, suc, ◌+◌, ◌<◌, max, Bool, true, false, not, is_some, Option, Some, None, List, [], ◌∷◌, ◌++◌, length, map, filter, fold, option_map, slice_get, ◌==◌, refl, sym, ap, ◌∙◌, subst, arith, append-nil, append_assoc, ne_eqb}
 use Rattle.std.proofs.lemmas.Bool.{cond_both, both_ways, not-true}
 use Rattle.std.specs.List.{AllByRecursion}
@@ -13,9 +13,8 @@ use Rattle.bx_theory.proofs.Verdicts.{Slotted, each_verdict, found_there, judge_
 use Rattle.bx_theory.proofs.{Lists.judged_length, Senders.sender_reads, Stages.live_reading}
 use Rattle.bx_theory.proofs.AtOnce.{There, AllThere, latest_there, messages_there, rider_served, there_stays}
 
--- ---- where the messages of an input stand
+-- ---- The places of an input's messages
 
--- an input that was taken in stands in the list
 record Stands (list : List Listed) (d : Intake) (input : ReadInput) : Type 0 where
   before : List Listed
   behind : List Listed
@@ -23,7 +22,6 @@ record Stands (list : List Listed) (d : Intake) (input : ReadInput) : Type 0 whe
   first : d.first ≡ length before
   count : d.count ≡ length (added_by input)
 
--- one that was refused has no messages there
 abbrev Placed : List Listed → Intake → Option Refusal → Type 0
 Placed list d None = Stands list d d.input
 Placed list d (Some refusal) = d.count ≡ 0
@@ -60,9 +58,8 @@ run_placed : (t : Taking) (inputs : List ReadInput) → EachPlaced t.list t.inta
 run_placed t [] e = e
 run_placed t (i ∷ inputs) e = run_placed (take_in t i) inputs (taken_as_placed t i (refusal_of (length t.list) i) e)
 
--- ---- what was found of a message
+-- ---- The result of a message
 
--- a rider is answered at its place
 rider_answered : (config : Config) (xs : List Listed) (x : Listed) (rider : Rider) → (verdict_of config (registry config xs) x).rides ≡ Some rider → There (answer config (xs ++ x ∷ []) (length xs))
 rider_answered config xs x rider rides =
     let r : Registry = registry config xs in
@@ -77,7 +74,7 @@ rider_answered config xs x rider rides =
       ticks = λ moment e. cc;
     }) x rides))
 
--- ---- an input that is not whole
+-- ---- Inputs that are not whole
 
 abbrev NotWhole : Config → List Listed → List ℕ → Type 0
 NotWhole config list ps = is_some (latest 0 (map (answer_in config (registry config list)) ps)) ≡ false
@@ -85,13 +82,11 @@ NotWhole config list ps = is_some (latest 0 (map (answer_in config (registry con
 not_there : (config : Config) (list : List Listed) (ps : List ℕ) → NotWhole config list ps → AllThere (map (answer_in config (registry config list)) ps) → ⊥
 not_there config list ps n d = both_ways (is_some (latest 0 (map (answer_in config (registry config list)) ps))) n (latest_there 0 (map (answer_in config (registry config list)) ps) d)
 
--- the slot at the place of a message with no answer
 record Waits (config : Config) (list : List Listed) (place : ℕ) : Type 0 where
   session : ℕ
   waits : option_map (λ (j : Judged). j.slot) (slice_get (registry config list).judged place) ≡ Some (Waiting session)
   unridden : option_map (λ (j : Judged). j.entry.rides) (slice_get (registry config list).judged place) ≡ Some None
 
--- a rider is answered
 not_ridden : (config : Config) (list : List Listed) (place : ℕ) (rides : Option Rider) → ((rider : Rider) → rides ≡ Some rider → There (answer_in config (registry config list) place)) → NotWhole config list (place ∷ []) → rides ≡ None
 not_ridden config list place None h n = refl
 not_ridden config list place (Some rider) h n = absurd (not_there config list (place ∷ []) n (h rider refl, tt))
@@ -111,14 +106,12 @@ waits_by config list place p j (Waiting number) e s i h n = record {
 }
 waits_by config list place p j NoSlot e s i h n = absurd i
 
--- a request of one message
 one_waits : (config : Config) (list xs ys : List Listed) (p : Posted) → 0 < config.limits.batch → xs ++ (Post p ∷ ys) ≡ list → NotWhole config list (length xs ∷ []) → Waits config list (length xs)
 one_waits config list xs ys p room e n =
     let j : Judged = next_found config (registry config xs) (Post p) in
     waits_by config list (length xs) p j j.slot (ap (λ (zs : List Listed). slice_get (registry config zs).judged (length xs)) (sym e) ∙ found_there config xs (Post p) ys) refl (slotted config (registry config xs) (Post p))
     (λ rider g. there_stays config list xs ys (Post p) room e (rider_answered config xs (Post p) rider g)) n
 
--- what an input that is not whole is
 record Single (config : Config) (list : List Listed) (d : Intake) (input : ReadInput) : Type 0 where
   sole : places_of d input ≡ d.first ∷ []
   waits : Waits config list d.first
@@ -147,7 +140,6 @@ stands_single : (config : Config) (list : List Listed) (d : Intake) (input : Rea
 stands_single config list d (Request moment nonce ms) room s n = request_single config list d moment nonce ms room s n
 stands_single config list d _ room s n = absurd (not_there config list [] n tt)
 
--- nothing is missing where there are no messages
 pub none_missing : (config : Config) (list : List Listed) (d : Intake) (input : ReadInput) → d.count ≡ 0 → is_some (latest 0 (map (answer_in config (registry config list)) (places_of d input))) ≡ true
 none_missing config list d (Request moment nonce ms) h = subst (λ (k : ℕ). is_some (latest 0 (map (answer_in config (registry config list)) (numbers_from d.first k))) ≡ true) (sym h) refl
 none_missing config list d _ h = refl

@@ -22,7 +22,6 @@ pub record Next (s : Session) (k : EntryKind) (t : Session) : Type 0 where
   pub number : t.number ≡ s.number
   pub stage : t.stage ≡ next_by s.number s.stage k
 
--- a test of the number is no part of the claim that it stays, so the claim is made of it as a value that isn't counted
 step_by_number : (config : Config) (place moment : ℕ) (s : Session) (k : EntryKind) → (step_by config place moment s k).number ≡ s.number
 step_by_number config place moment s k = let same : Some (step_by config place moment s k).number ≡ Some s.number = grind (arith, common_steps) in cc
 
@@ -35,7 +34,6 @@ step_by_stage config place moment s _ = grind (arith, common_steps)
 pub step_by_next : (config : Config) (place moment : ℕ) (s : Session) (k : EntryKind) → Next s k (step_by config place moment s k)
 step_by_next config place moment s k = record { number = step_by_number config place moment s k; stage = step_by_stage config place moment s k }
 
--- a rider changes neither number nor stage
 pub step_next : (config : Config) (s : Session) (e : Entry) → Next s e.kind (step config s e)
 step_next config s e =
     let n : Next s e.kind (step_by config e.place e.moment s e.kind) = step_by_next config e.place e.moment s e.kind in
@@ -45,16 +43,13 @@ step_next config s e =
 pub step_number : (config : Config) (s : Session) (e : Entry) → (step config s e).number ≡ s.number
 step_number config s e = (step_next config s e).number
 
--- what was opened stays so
 pub next_opened : (stage : Stage) (opens shuts : Bool) → (stage ≡ Unopened → ⊥) → cond opens (stage_of_opening stage) (cond shuts (stage_after stage) stage) ≡ Unopened → ⊥
 unfolding stage_of_opening
 next_opened stage opens shuts w h = grind (arith, common_steps)
 
--- and what isn't is opened by an entry alone
 pub next_unopened : (stage : Stage) (opens shuts : Bool) → opens ≡ false → stage ≡ Unopened → cond opens (stage_of_opening stage) (cond shuts (stage_after stage) stage) ≡ Unopened
 next_unopened stage opens shuts o h = grind (arith, common_steps)
 
--- what the entries to come leave live
 abbrev reads : ℕ → Stage → List Entry → Bool
 reads number Unopened es = unclosed number (since_opening number es)
 reads number Live es = not (list_any (closes number) es)

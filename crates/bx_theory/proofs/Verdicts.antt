@@ -1,4 +1,4 @@
--- What one more element of the list comes to, what is found of it, and what holds so of all that was judged.
+-- What holds for each kind of verdict holds for every registry and every judged element.
 use Rattle.std.proofs.Common.{◌≡◌, ℕ, zero, suc, ◌+◌, max, true, false, Some, List, [], ◌∷◌, ◌++◌, length, map, take, fold, slice_get, refl, sym, ap, ◌∙◌, subst, arith, append-nil, append_assoc}
 use Rattle.std.proofs.lemmas.{List.length_push, List.map-append, List.Sums.fold-append}
 use Rattle.std.proofs.Math.Seq.{take-append_seam}
@@ -13,9 +13,8 @@ use Rattle.bx_entry.specs.Listing as messages
 use Rattle.bx_entry.specs.declared.entry.{Entry.Entry, Rider.Rider}
 use Rattle.bx_theory.specs.Readings.{moment_of}
 
--- ---- one element
+-- ---- One element
 
--- refused, a handshake, of no session, or of the session that it names
 pub by_verdict : (P : Verdict → Type 0) (config : Config) (state : State) (moment : ℕ) (p : Posted) (sender : Option Registered) (error : Option Error) →
     ((e : Error) → P (refused config state p e sender)) → P (opened config state moment p (state.opened + 1)) → P (sessionless config state p (message_kind_of p.message.channel)) →
     ((s : Registered) → sender ≡ Some s → P (served config state moment p (message_kind_of p.message.channel) s (hold_of config p))) → P (judged_by config state moment p sender error)
@@ -23,12 +22,13 @@ by_verdict P config state moment p sender (Some e) refuses opens none serves = r
 by_verdict P config state moment p None None refuses opens none serves = elim (is_handshake p.message) as (λ (b : Bool). P (unnamed config state moment p b)) [ true ↦ opens | false ↦ none ]
 by_verdict P config state moment p (Some s) None refuses opens none serves = serves s refl
 
--- what an element comes to over a registry, at the greatest moment so far
+-- The verdict on an element, at the greatest moment so far.
 abbrev pub verdict_of : Config → Registry → Listed → Verdict
 verdict_of config r (Post p) = verdict config (state_of r) (max r.clock p.moment) p
 verdict_of config r (messages.Tick moment) = tick_verdict (state_of r) (max r.clock moment)
 
--- P holds of each kind of verdict over the registry: of a message that is refused, a handshake, a message of no session, one of a session, and a tick
+-- `P` holds for each kind of verdict: on a rejected message, a handshake, a sessionless message, a
+-- message of a session, and a tick.
 pub record EachVerdict (config : Config) (r : Registry) (P : Listed → Verdict → Type 0) : Type 0 where
   pub refuses : (p : Posted) (sender : Option Registered) (error : Error) → P (Post p) (refused config (state_of r) p error sender)
   pub opens : (p : Posted) → P (Post p) (opened config (state_of r) (max r.clock p.moment) p (length r.sessions + 1))
@@ -37,18 +37,18 @@ pub record EachVerdict (config : Config) (r : Registry) (P : Listed → Verdict 
       P (Post p) (served config (state_of r) (max r.clock p.moment) p (message_kind_of p.message.channel) s (hold_of config p))
   pub ticks : (moment : ℕ) → P (messages.Tick moment) (tick_verdict (state_of r) (max r.clock moment))
 
--- so it holds of what any element comes to
+-- So it holds for the verdict on any element.
 pub each_verdict : (config : Config) (r : Registry) (P : Listed → Verdict → Type 0) → EachVerdict config r P → (x : Listed) → P x (verdict_of config r x)
 each_verdict config r P e (Post p) =
     let named : Option Registered = named_by r.sessions (message_kind_of p.message.channel) p.message in
     by_verdict (P (Post p)) config (state_of r) (max r.clock p.moment) p named (refusal config r.sessions p) (e.refuses p named) (e.opens p) (e.none p) (e.serves p)
 each_verdict config r P e (messages.Tick moment) = e.ticks moment
 
--- what is found of it
+-- The result of the next element.
 abbrev pub next_found : Config → Registry → Listed → Judged
 next_found config r x = found_at (length r.judged) (max r.clock (moment_of x)) (verdict_of config r x)
 
--- the registry with it
+-- The registry after it.
 abbrev pub next_noted : Registry → Listed → Verdict → Registry
 next_noted r x v = noted r (max r.clock (moment_of x)) v
 
@@ -56,11 +56,10 @@ pub judge_is : (config : Config) (r : Registry) (x : Listed) → judge config r 
 judge_is config r (Post p) = refl
 judge_is config r (messages.Tick moment) = refl
 
--- what holds of a registry with each kind of verdict holds of the next one
+-- What holds after each kind of verdict holds for the next registry.
 pub each_judge : (config : Config) (r : Registry) (P : Registry → Type 0) → EachVerdict config r (λ x v. P (next_noted r x v)) → (x : Listed) → P (judge config r x)
 each_judge config r P e x = subst P (sym (judge_is config r x)) (each_verdict config r (λ y v. P (next_noted r y v)) e x)
 
--- every message has a slot, and no tick has one
 abbrev pub Slotted : Listed → PlaceSlot → Type 0
 Slotted (Post p) NoSlot = ⊥
 Slotted (Post p) _ = Unit {0}
@@ -71,7 +70,6 @@ slot_for_message : (config : Config) (c : MessageKind) (p : Posted) (s : Registe
 slot_for_message config MessageKind.Handshake p s = tt
 slot_for_message config _ p s = tt
 
--- so it has as a rider
 ridden_message : (rides : Option Rider) (p : Posted) (slot : PlaceSlot) → Slotted (Post p) slot → Slotted (Post p) (slot_with rides slot)
 ridden_message None p slot s = s
 ridden_message (Some rider) p slot s = tt
@@ -85,12 +83,12 @@ slotted config r x = each_verdict config r (λ y v. Slotted y v.slot) (record {
   ticks = λ moment. tt;
 }) x
 
--- ---- the whole list
+-- ---- The whole list
 
 pub registry_next : (config : Config) (ys : List Listed) (x : Listed) → registry config (ys ++ x ∷ []) ≡ judge config (registry config ys) x
 registry_next config ys x = fold-append (judge config) empty_registry ys (x ∷ [])
 
--- what holds at first, and of each next registry, holds of that of the whole list
+-- What holds at first, and for each next registry, holds for the whole list.
 pub each_registry : (config : Config) (P : Registry → Type 0) → P empty_registry → ((ys : List Listed) (x : Listed) → P (registry config ys) → P (judge config (registry config ys) x)) → (list : List Listed) → P (registry config list)
 each_registry config P first next list = onwards [] list first
   where
@@ -98,7 +96,7 @@ each_registry config P first next list = onwards [] list first
     onwards ys [] d = subst (λ (zs : List Listed). P (registry config zs)) (sym (append-nil ys)) d
     onwards ys (x ∷ xs) d = subst (λ (zs : List Listed). P (registry config zs)) (append_assoc ys (x ∷ []) xs) (onwards (ys ++ x ∷ []) xs (subst P (sym (registry_next config ys x)) (next ys x d)))
 
--- what is found of elements, one after another
+-- The results of more elements.
 abbrev pub found_from : Config → Registry → List Listed → List Judged
 found_from config r [] = []
 found_from config r (x ∷ xs) = next_found config r x ∷ found_from config (judge config r x) xs
@@ -113,18 +111,16 @@ judged_run config r (x ∷ xs) =
     let rest : List Judged = found_from config (judge config r x) xs in
     judged_run config (judge config r x) xs ∙ ap (λ (t : Registry). t.judged ++ rest) (judge_is config r x) ∙ append_assoc r.judged (next_found config r x ∷ []) rest
 
--- so they stand behind what was judged before
 pub judged_behind : (config : Config) (ys zs : List Listed) → (registry config (ys ++ zs)).judged ≡ (registry config ys).judged ++ found_from config (registry config ys) zs
 judged_behind config ys zs = ap (λ (t : Registry). t.judged) (fold-append (judge config) empty_registry ys zs) ∙ judged_run config (registry config ys) zs
 
 pub judged_length : (config : Config) (xs : List Listed) → length (registry config xs).judged ≡ length xs
 judged_length config xs = ap length (judged_run config empty_registry xs) ∙ found_many config empty_registry xs
 
--- and so do their entries
 pub entries_behind : (config : Config) (ys zs : List Listed) → entries_of (registry config (ys ++ zs)) ≡ entries_of (registry config ys) ++ map (λ (j : Judged). j.entry) (found_from config (registry config ys) zs)
 entries_behind config ys zs = ap (map (λ (j : Judged). j.entry)) (judged_behind config ys zs) ∙ map-append (λ (j : Judged). j.entry) (registry config ys).judged (found_from config (registry config ys) zs)
 
--- what holds of what is found of each element of the list, over those before it, holds of each that was judged
+-- What holds for the result of each element, after those before it, holds for all that were judged.
 pub each_found : (config : Config) (list : List Listed) (P : Judged → Type 0) → ((ys : List Listed) (x : Listed) (zs : List Listed) → ys ++ x ∷ zs ≡ list → P (next_found config (registry config ys) x)) →
     AllByRecursion P (registry config list).judged
 each_found config list P each = subst (AllByRecursion P) (sym (judged_run config empty_registry list)) (onwards [] list refl)
@@ -136,7 +132,6 @@ each_found config list P each = subst (AllByRecursion P) (sym (judged_run config
       subst (λ (r : Registry). AllByRecursion P (found_from config r xs)) (registry_next config ys x) (onwards (ys ++ x ∷ []) xs (append_assoc ys (x ∷ []) xs ∙ e)),
     )
 
--- the element at the place of what was judged, with those before it and behind it
 pub record FoundOf (config : Config) (list : List Listed) (place : ℕ) (j : Judged) : Type 0 where
   pub before : List Listed
   pub element : Listed
@@ -155,7 +150,6 @@ found_of_place config list place j there = onwards [] list place refl (omega ari
         onwards (ys ++ x ∷ []) xs k (append_assoc ys (x ∷ []) xs ∙ e) (let l = length_push ys x in omega (arith, n))
         (subst (λ (r : Registry). slice_get (found_from config r xs) k ≡ Some j) (sym (registry_next config ys x)) g)
 
--- an entry is that of what was judged at its place
 pub record EntryOf (config : Config) (list : List Listed) (place : ℕ) (e : Entry) : Type 0 where
   pub judged : Judged
   pub is : judged.entry ≡ e
@@ -166,7 +160,6 @@ entry_of_place config list place e there =
     let m = mapped (λ (j : Judged). j.entry) (registry config list).judged place e there in
     record { judged = m.one; is = m.is; found = found_of_place config list place m.one m.there }
 
--- what was judged before it
 pub judged_before : (config : Config) (list : List Listed) (place : ℕ) (j : Judged) (f : FoundOf config list place j) → (registry config f.before).judged ≡ take place (registry config list).judged
 judged_before config list place j f =
     let js : List Judged = (registry config f.before).judged in
@@ -179,7 +172,6 @@ pub got_here : {X : Type 0} (xs : List X) (x : X) (ys : List X) → slice_get (x
 got_here [] x ys = refl
 got_here (y ∷ xs) x ys = got_here xs x ys
 
--- at the place of an element stands what is found of it over those before it
 pub found_there : (config : Config) (xs : List Listed) (x : Listed) (ys : List Listed) → slice_get (registry config (xs ++ x ∷ ys)).judged (length xs) ≡ Some (next_found config (registry config xs) x)
 found_there config xs x ys =
     let js : List Judged = (registry config xs).judged in

@@ -8,7 +8,7 @@ use Rattle.bx_entry.specs.declared.input.Refusal.{Refusal}
 use Rattle.bx_theory.specs.Outs.{OutsGrow}
 use Rattle.bx_theory.proofs.Lists.{answer_more, answer_less, judged_length}
 
--- ---- inputs taken in
+-- ---- Inputs
 
 abbrev pub EachIntake : (Intake → Type 0) → List Intake → Type 0
 EachIntake P [] = Unit {0}
@@ -18,7 +18,6 @@ each_map : (P Q : Intake → Type 0) (ds : List Intake) → ((d : Intake) → P 
 each_map P Q [] h e = tt
 each_map P Q (d ∷ ds) h e = (h d e.0, each_map P Q ds h e.1)
 
--- one more input
 record Takes (t u : Taking) : Type 0 where
   more : List Listed
   list : u.list ≡ t.list ++ more
@@ -31,7 +30,6 @@ takes_as : (t : Taking) (input : ReadInput) (o : Option Refusal) → Takes t (ta
 takes_as t input None = record { more = added_by input; list = refl; one = _; intake = refl; first = omega arith; end = omega (arith, length-append t.list (added_by input)) }
 takes_as t input (Some refusal) = record { more = []; list = sym (append-nil t.list); one = _; intake = refl; first = omega arith; end = omega arith }
 
--- more inputs
 pub record Took (t u : Taking) (count : ℕ) : Type 0 where
   pub more : List Listed
   pub list : u.list ≡ t.list ++ more
@@ -69,9 +67,8 @@ ends_of inputs =
     let k : Took (record { list = []; intake = [] }) (taken_in inputs) (length inputs) = took (record { list = []; intake = [] }) inputs in
     subst (EachIntake (λ d. d.first + d.count ≤ length (taken_in inputs).list)) (sym k.intake) k.end
 
--- ---- answers before and after
+-- ---- Answers before and after more inputs
 
--- an answer stays, and a later one stands at or past the old end
 abbrev Ahead : ℕ → Option PlacedAnswer → Option PlacedAnswer → Type 0
 Ahead end None None = Unit {0}
 Ahead end None (Some a) = end ≤ a.place
@@ -93,7 +90,7 @@ pub beyond : (config : Config) (xs : List Listed) (place : ℕ) → length xs �
 beyond config xs place h =
     ap (answer_at config (entries_of (registry config xs)) place) (past (registry config xs).judged place (omega (arith, judged_length config xs)))
 
--- ---- the greatest place
+-- ---- The greatest place
 
 pub AheadAll : ℕ → (ℕ → Option PlacedAnswer) → (ℕ → Option PlacedAnswer) → Type 0
 AheadAll end f g = (p : ℕ) → Ahead end (f p) (g p)
@@ -107,7 +104,6 @@ latest_above m k [] e = grind (arith, common_steps)
 latest_above m k (None ∷ os) e = cc
 latest_above m k (Some a ∷ os) e = let l : max m a.place ≤ k = latest_above (max m a.place) k os e in omega arith
 
--- the same answers, where all were there
 same_one : (end m k : ℕ) (o u : Option PlacedAnswer) (os us : List (Option PlacedAnswer)) → Ahead end o u → ((n : ℕ) → latest n os ≡ Some k → us ≡ os) → latest m (o ∷ os) ≡ Some k → u ∷ us ≡ o ∷ os
 same_one end m k o u os us a h e = grind (arith, common_steps, h)
 
@@ -116,7 +112,6 @@ unfolding AheadAll
 latest_same end m k f g [] a e = refl
 latest_same end m k f g (p ∷ ps) a e = same_one end m k (f p) (g p) (map f ps) (map g ps) (a p) (λ n h. latest_same end n k f g ps a h) e
 
--- else one came later
 later_one : (end m n k : ℕ) (o u : Option PlacedAnswer) (os us : List (Option PlacedAnswer)) → Ahead end o u → ((i j : ℕ) → latest i os ≡ None → latest j us ≡ Some k → end ≤ k) → latest m (o ∷ os) ≡ None → latest n (u ∷ us) ≡ Some k → end ≤ k
 later_one end m n k o u os us a h d e = grind (arith, common_steps, latest_above, h)
 
@@ -125,7 +120,7 @@ unfolding AheadAll
 latest_later end m n k f g [] a d e = cc
 latest_later end m n k f g (p ∷ ps) a d e = later_one end m n k (f p) (g p) (map f ps) (map g ps) (a p) (λ i j x y. latest_later end i j k f g ps a x y) d e
 
--- ---- the input that has a place
+-- ---- The input at a place
 
 pub where_first : (test : Intake → Bool) (ds more : List Intake) → position_or_len test ds < length ds → position_or_len test (ds ++ more) ≡ position_or_len test ds
 where_first test [] more h = absurd (omega arith)
@@ -142,11 +137,9 @@ where_none test (d ∷ ds) e = grind (arith, common_steps, where_none test ds e.
 at_late : (j : ℕ) (test : Intake → Bool) (ds : List Intake) → j < position_or_len test ds → is_at j (position test ds) ≡ false
 at_late j test ds h = grind (arith, common_steps)
 
--- the first inputs decide
 position_front : (j : ℕ) (test : Intake → Bool) (ds more : List Intake) → j < length ds → is_at j (position test (ds ++ more)) ≡ is_at j (position test ds)
 position_front j test ds more h = grind (arith, common_steps, where_first test ds more, where_late test ds more, length-append)
 
--- no input has a place past the end of all
 pub nowhere : (end k : ℕ) (ds : List Intake) → end ≤ k → EachIntake (λ d. d.first + d.count ≤ end) ds → EachIntake (λ d. has_place k d ≡ false) ds
 nowhere end k [] h e = tt
 nowhere end k (d ∷ ds) h e = (grind (arith, common_steps), nowhere end k ds h e.1)
@@ -154,9 +147,8 @@ nowhere end k (d ∷ ds) h e = (grind (arith, common_steps), nowhere end k ds h 
 position_past : (end k j : ℕ) (ds more : List Intake) → end ≤ k → EachIntake (λ d. d.first + d.count ≤ end) ds → j < length ds → is_at j (position (has_place k) (ds ++ more)) ≡ false
 position_past end k j ds more h e l = position_front j (has_place k) ds more l ∙ at_late j (has_place k) ds (let m = where_none (has_place k) ds (nowhere end k ds h e) in omega arith)
 
--- ---- one input
+-- ---- One input
 
--- where the answers make their input whole
 abbrev pub placed : List Intake → Option ℕ → Option ℕ
 placed intake o = elim o [ None ↦ None | Some place ↦ position (has_place place) intake ]
 
@@ -181,7 +173,7 @@ answers_same end j i f g intake (p ∷ ps) a h =
     let at_some : (k : ℕ) → P (Some k) = λ k d e. latest_same end 0 k f g (p ∷ ps) a d in
     (elim (latest 0 (map f (p ∷ ps))) as P [ None ↦ at_none | Some k ↦ at_some k ]) refl h
 
--- ---- all inputs
+-- ---- All inputs
 
 pub whole_push : (j : ℕ) (w : Whole) (ws : List Whole) → whole_at j (w ∷ ws) ≡ cond (is_at j w.at) (w.out ∷ whole_at j ws) (whole_at j ws)
 whole_push j w ws = grind (arith, common_steps)
@@ -214,7 +206,6 @@ front_same config end j i r t intake more (d ∷ ds) w l =
     (at_same config end j i r t intake more d w l) (front_same config end j (i + 1) r t intake more ds w l) (λ h. out_same config end j i r t intake more d w h)
     ∙ sym (whole_push j (whole_of config r intake i d) (wholes_from config r intake (i + 1) ds))
 
--- inputs taken in later are whole later
 not_yet : (end j i : ℕ) (f : ℕ → Option PlacedAnswer) (intake : List Intake) (first count : ℕ) → ((p : ℕ) → end ≤ p → f p ≡ None) → end ≤ first → j < i → is_at j (whole_by intake i (map f (numbers_from first count))) ≡ false
 not_yet end j i f intake first zero none h l = ne_eqb i j (λ e. omega arith)
 not_yet end j i f intake first (suc count) none h l = ap (λ (o : Option PlacedAnswer). is_at j (placed intake (latest 0 (o ∷ map f (numbers_from (first + 1) count))))) (none first h)
@@ -241,7 +232,7 @@ pub whole_append : (j : ℕ) (us ws : List Whole) → whole_at j (us ++ ws) ≡ 
 whole_append j [] ws = refl
 whole_append j (u ∷ us) ws = grind (arith, common_steps, whole_append j us ws)
 
--- ---- the law
+-- ---- The law
 
 pub numbers_split : (a b c : ℕ) → numbers_from a (b + c) ≡ numbers_from a b ++ numbers_from (a + b) c
 numbers_split a zero c = ap (numbers_from a) (let l : zero + c ≡ c = omega arith in l) ∙ ap (λ (n : ℕ). numbers_from n c) (let l : a ≡ a + zero = omega arith in l)

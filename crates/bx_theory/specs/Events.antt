@@ -15,8 +15,8 @@ use Rattle.bx_theory.specs.Readings.{since_opening, unclosed, mention_by, last_o
 -- ---- Which publishes are events
 
 -- A publish of `e` after the entries `before` reaches the session. Its channel is a broadcast
--- channel, and a pattern last mentioned in a subscription matches it. The session was opened and
--- not closed since. It has not overflowed, and its queue has room for the event.
+-- channel, and a pattern that was last mentioned in a subscription matches it. The session was
+-- opened and not closed since. It has not overflowed, and its queue has room for the event.
 pub record IsEvent (config : Config) (number : ℕ) (before : List Entry) (e : Event) : Type 0 where
   pub broadcast : is_broadcast e.channel ≡ true
   pub live : unclosed number (since_opening number before) ≡ true
@@ -27,7 +27,7 @@ pub record IsEvent (config : Config) (number : ℕ) (before : List Entry) (e : E
   pub room : pending_count (session config number before) < config.limits.events
   pub fits : pending_bytes (session config number before) + event_size e ≤ config.limits.bytes
 
--- A publish at this place has this event and reaches the session.
+-- An entry at the place of `p` publishes its event, which reaches the session.
 pub record GetsPublish (config : Config) (number : ℕ) (es : List Entry) (p : Publication) : Type 0 where
   pub before : List Entry
   pub entry : Entry
@@ -41,7 +41,7 @@ pub record GetsPublish (config : Config) (number : ℕ) (es : List Entry) (p : P
 abbrev pub EventsWerePublished : Type 0
 EventsWerePublished = (config : Config) (number : ℕ) (es : List Entry) → EachOf (GetsPublish config number es) (session config number es).events
 
--- The event comes right after the `earlier` ones in `all`.
+-- In `all`, the event comes right after the `earlier` ones.
 pub record StandsBehind (earlier : List Publication) (p : Publication) (all : List Publication) : Type 0 where
   pub later : List Publication
   pub events : all ≡ earlier ++ p ∷ later
@@ -51,13 +51,13 @@ abbrev pub PublishesAreEvents : Type 0
 PublishesAreEvents = (config : Config) (number : ℕ) (before : List Entry) (entry : Entry) (behind : List Entry) (e : Event) → entry.kind ≡ Publish e →
     IsEvent config number before e → StandsBehind (session config number before).events (record { place = entry.place; event = e }) (session config number (before ++ entry ∷ behind)).events
 
--- Each place is below all later ones.
+-- The place of each publication is less than those of all later ones.
 abbrev pub Rising : List Publication → Type 0
 Rising [] = ⊤
 Rising (p ∷ ps) = EachOf (λ q. p.place < q.place) ps × Rising ps
 
--- A session's events have rising places, so they keep the list's order, and a publish is at most
--- one of them.
+-- The events of a session have rising places. So they are in the order of the list, and a publish
+-- is at most one of them.
 abbrev pub EventsRise : Type 0
 EventsRise = (config : Config) (number : ℕ) (es : List Entry) → PlacesFrom 0 es → Rising (session config number es).events
 
@@ -68,8 +68,8 @@ abbrev pub EachEvent : (Event → Type 0) → List Event → Type 0
 EachEvent P [] = ⊤
 EachEvent P (e ∷ es) = P e × EachEvent P es
 
--- An accepted publish has this event, byte for byte, and reaches the session whose connect or rider
--- is at `place`.
+-- An accepted publish has this event, byte for byte. It reaches the session of the connect or rider
+-- at `place`.
 pub record WasPublished (config : Config) (list : List Listed) (place : ℕ) (e : Event) : Type 0 where
   pub number : ℕ
   pub asked : option_map (λ (j : Judged). j.slot) (slice_get (registry config list).judged place) ≡ Some (Waiting number)

@@ -33,7 +33,7 @@ CountsAgree = (config : Config) (number : ℕ) (es : List Entry) → 0 < config.
 
 -- ---- Answers stay
 
--- An answer depends only on the elements up to the place where it is given.
+-- An answer depends only on the elements up to the one that gives it.
 abbrev pub AnswersStay : Type 0
 AnswersStay = (config : Config) (list other : List Listed) (place : ℕ) (a : PlacedAnswer) → 0 < config.limits.batch →
     answer config list place ≡ Some a → take (a.place + 1) other ≡ take (a.place + 1) list → answer config other place ≡ Some a
@@ -44,7 +44,8 @@ AnswersStay = (config : Config) (list other : List Listed) (place : ℕ) (a : Pl
 abbrev pub Each : (Filed → Type 0) → List Filed → Type 0
 Each P fs = AllByRecursion P fs
 
--- `given` is `count` of the events from index `from`, which is at least `low` unless `count` is 0.
+-- `given` is `count` of the events from index `from` on, which is at least `low` unless `count` is
+-- 0.
 pub record Slice (events : List Publication) (low : ℕ) (given : List Publication) : Type 0 where
   pub from : ℕ
   pub count : ℕ
@@ -52,8 +53,9 @@ pub record Slice (events : List Publication) (low : ℕ) (given : List Publicati
   pub within : from + count ≤ length events
   pub is : given ≡ take count (drop from events)
 
--- The answers that `t` adds to those of `s`, before an entry, have no event done in `s`. If the
--- session acknowledges, they have none done in `u`, after the entry.
+-- The session is `s` before an entry, `u` after it, and `t` later. The answers that are only in `t`
+-- contain no event that is done in `s`. If the session acknowledges, they contain none that is done
+-- in `u`.
 pub record GivesFrom (config : Config) (s u t : Session) : Type 0 where
   pub filed : List Filed
   pub answers : t.answers ≡ s.answers ++ filed
@@ -77,7 +79,7 @@ abbrev pub PlacesFrom : ℕ → List Entry → Type 0
 PlacesFrom n [] = ⊤
 PlacesFrom n (e ∷ es) = (e.place ≡ n) × PlacesFrom (n + 1) es
 
--- The answers that `t` adds to those of `s` have only events of later places than the done ones.
+-- The answers that are only in `t` contain only events at later places than the done ones.
 pub record GivesLater (s u t : Session) : Type 0 where
   pub filed : List Filed
   pub answers : t.answers ≡ s.answers ++ filed
@@ -128,14 +130,14 @@ Repeats num (Some n) = n < num
 abbrev pub LastAnswer : Session → Filed → Type 0
 LastAnswer s f = (rest : List Filed) × (s.answers ≡ rest ++ f ∷ [])
 
--- `answers` is one answer without events, to the entry's rider, which is of session `number`.
+-- `answers` is one answer without events, to the rider of the entry. It is of session `number`.
 pub record EmptyRide (place : ℕ) (rides : Option Rider) (number : ℕ) (answers : List Filed) : Type 0 where
   pub rider : Rider
   pub is : rides ≡ Some rider
   pub session : rider.session ≡ number
   pub alone : answers ≡ record { connect = place; place = place; publications = []; reply = rider.reply } ∷ []
 
--- The session's last answer, or the last before an answer without events to the entry's rider.
+-- The last answer of the session, apart from one without events to the rider of the entry.
 pub record LastGiven (place : ℕ) (rides : Option Rider) (s : Session) (f : Filed) : Type 0 where
   pub rest : List Filed
   pub behind : List Filed

@@ -9,11 +9,11 @@ use Rattle.bx_script.specs.Replay.{Dialect, Line, Bad, Rejected, Accepted, Resha
 abbrev pub inputs_in : List Line → List ReadInput
 inputs_in ls = map (λ (n : Numbered). n.input) (inputs_from 1 ls)
 
--- What these lines print, without the held lines at the end.
+-- What the lines print, without the held lines at the end.
 abbrev pub printed_so_far : Config → List Line → List ℕ
 printed_so_far config ls = printed_from (wholes config (inputs_in ls)) (inputs_from 1 ls) 1 0 ls
 
--- If the line is an input, it adds the outs `more`.
+-- If the line is an input, it appends the outs `more`.
 abbrev pub AddsOuts : Config → List ReadInput → Line → List Out → Type 0
 AddsOuts config inputs (Accepted callback input) more = outs config (inputs ++ input ∷ []) ≡ outs config inputs ++ more
 AddsOuts config inputs _ more = ⊤
@@ -22,7 +22,7 @@ AddsOuts config inputs _ more = ⊤
 abbrev pub outs_text : List Numbered → List Out → List ℕ
 outs_text numbered os = flat_map (λ (o : Out). out_by o (slice_get numbered o.input)) os
 
--- What line `number` prints, if its input adds the outs `more`.
+-- What line `number` prints, if its input appends the outs `more`.
 abbrev pub line_prints : ℕ → List Numbered → Line → List Out → List ℕ
 line_prints number numbered Bad more = line_text number (codes "bad")
 line_prints number numbered (Rejected status) more = line_text number (decimal status)
@@ -31,7 +31,7 @@ line_prints number numbered (Resharded shards) more = []
 line_prints number numbered (Announced nonce) more = []
 line_prints number numbered Noted more = []
 
--- The next line's input, if any, comes after the earlier ones.
+-- The input of the next line, if any, comes after the earlier ones.
 abbrev pub InputsGoOn : Type 0
 InputsGoOn = (ls : List Line) (l : Line) → inputs_from 1 (ls ++ l ∷ []) ≡ inputs_from 1 ls ++ inputs_from (length ls + 1) (l ∷ [])
 

@@ -1,10 +1,10 @@
--- The open inputs of a run, which are not whole yet, and what one more input makes whole.
+-- The open inputs of a run, which are not whole yet, and which of them one more input makes whole.
 use Rattle.std.specs.Prelude.{ℕ, ◌+◌, ◌<◌, ◌≡◌, not, Bool, List, [], ◌∷◌, ◌++◌, length, filter, map, is_some, Option, Some, None}
 use Rattle.bx_advice.specs.declared.config.Config.{Config}
 use Rattle.bx_entry.specs.Words.{PlacedAnswer, answer_in, ReadInput, added_by, refusal_of, Registry, registry, Intake, Out, held, latest, outs, places_of, result_by, taken_in}
 use Rattle.bx_entry.specs.declared.input.Refusal.{Refusal}
 
--- An input that was taken in, with its number.
+-- An input, admitted or rejected, with its number.
 pub record Numbered : Type 0 where
   pub number : ℕ
   pub intake : Intake
@@ -14,7 +14,7 @@ abbrev pub numbered_from : ℕ → List Intake → List Numbered
 numbered_from number [] = []
 numbered_from number (d ∷ ds) = record { number = number; intake = d } ∷ numbered_from (number + 1) ds
 
--- The answers to an input's messages, as far as they are given.
+-- The answers to the messages of an input, as far as they are given.
 abbrev pub answers_to : Config → Registry → Numbered → List (Option PlacedAnswer)
 answers_to config r o = map (answer_in config r) (places_of o.intake o.intake.input)
 
@@ -34,7 +34,7 @@ registry_after config inputs = registry config (taken_in inputs).list
 abbrev pub open_after : Config → List ReadInput → List Numbered
 open_after config inputs = filter (λ (o : Numbered). not (is_whole config (registry_after config inputs) o)) (numbered_from 0 (taken_in inputs).intake)
 
--- An input as it is taken in when the list has length `len`, refused or not.
+-- What an input appends when the list has length `len`, or its refusal.
 abbrev pub intake_as : ℕ → ReadInput → Option Refusal → Intake
 intake_as len input None = record { input = input; first = len; count = length (added_by input); refusal = None }
 intake_as len input (Some refusal) = record { input = input; first = len; count = 0; refusal = Some refusal }
@@ -49,7 +49,7 @@ newest inputs input =
 abbrev pub waiting_at : Config → List ReadInput → ReadInput → List Numbered
 waiting_at config inputs input = open_after config inputs ++ newest inputs input ∷ []
 
--- The next input adds the outs of those that it makes whole, in order.
+-- The next input appends the outs of those that it makes whole, in order.
 abbrev pub OutsAdd : Type 0
 OutsAdd = (config : Config) (inputs : List ReadInput) (input : ReadInput) → 0 < config.limits.batch →
     let r : Registry = registry_after config (inputs ++ input ∷ []) in

@@ -107,7 +107,7 @@ pub record AnsweredAt (config : Config) (p : Pending) (e : Entry) (s t : Session
   pub publications : answer.publications ≡ ending_events e.place e.kind
   pub reply : answer.reply ≡ connect_reply config p.client p.id (ending_outcome e.kind) (ack_given t.ack t.num (ending_outcome e.kind))
 
--- A held connect stays held as long as no entry ends the hold.
+-- A held connect stays held until an entry ends the hold.
 abbrev pub HeldReading : Type 0
 HeldReading = (config : Config) (s : Session) (p : Pending) (es : List Entry) → s.held ≡ Some p → NoneEnds config p s es → (fold (step config) s es).held ≡ Some p
 
@@ -144,7 +144,7 @@ QueueBounded = (config : Config) (number : ℕ) (es : List Entry) → Bounded co
 
 -- ---- Due: the greatest moment that an accepted message set
 
--- Whether a message's sender is the session. A refused message has no sender.
+-- Whether the sender of a message is the session. A rejected message has no sender.
 abbrev pub is_from : ℕ → Option ℕ → Bool
 is_from number None = false
 is_from number (Some n) = number == n
@@ -158,8 +158,8 @@ abbrev pub EachSession : (Registered → Type 0) → List Registered → Type 0
 EachSession P [] = ⊤
 EachSession P (r ∷ rs) = P r × EachSession P rs
 
--- A session's due moment is the greatest that its accepted messages set, each the sum of moment,
--- hold and the configured interval.
+-- The due moment of a session is the greatest that its accepted messages set. Each sets the sum of
+-- its moment, its hold and the configured interval.
 abbrev pub DueReading : Type 0
 DueReading = (config : Config) (list : List Listed) → EachSession (λ r. r.due ≡ fold max 0 (given_moments config r.number (registry config list).judged)) (registry config list).sessions
 
@@ -167,15 +167,15 @@ DueReading = (config : Config) (list : List Listed) → EachSession (λ r. r.due
 abbrev pub SameLive : Type 0
 SameLive = (config : Config) (list : List Listed) → EachSession (λ r. r.live ≡ unclosed r.number (since_opening r.number (entries_of (registry config list)))) (registry config list).sessions
 
--- An accepted message of a session, except its handshake, comes while the session is live by the
--- earlier entries. So a publish that names a session is accepted only from a live one.
+-- By the earlier entries, the session of an accepted message is live, unless the message is its
+-- handshake. So a publish that names a session is accepted only from a live one.
 abbrev pub AcceptedWhileLive : Type 0
 AcceptedWhileLive = (config : Config) (list : List Listed) (before : List Judged) (j : Judged) (behind : List Judged) (number : ℕ) →
     (registry config list).judged ≡ before ++ j ∷ behind → j.sender ≡ Some number → opens_by number j.entry.kind ≡ false →
     unclosed number (since_opening number (map (λ (i : Judged). i.entry) before)) ≡ true
 
--- A publish without a client id is accepted under `--anonymous`, if its channel is a name and it
--- has data.
+-- The kind of entry for a publish without a client id. Under `--anonymous`, the publish is accepted
+-- if its channel is a name and it has data.
 abbrev pub entry_without_client : Config → Message → EntryKind
 entry_without_client config m = if config.anonymous && (not (is_some (name_fault m.channel)) && not (is_none m.payload)) then Publish (event_of m) else Refused
 

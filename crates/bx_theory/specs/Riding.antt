@@ -11,7 +11,7 @@ use Rattle.bx_theory.specs.Readings.{is_from, opens_by}
 
 -- ---- Which messages are riders
 
--- The results for the elements `these`, which come between `before` and `behind`.
+-- The results for the elements `these` of a longer list.
 abbrev pub found_behind : Config → List Listed → List Listed → List Listed → List Judged
 found_behind config before these behind = take (length these) (drop (length before) (registry config (before ++ (these ++ behind))).judged)
 
@@ -26,10 +26,10 @@ may_have_rider (Unsubscribe n ps) = true
 may_have_rider (Publish e) = true
 may_have_rider _ = false
 
--- What makes a message a rider of session `number`. `--ride` is set, and the session does not
--- acknowledge. The message ends a request of accepted messages of the session, without its
--- handshake. It is a subscription, an unsubscription or a publish. `before` and `behind` are the
--- request's other results.
+-- What makes a message a rider of session `number`. The last arguments are the earlier results of
+-- its request, its own result, and the later ones. `--ride` is set, and the session does not
+-- acknowledge. The message ends the request. All messages of the request are accepted, come from
+-- the session, and are no handshakes. The rider is a subscription, an unsubscription or a publish.
 pub record IsRiderOf (number : ℕ) (config : Config) (es : List Entry) (before : List Judged) (j : Judged) (behind : List Judged) : Type 0 where
   pub asked : config.ride ≡ true
   pub plain : (session config number es).ack ≡ false
@@ -48,21 +48,21 @@ RiderReading = (config : Config) (inputs : List ReadInput) (moment nonce : ℕ) 
     found_behind config (flat_map added_by inputs) (added_by (Request moment nonce ms)) more ≡ before ++ j ∷ behind →
     (rider_session j.entry.rides ≡ Some number) ↔ IsRiderOf number config (entries config (flat_map added_by inputs ++ (added_by (Request moment nonce ms) ++ more))) before j behind
 
--- A request with a refused or sessionless message has no rider.
+-- A request with a rejected or sessionless message has no rider.
 abbrev pub NothingRidesBeside : Type 0
 NothingRidesBeside = (config : Config) (inputs : List ReadInput) (moment nonce : ℕ) (ms : List Message) (more : List Listed)
     (before : List Judged) (other : Judged) (behind first : List Judged) (j : Judged) (rest : List Judged) →
     found_behind config (flat_map added_by inputs) (added_by (Request moment nonce ms)) more ≡ before ++ other ∷ behind → other.sender ≡ None →
     found_behind config (flat_map added_by inputs) (added_by (Request moment nonce ms)) more ≡ first ++ j ∷ rest → j.entry.rides ≡ None
 
--- Ticks, refused messages, handshakes, connects and disconnects have no rider.
+-- Ticks, rejected messages, handshakes, connects and disconnects have no rider.
 abbrev pub OthersNeverRide : Type 0
 OthersNeverRide = (config : Config) (list : List Listed) → AllByRecursion (λ (e : Entry). may_have_rider e.kind ≡ false → e.rides ≡ None) (entries config list)
 
 -- ---- What a rider gets
 
--- The rider's answer is the only new one in `t`. It has the first events that wait in `s`, at most
--- `most`; the others wait on.
+-- The only new answer in `t` is that to the rider. It has the first events that wait in `s`, up to
+-- `most`. The others still wait.
 pub record GivesRider (most place : ℕ) (rider : Rider) (s t : Session) : Type 0 where
   pub given : List Publication
   pub answers : t.answers ≡ s.answers ++ record { connect = place; place = place; publications = given; reply = rider.reply } ∷ []

@@ -1,12 +1,12 @@
--- An open input is a held connect, its request's only message.
+-- An open input is a held connect, and the only message of its request.
 use Rattle.std.specs.Prelude.{ℕ, ◌<◌, ◌≡◌, List, [], ◌∷◌, map, slice_get, option_map, None, Some}
 use Rattle.std.specs.{List.AllByRecursion, List.Sorted.IsStrictlyIncreasing}
 use Rattle.bx_advice.specs.declared.config.Config.{Config}
 use Rattle.bx_entry.specs.Words.{ReadInput, Listed, Judged, Waiting, registry, places_of, taken_in}
 use Rattle.bx_theory.specs.Opens.{Numbered, open_after}
 
--- The input is a request of one message, an accepted connect: it waits for its session and is no
--- rider.
+-- The input is an admitted request of one message. The message waits for its session and is no
+-- rider, so it is an accepted connect.
 pub record IsConnect (config : Config) (list : List Listed) (o : Numbered) : Type 0 where
   pub session : ℕ
   pub accepted : o.intake.refusal ≡ None

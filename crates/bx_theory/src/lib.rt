@@ -1,2 +1,4 @@
-//! What follows from the definitions of the server for every list: the words of the laws, and the lemmas that the crates above cite.
+//! The terms of the server's laws, and lemmas about its definitions.
+//!
+//! They hold for every configuration and every list. The proofs of other crates cite them.
 #![tactic(auto)]

@@ -1,4 +1,4 @@
-//! Test of wakes and shards' locks.
+//! Test that tasks are woken while no shard is locked.
 ghost use Rattle.std.specs.Prelude.{◌≡◌};
 ghost use Rattle.bx_entry.specs.Placings.{by_remainder};
 
@@ -32,7 +32,7 @@ struct Counter {
 }
 
 impl Counter {
-    // Creates a counter, and the descriptor that owns it.
+    // Creates a counter, and the file descriptor that owns it.
     fn new() -> Option<(Counter, OwnedFd)> {
         let fd = eventfd(0, EFD_CLOEXEC);
         if fd < 0 {
@@ -42,12 +42,12 @@ impl Counter {
         Some((Counter { fd }, owned))
     }
 
-    // Fills a counter whose value is 1.
+    // Fills the counter, which must be at 1. Returns `true` if that succeeds.
     fn fill(&self) -> bool {
         libc::write(self.fd, &(u64::MAX - 2).to_ne_bytes()) == 8
     }
 
-    // Reads the counter, which lets a blocked write continue.
+    // Reads the counter, so that a blocked write continues. Returns `true` if that succeeds.
     fn empty(&self) -> bool {
         let mut count = [0; 8];
         libc::read(self.fd, &mut count) == 8
@@ -56,7 +56,7 @@ impl Counter {
 
 // The call that answers the connect and so wakes the task.
 //
-// `Question` is a poll, in a shard that was paused during the publish.
+// `Question` is a poll of a shard that was paused during the publish.
 #[derive(Clone, Copy, Debug, PartialEq, Eq)]
 enum Waking {
     Publish,
@@ -70,7 +70,7 @@ struct Flags {
     is_armed: AtomicBool,
     // That call is about to advance shard 1.
     stands: AtomicBool,
-    // Every shard's lock was free after that.
+    // After that, every shard was locked and unlocked once.
     swept: AtomicBool,
     // That call has ended.
     ended: AtomicBool,
@@ -87,7 +87,7 @@ impl Flags {
     }
 }
 
-// A gate that reports when the waking call holds the lock of shard 1.
+// A gate that reports when the waking call has locked shard 1.
 #[derive(Drop)]
 struct Telling {
     flags: Arc<Flags, Global>,
@@ -132,7 +132,7 @@ fn wakes<J: Naming, P: Placing, G: Gate + Drop, H: Wait + Drop, R: Wait>(
     answered
 }
 
-// Takes every shard's lock, which blocks until the waking call has released it.
+// Locks every shard once, after the waking call has locked shard 1. Returns `true` if it has.
 fn sweeps<J: Naming, P: Placing, G: Gate + Drop, H: Wait + Drop, R: Wait + Clock>(
     rt: &R,
     hub: &Hub<J, P, G, H>,
@@ -147,15 +147,15 @@ fn sweeps<J: Naming, P: Placing, G: Gate + Drop, H: Wait + Drop, R: Wait + Clock
 // What happened to a wake that was blocked.
 #[derive(Clone, Copy, Debug, PartialEq, Eq)]
 struct Told {
-    // Every shard's lock was free meanwhile.
+    // Every shard could be locked meanwhile.
     was_free: bool,
     // The waking call had ended, although its wake was blocked.
     had_ended: bool,
-    // The wake was allowed to continue.
+    // The blocked write could continue.
     let_go: bool,
 }
 
-// Lets the wake continue once the locks were free, or after `LOOKS` milliseconds.
+// Lets the wake continue once every shard was locked, or after `LOOKS` milliseconds.
 fn lets_go<R: Clock>(rt: &R, flags: &Flags, counter: &Counter) -> Told {
     let was_free = wait_for(rt, &flags.swept);
     thread::sleep(rt, Duration::from_millis(20));
@@ -210,7 +210,7 @@ fn beside<
     same(rt, told, wanted, waking);
 }
 
-// Registers a waker of `task`, makes its wake block, and runs `beside` while the task sleeps.
+// Registers a waker of `task`, makes its wake block, and runs the threads while the task sleeps.
 fn rings<
     J: Naming + Send + Sync,
     P: Placing + Send + Sync,
@@ -324,7 +324,7 @@ fn frees<R: Threads + Wait + Clock + Abort + Sync>(
     )
 }
 
-// Shows that a publish and a poll release every shard's lock before they wake a task.
+// Checks that a publish and a poll unlock every shard before they wake a task.
 #[test]
 fn wakes_wait_for_no_shard(rt: HostRuntime) -> Result<(), Fail> {
     for waking in [Waking::Publish, Waking::Question] {

@@ -4,7 +4,7 @@ ghost use Rattle.bx_entry.specs.Placings.{by_remainder};
 
 use crate::same::same;
 use bx_advice::Config;
-use bx_calls::{HANDSHAKE, PUBLISH, poll, post};
+use bx_calls::{HANDSHAKE, post};
 use bx_entry::{ByRemainder, Placing};
 use bx_hub::{Gate, Hub, OpenGate, Pass};
 use bx_window::{Naming, Opened};
@@ -20,6 +20,9 @@ const TICKS: usize = 2_000;
 
 // Events of each of three threads, together fewer than a session may queue.
 const EVENTS: usize = 250;
+
+// Events of all three threads.
+const ALL_EVENTS: usize = 3 * EVENTS;
 
 // Connects of each of two threads.
 const CONNECTS: usize = 100;
@@ -38,74 +41,91 @@ const ASKS: [&str; 2] = [
 // What a thread does.
 #[derive(Clone, Copy, Debug)]
 enum Job {
-    Publish,
+    // The number of the first event to publish.
+    Publish(usize),
     Tick,
     // The index of the session, 0 or 1.
     Receive(usize),
     Sweep,
 }
 
+// Publishes `EVENTS` events, whose data are their numbers, from `first` on.
 fn publishes<J: Naming, P: Placing, G: Gate + Drop, H: Wait + Drop, R: Wait>(
     rt: &R,
     alloc: Global,
     hub: &Hub<J, P, G, H>,
-) -> Option<usize> {
+    first: usize,
+) -> Option<Vec<usize>> {
     let mut pass = hub.pass();
-    for _ in 0..EVENTS {
-        post(rt, alloc, hub, &mut pass, PUBLISH).ok()?;
+    for number in first..first.checked_add(EVENTS)? {
+        let body = format!(in alloc;
+            r#"[{{"channel":"/a/b","clientId":"000000000000000000000000000000000000000000000002","data":{number}}}]"#
+        ).ok()?;
+        post(rt, alloc, hub, &mut pass, body.as_str()).ok()?;
     }
-    Some(0)
+    Some(Vec::new(alloc))
 }
 
 fn ticks<J: Naming, P: Placing, G: Gate + Drop, H: Wait + Drop, R: Wait>(
     rt: &R,
     alloc: Global,
     hub: &Hub<J, P, G, H>,
-) -> Option<usize> {
+) -> Option<Vec<usize>> {
     let mut pass = hub.pass();
     for _ in 0..TICKS {
         hub.tick(rt, alloc, &mut pass, 0).ok()?;
     }
-    Some(0)
+    Some(Vec::new(alloc))
 }
 
-// Returns how many events one connect gets.
+// Appends the numbers of the events that one connect gets to `given`, those of session 1 raised by
+// `ALL_EVENTS`.
 fn asks<J: Naming, P: Placing, G: Gate + Drop, H: Wait + Drop, R: Wait>(
     rt: &R,
     alloc: Global,
     hub: &Hub<J, P, G, H>,
     pass: &mut Pass<J>,
     session: usize,
-) -> Option<usize> {
+    given: &mut Vec<usize>,
+) -> Option<()> {
     let (_, ticket) = post(rt, alloc, hub, pass, ASKS.get(session)?).ok()?;
-    poll(rt, alloc, hub, pass, ticket?).ok()?.checked_sub(1)
+    let answer = hub.poll_answer(rt, alloc, pass, ticket?).ok()??;
+    for event in answer.events.as_slice() {
+        let number = event.event().payload.as_str().parse::<usize>().ok()?;
+        given
+            .push(session.checked_mul(ALL_EVENTS)?.checked_add(number)?)
+            .ok()?;
+    }
+    Some(())
 }
 
-// Returns how many events a session gets by `CONNECTS` connects.
+// Returns the numbers of the events that a session gets by `CONNECTS` connects.
 fn receives<J: Naming, P: Placing, G: Gate + Drop, H: Wait + Drop, R: Wait>(
     rt: &R,
     alloc: Global,
     hub: &Hub<J, P, G, H>,
     session: usize,
-) -> Option<usize> {
+) -> Option<Vec<usize>> {
     let mut pass = hub.pass();
-    let mut count: usize = 0;
+    let mut given = Vec::new(alloc);
     for _ in 0..CONNECTS {
-        count = count.checked_add(asks(rt, alloc, hub, &mut pass, session)?)?;
+        asks(rt, alloc, hub, &mut pass, session, &mut given)?;
     }
-    Some(count)
+    Some(given)
 }
 
-// Sweeps repeatedly, and returns the number of answers dropped: 0.
+// Sweeps repeatedly. Returns `None` if that drops an answer.
 fn sweeps<J: Naming, P: Placing, G: Gate + Drop, H: Wait + Drop, R: Wait>(
     rt: &R,
+    alloc: Global,
     hub: &Hub<J, P, G, H>,
-) -> Option<usize> {
-    let mut count: usize = 0;
+) -> Option<Vec<usize>> {
     for _ in 0..TICKS {
-        count = count.checked_add(hub.sweep(rt, 0).dropped())?;
+        if hub.sweep(rt, 0).dropped() > 0 {
+            return None;
+        }
     }
-    Some(count)
+    Some(Vec::new(alloc))
 }
 
 fn works<J: Naming, P: Placing, G: Gate + Drop, H: Wait + Drop, R: Wait>(
@@ -113,13 +133,20 @@ fn works<J: Naming, P: Placing, G: Gate + Drop, H: Wait + Drop, R: Wait>(
     alloc: Global,
     hub: &Hub<J, P, G, H>,
     job: Job,
-) -> Option<usize> {
+) -> Option<Vec<usize>> {
     match job {
-        Job::Publish => publishes(rt, alloc, hub),
+        Job::Publish(first) => publishes(rt, alloc, hub, first),
         Job::Tick => ticks(rt, alloc, hub),
         Job::Receive(session) => receives(rt, alloc, hub, session),
-        Job::Sweep => sweeps(rt, hub),
+        Job::Sweep => sweeps(rt, alloc, hub),
     }
+}
+
+// Appends the numbers of `second` to those of `first`.
+fn joined(first: Option<Vec<usize>>, second: Option<Vec<usize>>) -> Option<Vec<usize>> {
+    let mut all = first?;
+    all.extend_from_slice(second?.as_slice()).ok()?;
+    Some(all)
 }
 
 fn two<
@@ -128,13 +155,13 @@ fn two<
     G: Gate + Drop + Send + Sync,
     H: Wait + Drop + Send,
     R: Threads + Wait + Sync,
->(rt: &R, alloc: Global, hub: &Hub<J, P, G, H>, jobs: (Job, Job)) -> Option<usize> {
+>(rt: &R, alloc: Global, hub: &Hub<J, P, G, H>, jobs: (Job, Job)) -> Option<Vec<usize>> {
     let (a, b) = join(
         rt,
         || works(rt, alloc, hub, jobs.0),
         || works(rt, alloc, hub, jobs.1),
     );
-    a?.checked_add(b?)
+    joined(a, b)
 }
 
 fn four<
@@ -149,41 +176,41 @@ fn four<
     hub: &Hub<J, P, G, H>,
     first: (Job, Job),
     second: (Job, Job),
-) -> Option<usize> {
+) -> Option<Vec<usize>> {
     let (a, b) = join(
         rt,
         || two(rt, alloc, hub, first),
         || two(rt, alloc, hub, second),
     );
-    a?.checked_add(b?)
+    joined(a, b)
 }
 
-// Runs eight threads, and returns how many events the two sessions get meanwhile.
+// Runs eight threads, and returns the numbers of the events that the two sessions get meanwhile.
 fn eight<
     J: Naming + Send + Sync,
     P: Placing + Send + Sync,
     G: Gate + Drop + Send + Sync,
     H: Wait + Drop + Send,
     R: Threads + Wait + Sync,
->(rt: &R, alloc: Global, hub: &Hub<J, P, G, H>) -> Option<usize> {
+>(rt: &R, alloc: Global, hub: &Hub<J, P, G, H>) -> Option<Vec<usize>> {
     let (a, b) = join(
         rt,
         || four(
             rt,
             alloc,
             hub,
-            (Job::Publish, Job::Receive(0)),
-            (Job::Tick, Job::Publish),
+            (Job::Publish(0), Job::Receive(0)),
+            (Job::Tick, Job::Publish(EVENTS)),
         ),
         || four(
             rt,
             alloc,
             hub,
-            (Job::Publish, Job::Receive(1)),
+            (Job::Publish(2 * EVENTS), Job::Receive(1)),
             (Job::Tick, Job::Sweep),
         ),
     );
-    a?.checked_add(b?)
+    joined(a, b)
 }
 
 // Opens and subscribes two sessions.
@@ -199,19 +226,22 @@ fn opens<J: Naming, P: Placing, G: Gate + Drop, H: Wait + Drop, R: Wait>(
     Some(())
 }
 
-// Returns how many events both sessions get, with the rest fetched after the threads end.
+// Returns the numbers of the events that both sessions get, with the rest fetched after the threads
+// end, in ascending order.
 fn given<
     J: Naming + Send + Sync,
     P: Placing + Send + Sync,
     G: Gate + Drop + Send + Sync,
     H: Wait + Drop + Send,
     R: Threads + Wait + Sync,
->(rt: &R, alloc: Global, hub: &Hub<J, P, G, H>) -> Option<usize> {
+>(rt: &R, alloc: Global, hub: &Hub<J, P, G, H>) -> Option<Vec<usize>> {
     opens(rt, alloc, hub)?;
     let given = eight(rt, alloc, hub)?;
-    let first = receives(rt, alloc, hub, 0)?;
-    let second = receives(rt, alloc, hub, 1)?;
-    given.checked_add(first)?.checked_add(second)
+    let first = receives(rt, alloc, hub, 0);
+    let second = receives(rt, alloc, hub, 1);
+    let mut all = joined(joined(Some(given), first), second)?;
+    all.sort().ok()?;
+    Some(all)
 }
 
 fn crowd<J: Naming + Send + Sync, R: Threads + Wait + Abort + Sync>(
@@ -228,12 +258,16 @@ fn crowd<J: Naming + Send + Sync, R: Threads + Wait + Abort + Sync>(
     let hub = Hub::<J, ByRemainder, OpenGate, &R>::new(
         alloc, rt, opened, config, placing, OpenGate,
     )?;
-    // Two sessions get the events of three publishing threads.
-    same(rt, given(rt, alloc, &hub), Some(2 * 3 * EVENTS), "given");
+    let given = given(rt, alloc, &hub).ok_or("a call failed")?;
+    // Each of two sessions gets each event of three publishing threads once.
+    same(rt, given.len(), 2 * ALL_EVENTS, "given");
+    for (number, event) in given.iter().enumerate() {
+        same(rt, *event, number, "event");
+    }
     Ok(())
 }
 
-// Shows that sessions get as many events as were published while eight threads run.
+// Shows that each session gets each published event once while eight threads run.
 #[test]
 fn eight_threads(rt: HostRuntime) -> Result<(), Fail> {
     let alloc = rt.alloc();

@@ -1,4 +1,4 @@
-//! Test of the locks of shards and admission.
+//! Test that shards and admission have separate locks.
 ghost use Rattle.std.specs.Prelude.{◌≡◌};
 ghost use Rattle.bx_entry.specs.Placings.{by_remainder};
 
@@ -36,9 +36,9 @@ struct Flags {
 // What a second caller finds while the first is stopped in shard 0.
 #[derive(Clone, Copy, Debug, PartialEq, Eq)]
 struct Told {
-    // Whether a tick is refused for its moment alone.
+    // Whether a tick is rejected only for its moment.
     is_bad_moment: bool,
-    // How many entries the caller has seen after that.
+    // How many entries the caller has then seen.
     seen: u64,
     // What it finds for the connect in shard 1.
     found: Found,
@@ -70,7 +70,7 @@ impl Gate for Holding {
 
 // Ticks and polls while the publish is stopped in shard 0, and then lets it continue.
 //
-// Admission must be free, and its list must have the publish. Shard 1 must be free too.
+// Admission and shard 1 must be unlocked, and the list must have the publish.
 fn takes<J: Naming, P: Placing, H: Wait + Drop, R: Wait>(
     rt: &R,
     alloc: Global,
@@ -111,7 +111,7 @@ fn posts<J: Naming, P: Placing, H: Wait + Drop, R: Wait>(
 
 // Runs both callers and checks what they find.
 //
-// If one lock covered all shards, or admission and shard 0, the publish would wait in vain.
+// If one lock guarded both shards, or admission and shard 0, the publish would wait in vain.
 fn beside<
     J: Naming + Send + Sync,
     P: Placing + Send + Sync,
@@ -194,7 +194,7 @@ fn held<J: Naming + Send + Sync, R: Threads + Wait + Abort + Sync>(
     stands(rt, alloc, &hub, flags)
 }
 
-// Shows that a call stopped in shard 0 delays neither admission nor a poll in shard 1.
+// Checks that a call stopped in shard 0 delays neither admission nor a poll in shard 1.
 #[test]
 fn shards_have_locks_of_their_own(rt: HostRuntime) -> Result<(), Fail> {
     let alloc = rt.alloc();

@@ -1,4 +1,4 @@
-//! Test of waits for admission, and of gates.
+//! Test of calls that wait for admission, and of gates.
 ghost use Rattle.std.specs.Prelude.{◌≡◌};
 ghost use Rattle.bx_entry.specs.Placings.{by_remainder, by_remainder-below};
 
@@ -21,7 +21,7 @@ use std::time::{Clock, Duration};
 // How often a thread looks at a flag before it gives up, one millisecond apart.
 const LOOKS: u32 = 10_000;
 
-// How often all shards' locks are taken, one millisecond apart, while the post has admission's.
+// How often all shards are locked, one millisecond apart, while the post has locked admission.
 // In that time the other call reaches the point where it would wait for admission.
 const SWEEPS: u32 = 200;
 
@@ -40,7 +40,7 @@ enum Call {
 #[derive(Drop)]
 struct Flags<C: Clock + Drop> {
     clock: C,
-    // The call is to stop in shard 1, the post where it places a session.
+    // The call must stop in shard 1, and the post where it places a session.
     holds_call: AtomicBool,
     holds_post: AtomicBool,
     // They have stopped there.
@@ -52,9 +52,9 @@ struct Flags<C: Clock + Drop> {
     gave_up: AtomicBool,
     // How often the placing was used.
     asked: AtomicU64,
-    // The same count at the gate's last call before an advance.
+    // The same count before the last advance.
     before: AtomicU64,
-    // Number of advances during which the placing was used.
+    // How many advances used the placing.
     between: AtomicU64,
 }
 
@@ -100,9 +100,9 @@ impl<C: Clock + Drop> Holding<C> {
     }
 }
 
-// Stops the call after the entries of shard 1, until the post has admission's lock.
+// Stops the call after shard 1 has advanced, until the post has locked admission.
 //
-// After that, a tick or post only reads the shards' places and trims the window. A poll has
+// After that, a tick or post only reads the shards' positions and trims the window. A poll has
 // nothing left to do.
 impl<C: Clock + Drop> Gate for Holding<C> {
     fn before(&self, _shard: usize) {
@@ -121,7 +121,7 @@ impl<C: Clock + Drop> Gate for Holding<C> {
     }
 }
 
-// Stops the post where it places its connect, under admission's lock.
+// Stops the post where it places its connect, while admission is locked.
 impl<C: Clock + Drop> Placing for Holding<C> {
     ghost place_of = { λ _ number shards. by_remainder number shards };
 
@@ -164,7 +164,7 @@ fn calls<J: Naming, P: Placing, G: Gate + Drop, H: Wait + Drop, C: Clock + Drop,
     }
 }
 
-// Posts a connect, which is stopped under admission's lock.
+// Posts a connect, which is stopped while admission is locked.
 fn posts<J: Naming, P: Placing, G: Gate + Drop, H: Wait + Drop, C: Clock + Drop, R: Wait>(
     rt: &R,
     alloc: Global,
@@ -176,7 +176,7 @@ fn posts<J: Naming, P: Placing, G: Gate + Drop, H: Wait + Drop, C: Clock + Drop,
     post(rt, alloc, hub, &mut hub.pass(), CONNECT).is_ok()
 }
 
-// Takes every shard's lock while the post has admission's and the other call may continue.
+// Locks every shard repeatedly, while the post has locked admission and the call can continue.
 fn sweeps<J: Naming, P: Placing, G: Gate + Drop, H: Wait + Drop, C: Clock + Drop, R: Wait>(
     rt: &R,
     hub: &Hub<J, P, G, H>,
@@ -209,8 +209,8 @@ fn posts_and_sweeps<
 
 // Runs the three threads and checks that none waited in vain.
 //
-// If the call waited for admission with a shard's lock, the sweeps would block, and the post would
-// wait for them in vain.
+// If the call waited for admission while it has locked a shard, the sweeps would block, and the
+// post would wait for them in vain.
 fn beside<
     J: Naming + Send + Sync,
     P: Placing + Send + Sync,
@@ -281,7 +281,7 @@ fn holds<C: Clock + Drop + Send + Sync, R: Threads + Wait + Abort + Sync>(
     ordered::<Brand, _, _>(rt, alloc, Opened::new(), config, placing, gate, flags, call)
 }
 
-// Shows that calls wait for admission without a shard's lock, and that gates surround advances.
+// Checks that calls unlock shards before they wait for admission, and that gates enclose advances.
 #[test]
 fn calls_wait_without_a_shard(rt: HostRuntime) -> Result<(), Fail> {
     for call in [Call::Tick, Call::Post, Call::Question] {

@@ -1,4 +1,4 @@
-//! Test of a thread that sleeps until its connect is answered.
+//! Test of a thread that sleeps in each round until its connect is answered.
 ghost use Rattle.std.specs.Prelude.{◌≡◌};
 ghost use Rattle.bx_entry.specs.Placings.{by_remainder};
 
@@ -19,10 +19,11 @@ use std::thread;
 use std::thread::{Threads, join};
 use std::time::{Clock, Duration, Instant};
 
-// Number of rounds. Each has a connect and a publish, so that their batches overfill the window.
+// Maximum number of rounds. Each adds the batches of a connect and a publish, so that all of them
+// overfill the window.
 const ROUNDS: u64 = 10_000;
 
-// Seconds after which no round begins, for busy machines.
+// Seconds after which no more rounds begin, so that the test also ends on a busy machine.
 const SECONDS: u64 = 5;
 
 // How often the publishing thread looks for its turn.
@@ -50,7 +51,7 @@ fn text_of(alloc: Global, around: [&str; 2], round: u64) -> Result<String, Alloc
     format!(in alloc; "{head}{round}{tail}")
 }
 
-// The waiting task, and the round whose event may be published.
+// The waiting task, and the round for which the event may be published.
 #[derive(Drop)]
 struct Turns {
     task: Queue,
@@ -93,7 +94,7 @@ impl Turns {
     }
 }
 
-// In place of a round: no more rounds follow.
+// The value of `Turns::round` when no more rounds follow.
 const OVER: u64 = u64::MAX;
 
 // What the publishing thread does next.
@@ -113,7 +114,7 @@ fn has_time<R: Clock>(rt: &R, start: Instant) -> bool {
     }
 }
 
-// Counts of rounds begun and ended, of wakers left with the hub, and of wakes from sleep.
+// Counts of rounds begun and ended, of wakers registered with the hub, and of wakes from sleep.
 #[derive(Clone, Copy, Debug, PartialEq, Eq)]
 struct Told {
     begun: u64,
@@ -133,7 +134,7 @@ impl Told {
     }
 }
 
-// Leaves a waker and sleeps until it is woken, unless the connect was answered meanwhile.
+// Registers a waker and sleeps until it is woken, unless the connect was answered meanwhile.
 fn wait<J: Naming, P: Placing, G: Gate + Drop, H: Wait + Drop, R: Wait>(
     rt: &R,
     hub: &Hub<J, P, G, H>,
@@ -201,7 +202,7 @@ fn connects<J: Naming, P: Placing, G: Gate + Drop, H: Wait + Drop, R: Wait>(
     ticket
 }
 
-// Plays a round: its connect gets its event.
+// Plays a round: its connect must get its event.
 fn plays<J: Naming, P: Placing, G: Gate + Drop, H: Wait + Drop, R: Wait>(
     rt: &R,
     alloc: Global,
@@ -250,7 +251,7 @@ fn waits<J: Naming, P: Placing, G: Gate + Drop, H: Wait + Drop, R: Wait + Clock>
 
 // Publishes an event in each round, and returns how many.
 //
-// Returns `None` if a publish is refused or a round does not begin in time.
+// Returns `None` if a publish fails or a round does not begin in time.
 fn publishes<J: Naming, P: Placing, G: Gate + Drop, H: Wait + Drop, R: Wait + Clock>(
     rt: &R,
     alloc: Global,
@@ -280,7 +281,7 @@ fn publish<J: Naming, P: Placing, G: Gate + Drop, H: Wait + Drop, R: Wait>(
     Some(())
 }
 
-// Runs `publishes`. If that fails, shuts the task down so that it does not sleep on.
+// Runs `publishes`. If that fails, shuts the task down so that it does not sleep forever.
 fn publishes_all<J: Naming, P: Placing, G: Gate + Drop, H: Wait + Drop, R: Wait + Clock>(
     rt: &R,
     alloc: Global,
@@ -355,7 +356,7 @@ fn play<J: Naming + Send + Sync, R: Threads + Wait + Clock + Abort + Sync>(
     rounds(rt, alloc, &hub, turns)
 }
 
-// Shows that each waker left with a held connect wakes its task once.
+// Checks that each waker registered with a held connect wakes its task once.
 #[test]
 fn each_waker_wakes_once(rt: HostRuntime) -> Result<(), Fail> {
     let alloc = rt.alloc();

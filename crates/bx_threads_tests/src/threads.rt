@@ -18,7 +18,7 @@ use std::thread::{Threads, join};
 // More ticks than the window has batches.
 const TICKS: usize = 5_000;
 
-// Ticks and publishes nothing, so that any event found later is the other thread's.
+// Ticks without publishing, so that any event found later is the other thread's.
 fn ticks<J: Naming, P: Placing, G: Gate + Drop, H: Wait + Drop, R: Wait>(
     rt: &R,
     alloc: Global,
@@ -42,9 +42,9 @@ fn tells<J: Naming, P: Placing, G: Gate + Drop, H: Wait + Drop, R: Wait>(
     Some(pass)
 }
 
-// Publishes in one thread and ticks in the other, which then learns the first one's pass.
+// Publishes in one thread and ticks in the other, then joins both passes.
 //
-// The held connect must then be answered once, with that event.
+// The held connect must then be answered once, with the event.
 fn meet<
     J: Naming + Send + Sync,
     P: Placing + Send + Sync,
@@ -82,7 +82,7 @@ fn answered<J: Naming, P: Placing, G: Gate + Drop, H: Wait + Drop, R: Wait + Abo
     Ok(())
 }
 
-// Returns the ticket of a held connect, after checking that it has no answer.
+// Holds a connect, checks that it has no answer, and returns its ticket.
 fn waits<J: Naming, P: Placing, G: Gate + Drop, H: Wait + Drop, R: Wait + Abort>(
     rt: &R,
     alloc: Global,
@@ -124,7 +124,7 @@ fn two<J: Naming + Send + Sync, R: Threads + Wait + Abort + Sync>(
     meet_once(rt, alloc, &hub)
 }
 
-// Shows that a pass extended by another thread's finds that thread's event, once.
+// Checks that a pass extended by another thread's pass finds that thread's event, once.
 #[test]
 fn two_threads(rt: HostRuntime) -> Result<(), Fail> {
     let alloc = rt.alloc();

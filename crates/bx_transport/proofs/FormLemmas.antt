@@ -1,8 +1,7 @@
--- The values of a form's parameters, one after another.
+-- The values of a form's parameters, in order.
 use Rattle.std.proofs.Common.{◌≡◌, ℕ, Bool, true, false, cond, List, [], ◌∷◌, ◌++◌, map, filter, refl}
 use Rattle.bx_transport.specs.Forms.{Pair, is_named, text_of, values_among}
 
--- the values of a pair and of more
 pub values-more : (name : List ℕ) (p : Pair) (ps : List Pair) → values_among name (p ∷ ps) ≡ values_among name (p ∷ []) ++ values_among name ps
 values-more name p ps = by_test (is_named name p)
   where

@@ -1,4 +1,4 @@
--- One separator of a text is replaced by its escape: what was lexed stays.
+-- If one separator of a text is replaced by its escape, the tokens stay the same.
 use Rattle.std.proofs.Common.{◌≡◌, ℕ, zero, suc, ◌+◌, ◌<◌, ◌≤◌, Bool, true, false, cond, ◌&&◌, ◌||◌, ◌==◌, nat_lt, List, [], ◌∷◌, ◌++◌, length, Option, Some, None, option_and_then, refl, sym, ap, ap₂, ◌∙◌, subst, arith}
 use Rattle.std.proofs.lemmas.{Bool.false≢true, Bool.true≢false, Bool.and_parts, Bool.eqb-true, List.length-append, Option.option_and_then_some}
 use Rattle.std.specs.Char.{is_digit, encode_utf8}
@@ -11,7 +11,7 @@ use Rattle.bx_cut.proofs.{Seen.IsWord, Seen.is_word, Local.no_some}
 use Rattle.bx_cut.proofs.Values.{true_other, false_other, null_other}
 use Rattle.bx_cut.proofs.Words.{AllOther, WordText, Ended, word_text, true_text, false_text, null_text}
 
--- a text with a separator, of lines or of paragraphs, and the same with the escape in its place
+-- A text, and the same text with one separator replaced by its escape.
 pub data Replaced : List ℕ → List ℕ → Type 0 where
   here : (lines : Bool) (r : List ℕ) → Replaced (226 ∷ 128 ∷ cond lines 168 169 ∷ r) (92 ∷ 117 ∷ 50 ∷ 48 ∷ 50 ∷ cond lines 56 57 ∷ r)
   there : (x : ℕ) (t u : List ℕ) → Replaced t u → Replaced (x ∷ t) (x ∷ u)
@@ -20,14 +20,13 @@ some_text : {t v : List ℕ} → Replaced t v → 0 < length t
 some_text (here b r) = omega arith
 some_text (there x t u more) = omega arith
 
--- behind a byte that begins no separator
 skip : (x : ℕ) (xs v : List ℕ) → Replaced (x ∷ xs) v → (226 ≡ x → ⊥) → (us : List ℕ) × (v ≡ x ∷ us) × Replaced xs us
 skip x xs v (here b r) n = absurd (n refl)
 skip x xs v (there y ys u R) n = (u, refl, R)
 
 -- ---- the content of a string
 
--- the bytes of one stay in the other
+-- If `o` has bytes, `p` has the same.
 abbrev Stays : Option (List ℕ) → Option (List ℕ) → Type 0
 Stays o p = (s : List ℕ) → o ≡ Some s → p ≡ Some s
 
@@ -51,7 +50,6 @@ joined : (a b c : ℕ) (o : Option (List ℕ)) → prepend (a ∷ b ∷ c ∷ []
 joined a b c None = refl
 joined a b c (Some s) = refl
 
--- behind four digits
 skip4 : (a b c d u : ℕ) (xs v : List ℕ) → code_unit a b c d ≡ Some u → Replaced (a ∷ b ∷ c ∷ d ∷ xs) v → (us : List ℕ) × (v ≡ a ∷ b ∷ c ∷ d ∷ us) × Replaced xs us
 unfolding code_unit
 skip4 a b c d u xs v e R =
@@ -96,18 +94,16 @@ contents _ w v R = λ s e. no_some s e
 
 -- ---- lexemes
 
--- none of them is bad
+-- No token is bad.
 abbrev pub Sound : List Lexeme → Type 0
 Sound [] = Unit {0}
 Sound (token t ∷ ls) = (t ≡ bad → ⊥) × Sound ls
 Sound (comma ∷ ls) = Sound ls
 Sound (colon ∷ ls) = Sound ls
 
--- where none is bad, they stay
 abbrev pub Same : List Lexeme → List Lexeme → Type 0
 Same old new = Sound old → new ≡ old
 
--- in which mode what is lexed of one text is that of the other; within a word it may be another
 abbrev pub Keeps : Mode → List ℕ → List ℕ → Type 0
 Keeps in_word t v = Unit {0}
 Keeps m t v = Same (lex m t) (lex m v)
@@ -125,7 +121,6 @@ ended (there x t u R) e = e
 literal : (k : Token) (z : List ℕ) → ends_word z ≡ true → token (cond (ends_word z) k bad) ∷ lex in_word z ≡ token k ∷ lex between z
 literal k z e = ap₂ (λ b ls. token (cond b k bad) ∷ ls) e (in_word-ended z e)
 
--- a text behind a word
 behind : (s r v : List ℕ) → AllOther s → ends_word r ≡ true → Replaced (s ++ r) v → (rest : List ℕ) × (v ≡ s ++ rest) × Replaced r rest × (ends_word rest ≡ true)
 behind [] r v a e R = (v, refl, R, ended R e)
 behind (x ∷ s) r v a e R =
@@ -141,7 +136,6 @@ no_word x e = by_tests (x == 34) (x == 92) (is_operator x) (is_space x) e
     by_tests _ _ _ _ e = cc
 
 module _ (n : ℕ) (onwards : (t v : List ℕ) → length t ≤ n → Replaced t v → Same (lex between t) (lex between v)) where
-  -- behind the text of a word
   past_word : (s : List ℕ) (k : Token) (x : ℕ) (xs v : List ℕ) → class x ≡ other → AllOther s → ((z : List ℕ) → ends_word z ≡ true → lex between (s ++ z) ≡ token k ∷ lex between z) → length xs ≤ n → Replaced (x ∷ xs) v → Ended s (x ∷ xs) → Same (lex between (x ∷ xs)) (lex between v)
   past_word [] k x xs v o a lexed l R (r, e, f) = absurd (true≢false (sym (ap ends_word e ∙ f) ∙ no_word x o))
   past_word (y ∷ s) k x xs v o a lexed l R (r, e, f) =
@@ -183,7 +177,6 @@ module _ (n : ℕ) (onwards : (t v : List ℕ) → length t ≤ n → Replaced t
           let text = x ∷ xs in
           subst (λ c. Same (lex_byte between c x xs (λ m. lex m xs)) (lex_byte between c x us (λ m. lex m us))) e (words x xs (x ∷ us) (word text) e (is_word text) (word_text text) d.0 l (there x xs us R)) d
 
--- what was lexed stays
 pub lexes : (n : ℕ) (m : Mode) (t v : List ℕ) → length t ≤ n → Replaced t v → Keeps m t v
 unfolding lex word after_number
 lexes zero m t v l R = let no : ⊥ = omega (arith, some_text R) in absurd no

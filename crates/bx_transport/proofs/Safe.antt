@@ -1,4 +1,4 @@
--- A text that a script may hold reads as the text.
+-- A text with escaped separators reads as the original.
 use Rattle.std.proofs.Common.{◌≡◌, ℕ, Bool, true, false, cond, List, [], ◌∷◌, ◌++◌, length, drop, nat_eq, Some, refl, sym, ap, ◌∙◌, subst, arith}
 use Rattle.std.proofs.lemmas.List.{append_assoc}
 use Rattle.std.specs.List.{starts_with}
@@ -38,7 +38,6 @@ mutual
   members_sound json.no_members = ((λ e. cc), tt)
   members_sound (json.member k j ms) = ((λ e. cc), no_bad_both (json_tokens j) (members_tokens ms) (tree_sound j) (members_sound ms))
 
--- what was lexed, where no token is bad
 allowed : (b : Bool) (t : Token) (ls : List Lexeme) (next : Place) → ((p : Place) → NoBad (punctuate p ls) → Sound ls) → NoBad (if_allowed b t (λ p. punctuate p ls) next) → Sound ls
 allowed true t ls next more h = more next h.1
 allowed false t ls next more h = absurd (h.0 refl)
@@ -71,12 +70,11 @@ behind : (a t v : List ℕ) → Replaced t v → Replaced (a ++ t) (a ++ v)
 behind [] t v R = R
 behind (x ∷ a) t v R = there x (a ++ t) (a ++ v) (behind a t v R)
 
--- ---- all of them, from the end on
+-- ---- all separators, from the end
 
 escaped : (a u : List ℕ) (d : Data) (b : Bool) → starts_with nat_eq u (226 ∷ 128 ∷ cond b 168 169 ∷ []) ≡ true → read (a ++ u) ≡ Some d → read (a ++ 92 ∷ 117 ∷ 50 ∷ 48 ∷ 50 ∷ cond b 56 57 ∷ drop 3 u) ≡ Some d
 escaped a u d b f e = replaced_reads _ _ d (behind a _ _ (here b (drop 3 u))) (ap (λ l. read (a ++ l)) (sym (separator_is u (cond b 168 169) f)) ∙ e)
 
--- one more byte in front of a safe text
 one_more : (a : List ℕ) (x : ℕ) (xs : List ℕ) (d : Data) (p q : Bool) → starts_with nat_eq (x ∷ script_safe xs) line_separator ≡ p → starts_with nat_eq (x ∷ script_safe xs) paragraph_separator ≡ q
     → read (a ++ (x ∷ script_safe xs)) ≡ Some d → read (a ++ script_safe (x ∷ xs)) ≡ Some d
 one_more a x xs d true q f g e = ap (λ l. read (a ++ l)) (safe_by_tests x xs true q f g) ∙ escaped a (x ∷ script_safe xs) d true f e

@@ -1,4 +1,4 @@
--- Escapes in a script, from the front of a text on.
+-- Escapes of separators, from the front of a text.
 use Rattle.std.proofs.Common.{◌≡◌, ℕ, ◌+◌, ◌-◌, ◌<◌, ◌⊎◌, inl, inr, Bool, true, false, cond, ◌&&◌, ◌==◌, nat_eq, List, [], ◌∷◌, ◌++◌, length, get_or, take, drop, codes, Some, None, refl, sym, ap, ◌∙◌, arith}
 use Rattle.std.proofs.lemmas.{Bool.eqb-true, Bool.false≢true, Bool.and_parts, Option.same_Some}
 use Rattle.std.proofs.lemmas.List.{append_assoc, take_all, take_more, drop_more, drop-drop, length-drop}
@@ -8,11 +8,9 @@ use Rattle.bx_transport.specs.Scripts.{escape_at}
 
 -- ---- one byte
 
--- a byte stays, unless it is the first of a separator
 abbrev Step : ℕ → List ℕ → Type 0
 Step y ys = (script_safe (y ∷ ys) ≡ y ∷ script_safe ys) ⊎ (((226 == y) ≡ true) × (r : List ℕ) × (script_safe (y ∷ ys) ≡ 92 ∷ r))
 
--- the safe text of a byte and more, by whether a separator stands there
 abbrev pub by_tests : ℕ → List ℕ → Bool → Bool → List ℕ
 by_tests y ys a b = cond a (codes "\\u2028" ++ drop 3 (y ∷ script_safe ys)) (cond b (codes "\\u2029" ++ drop 3 (y ∷ script_safe ys)) (y ∷ script_safe ys))
 
@@ -27,7 +25,6 @@ step y ys = by_case (starts_with nat_eq (y ∷ script_safe ys) line_separator) (
     by_case false true e f = inr ((and_parts (226 == y) _ f).0, _, safe_by_tests y ys false true e f)
     by_case false false e f = inl (safe_by_tests y ys false false e f)
 
--- a byte that no separator begins with, and that no escape begins with, begins the safe text where it begins the text
 same_start : (c : ℕ) (cs : List ℕ) → (c == 226) ≡ false → (c == 92) ≡ false → ((zs : List ℕ) → starts_with nat_eq (script_safe zs) cs ≡ starts_with nat_eq zs cs) → (xs : List ℕ) → starts_with nat_eq (script_safe xs) (c ∷ cs) ≡ starts_with nat_eq xs (c ∷ cs)
 same_start c cs h k more [] = refl
 same_start c cs h k more (y ∷ ys) = by_step (step y ys)
@@ -41,13 +38,12 @@ same_start c cs h k more (y ∷ ys) = by_step (step y ys)
 same_behind : (d : ℕ) → (d == 226) ≡ false → (d == 92) ≡ false → (xs : List ℕ) → starts_with nat_eq (script_safe xs) (128 ∷ d ∷ []) ≡ starts_with nat_eq xs (128 ∷ d ∷ [])
 same_behind d h k = same_start 128 (d ∷ []) refl refl (same_start d [] h k (λ zs. refl))
 
--- ---- at a place of the text
+-- ---- one index of the text
 
 none_here : (a b : Bool) (e f : List ℕ) → cond a (Some e) (cond b (Some f) None) ≡ None → (a ≡ false) × (b ≡ false)
 none_here false false e f h = (refl, refl)
 none_here _ _ e f h = cc
 
--- where no separator begins, the byte stays
 pub stays : (x : ℕ) (xs : List ℕ) → escape_at (x ∷ xs) ≡ None → script_safe (x ∷ xs) ≡ x ∷ script_safe xs
 stays x xs h =
     let parts = none_here (starts_with nat_eq (x ∷ xs) line_separator) (starts_with nat_eq (x ∷ xs) paragraph_separator) (codes "\\u2028") (codes "\\u2029") h in
@@ -69,7 +65,6 @@ separator_is t d e =
     let same : t ≡ 226 ∷ 128 ∷ d ∷ c.0 = cc in
     same ∙ ap (λ l. 226 ∷ 128 ∷ d ∷ l) (sym (ap (drop 3) same))
 
--- where a separator begins, its escape stands in its place
 pub escaped : (t e : List ℕ) → escape_at t ≡ Some e → script_safe t ≡ e ++ script_safe (drop 3 t)
 escaped t e = by_case (starts_with nat_eq t line_separator) (starts_with nat_eq t paragraph_separator) refl refl
   where
@@ -79,19 +74,17 @@ escaped t e = by_case (starts_with nat_eq t line_separator) (starts_with nat_eq 
     by_case false true f g h = ap script_safe (separator_is t 169 g) ∙ ap (λ l. l ++ script_safe (drop 3 t)) (same_Some _ e h)
     by_case false false f g h = cc
 
--- ---- along a text
+-- ---- the whole text
 
 rest_is : (at : ℕ) (text : List ℕ) → take (length text - at) (drop at text) ≡ drop at text
 rest_is at text = take_all (length text - at) (drop at text) (omega (arith, length-drop at text))
 
--- a separator that begins at this place, behind which the text goes on
 pub cut_here : (text e : List ℕ) (at : ℕ) → script_safe text ≡ take at text ++ script_safe (drop at text) → Some e ≡ escape_at (take (length text - at) (drop at text)) → script_safe text ≡ take at text ++ (e ++ script_safe (take (length text - (at + 3)) (drop (at + 3) text)))
 cut_here text e at h s =
     let here : escape_at (drop at text) ≡ Some e = ap escape_at (sym (rest_is at text)) ∙ sym s in
     let after : drop 3 (drop at text) ≡ take (length text - (at + 3)) (drop (at + 3) text) = drop-drop 3 at text ∙ sym (rest_is (at + 3) text) in
     h ∙ ap (λ l. take at text ++ l) (escaped (drop at text) e here ∙ ap (λ l. e ++ script_safe l) after)
 
--- a byte where none begins
 pub goes_on : (text : List ℕ) (at : ℕ) → at < length text → script_safe text ≡ take at text ++ script_safe (drop at text) → None ≡ escape_at (take (length text - at) (drop at text)) → script_safe text ≡ take (at + 1) text ++ script_safe (drop (at + 1) text)
 goes_on text at l h s =
     let x = get_or text at 0 in

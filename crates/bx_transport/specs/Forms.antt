@@ -1,4 +1,4 @@
--- The parameters of a form or a query, in terms of `form_urlencoded`.
+-- Content types, and the parameters of forms and queries as `form_urlencoded` defines them.
 use Rattle.std.specs.Prelude.{ℕ, ◌-◌, ◌==◌, ◌||◌, ◌&&◌, Bool, false, List, map, filter, fold, take, drop, length, nat_lt, nat_le, codes, Option, Some, None, unwrap_or}
 use Rattle.std.specs.List.{before_first, list_any, list_all, prefix_len, suffix_len}
 use Rattle.std.specs.{Char.is_ascii_alphanumeric, Char.is_ascii_whitespace, Char.to_ascii_lowercase, Str.bytes_eq, Str.Lossy.utf8_lossy}
@@ -6,7 +6,7 @@ use Rattle.form_urlencoded.specs.Form.{decode, raw_pairs}
 
 -- ---- Which bodies are forms
 
--- Whether a byte ends a media type, before its parameters.
+-- Whether a byte is a semicolon, which ends a media type before its parameters.
 abbrev pub is_semicolon : ℕ → Bool
 is_semicolon byte = byte == 59
 
@@ -18,7 +18,8 @@ behind_blanks text = drop (prefix_len is_ascii_whitespace text) text
 abbrev pub before_blanks : List ℕ → List ℕ
 before_blanks text = take (length text - suffix_len is_ascii_whitespace text) text
 
--- The media type of a content type: what precedes the first semicolon, trimmed.
+-- The media type in a content type: the text before the first semicolon, without surrounding
+-- whitespace.
 abbrev pub media_type_of : List ℕ → List ℕ
 media_type_of content_type = before_blanks (behind_blanks (before_first is_semicolon content_type))
 
@@ -26,14 +27,14 @@ media_type_of content_type = before_blanks (behind_blanks (before_first is_semic
 abbrev pub is_form_type : List ℕ → Bool
 is_form_type content_type = bytes_eq (map to_ascii_lowercase (media_type_of content_type)) (codes "application/x-www-form-urlencoded")
 
--- Whether a body is a form; without a content type it is not.
+-- Whether a body with this content type is a form. Without a content type it is not.
 abbrev pub is_form : Option (List ℕ) → Bool
 is_form None = false
 is_form (Some content_type) = is_form_type content_type
 
 -- ---- Parameters
 
--- The decoded text of a name or a value; bytes that are not UTF-8 become U+FFFD.
+-- The decoded text of a name or a value. Bytes that are not UTF-8 become U+FFFD.
 abbrev pub text_of : List ℕ → List ℕ
 text_of encoded = utf8_lossy (decode encoded)
 
@@ -53,7 +54,7 @@ values_among name pairs = map (λ (pair : Pair). text_of pair.1) (filter (is_nam
 abbrev pub values_of : List ℕ → List ℕ → List (List ℕ)
 values_of name form = values_among name (raw_pairs form)
 
--- The last of `values`, or `earlier` if there is none.
+-- The last of `values`, or `earlier` if there are none.
 abbrev pub latest : Option (List ℕ) → List (List ℕ) → Option (List ℕ)
 latest earlier values = fold (λ _ value. Some value) earlier values
 
@@ -71,6 +72,6 @@ is_callback_byte byte = is_ascii_alphanumeric byte || list_any (λ other. other 
 abbrev pub is_callback : List ℕ → Bool
 is_callback name = nat_lt 0 (length name) && nat_le (length name) 256 && list_all is_callback_byte name
 
--- The last callback that a query names, or `jsonpcallback`.
+-- The callback's name in a query: the last value of `jsonp`, or `jsonpcallback`.
 abbrev pub callback_of : List ℕ → List ℕ
 callback_of query = unwrap_or (last_of (values_of (codes "jsonp") query)) (codes "jsonpcallback")

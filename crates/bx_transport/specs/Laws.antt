@@ -1,4 +1,4 @@
--- A response in a script reads the same as any other.
+-- The JSON value of a response in a script.
 use Rattle.std.specs.Prelude.{◌≡◌, ℕ, List, Some}
 use Rattle.serde_json.specs.Data.{Data}
 use Rattle.serde_json.specs.Read.{read}

@@ -14,20 +14,20 @@ some_documents (d ∷ ds) = Ok (d ∷ ds)
 abbrev pub documents_of : List ℕ → Result (List (List ℕ)) TransportError
 documents_of form = some_documents (values_of (codes "message") form)
 
--- A body fails if it is too large. A form has its documents in its parameters; any other body is
--- one document.
+-- The documents of a body, or its error. A body must not be too large. A form has its documents in
+-- its parameters. Any other body is one document.
 abbrev pub post_taken : Option (List ℕ) → List ℕ → Result (List (List ℕ)) TransportError
 post_taken content_type body =
     if nat_lt BODY_LIMIT (length body) then Err TooLarge
     else (if is_form content_type then documents_of body else Ok (body ∷ []))
 
--- The documents of a query, with the name of the callback that asks for them.
+-- The documents of a query, with the name of its callback.
 abbrev pub with_callback : List ℕ → Result (List (List ℕ)) TransportError → Result (List ℕ × List (List ℕ)) TransportError
 with_callback name (Ok documents) = Ok (name, documents)
 with_callback name (Err error) = Err error
 
--- A query fails if it is too large, then if its callback's name is invalid, then if it has no
--- document.
+-- The callback's name and the documents of a query, or the first error. A query must not be too
+-- large, its callback's name must be valid, and it must have a document.
 abbrev pub get_taken : List ℕ → Result (List ℕ × List (List ℕ)) TransportError
 get_taken query =
     if nat_lt BODY_LIMIT (length query) then Err TooLarge

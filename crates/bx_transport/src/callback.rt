@@ -1,15 +1,15 @@
-// The names of callbacks.
+// Names of callbacks.
 ghost use Rattle.std.specs.Prelude.{◌≡◌};
 ghost use Rattle.std.specs.List.{list_all};
 ghost use Rattle.bx_transport.specs.Forms.{is_callback, is_callback_byte};
 
-// Name of the callback if a query has none. Policy of this server.
+// The name of the callback if a query has no `jsonp`. Policy of this server.
 pub(crate) const DEFAULT_CALLBACK: &str = "jsonpcallback";
 
-// Greatest length of a callback's name, in bytes. Policy of this server.
+// The maximum length of a callback's name, in bytes. Policy of this server.
 const CALLBACK_LIMIT: usize = 256;
 
-// Returns `true` if `name` is a valid callback name, which is written into a script unescaped.
+// Returns `true` if `name` is valid. A script contains it without escapes.
 pub(crate) fn is_callback(name: &str) -> bool
     ensures { result ≡ is_callback name.now }
 {

@@ -1,4 +1,4 @@
-//! Errors of reading a body or a query.
+//! Errors of requests, before their documents are parsed.
 ghost use Rattle.std.specs.Prelude.{◌≡◌};
 ghost use Rattle.bx_transport.specs.Statuses.{transport_status};
 ghost use Rattle.bx_transport.specs.declared.error.TransportError.TheVariants.{Memory};
@@ -8,24 +8,24 @@ use std::alloc::{AllocError, AllocFailed};
 use std::error::Error;
 use std::fmt;
 
-/// Why a body or a query is rejected.
+/// Why the body of a POST or the query of a GET is rejected.
 ///
-/// If several variants apply, the first is reported, except that memory may run out at any step
-/// after `TooLarge`.
+/// The variants are in the order in which they are tested, except that memory can run out at any
+/// time after the test for `TooLarge`.
 #[derive(Clone, Copy, Debug, PartialEq, Eq)]
 pub enum TransportError {
-    /// It has more than [`bx_advice::BODY_LIMIT`] bytes.
+    /// The body or the query has more than [`bx_advice::BODY_LIMIT`] bytes.
     TooLarge,
-    /// The callback of a GET is not a valid name.
+    /// The name of a query's callback is not valid.
     BadName,
-    /// A form or a query has no parameter `message`.
+    /// The form or the query has no parameter `message`.
     NoMessage,
     /// Memory ran out.
     Memory,
 }
 
 impl TransportError {
-    /// Returns the HTTP status of a rejected request.
+    /// Returns the HTTP status of the response.
     ///
     /// Policy of this server.
     pub fn status(self) -> Status

@@ -1,4 +1,4 @@
-// Forms and queries.
+// Content types, and the parameters of forms and queries.
 ghost use Rattle.std.specs.Prelude.{◌≡◌, ◌++◌, ◌∷◌, [], IfOk, OnOk, map, option_map, position, codes, string_bytes};
 ghost use Rattle.std.specs.List.{before_first};
 ghost use Rattle.std.specs.Cow.{cow_str_bytes};
@@ -8,7 +8,7 @@ use form_urlencoded::{decode, raw_pairs};
 use std::alloc::{AllocError, Global};
 use std::borrow::CowStr;
 
-// Media type of a form in HTML.
+// The media type of HTML forms.
 const FORM_TYPE: &[u8] = b"application/x-www-form-urlencoded";
 
 // Returns `true` if a body with this content type is a form.
@@ -21,14 +21,14 @@ pub(crate) fn is_form(content_type: Option<&[u8]>) -> bool
     }
 }
 
-// Returns the media type before any parameters, trimmed.
+// Returns the media type without its parameters and without surrounding whitespace.
 fn media_type(content_type: &[u8]) -> &[u8]
     ensures { result.now ≡ media_type_of content_type.now }
 {
     before_parameters(content_type).trim_ascii()
 }
 
-// Returns what is before the first semicolon.
+// Returns the part before the first semicolon.
 fn before_parameters(content_type: &[u8]) -> &[u8]
     ensures { result.now ≡ before_first is_semicolon content_type.now }
 {
@@ -48,13 +48,13 @@ fn semicolon_in(content_type: &[u8]) -> Option<usize>
 // The parameters of a form or a query that the server knows.
 #[derive(Drop)]
 pub(crate) struct Parameters {
-    // The values of `message`, in order.
+    // The values of all parameters `message`, in order.
     pub(crate) documents: Vec<String>,
-    // The last value of `jsonp`.
+    // The value of the last parameter `jsonp`.
     pub(crate) callback: Option<String>,
 }
 
-// Parses the known parameters of a form or a query.
+// Parses the parameters of a form or a query, and ignores unknown ones.
 //
 // Bayeux 1.0, long-polling and callback-polling.
 pub(crate) fn read_parameters(alloc: Global, form: &[u8]) -> Result<Parameters, AllocError>

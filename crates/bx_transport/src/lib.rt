@@ -1,4 +1,4 @@
-//! Documents from a POST's body or a GET's query, and responses as calls of a script's function.
+//! The documents of a POST or a GET, and responses to a GET as calls of a function in a script.
 #![tactic(auto)]
 
 mod callback;

@@ -1,4 +1,4 @@
-//! The documents of a request.
+//! The documents of a POST's body and of a GET's query.
 ghost use Rattle.std.specs.Prelude.{◌≡◌, ◌≢◌, IfOk, IfErr, Ok, Err, option_map, string_bytes};
 ghost use Rattle.bx_cut.specs.Bodies.{texts_of};
 ghost use Rattle.bx_transport.specs.Transports.{post_taken, get_taken};
@@ -12,9 +12,10 @@ use std::alloc::Global;
 
 /// Returns the documents of a POST.
 ///
-/// For the media type `application/x-www-form-urlencoded`, these are the values of the form's
-/// parameters `message`. Otherwise the body is the only document. Case and the media type's own
-/// parameters do not matter.
+/// `content_type`: the value of the request's header `Content-Type`, if any. If its media type is
+/// `application/x-www-form-urlencoded`, the documents are the values of the form's parameters
+/// `message`, in order. Otherwise the body is the only document. Case and the parameters of the
+/// media type do not matter.
 ///
 /// Bayeux 1.0, long-polling. The media types are a policy of this server.
 ///
@@ -50,8 +51,11 @@ pub fn read_post(
 
 /// Returns the callback's name and the documents of a GET.
 ///
-/// The name is the last value of `jsonp`, or `jsonpcallback` if there is none. The documents are
-/// the values of `message`, in order.
+/// `query`: the part of the request's target after the question mark.
+///
+/// The name is the value of the last parameter `jsonp`, or `jsonpcallback` if there is none. It has
+/// 1 to 256 characters. Each is an ASCII letter or digit, or one of `_ $ . - [ ]`. The documents
+/// are the values of the parameters `message`, in order.
 ///
 /// Bayeux 1.0, callback-polling. Which names are valid is a policy of this server.
 ///
@@ -61,8 +65,7 @@ pub fn read_post(
 ///
 /// - `TooLarge`: `query` is longer than [`bx_advice::BODY_LIMIT`].
 /// - `Memory`: memory ran out.
-/// - `BadName`: the name does not have 1 to 256 characters, each an ASCII letter or digit, or one
-///   of `_ $ . - [ ]`.
+/// - `BadName`: the callback's name is not valid.
 /// - `NoMessage`: there is no parameter `message`.
 pub fn read_get(alloc: Global, query: &[u8]) -> Result<(String, Bodies), TransportError>
     ensures ok { IfOk result (λ taken. get_taken query.now ≡ Ok (string_bytes taken.0, texts_of taken.1)) }

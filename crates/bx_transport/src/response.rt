@@ -1,4 +1,6 @@
-//! The response to a GET. The response to a POST is just the text of its items.
+//! Responses to a GET.
+//!
+//! The response to a POST is the text of its items, without a call.
 ghost use Rattle.std.specs.Prelude.{◌≡◌, ◌<◌, ◌++◌, length, IfOk, OnOk, MatchOption, option_map, ⊤, ◌≤◌};
 ghost use Rattle.bx_message.specs.Texts.{callback_text, script_safe};
 ghost use Rattle.bx_transport.specs.Scripts.{escape_at};
@@ -13,7 +15,7 @@ const PARAGRAPH_SEPARATOR: &[u8] = b"\xe2\x80\xa9";
 
 /// Returns the response to a GET: a call of the function `name` with the array of `items`.
 ///
-/// Escapes U+2028 and U+2029, which scripts take for line ends.
+/// Escapes U+2028 and U+2029 in the array, since they end lines in scripts.
 ///
 /// Bayeux 1.0, callback-polling.
 ///
@@ -33,11 +35,11 @@ pub fn callback_of(alloc: Global, name: &str, items: &[Item]) -> Result<Vec<u8>,
     Ok(out)
 }
 
-/// Appends `text` as a script may contain it, with U+2028 and U+2029 escaped.
+/// Appends the JSON text `text` to `out`, with U+2028 and U+2029 escaped.
 ///
 /// # Errors
 ///
-/// `AllocError` if memory runs out. A first part may be appended.
+/// `AllocError` if memory runs out; a first part may be appended.
 pub fn push_script_safe(out: &mut Vec<u8>, text: &[u8]) -> Result<(), AllocError>
     ensures { OnOk result (out.new.items ≡ out.old.items ++ script_safe text.now) }
 {
@@ -50,7 +52,9 @@ pub fn push_script_safe(out: &mut Vec<u8>, text: &[u8]) -> Result<(), AllocError
     out.extend_from_slice(rest)
 }
 
-// Returns what is before the first separator, its escape, and what follows it.
+// Returns the text before the first separator, the separator's escape, and the text after it.
+//
+// Returns `None` if there is no separator.
 fn cut_at_separator(text: &[u8]) -> Option<(&[u8], &'static str, &[u8])>
     ensures value { MatchOption result (script_safe text.now ≡ text.now)
         (λ parts. script_safe text.now ≡ parts.0.now ++ (parts.1.now ++ script_safe parts.2.now)) }
@@ -64,7 +68,7 @@ fn cut_at_separator(text: &[u8]) -> Option<(&[u8], &'static str, &[u8])>
     None
 }
 
-// Returns the escape for the separator that `text` begins with.
+// Returns the escape of the separator at the front of `text`, if there is one.
 fn escape_at(text: &[u8]) -> Option<&'static str>
     ensures value { option_map (λ escape. escape.now) result ≡ escape_at text.now }
     ensures long { MatchOption result ⊤ (λ _. 3 ≤ length text.now) }

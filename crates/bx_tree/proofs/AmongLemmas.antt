@@ -1,10 +1,9 @@
--- Numbers among others.
+-- Membership of numbers in lists.
 use Rattle.std.proofs.Common.{◌≡◌, ◌↔◌, ℕ, Bool, IsTrue, Result, Ok, Err, IfOk, OnOk, eqb, List, Contains, sym, ◌∙◌}
 use Rattle.std.specs.{Bool.Decides, Bool.one_answer, List.dedup}
 use Rattle.std.proofs.lemmas.{Bool.eqb-true, Cmp.nat_eq_equiv, Map.Views.Contains-from_any, Map.Views.list_any-from_Contains, List.Kept.Contains-dedup_nat, List.Kept.Contains-from_dedup}
 use Rattle.bx_tree.specs.Walks.{is_among}
 
--- the test says whether the number is in the list
 pub is_among-decides : (xs : List ℕ) (n : ℕ) → Decides (is_among xs n) (Contains xs n)
 is_among-decides xs n = (Contains-from_any {eq = eqb} eqb-true n xs, list_any-from_Contains nat_eq_equiv n xs)
 
@@ -14,7 +13,6 @@ is_among-dedup xs n =
     one_answer {P = Contains xs n} (is_among (dedup eqb xs) n) (is_among xs n)
     (λ e. Contains-from_dedup eqb xs n (left.0 e), λ h. left.1 (Contains-dedup_nat xs n h)) (is_among-decides xs n)
 
--- numbers that are those which a walk comes by are those with a pattern that matches
 pub exact_if_met : {V E : Type 0} (r : Result V E) (numbers : V → List ℕ) (met fits : ℕ → Bool) (Whole : Type 0) → (Whole → (n : ℕ) → met n ≡ fits n) → IfOk r (λ v. (n : ℕ) → is_among (numbers v) n ≡ met n) → OnOk r Whole → IfOk r (λ v. (n : ℕ) → (Contains (numbers v) n ↔ IsTrue (fits n)))
 exact_if_met (Ok v) numbers met fits Whole same told whole = λ n.
     let is = told n ∙ same whole n in

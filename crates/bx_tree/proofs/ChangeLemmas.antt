@@ -1,4 +1,4 @@
--- The patterns of one number, in its list and in the index at once.
+-- Changes to the patterns of one session, in its list and in the index.
 use Rattle.std.proofs.Common.{arith, ◌≡◌, ◌≢◌, ◌≤◌, ◌<◌, ◌+◌, ℕ, Bool, true, false, not, ◌==◌, ◌&&◌, ◌||◌, List, [], ◌∷◌, ◌++◌, length, take, refl, sym, ap, ◌∙◌, append_assoc, length-append}
 use Rattle.std.specs.List.{fold}
 use Rattle.std.proofs.lemmas.{Bool.Decides.nat_tests, List.Folds.list_any-append, List.take_at, List.take-append-le}
@@ -26,7 +26,6 @@ extends held (p ∷ ps) =
     let all = extends (with_pattern held p) ps in
     (one.0 ++ all.0, all.1 ∙ ap (λ l. l ++ all.0) one.1 ∙ append_assoc held one.0 all.0)
 
--- those that were there stay in front
 pub first_stay : (held ps : List Glob) → take (length held) (fold with_pattern held ps) ≡ held
 first_stay held ps =
     let all = extends held ps in

@@ -1,4 +1,4 @@
--- No list is empty, after a change at one path.
+-- After a change at one path, no list is empty.
 use Rattle.std.proofs.Common.{◌≡◌, ℕ, Bool, true, false, IsTrue, Option, Some, Result, Ok, Err, OnOk, OnErr, List, [], ◌∷◌, length, ◌↔◌, String, string_bytes, refl, ap, ◌∙◌}
 use Rattle.std.specs.{Map.update, Map.lookup, Ordering.nat_cmp, String.string_cmp, Cmp.Lexicographic.slice_cmp, Str.bytes_eq}
 use Rattle.std.specs.BTreeMap.{BTreeMap, UpdatesBy, get_by_text, is_at}
@@ -18,7 +18,6 @@ pub after_insert : {V E : Type 0} (r : Result V E) (s t : BTreeMap ℕ ℕ) (num
 after_insert (Ok x) s t number stamp h ok err = occupied_if_some (is_at (nat_cmp number)) t.entries stamp ok.1
 after_insert (Err e) s t number stamp h ok err = ap is_occupied err ∙ h
 
--- the lists at the other paths were kept before
 pub kept_after : (path : List ℕ) (before after : List ℕ → Option (BTreeMap ℕ ℕ)) (w : Option (BTreeMap ℕ ℕ)) → ((other : List ℕ) → after other ≡ update bytes_eq before path w other) → is_kept w ≡ true → ((other : List ℕ) → bytes_eq path other ≡ false → is_kept (before other) ≡ true) → (other : List ℕ) → is_kept (after other) ≡ true
 kept_after path before after w told own others other = grind (arith, common_steps)
 

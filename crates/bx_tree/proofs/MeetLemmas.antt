@@ -1,4 +1,4 @@
--- A walk along a name comes by a number exactly where one of the number's patterns matches the name.
+-- A search along a name finds a number exactly if one of its patterns matches the name.
 use Rattle.std.proofs.Common.{◌≡◌, ℕ, ◌<◌, true, ◌&&◌, ◌||◌, List, [], ◌∷◌, ◌++◌, length, take, drop, refl, sym, ap, subst, ◌∙◌, arith, append-nil, append_assoc, length-append, inl, inr, take-append-drop}
 use Rattle.std.specs.Bool.{one_answer}
 use Rattle.std.proofs.lemmas.Bool.{or_cases, or_left, or_right, and_parts}
@@ -10,9 +10,9 @@ use Rattle.bx_tree.specs.declared.nodes.Nodes.{Nodes}
 use Rattle.bx_tree.specs.Words.{AreWhole, patterns_of, stands_at, lists_of, IsIndexOf, is_end, is_met}
 use Rattle.std.proofs.lemmas.Grind.{common_steps}
 
--- ---- what a pattern leaves of a name that it matches
+-- ---- the rest of a name after the segments of a pattern
 
--- how many segments each kind leaves
+-- How many segments of a name a pattern with this tail leaves.
 abbrev pub Leaves : Tail → ℕ → Type 0
 Leaves Exact n = n ≡ 0
 Leaves One n = n ≡ 1
@@ -46,7 +46,7 @@ matches_rest own Exact more h = (exact_decides own (own ++ more)).1 (ap (λ ts. 
 matches_rest own One more h = (one_decides own (own ++ more)).1 (omega (arith, length-append own more), take_front own more)
 matches_rest own Many more h = (many_decides own (own ++ more)).1 (more, h, refl)
 
--- ---- some pattern in force
+-- ---- some active pattern
 
 any_if : (ps : List Glob) (p : Glob) (name : List (List ℕ)) → in_force ps p ≡ true → matches p name ≡ true → any_matches ps name ≡ true
 any_if [] p name h k = cc
@@ -69,7 +69,7 @@ some_if_any (q ∷ qs) name h =
       | inr e ↦ let later = some_if_any qs name e in record { p = later.p; there = or_right (same_glob later.p q) (in_force qs later.p) later.there; fits = later.fits }
     ]
 
--- ---- the walk
+-- ---- the search
 
 whole-push : (ss : List (List ℕ)) (s : List ℕ) → AreWhole ss → parts s ≡ s ∷ [] → AreWhole (ss ++ s ∷ [])
 whole-push [] s h k = (k, tt)
@@ -88,7 +88,6 @@ module _ (nodes : Nodes) (all : List (ℕ × List Glob)) (n : ℕ) (index : IsIn
   end_is : (rest : List (List ℕ)) → is_end rest ≡ true → length rest ≡ 0
   end_is rest h1 = grind (arith, common_steps)
 
-  -- a number that is met has a pattern that matches
   met_then_any : (done rest : List (List ℕ)) → AreWhole done → AreWhole rest → is_met nodes (path_of done) rest n ≡ true → any_matches (patterns_of all n) (done ++ rest) ≡ true
   met_then_any done [] whole left h = found done Exact [] whole h refl
   met_then_any done (s ∷ rest) whole left h =
@@ -105,7 +104,6 @@ module _ (nodes : Nodes) (all : List (ℕ × List Glob)) (n : ℕ) (index : IsIn
             ∙ met_then_any (done ++ s ∷ []) rest (whole-push done s whole left.0) left.1 (ap (λ text. is_met nodes text rest n) (path-push done s) ∙ e)
       ]
 
-  -- where the pattern's own segments end
   met_here : (done : List (List ℕ)) (tail : Tail) (more : List (List ℕ)) → AreWhole done → Leaves tail (length more) → in_force (patterns_of all n) (record { segments = done; tail = tail }) ≡ true → is_met nodes (path_of done) more n ≡ true
   met_here done Exact [] whole leaves h = at done Exact whole ∙ h
   met_here done Exact (s ∷ rest) whole leaves h = absurd (omega arith)
@@ -115,7 +113,6 @@ module _ (nodes : Nodes) (all : List (ℕ × List Glob)) (n : ℕ) (index : IsIn
   met_here done Many [] whole leaves h = absurd (omega arith)
   met_here done Many (s ∷ rest) whole leaves h = grind (arith, common_steps, or_left, at)
 
-  -- a number with a pattern that leaves this of the name is met
   met_below : (done own : List (List ℕ)) (tail : Tail) (more : List (List ℕ)) → AreWhole done → AreWhole own → Leaves tail (length more) → in_force (patterns_of all n) (record { segments = done ++ own; tail = tail }) ≡ true → is_met nodes (path_of done) (own ++ more) n ≡ true
   met_below done [] tail more whole left leaves h = met_here done tail more whole leaves (ap (λ ss. in_force (patterns_of all n) (record { segments = ss; tail = tail })) (sym (append-nil done)) ∙ h)
   met_below done (s ∷ own) tail more whole left leaves h =

@@ -1,4 +1,4 @@
--- How a change in one of the three maps changes what stands for which pattern.
+-- How a change in one of the three maps changes the numbers of each pattern.
 use Rattle.std.proofs.Common.{◌≡◌, ℕ, Bool, true, false, ◌==◌, ◌&&◌, List}
 use Rattle.std.specs.Str.{bytes_eq}
 use Rattle.std.proofs.Math.Bool.{and-false}
@@ -14,7 +14,7 @@ use Rattle.std.proofs.Common.{arith}
 and_true : (b : Bool) → (b && true) ≡ b
 and_true b = grind (arith, common_steps)
 
--- the maps but that of this tail are the same
+-- The maps of the other tails are equal.
 abbrev OthersSame : Nodes → Nodes → Tail → Type 0
 OthersSame old new tail = (other : Tail) → same_tail other tail ≡ false → lists_of new other ≡ lists_of old other
 
@@ -27,7 +27,6 @@ but_one old new h1 h2 = grind (arith, common_steps)
 pub but_many : (old new : Nodes) → new.exact ≡ old.exact → new.one ≡ old.one → OthersSame old new Many
 but_many old new h1 h2 = grind (arith, common_steps)
 
--- a change of one number at the pattern's own path
 pub changed_for : (step : Bool → Bool → Bool) → ((b : Bool) → step b false ≡ b) → (old new : Nodes) (p : Glob) (tail : Tail) (path : List ℕ) (number : ℕ) → p.tail ≡ tail → path ≡ path_of p.segments → AreWhole p.segments
     → ((other : List ℕ) (n : ℕ) → stands_at (lists_of new tail) other n ≡ step (stands_at (lists_of old tail) other n) (bytes_eq path other && (n == number)))
     → OthersSame old new tail

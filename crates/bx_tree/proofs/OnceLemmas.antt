@@ -1,4 +1,4 @@
--- Patterns that come once each, after a change.
+-- After a change, no pattern occurs twice.
 use Rattle.std.proofs.Common.{arith, ◌≡◌, ℕ, suc, ◌<◌, ◌≤◌, length, Bool, true, false, not, ◌&&◌, ◌||◌, cond, Some, List, [], ◌∷◌, ◌++◌, refl, sym, ap, subst, ◌∙◌, append_assoc}
 use Rattle.std.specs.List.{All, filter, fold}
 use Rattle.std.specs.{Map.keys_of, Map.lookup, Map.remove_entry, Map.values_of, Cmp.nat_cmp_is, Ordering.nat_cmp, BTreeMap.insert_entry, BTreeMap.is_at}
@@ -9,9 +9,8 @@ use Rattle.bx_names.specs.Words.{Glob, same_glob, same_glob-decides, in_force, w
 use Rattle.bx_tree.specs.Words.{AreOnce}
 use Rattle.bx_tree.proofs.IndexLemmas.{in_force-less, same_glob-sym, without_absent}
 
--- ---- patterns behind them
+-- ---- appended patterns
 
--- two lists that come once have no pattern in both
 pub absent_before : (held ps : List Glob) (p : Glob) → AreOnce (held ++ p ∷ ps) → in_force held p ≡ false
 absent_before [] ps p once = refl
 absent_before (q ∷ held) ps p once =
@@ -25,14 +24,13 @@ once_more (q ∷ ps) p once absent =
     let apart : in_force (ps ++ p ∷ []) q ≡ false = list_any-append (same_glob q) ps (p ∷ []) ∙ rw (once.0, same_glob-sym q p, parts.0) refl in
     (apart, once_more ps p once.1 parts.1)
 
--- patterns that come once are all put behind those that are there
 pub all_come : (held ps : List Glob) → AreOnce (held ++ ps) → fold with_pattern held ps ≡ held ++ ps
 all_come held [] once = grind (arith, common_steps)
 all_come held (p ∷ ps) once =
     let regroup : (held ++ p ∷ []) ++ ps ≡ held ++ p ∷ ps = append_assoc held (p ∷ []) ps in
     rw (absent_before held ps p once) (all_come (held ++ p ∷ []) ps (subst AreOnce (sym regroup) once) ∙ regroup)
 
--- ---- patterns taken out
+-- ---- removed patterns
 
 and_absent : (b c : Bool) → c ≡ false → (b && c) ≡ false
 and_absent b c h = grind arith
@@ -61,7 +59,6 @@ there_in e es stamp p behind true at =
     rw ((same_glob-decides p e.1).1 (sym is)) refl
 there_in e es stamp p behind false at = rw (behind at) (or_true (same_glob p e.1))
 
--- what stands at a stamp is in the list
 there : (es : List (ℕ × Glob)) (stamp : ℕ) (p : Glob) → lookup (is_at (nat_cmp stamp)) es ≡ Some p → in_force (values_of es) p ≡ true
 there [] stamp p at = cc
 there (e ∷ es) stamp p at = there_in e es stamp p (there es stamp p) (is_at (nat_cmp stamp) e.0) at
@@ -73,7 +70,6 @@ removed_in e es stamp p once behind true k at =
     rw ((same_glob-decides p e.1).1 (sym is)) (without_absent (values_of es) p (ap (λ r. in_force (values_of es) r) (sym is) ∙ once.0))
 removed_in e es stamp p once behind false k at = removed_behind e.1 p (values_of es) (values_of (remove_entry (is_at (nat_cmp stamp)) es)) once.0 (there es stamp p at) (behind at) (same_glob p e.1) refl
 
--- the pattern at a stamp is the only one of its kind
 pub removed_at : (es : List (ℕ × Glob)) (stamp : ℕ) (p : Glob) → AreOnce (values_of es) → lookup (is_at (nat_cmp stamp)) es ≡ Some p → values_of (remove_entry (is_at (nat_cmp stamp)) es) ≡ without_pattern (values_of es) p
 removed_at [] stamp p once at = cc
 removed_at (e ∷ es) stamp p once at = removed_in e es stamp p once (λ h. removed_at es stamp p once.1 h) (is_at (nat_cmp stamp) e.0) refl at
@@ -86,7 +82,6 @@ pub kept_values : (es : List (ℕ × Glob)) (p : Glob) → values_of (filter (λ
 kept_values [] p = refl
 kept_values (e ∷ es) p = grind (arith, common_steps, kept_values es p)
 
--- a stamp behind all others puts its pattern behind all others
 pub put_last : (es : List (ℕ × Glob)) (stamp : ℕ) (p : Glob) → All (λ (k : ℕ). k < stamp) (keys_of es) → insert_entry nat_cmp es stamp p ≡ es ++ (stamp, p) ∷ []
 put_last [] stamp p above = refl
 put_last (e ∷ es) stamp p above = rw (sym (nat_cmp_is stamp e.0 Greater (above 0 0 (omega arith)))) (ap (λ l. e ∷ l) (put_last es stamp p (λ k d within. above (suc k) d (omega arith))))
@@ -99,12 +94,10 @@ pub once_less : (ps : List Glob) (p : Glob) → AreOnce (ps ++ p ∷ []) → Are
 once_less [] p once = tt
 once_less (q ∷ ps) p once = ((or_parts (in_force ps q) (same_glob q p || false) (sym (list_any-append (same_glob q) ps (p ∷ [])) ∙ once.0)).0, once_less ps p once.1)
 
--- what is left when the last one goes
 pub popped : (es left : List (ℕ × Glob)) (e : ℕ × Glob) → es ≡ left ++ e ∷ [] → AreOnce (values_of es) → AreOnce (values_of left) × (in_force (values_of left) e.1 ≡ false)
 popped es left e is once =
     let all : values_of es ≡ values_of left ++ e.1 ∷ [] = ap values_of is ∙ values_last left e.0 e.1 in
     let still = subst AreOnce all once in
     (once_less (values_of left) e.1 still, absent_before (values_of left) [] e.1 still)
 
--- what a walk over patterns that are taken out is proved by
 pub ruleset taken_out = (fold_more, without_shorter, common_steps)

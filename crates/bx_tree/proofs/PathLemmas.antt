@@ -1,4 +1,4 @@
--- The path of a walk: what a name's text begins with, in front of the segments that are left.
+-- The path of a search: the beginning of the name's text, before the remaining segments.
 use Rattle.std.proofs.Common.{◌≡◌, ℕ, ◌+◌, ◌-◌, ◌≤◌, List, ◌∷◌, ◌++◌, take, drop, length, sym, ap, ◌∙◌, arith, length-append, length-drop}
 use Rattle.std.proofs.Math.Seq.{take-add}
 use Rattle.std.proofs.lemmas.List.{take_at, drop_at, drop-drop}

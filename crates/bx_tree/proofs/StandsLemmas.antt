@@ -1,4 +1,4 @@
--- How a change at one path changes what stands where.
+-- How a change at one path changes the numbers at each path.
 use Rattle.std.proofs.Common.{◌≡◌, ℕ, eqb, Bool, false, not, cond, ◌==◌, ◌&&◌, ◌||◌, Option, Some, None, is_some, Result, Ok, Err, OnErr, List, length, refl, ap, ◌∙◌, arith}
 use Rattle.std.specs.{Map.lookup, Map.update, Option.option_map_or, Ordering.is_eq, Ordering.nat_cmp, Str.bytes_eq}
 use Rattle.std.specs.BTreeMap.{BTreeMap, UpdatesBy, is_at}
@@ -31,18 +31,15 @@ has_none s n h = nothing_in s.entries n h
 
 -- ---- the lists by their paths
 
--- whether the list has the number
 abbrev pub has : Option (BTreeMap ℕ ℕ) → ℕ → Bool
 has list n = option_map_or (λ numbers. has_number numbers n) list false
 
--- what an update at one path leaves
 pub at_path : (path : List ℕ) (before after : List ℕ → Option (BTreeMap ℕ ℕ)) (w : Option (BTreeMap ℕ ℕ)) → ((other : List ℕ) → after other ≡ update bytes_eq before path w other) → after path ≡ w
 at_path path before after w h = rw ((bytes_eq-Decides path path).1 refl) at (h path)
 
 pub elsewhere : (path : List ℕ) (before after : List ℕ → Option (BTreeMap ℕ ℕ)) (w : Option (BTreeMap ℕ ℕ)) → ((other : List ℕ) → after other ≡ update bytes_eq before path w other) → (other : List ℕ) → bytes_eq path other ≡ false → after other ≡ before other
 elsewhere path before after w h other e = rw e at (h other)
 
--- a change of one number at one path
 pub changed_at : (step : Bool → Bool → Bool) → ((b : Bool) → step b false ≡ b) → (path : List ℕ) (number : ℕ) (before after : List ℕ → Option (BTreeMap ℕ ℕ)) → ((other : List ℕ) → bytes_eq path other ≡ false → after other ≡ before other) → ((n : ℕ) → has (after path) n ≡ step (has (before path) n) (n == number)) → (other : List ℕ) (n : ℕ) → has (after other) n ≡ step (has (before other) n) (bytes_eq path other && (n == number))
 changed_at step idle path number before after others own other n = grind (arith, common_steps, bytes_eq-Decides)
 
@@ -52,11 +49,9 @@ or_idle b = grind arith
 pub not_idle : (b : Bool) → (b && not false) ≡ b
 not_idle b = grind arith
 
--- a change at one path that changes no number's place
 pub unchanged_at : (path : List ℕ) (before after : List ℕ → Option (BTreeMap ℕ ℕ)) → ((other : List ℕ) → bytes_eq path other ≡ false → after other ≡ before other) → ((n : ℕ) → has (after path) n ≡ has (before path) n) → (other : List ℕ) (n : ℕ) → has (after other) n ≡ has (before other) n
 unchanged_at path before after others own other n = grind (arith, common_steps, bytes_eq-Decides)
 
--- what holds anyway holds at an error
 pub on_err : {T E : Type 0} {P : Type 0} (r : Result T E) → P → OnErr r P
 on_err (Ok x) p = tt
 on_err (Err e) p = p

@@ -1,4 +1,4 @@
--- Segments that no slash cuts, and the paths that they make.
+-- Segments without slashes, and the paths that they make.
 use Rattle.std.proofs.Common.{◌≡◌, ℕ, zero, suc, Bool, Ok, List, [], ◌∷◌, take, length, ◌<◌, cond, refl, sym, ap, subst, ◌∙◌, append-nil}
 use Rattle.std.specs.{List.onto_first, Bool.one_answer, Str.bytes_eq}
 use Rattle.std.proofs.lemmas.Slice.Eq.{bytes_eq-Decides}
@@ -9,7 +9,7 @@ use Rattle.bx_tree.specs.Whole.{AreWhole}
 use Rattle.std.proofs.lemmas.Grind.{common_steps}
 use Rattle.std.proofs.Common.{arith}
 
--- ---- what is read is whole
+-- ---- segments of names and patterns
 
 whole_first : (x : ℕ) (ps : List (List ℕ)) (b : Bool) → is_slash x ≡ b → AreWhole ps → AreWhole (cond b ([] ∷ ps) (onto_first x ps))
 whole_first x ps b h1 h2 = grind (arith, common_steps)
@@ -26,29 +26,25 @@ whole_take zero ss h = tt
 whole_take (suc k) [] h = tt
 whole_take (suc k) (s ∷ ss) h = (h.0, whole_take k ss h.1)
 
--- a name's segments are whole
 pub whole_name : (text : List ℕ) (name : List (List ℕ)) → read_name text ≡ Ok name → AreWhole name
 whole_name text name h = subst AreWhole ((name_text text name h).is) (whole_segments text)
 
--- and there is one
 pub some_segment : (text : List ℕ) (name : List (List ℕ)) → read_name text ≡ Ok name → 0 < length name
 some_segment text name h1 = grind (arith, common_steps, name_text, parts_some)
 
 whole_ending : (tail : Tail) (ss : List (List ℕ)) → AreWhole ss → AreWhole (ending_in tail ss).segments
 whole_ending tail ss h1 = grind (arith, common_steps, whole_take)
 
--- so are a pattern's own
 pub whole_pattern : (text : List ℕ) (p : Glob) → read_pattern text ≡ Ok p → AreWhole p.segments
 whole_pattern text p h = grind (arith, common_steps, read_by-ok, whole_ending, whole_segments)
 
--- ---- back from the path
+-- ---- from the path to its segments
 
 pub segments_back : (ss : List (List ℕ)) → AreWhole ss → segments (path_of ss) ≡ ss
 segments_back [] h = refl
 segments_back (s ∷ []) h = ap parts (append-nil s) ∙ h.0
 segments_back (s ∷ t ∷ ts) h = grind (arith, common_steps, parts-append, segments_back (t ∷ ts) h.1)
 
--- paths are one where their segments are
 pub paths_decide : (ss ts : List (List ℕ)) → AreWhole ss → AreWhole ts → bytes_eq (path_of ss) (path_of ts) ≡ same_segments ts ss
 paths_decide ss ts h k =
     let by = bytes_eq-Decides (path_of ss) (path_of ts) in

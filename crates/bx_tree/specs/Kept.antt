@@ -1,4 +1,4 @@
--- Empty lists are not kept.
+-- Which lists are stored: those that are not empty.
 use Rattle.std.specs.Prelude.{ℕ, Bool, true, false, List, [], ◌∷◌, Option}
 use Rattle.std.specs.{Option.option_map_or, BTreeMap.BTreeMap}
 

@@ -1,4 +1,4 @@
--- The numbers that are stored at a path, and those that are stored for a pattern.
+-- Which numbers of sessions are stored at a path, and which for a pattern.
 use Rattle.std.specs.Prelude.{◌≡◌, ◌≢◌, ℕ, Bool, false, is_some, List}
 use Rattle.std.specs.{Option.option_map_or, Ordering.nat_cmp, BTreeMap.BTreeMap, BTreeMap.get, BTreeMap.get_by_text}
 use Rattle.bx_names.specs.Words.{path_of, Glob, in_force}
@@ -8,7 +8,7 @@ use Rattle.bx_tree.specs.declared.nodes.{path_lists.PathLists.PathLists, Nodes.N
 use Rattle.bx_tree.specs.Whole.{AreWhole}
 use Rattle.bx_tree.specs.Patterns.{patterns_of}
 
--- Whether the map has the number, whatever its stamp.
+-- Whether the map has the number, with any stamp.
 abbrev pub has_number : BTreeMap ℕ ℕ → ℕ → Bool
 has_number numbers number = is_some (get nat_cmp numbers number)
 

@@ -1,4 +1,4 @@
--- What a walk along a name finds.
+-- Which sessions a search along a name finds.
 use Rattle.std.specs.Prelude.{ℕ, nat_eq, ◌&&◌, ◌||◌, Bool, true, false, List, [], ◌∷◌, ◌++◌}
 use Rattle.std.specs.List.{list_any}
 use Rattle.bx_tree.specs.declared.nodes.Nodes.{Nodes}
@@ -13,8 +13,8 @@ abbrev pub is_end : List (List ℕ) → Bool
 is_end [] = true
 is_end (segment ∷ rest) = false
 
--- Whether a walk from this path along the remaining segments finds the number. It looks at `**`
--- before each segment, at `*` before the last, and at the end at the name itself.
+-- Whether a search from this path along the remaining segments finds the number. It looks up `**`
+-- before each segment, `*` before the last one, and finally the name itself.
 abbrev pub is_met : Nodes → List ℕ → List (List ℕ) → ℕ → Bool
 is_met nodes path [] number = stands_at nodes.exact path number
 is_met nodes path (segment ∷ rest) number =

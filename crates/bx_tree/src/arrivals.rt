@@ -13,8 +13,8 @@ use std::marker::Model;
 
 /// The patterns of one session, each once, in the order in which they were added.
 ///
-/// Each pattern has a stamp, and stamps ascend. A pattern is found by its stamp, or by comparing
-/// every pattern, so a wrong stamp costs only time.
+/// Each pattern has a stamp, and stamps ascend. A pattern is found by its stamp or, if a caller's
+/// stamp is wrong, by comparing all patterns.
 ///
 /// Model: the patterns, in order.
 #[derive(Drop)]
@@ -45,7 +45,7 @@ impl Arrivals {
         }
     }
 
-    /// Returns how many patterns there are.
+    /// Returns the number of patterns.
     pub(crate) fn len(&self) -> usize
         ensures { result ≡ length self.now }
     {
@@ -64,7 +64,7 @@ impl Arrivals {
         Ok(copy)
     }
 
-    /// Appends a new pattern and returns its stamp. On error, nothing has changed.
+    /// Appends `pattern`, which must be new, and returns its stamp. On error, nothing has changed.
     pub(crate) fn push(&mut self, pattern: Pattern) -> Result<u64, AllocError>
         requires { in_force self.old pattern ≡ false }
         ensures ok { OnOk result (self.new ≡ self.old ++ pattern ∷ []) }
@@ -87,7 +87,7 @@ impl Arrivals {
         Some(last.1)
     }
 
-    /// Removes `pattern`, without a search if `stamp` is its stamp.
+    /// Removes `pattern`, if it is here. If `stamp` is its stamp, this needs no search.
     pub(crate) fn remove(&mut self, pattern: &Pattern, stamp: u64)
         ensures { self.new ≡ without_pattern self.old pattern.now }
     {

@@ -9,7 +9,7 @@ use crate::nodes::Nodes;
 use bx_names::Pattern;
 use std::alloc::{AllocError, Global};
 
-/// Adds a pattern for `number`, unless it is active. On error, nothing has changed.
+/// Adds `pattern` for session `number`, unless it is active. On error, nothing has changed.
 fn put(
     alloc: Global,
     nodes: &mut Nodes,
@@ -34,7 +34,7 @@ fn put(
     Ok(())
 }
 
-/// Adds `patterns` for `number`, in order. On error, some of them may be added.
+/// Adds `patterns` for session `number`, in order. On error, a first part may be added.
 fn put_each(
     alloc: Global,
     nodes: &mut Nodes,
@@ -54,7 +54,7 @@ fn put_each(
     Ok(())
 }
 
-/// Removes the patterns after the first `len` for `number`.
+/// Removes the patterns of session `number` after its first `len`.
 pub(crate) fn shorten(nodes: &mut Nodes, arrivals: &mut Arrivals, len: usize, number: u64)
     requires { IsIndexAt nodes.old number arrivals.old }
     ensures index { IsIndexAt nodes.new number arrivals.new }
@@ -69,7 +69,7 @@ pub(crate) fn shorten(nodes: &mut Nodes, arrivals: &mut Arrivals, len: usize, nu
     }
 }
 
-/// Adds `patterns` for `number`, in order. On error, nothing has changed.
+/// Adds `patterns` for session `number`, in order. On error, nothing has changed.
 pub(crate) fn add_all(
     alloc: Global,
     nodes: &mut Nodes,

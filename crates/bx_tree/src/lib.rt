@@ -1,4 +1,4 @@
-//! Active patterns, indexed by path: which sessions have a pattern that matches a name.
+//! The active patterns of all sessions, and which sessions have one that matches a name.
 #![tactic(auto)]
 
 mod arrivals;

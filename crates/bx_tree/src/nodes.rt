@@ -20,11 +20,11 @@ use std::alloc::{AllocError, Global};
 
 /// The index of patterns: which sessions have each pattern.
 ///
-/// The path of a pattern is its text without a last segment `*` or `**`. A path has up to three
-/// lists of sessions: for the pattern that is the path, for the path and `*`, and for the path and
-/// `**`. The index knows the numbers of sessions, but not the patterns of a session.
+/// The path of a pattern is its text without a wildcard. A path has up to three lists of sessions:
+/// for the pattern that is the path, for the path and `*`, and for the path and `**`.
 ///
-/// With each number the index keeps a stamp, by which the session's own list finds the pattern.
+/// The lists have the numbers of sessions, each with the stamp of the pattern in that session's own
+/// list. The index cannot list the patterns of a session.
 #[derive(Drop)]
 pub struct Nodes {
     exact: PathLists,
@@ -44,7 +44,9 @@ impl Nodes {
         }
     }
 
-    /// Adds session `number` to a pattern. On error, nothing visible has changed.
+    /// Adds session `number` to the list of `pattern`. On error, no list has changed.
+    ///
+    /// `stamp`: the pattern's stamp in the session's own list.
     pub(crate) fn add(
         &mut self,
         alloc: Global,
@@ -64,7 +66,7 @@ impl Nodes {
         }
     }
 
-    /// Returns `true` if session `number` has the pattern.
+    /// Returns `true` if session `number` has `pattern`.
     pub(crate) fn has(&self, pattern: &Pattern, number: u64) -> bool
         ensures has { result ≡ stands_for self.now pattern.now number }
         ensures whole { AreWhole pattern.now.segments }
@@ -77,7 +79,7 @@ impl Nodes {
         }
     }
 
-    /// Removes session `number` from a pattern, and returns its stamp if it had the pattern.
+    /// Removes session `number` from the list of `pattern`, and returns its stamp if it was there.
     pub(crate) fn remove(&mut self, pattern: &Pattern, number: u64) -> Option<u64>
         ensures gone { (other : Glob) → AreWhole other.segments → (n : ℕ)
             → stands_for self.new other n ≡ (stands_for self.old other n && not (same_glob other pattern.now && (n == number))) }
@@ -94,8 +96,8 @@ impl Nodes {
 
     /// Finds the sessions with a pattern that matches `name`.
     ///
-    /// Also counts the lists that it looks up: that of `**` before each segment of the name, that
-    /// of `*` before the last one, and that of the name itself.
+    /// Looks up the list for `**` before each segment of the name, the list for `*` before the last
+    /// one, and the list for the name itself. [`Found::visited`] counts these lookups.
     ///
     /// # Errors
     ///
@@ -109,7 +111,7 @@ impl Nodes {
         self.settled(alloc, name)
     }
 
-    /// Walks along `name`, and returns the sessions in ascending order, each once.
+    /// Returns the sessions that `walk` finds, in ascending order, each once.
     fn settled(&self, alloc: Global, name: &ChannelName) -> Result<Found, AllocError>
         ensures numbers { IfOk result (λ found. (n : ℕ) → is_among found.numbers.items n ≡ is_met self.now [] name.now n) }
         ensures ascending { IfOk result (λ found. IsStrictlyIncreasing found.numbers.items) }
@@ -121,10 +123,7 @@ impl Nodes {
         Ok(found)
     }
 
-    /// Walks along `name` and collects the sessions that it finds.
-    ///
-    /// It looks up the list of `**` before each segment, that of `*` before the last one, and then
-    /// that of the name itself.
+    /// Collects the sessions along `name`, as `find` describes, possibly with duplicates.
     fn walk(&self, alloc: Global, name: &ChannelName) -> Result<Found, AllocError>
         ensures numbers { IfOk result (λ found. (n : ℕ) → is_among found.numbers.items n ≡ is_met self.now [] name.now n) }
         ensures visited { IfOk result (λ found. found.visited ≡ length name.now + 2) }

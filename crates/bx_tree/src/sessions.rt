@@ -41,7 +41,7 @@ impl SessionPatterns {
         }
     }
 
-    /// Returns how many patterns session `number` has.
+    /// Returns the number of patterns of session `number`.
     pub(crate) fn count(&self, number: u64) -> usize
         ensures { result ≡ length (patterns_of self.now number) }
     {
@@ -51,7 +51,7 @@ impl SessionPatterns {
         }
     }
 
-    /// Clones the patterns of session `number`, in order.
+    /// Clones the patterns of session `number`, in the order in which they were added.
     pub(crate) fn patterns(&self, alloc: Global, number: u64) -> Result<Vec<Pattern>, AllocError>
         ensures list { IfOk result (λ list. list.items ≡ patterns_of self.now number) }
         ensures once { AreOnce (patterns_of self.now number) }
@@ -62,7 +62,7 @@ impl SessionPatterns {
         }
     }
 
-    /// Appends the `patterns` that session `number` lacks, in order, and updates the index.
+    /// Adds `patterns` for session `number`, in order, here and in the index.
     ///
     /// On error, nothing has changed.
     pub(crate) fn add_all(
@@ -94,7 +94,7 @@ impl SessionPatterns {
         Ok(())
     }
 
-    /// Removes a pattern of session `number`, without a search if `stamp` is its stamp.
+    /// Removes `pattern` of session `number`. If `stamp` is its stamp, this needs no search.
     pub(crate) fn remove(&mut self, number: u64, pattern: &Pattern, stamp: u64)
         ensures own { patterns_of self.new number ≡ without_pattern (patterns_of self.old number) pattern.now }
         ensures others { (n : ℕ) → n ≢ number → patterns_of self.new n ≡ patterns_of self.old n }

@@ -14,8 +14,8 @@ use std::slice;
 
 /// The active patterns of each session, with an index by path.
 ///
-/// The index is flat: one map for each kind of pattern has the sessions at each path. A search
-/// looks up each prefix of the name. Empty lists are dropped.
+/// The index is flat: there is one map for each [`Tail`](bx_names::Tail), which has the sessions at
+/// each path. A search looks up each prefix of the name. Empty lists are dropped.
 ///
 /// Model: the sessions that have patterns, each with its patterns in the order in which they were
 /// added.
@@ -50,7 +50,7 @@ impl Tree {
         }
     }
 
-    /// Adds a pattern for session `number`, and returns `true` if it is new.
+    /// Adds `pattern` for session `number`, and returns `true` if it was not active.
     ///
     /// # Errors
     ///
@@ -65,7 +65,7 @@ impl Tree {
         Ok(added == 1)
     }
 
-    /// Adds `patterns` for session `number`, in order, and returns how many are new.
+    /// Adds `patterns` for session `number`, in order, and returns how many became active.
     ///
     /// # Errors
     ///
@@ -90,7 +90,7 @@ impl Tree {
 
     /// Copies the patterns of session `number` from another tree, in the same order.
     ///
-    /// The session must have no pattern here.
+    /// The session must have no pattern in `self`.
     ///
     /// # Errors
     ///
@@ -106,14 +106,14 @@ impl Tree {
         Ok(())
     }
 
-    /// Returns `true` if the pattern is active for session `number`.
+    /// Returns `true` if `pattern` is active for session `number`.
     pub fn has(&self, pattern: &Pattern, number: u64) -> bool
         ensures { result ≡ in_force (patterns_of self.now number) pattern.now }
     {
         self.nodes.has(pattern, number)
     }
 
-    /// Removes a pattern of session `number`, and returns `true` if it was active.
+    /// Removes `pattern` of session `number`, and returns `true` if it was active.
     pub fn remove(&mut self, pattern: &Pattern, number: u64) -> bool
         ensures own { patterns_of self.new number ≡ without_pattern (patterns_of self.old number) pattern.now }
         ensures others { (n : ℕ) → n ≢ number → patterns_of self.new n ≡ patterns_of self.old n }
@@ -126,7 +126,7 @@ impl Tree {
         true
     }
 
-    /// Removes `patterns` of session `number`, and returns how many of them were active.
+    /// Removes `patterns` of session `number`, and returns how many are no longer active.
     #[tactic(auto, using(crate::proofs::OnceLemmas::taken_out))]
     pub fn remove_each(&mut self, patterns: &[Pattern], number: u64) -> usize
         ensures own { patterns_of self.new number ≡ fold without_pattern (patterns_of self.old number) patterns.now }
@@ -154,7 +154,7 @@ impl Tree {
         count
     }
 
-    /// Returns how many patterns session `number` has.
+    /// Returns the number of active patterns of session `number`.
     pub fn count(&self, number: u64) -> usize
         ensures { result ≡ length (patterns_of self.now number) }
     {
@@ -172,7 +172,7 @@ impl Tree {
         self.sessions.patterns(alloc, number)
     }
 
-    /// Returns the index, which finds sessions by the name of a channel.
+    /// Returns the index, with which sessions are found by a channel name.
     pub fn nodes(&self) -> &Nodes
         ensures { IsIndexOf result.now self.now }
     {

@@ -1,4 +1,4 @@
--- The steps of a log's entries.
+-- The steps and keys of a log's entries, as the log grows.
 use Rattle.std.proofs.Common.{◌≡◌, ℕ, ◌+◌, List, [], ◌∷◌, ◌++◌, length, refl, ap, sym, ◌∙◌, arith}
 use Rattle.std.proofs.lemmas.List.{map-append, length-map}
 use mathlib.Core.List.{IsPrefix}
@@ -16,7 +16,6 @@ pub steps_count : (log : List Logged) → IsBegun log → length (steps_of log) 
 steps_count [] begun = absurd (omega arith)
 steps_count (d ∷ log) begun = let n = length-map log step_in in omega (arith, n)
 
--- a longer log has further steps
 pub steps_prefix : (xs ys : List Logged) → IsPrefix xs ys → IsPrefix (steps_of xs) (steps_of ys)
 steps_prefix [] ys p = (steps_of ys, refl)
 steps_prefix (x ∷ xs) [] p = absurd (cc (p.1))
@@ -28,6 +27,5 @@ key_last : (k : ℕ) (log : List Logged) (e : Logged) → key_from k (log ++ e �
 key_last k [] e = refl
 key_last k (d ∷ log) e = key_last d.next log e
 
--- the key of the last entry is the next one to bring home
 pub key_next : (log : List Logged) (e : Logged) → key_of (log ++ e ∷ []) ≡ e.next
 key_next log e = key_last 0 log e

@@ -1,4 +1,4 @@
--- What a ring holds, as its front grows.
+-- The batches of a ring after a publish or a trim, and the batch at a place.
 use Rattle.std.proofs.Common.{◌≡◌, ℕ, zero, suc, ◌+◌, ◌-◌, ◌<◌, ◌≤◌, List, [], ◌∷◌, ◌++◌, length, drop, map, slice_index_or, slice_get, Some, ◌⊎◌, inl, inr, refl, ap, sym, ◌∙◌, subst, arith, length-append}
 use Rattle.std.proofs.lemmas.{Bool.cases_lt, List.drop-map, List.get_or_past, List.map-append, List.length-map, Option.get_or_from_slice_get, Option.slice_get-map, Option.slice_get_within}
 use Rattle.std.specs.Prelude.{option_map}
@@ -18,7 +18,6 @@ before_added log s =
     let short : length (log ++ s ∷ []) - 1 ≡ length log = omega (arith, length-append log (s ∷ [])) in
     rw short (take-append_seam log (s ∷ []))
 
--- a publish of some items to a window that is not full
 pub newest : (log : List LogStep) (xs : List Listed) (inputs : List Input) (first : ℕ) → 0 < length xs → first ≡ length (list_of log) → length (firsts_of log) < 4096 → IsNewest (log ++ adding xs inputs ∷ []) first
 newest log xs inputs first some is room =
     let all = firsts_of_adding log xs inputs some in
@@ -30,7 +29,6 @@ newest log xs inputs first some is room =
       room = omega (arith, ap length all, length-append (firsts_of log) (length (list_of log) ∷ []), room);
     }
 
--- a trim
 pub trimmed : (log : List LogStep) (n : ℕ) → IsTrimmed (log ++ trimming n ∷ []) n
 trimmed log n =
     let same = before_added log (trimming n) in
@@ -56,7 +54,6 @@ ends_dropped zero end fs = refl
 ends_dropped (suc n) end [] = refl
 ends_dropped (suc n) end (f ∷ fs) = ends_dropped n end fs
 
--- the ring has room for the newest batch
 pub room_left : (log next : List LogStep) (first : ℕ) → before next ≡ log → IsNewest next first → length (firsts_of log) < 4096
 room_left log next first same new =
     let old : firsts_of (before next) ≡ firsts_of log = ap firsts_of same in
@@ -88,12 +85,10 @@ ends_less f items n log next h same less =
     ap (λ l. ends_in (length l) (firsts_of next)) list ∙ (ap (λ fs. ends_in (length (list_of log)) fs) firsts ∙ ends_dropped n (length (list_of log)) (firsts_of log)) in
     sym (drop-map f n items) ∙ (ap (λ es. drop n es) h ∙ sym fewer)
 
--- a ring that has fewer than it may have keeps all
 pub kept_ring : {A : Type 0} (f : A → ℕ) (items : List A) (capacity : ℕ) (x : A) (log : List LogStep) → map f items ≡ firsts_of log → capacity ≡ 4096 → length (firsts_of log) < 4096 → keep_last capacity (items ++ x ∷ []) ≡ items ++ x ∷ []
 kept_ring f items capacity x log h cap room =
     kept_all capacity x items (omega (arith, cap, room, ap length h, length-map items f))
 
--- the batch at an index, by where it begins and ends
 first_at : {A : Type 0} (f : A → ℕ) (items : List A) (fs : List ℕ) (i end : ℕ) (x : A) → map f items ≡ fs → slice_get items i ≡ Some x → f x ≡ slice_index_or fs i end
 first_at f items fs i end x h is =
     sym (get_or_from_slice_get fs i (f x) end (ap (λ l. slice_get l i) (sym h) ∙ slice_get-map f items i ∙ ap (option_map f) is))
@@ -103,7 +98,6 @@ ends_at [] i end d lt = absurd (omega arith)
 ends_at (f ∷ fs) zero end d lt = refl
 ends_at (f ∷ fs) (suc i) end d lt = let e : suc i + 1 ≡ suc (i + 1) = omega arith in rw e (ends_at fs i end d (omega arith))
 
--- a batch that continues the list of a window that is not full
 pub newest_bundle : (config : Config) (log : List LogStep) (b : Bundle) → Continues config (list_of log) b → length (firsts_of log) < 4096 → IsNewest (log ++ adding b.elements b.inputs ∷ []) b.batch.first
 newest_bundle config log b c room =
     let some : 0 < length b.elements = omega (arith, many_elements config (list_of log) b c, c.some) in
@@ -114,7 +108,7 @@ ends_bundle config log b c =
     let all = ap length (list_of-adding log b.elements b.inputs) in
     omega (arith, all, length-append (list_of log) b.elements, many_elements config (list_of log) b c, c.first)
 
--- a place of the window lies between the first batch and the end behind the last one
+-- A place of the window is at or after where the first batch begins, and before the list's end.
 pub inside_all : (log : List LogStep) (n place : ℕ) → n ≡ length (firsts_of log) → begin_of log ≤ place → place < length (list_of log)
     → (slice_index_or (firsts_of log) 0 (length (list_of log)) ≤ place) × (place < slice_index_or (firsts_of log) n (length (list_of log)))
 inside_all log n place is low high =
@@ -134,7 +128,6 @@ above_it f items log i place x h is less =
     let inside : i < length (firsts_of log) = omega (arith, slice_get_within items i x is, sym (length-map items f), ap length h, ends_many end (firsts_of log)) in
     subst (λ m. m ≤ place) (first_at f items (ends_of log) i end x h is ∙ ends_at (firsts_of log) i end end inside) less
 
--- a place that is none of a batch's and lies not before it lies behind it
 pub behind : (first end place : ℕ) → ((first ≤ place) × (place < end) → ⊥) → first ≤ place → end ≤ place
 behind first end place out low = by_place (cases_lt place end)
   where

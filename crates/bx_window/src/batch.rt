@@ -1,4 +1,4 @@
-//! A batch to publish, and the entries of a batch.
+//! Batches to publish, and the entries of a batch.
 ghost use Rattle.std.specs.Prelude.{◌≡◌, ◌-◌, Some, slice_get};
 ghost use Rattle.bx_window.specs.Places.{IsOf};
 
@@ -8,7 +8,7 @@ use bx_history::History;
 /// A batch to publish, with the inputs that it results from.
 #[derive(Drop)]
 pub struct Bundle {
-    /// The entries, from the end of the list on.
+    /// The batch, which begins at the end of the list.
     pub batch: Batch,
     /// Ghost: the elements of the list for these entries.
     pub elements: Listing,

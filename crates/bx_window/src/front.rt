@@ -12,7 +12,7 @@ use bx_history::History;
 use logbook::{Offer, Pen, Seen, Start, Word};
 use std::marker::{Model, PhantomData};
 
-/// A new window, with an empty log, that no call has used yet.
+/// A new window, with an empty log, which no call has used yet.
 pub struct Opened {
     head: Word<Logged, u64, Law>,
     seen: Seen<Logged, u64, Law>,
@@ -32,7 +32,7 @@ impl Opened {
         }
     }
 
-    // Begins the log. Returns `None` if it had begun, which does not happen.
+    // Begins the log. Returns `None` if it has already begun, which does not happen.
     pub(crate) fn begun<J: Naming>(self) -> Option<Book<J>>
         requires { self.seen.book ≡ J.book }
         ensures { IfSome result (λ b. b ≡ []) }
@@ -66,7 +66,7 @@ impl Opened {
     }
 }
 
-// Adds a cell, and returns its pen, which may write it until a step brings it home.
+// Adds a cell, and returns its pen. The pen can write the cell until a step spends it.
 fn spare(head: &Word<Logged, u64, Law>, seen: &Seen<Logged, u64, Law>) -> Pen
     requires { head.now ≡ head_of seen.now.book }
     ensures book { result.book ≡ seen.now.book }
@@ -82,9 +82,9 @@ fn spare(head: &Word<Logged, u64, Law>, seen: &Seen<Logged, u64, Law>) -> Pen
 
 /// The writer's end of the log.
 ///
-/// It has the only pen that can add a step, so its front is the whole log.
+/// It has the only pen that can append a step, so its front is the whole log.
 ///
-/// Model: the steps.
+/// Model: the steps of the log.
 #[derive(Drop)]
 pub struct Book<J: Naming> {
     head: Word<Logged, u64, Law>,
@@ -125,7 +125,7 @@ impl<J: Naming> Book<J> {
         }
     }
 
-    // Returns the whole log, of which `other` is a prefix, since only the pen can add steps.
+    // Returns the whole log. `other` is a prefix of it, because only the pen can append steps.
     pub(crate) fn beyond(&mut self, other: &Front<J>) -> Front<J>
         ensures same { self.new ≡ self.old }
         ensures whole { result ≡ self.old }
@@ -202,8 +202,8 @@ impl<J: Naming> Book<J> {
 
 /// A prefix of the window's log that a caller has seen.
 ///
-/// Of two fronts of one window, the shorter is a prefix of the longer, whatever was trimmed in
-/// between.
+/// Of two fronts of one window, the shorter is a prefix of the longer, even if batches were trimmed
+/// in between.
 ///
 /// Model: its steps.
 #[derive(Drop)]
@@ -230,7 +230,7 @@ impl<J: Naming> Model for Front<J> {
 }
 
 impl<J: Naming> Front<J> {
-    /// Returns the length of its list.
+    /// Returns how many entries its list has.
     pub fn len(&self) -> u64
         ensures end { result ≡ length (list_of self.now) }
         ensures bounded { result ≤ greatest_length }
@@ -240,21 +240,21 @@ impl<J: Naming> Front<J> {
 
     /// Returns the place where its window begins.
     ///
-    /// This is the first place of the oldest batch, or the list's end if there is no batch.
+    /// This is the first place of the oldest batch, or the end of the list if there is no batch.
     pub fn begin(&self) -> u64
         ensures { result ≡ begin_of self.now }
     {
         self.begin
     }
 
-    /// Returns its number of publishes and trims.
+    /// Returns how many publishes and trims it has.
     pub fn steps(&self) -> u64
         ensures { result ≡ length self.now }
     {
         self.steps
     }
 
-    /// Returns a copy.
+    /// Returns a copy of `self`.
     ///
     /// Does not allocate.
     pub fn again(&self) -> Front<J>
@@ -269,7 +269,9 @@ impl<J: Naming> Front<J> {
         }
     }
 
-    /// Returns the longer of two fronts, of which the shorter is a prefix.
+    /// Returns a copy of the longer of two fronts.
+    ///
+    /// The shorter is a prefix of it. Does not allocate.
     pub fn longer(&self, other: &Front<J>) -> Front<J>
         ensures one { (result ≡ self.now) ⊎ (result ≡ other.now) }
         ensures this { IsPrefix self.now result }
@@ -284,7 +286,7 @@ impl<J: Naming> Front<J> {
         }
     }
 
-    /// Returns `true` if `other` has no more steps than `self`, and so is a prefix of it.
+    /// Returns `true` if `other` has no more steps than `self`. It is then a prefix of it.
     pub fn covers(&self, other: &Front<J>) -> bool
         ensures begins { IsTrue result → IsPrefix other.now self.now }
         ensures steps { IsTrue result ↔ length other.now ≤ length self.now }

@@ -16,17 +16,17 @@ pub struct LogStep {
 
 /// Ghost: an entry of the log.
 pub struct Logged {
-    /// The step, which only opens the log in the first entry.
+    /// The step. The first entry's step only opens the log.
     pub step: LogStep,
-    /// The key of the cell that the next step brings home.
+    /// The key of the cell that the next step spends.
     ///
-    /// Only the holder of the cell's pen can add that step.
+    /// Only the holder of the cell's pen can append that step.
     pub next: u64,
 }
 
-/// The rule of the log.
+/// Ghost: the rule of the log.
 ///
-/// The log's word is its number of entries. The cell of each key except the last was brought home.
+/// The first cell has the number of entries. The cell of each entry's key except the last is spent.
 pub struct Law;
 
 impl Rule<Logged, u64> for Law {
@@ -47,7 +47,7 @@ impl Rule<Logged, u64> for Law {
     ghost moves = { λ ask before after answer. Unit {0} };
 }
 
-/// Ghost: callers neither gain nor give up anything by a move, besides what the move states.
+/// Ghost: the empty gain: a caller learns only what the move itself states.
 pub struct NoGain;
 
 impl Gain<Logged, u64> for NoGain {
@@ -65,7 +65,7 @@ impl Play<Logged, u64> for Spare {
     ghost then = { Spares };
 }
 
-/// Ghost: the move that adds the first entry.
+/// Ghost: the move that appends the first entry.
 pub struct Open;
 
 impl Play<Logged, u64> for Open {
@@ -74,7 +74,7 @@ impl Play<Logged, u64> for Open {
     ghost then = { Opens };
 }
 
-/// Ghost: the move that adds a step.
+/// Ghost: the move that appends a step.
 pub struct Add;
 
 impl Play<Logged, u64> for Add {
@@ -83,7 +83,7 @@ impl Play<Logged, u64> for Add {
     ghost then = { Adds };
 }
 
-/// Ghost: the move that adds nothing, and shows that no more was seen than expected.
+/// Ghost: the move that changes nothing, and proves that no more was seen than expected.
 pub struct Whole;
 
 impl Play<Logged, u64> for Whole {
@@ -92,7 +92,7 @@ impl Play<Logged, u64> for Whole {
     ghost then = { AreAll };
 }
 
-/// A step to add, with the pen of the step after it.
+/// A step to append, with the pen for the step after it.
 #[derive(Drop)]
 pub struct Asked<'a> {
     /// The elements to append to the list, in order.
@@ -101,7 +101,7 @@ pub struct Asked<'a> {
     pub inputs: &'a History<Input>,
     /// How many of the window's oldest batches to drop.
     pub dropped: u64,
-    /// The pen for adding the step after it.
+    /// The pen for the step after it.
     pub next: &'a Pen,
 }
 
@@ -122,9 +122,9 @@ impl Plain<u64, Logged, u64> for Spare {
     ghost state = { λ n. None };
 }
 
-/// The window that a call works on: its book, its configuration and its placing of sessions.
+/// The ghost constants of a window: its book, its configuration and its placing of sessions.
 ///
-/// Each call picks them.
+/// The caller that creates the window chooses them.
 pub trait Naming {
     ghost use Rattle.std.specs.Prelude.{ℕ};
     ghost use Rattle.logbook.specs.Pages.{Book};

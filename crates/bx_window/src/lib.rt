@@ -1,4 +1,4 @@
-//! The window: one writer publishes batches of entries, and readers take them without a lock.
+//! The window: one writer publishes batches of entries, and readers find them without a lock.
 #![tactic(auto)]
 
 mod batch;

@@ -13,7 +13,7 @@ use left_right::WriteHandle;
 use std::alloc::AllocError;
 use std::sync::Wait;
 
-/// A change that readers do not see yet, because the operation that shows it was refused.
+/// A change that readers do not see yet, because it could not be shown.
 #[derive(Drop)]
 pub(crate) struct Late<O: Drop> {
     change: O,
@@ -21,7 +21,7 @@ pub(crate) struct Late<O: Drop> {
 
 /// Shows `change` to readers.
 ///
-/// Returns it as late if the operation is refused. Readers then see what they saw before.
+/// Returns the change as late if it cannot be shown. Readers then see what they saw before.
 pub(crate) fn show<J: Naming, R: Wait + Drop>(
     handle: &mut WriteHandle<Ring<J>, RingChange<J>, R>,
     change: RingChange<J>,
@@ -40,7 +40,7 @@ pub(crate) fn show<J: Naming, R: Wait + Drop>(
     }
 }
 
-/// Shows the late change, if any, and returns `true` unless it is refused again.
+/// Shows the late change, if any, and returns `true` if no change is late any more.
 pub(crate) fn catch_up<J: Naming, R: Wait + Drop>(
     handle: &mut WriteHandle<Ring<J>, RingChange<J>, R>,
     late: &mut Option<Late<RingChange<J>>>,
@@ -61,8 +61,12 @@ pub(crate) fn catch_up<J: Naming, R: Wait + Drop>(
 
 /// Makes room in the log of `left_right`, so that showing a change never allocates.
 ///
-/// The log has at most two operations: the last one, until the next publish applies it to the other
-/// ring, and the next one.
+/// The log has at most two operations: the next one, and the last one, which the next publish
+/// applies to the other ring.
+///
+/// # Errors
+///
+/// `AllocError` if memory runs out.
 pub(crate) fn make_room<J: Naming, R: Wait + Drop>(
     handle: &mut WriteHandle<Ring<J>, RingChange<J>, R>,
     front: &Front<J>,

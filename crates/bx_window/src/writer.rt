@@ -29,7 +29,7 @@ use std::sync::{Arc, Wait};
 
 /// The maximum number of batches in the window.
 ///
-/// A shard that does not advance keeps no more than these.
+/// The window keeps no more for a shard that does not advance.
 ///
 /// Policy of this server.
 pub const MAX_BATCHES: usize = 4096;
@@ -39,13 +39,13 @@ pub const MAX_BATCHES: usize = 4096;
 pub enum PublishFault {
     /// The window has [`MAX_BATCHES`] batches.
     Full,
-    /// Memory ran out, or `left_right` refused an earlier change again.
+    /// Memory ran out, or an earlier change still cannot be shown to readers.
     Memory,
 }
 
 /// The writer of a published value `T` that shows the steps of a log.
 ///
-/// Readers see all steps, except for a change that is late.
+/// Readers see all steps, except for at most one change that is late.
 ///
 /// Model: the steps of the log.
 #[derive(Drop)]
@@ -71,10 +71,12 @@ impl<J: Naming, R: Wait + Drop, T: Absorb<O, State = [LogStep; 0]> + Drop, O: Dr
     ghost invariant = { λ w. (w.firsts.items ≡ firsts_of w.book) × (w.firsts.capacity ≡ 4096) × (pending w.handle ≡ []) × IsShown T.applied w.book w.late (T.state (published w.handle)) };
 }
 
-/// The writer of a window, which is the only value that publishes to it.
+/// The only writer of a window.
 pub type LogWriter<J, R> = Writer<J, R, Ring<J>, RingChange<J>>;
 
-/// Creates the writer and `readers` readers of an opened window, with an empty list.
+/// Creates the writer and `readers` readers of an opened window.
+///
+/// Its list is empty. `readers` must be from 1 to 2^32 - 1.
 ///
 /// # Errors
 ///
@@ -126,7 +128,7 @@ fn empty_ring<J: Naming>(alloc: Global, front: &Front<J>) -> Result<Ring<J>, All
 }
 
 impl<J: Naming, R: Wait + Drop> Writer<J, R, Ring<J>, RingChange<J>> {
-    /// Returns all that was published, for readers to learn.
+    /// Returns the front of all that was published, for readers to learn.
     ///
     /// Does not allocate.
     pub fn tell(&self) -> Front<J>
@@ -135,9 +137,9 @@ impl<J: Naming, R: Wait + Drop> Writer<J, R, Ring<J>, RingChange<J>> {
         self.book.front()
     }
 
-    /// Returns all that was published, of which `front` is a prefix.
+    /// Returns the front of all that was published, which covers `front`.
     ///
-    /// It is a prefix because only the writer adds to the list. Does not allocate.
+    /// It covers every front, because only the writer appends to the list. Does not allocate.
     pub fn tell_beyond(&mut self, front: &Front<J>) -> Front<J>
         ensures same { self.new ≡ self.old }
         ensures whole { result ≡ self.old }
@@ -155,16 +157,16 @@ impl<J: Naming, R: Wait + Drop> Writer<J, R, Ring<J>, RingChange<J>> {
 
     /// Publishes a batch, for readers to find at its places.
     ///
-    /// The batch must have entries and begin at the end of the list. They must be the entries that
-    /// `bundle.elements` add to the list. If `left_right` refuses the change, readers do not see it
-    /// until a later call has shown it.
+    /// The batch must begin at the end of the list and have entries, which must be those that
+    /// `bundle.elements` adds. If the change cannot be shown, it is late: readers see it after a
+    /// later call has shown it.
     ///
     /// # Errors
     ///
     /// `bundle`, with the first of these that applies; nothing is published:
     ///
     /// - `Full`: the window has [`MAX_BATCHES`] batches.
-    /// - `Memory`: `left_right` refuses an earlier change again, or memory ran out.
+    /// - `Memory`: an earlier change still cannot be shown, or memory ran out.
     ///
     /// # Blocking
     ///
@@ -196,18 +198,18 @@ impl<J: Naming, R: Wait + Drop> Writer<J, R, Ring<J>, RingChange<J>> {
         Ok(())
     }
 
-    /// Drops the batches whose places are all below `n`.
+    /// Drops the batches with all their places below `n`.
     ///
-    /// Readers then find `Overrun` at these places. If `left_right` refuses the change, they do not
-    /// until a later call has shown it. Does not allocate.
+    /// Readers then find `Overrun` at these places. If the change cannot be shown, it is late, as
+    /// in [`publish`](Self::publish). Does not allocate.
     ///
     /// # Errors
     ///
-    /// `AllocError` if `left_right` refuses an earlier change again; nothing has changed.
+    /// `AllocError` if an earlier change still cannot be shown; nothing has changed.
     ///
     /// # Blocking
     ///
-    /// Unless it drops nothing, waits for readers that still use the older copy of the ring.
+    /// If it drops batches, waits for readers that still use the older copy of the ring.
     #[tactic(auto, using(crate::proofs::Lists::begin_of_trimming, crate::proofs::Lists::list_of_trimming, crate::proofs::Lists::inputs_of_trimming, crate::proofs::Lists::firsts_of_trimming, crate::proofs::Rings::trimmed))]
     pub fn trim(&mut self, n: u64) -> Result<(), AllocError>
         requires steps { length self.old < 2 ^ 62 }
@@ -257,7 +259,7 @@ fn shared(
     }
 }
 
-// Returns the place at `index`, or `end` after the last one.
+// Returns where batch `index` begins, or `end` after the last one.
 #[tactic(auto, using(crate::proofs::Firsts::found_or))]
 fn first_at(firsts: &HeapCircularBuffer<u64>, index: usize, end: u64) -> u64
     ensures { result ≡ slice_index_or firsts.now.items index end }
@@ -265,7 +267,7 @@ fn first_at(firsts: &HeapCircularBuffer<u64>, index: usize, end: u64) -> u64
     firsts.get(index).copied().unwrap_or(end)
 }
 
-// Returns how many batches have only places below `n`.
+// Returns how many batches have only places below `n`. The last batch ends at `end`.
 #[tactic(auto, using(crate::proofs::Firsts::below_on, crate::proofs::Firsts::below_off, crate::proofs::Firsts::below_none))]
 fn count_below(firsts: &HeapCircularBuffer<u64>, n: u64, end: u64) -> usize
     ensures { result ≡ below n end firsts.now.items }

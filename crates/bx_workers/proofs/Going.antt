@@ -9,7 +9,7 @@ use Rattle.bx_shard.specs.declared.shard.Shard.{Shard}
 use Rattle.bx_shard.proofs.{Holding.refines_still, Onwards.refines_onwards}
 use Rattle.bx_workers.specs.Upward.{AreConsecutive, AreOf, IsWithin, WentOn, end_of, first_of}
 
--- the shard applied so many of the entries
+-- The shard has applied the first `n` of the entries that it lacked.
 pub record Goes {P : Type 0} (place_of : P → ℕ → ℕ → ℕ) (es : List Entry) (n : ℕ) (old new : Shard P) : Type 0 where
   pub place : new.place ≡ old.place + n
   pub setup : setup_in place_of new ≡ setup_in place_of old
@@ -19,7 +19,6 @@ pub record Goes {P : Type 0} (place_of : P → ℕ → ℕ → ℕ) (es : List E
       Refines setup list taken k old.place (state place_of old) → Refines setup list taken k new.place (state place_of new)
 
 module _ {P : Type 0} (place_of : P → ℕ → ℕ → ℕ) (es : List Entry) where
-  -- one more
   pub goes_on : (n : ℕ) (e : Entry) (old mid new : Shard P) → Goes place_of es n old mid → slice_get es (mid.place - first_of es) ≡ Some e → e.place ≡ mid.place →
       Applied (state place_of mid) e (state place_of new) → IsSound (state place_of new) → Goes place_of es (n + 1) old new
   goes_on n e old mid new g there at a sound = record {
@@ -34,7 +33,6 @@ module _ {P : Type 0} (place_of : P → ℕ → ℕ → ℕ) (es : List Entry) w
         (refines_onwards setup list taken k mid.place e (state place_of mid) (state place_of new) room next (g.holds setup list taken k room of h) a sound);
   }
 
-  -- the next found no memory
   pub goes_still : (n : ℕ) (old mid new : Shard P) → Goes place_of es n old mid → IsAsBefore (state place_of mid) (state place_of new) → IsSound (state place_of new) →
       Goes place_of es n old new
   goes_still n old mid new g same sound = record {
@@ -47,7 +45,6 @@ module _ {P : Type 0} (place_of : P → ℕ → ℕ → ℕ) (es : List Entry) w
         (refines_still setup list taken k mid.place (state place_of mid) (state place_of new) (g.holds setup list taken k room of h) same sound);
   }
 
-  -- so many that it lacked, and an entry for which memory can be refused is next, if one is
   pub goes_far : (n : ℕ) (old new : Shard P) → Goes place_of es n old new → n ≤ length (drop (old.place - first_of es) es) →
       ((e : Entry) → slice_get es (new.place - first_of es) ≡ Some e → takes_no_memory e ≡ false) → IsWithin es old → WentOn place_of es old new
   goes_far n old new g most stopped inside = record {
@@ -62,7 +59,6 @@ module _ {P : Type 0} (place_of : P → ℕ → ℕ → ℕ) (es : List Entry) w
     stopped = stopped;
   }
 
--- the entry that is next
 pub next : {P : Type 0} (es : List Entry) (old mid : Shard P) (n : ℕ) (e : Entry) → IsWithin es old → mid.place ≡ old.place + n → n < length (drop (old.place - first_of es) es) →
     e ≡ get_or (drop (old.place - first_of es) es) n e → slice_get es (mid.place - first_of es) ≡ Some e
 next es old mid n e inside at within is =
@@ -76,7 +72,6 @@ free_at_err : (b : Bool) → (b ≡ true → false ≡ true) → b ≡ false
 free_at_err true free = sym (free refl)
 free_at_err false free = refl
 
--- a shard that stays before an entry for which memory can be refused
 pub stays : {P : Type 0} (es : List Entry) (mid new : Shard P) (e : Entry) → slice_get es (mid.place - first_of es) ≡ Some e → new.place ≡ mid.place → (takes_no_memory e ≡ true → false ≡ true) →
     (x : Entry) → slice_get es (new.place - first_of es) ≡ Some x → takes_no_memory x ≡ false
 stays es mid new e there same free x at =
@@ -84,7 +79,6 @@ stays es mid new e there same free x at =
     let one : e ≡ x = same_Some e x (sym there ∙ here) in
     subst (λ (y : Entry). takes_no_memory y ≡ false) one (free_at_err (takes_no_memory e) free)
 
--- behind the last entry no entry is next
 pub ended : {P : Type 0} (es : List Entry) (old new : Shard P) (n : ℕ) → IsWithin es old → new.place ≡ old.place + n → length (drop (old.place - first_of es) es) ≤ n →
     (x : Entry) → slice_get es (new.place - first_of es) ≡ Some x → takes_no_memory x ≡ false
 ended es old new n inside at past x there =
@@ -93,7 +87,6 @@ ended es old new n inside at past x there =
     let p : (first_of es ≤ old.place) × (old.place ≤ end_of es) = inside (omega (arith, below)) in
     absurd (omega (arith, at, past, len, below, p.0))
 
--- its place is that of the shard
 pub stands : {P : Type 0} (es : List Entry) (old mid : Shard P) (n : ℕ) (e : Entry) → AreConsecutive es → IsWithin es old → mid.place ≡ old.place + n → slice_get es (mid.place - first_of es) ≡ Some e →
     e.place ≡ mid.place
 stands es old mid n e apart inside at there =

@@ -1,11 +1,10 @@
--- Shards that are brought up one after another, and in parts.
+-- Shards that advance one after another, and in parts.
 use Rattle.std.proofs.Common.{ℕ, ◌+◌, ◌<◌, ◌≤◌, ◌≡◌, List, length, get_or, set, ap, sym, subst, arith, ◌∙◌, ⊎_elim}
 use Rattle.std.proofs.lemmas.{Bool.cases_eq, List.get_or-set_same, List.get_or-set_other, Option.get_or_from_slice_get, Option.slice_get-get_or, Option.slice_get_within}
 use Rattle.bx_entry.specs.declared.entry.Entry.{Entry}
 use Rattle.bx_shard.specs.declared.shard.Shard.{Shard}
 use Rattle.bx_workers.specs.Upward.{BroughtUp, WentOn}
 
--- those below a place went on, and the others are as before
 pub record WentSoFar {P : Type 0} (place_of : P → ℕ → ℕ → ℕ) (es : List Entry) (n : ℕ) (old new : List (Shard P)) : Type 0 where
   pub done : (j : ℕ) (d : Shard P) → j < n → j < length old → WentOn place_of es (get_or old j d) (get_or new j d)
   pub rest : (j : ℕ) (d : Shard P) → n ≤ j → get_or new j d ≡ get_or old j d
@@ -14,7 +13,6 @@ get_or_any : {X : Type 0} (xs : List X) (i : ℕ) (c d : X) → i < length xs �
 get_or_any xs i c d below = get_or_from_slice_get xs i (get_or xs i d) c (slice_get-get_or xs i d below)
 
 module _ {P : Type 0} (place_of : P → ℕ → ℕ → ℕ) (es : List Entry) where
-  -- one more
   pub went_further : (n : ℕ) (old mid : List (Shard P)) (s t : Shard P) → WentSoFar place_of es n old mid → length mid ≡ length old → n < length old →
       WentOn place_of es (get_or mid n s) t → WentSoFar place_of es (n + 1) old (set mid n t)
   went_further n old mid s t h len within went = let below : n < length mid = omega (arith, len, within) in record {
@@ -34,11 +32,9 @@ module _ {P : Type 0} (place_of : P → ℕ → ℕ → ℕ) (es : List Entry) w
         (subst (λ (y : Shard P). WentOn place_of es (get_or old k s) y) (get_or_from_slice_get new k t s is) (each k s (slice_get_within old k s was)));
   }
 
-  -- all
   pub went_all : (n : ℕ) (old new : List (Shard P)) → WentSoFar place_of es n old new → length new ≡ length old → length old ≤ n → BroughtUp place_of es old new
   went_all n old new h len past = brought_each old new len (λ k d inside. h.done k d (omega (arith, inside, past)) inside)
 
-  -- of a part that was brought up, each shard went on
   pub went_in_part : (part after : List (Shard P)) (k : ℕ) (d s t : Shard P) → BroughtUp place_of es part after → k < length part → get_or part k d ≡ s → get_or after k d ≡ t → WentOn place_of es s t
   went_in_part part after k d s t h inside was is =
       subst (λ (x : Shard P). WentOn place_of es x t) was (subst (λ (y : Shard P). WentOn place_of es (get_or part k d) y) is

@@ -27,7 +27,7 @@ impl Model for WorkerCount {
 impl WorkerCount {
     ghost use Rattle.std.specs.Prelude.{◌≡◌, ◌≤◌, ◌↔◌, IsSome, IfSome};
 
-    /// Creates a count, or returns `None` if `count` is not 1 to [`MAX_WORKERS`].
+    /// Creates a number of workers, or returns `None` if `count` is not from 1 to [`MAX_WORKERS`].
     pub fn new(count: usize) -> Option<WorkerCount>
         ensures valid { IsSome result ↔ ((1 ≤ count) × (count ≤ 16)) }
         ensures count { IfSome result (λ w. w ≡ count) }
@@ -38,14 +38,14 @@ impl WorkerCount {
         Some(WorkerCount { count })
     }
 
-    /// Creates a count of one worker: the calling thread.
+    /// Creates the number 1: the only worker is the calling thread.
     pub fn one() -> WorkerCount
         ensures { result ≡ 1 }
     {
         WorkerCount { count: 1 }
     }
 
-    /// Returns the number.
+    /// Returns the number, from 1 to [`MAX_WORKERS`].
     pub fn get(self) -> usize
         ensures same { result ≡ self }
         ensures some { 1 ≤ result }

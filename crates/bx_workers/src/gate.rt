@@ -1,14 +1,13 @@
-//! Calls before and after a worker's work.
+//! Gates: points where tests can stop a worker.
 
 /// Calls that a worker makes before and after it advances its shards.
 ///
-/// `worker`: its number, counted from 0. A test can hold one worker there until another has gone
-/// on.
+/// `worker`: its number, counted from 0. A test can stop one worker there until another is done.
 pub trait Gate {
-    /// Runs before the worker begins.
+    /// Runs before the worker advances its shards.
     fn before(&self, worker: usize);
 
-    /// Runs when the worker is done.
+    /// Runs after the worker has advanced its shards.
     fn after(&self, worker: usize);
 }
 

@@ -1,4 +1,4 @@
-//! Advancing shards to the end of a list of entries, by many workers.
+//! Workers that advance shards to the end of a list of entries.
 ghost use Rattle.std.specs.Prelude.{◌≡◌, ◌≤◌, ◌<◌, ◌-◌, drop, false, IfOk};
 ghost use Rattle.bx_advice.specs.Limits.{greatest_length};
 ghost use Rattle.bx_workers.specs.Upward.{AreConsecutive, AreWithin, BroughtUp, IsWithin, WentOn, count_behind, end_of, first_of, is_behind};
@@ -14,12 +14,13 @@ use std::thread::Threads;
 /// Advances every shard to the end of `entries`, and returns how many do not reach it.
 ///
 /// `entries` must have consecutive places. Each shard's next entry must be one of them, or the one
-/// after the last. A shard stops at the first entry for which memory runs out.
+/// after the last. A shard stops at the first entry for which memory runs out. Tasks are woken once
+/// their shard has advanced.
 ///
 /// Worker `w`, counted from 0, advances the `w`-th run of `ceil(shards / workers)` neighboring
 /// shards, and calls `gate` before and after. A worker without shards does not call it. If no
 /// thread can be started, the runs are advanced one after another.
-// Prover: the contract says only that such an entry is of a kind that allocates.
+// Prover: of the entry at which a shard stops, the contract says only that it may allocate.
 pub fn bring_up<R: Threads + Sync, G: Gate + Sync, P: Placing + Send + Sync>(
     rt: &R,
     alloc: Global,
@@ -55,7 +56,7 @@ pub fn bring_up<R: Threads + Sync, G: Gate + Sync, P: Placing + Send + Sync>(
         .count()
 }
 
-// Advances shards one after another. The caller counts those that do not reach the end.
+// Advances shards one after another. `bring_up` counts those that do not reach the end.
 fn catch_up_each<P: Placing>(alloc: Global, shards: &mut [Shard<P>], entries: &[Entry])
     requires consecutive { AreConsecutive entries.now }
     requires end { end_of entries.now ≤ greatest_length }

@@ -1,4 +1,4 @@
--- No event stands in two answers of a session that does not acknowledge.
+-- No event is in two answers of a session that does not acknowledge.
 use Rattle.std.proofs.Common.{◌≡◌, ℕ, zero, suc, ◌<◌, Bool, false, ◌==◌, Some, List, [], ◌∷◌, ◌++◌, take, find, sym, subst, arith, eqb-true}
 use Rattle.bx_advice.specs.declared.config.Config.{Config}
 use Rattle.bx_entry.specs.Words.{Listed, entries}
@@ -50,7 +50,6 @@ below_none : (ps : List Publication) → AllBelow ps []
 below_none [] = tt
 below_none (p ∷ ps) = (tt, below_none ps)
 
--- the answers of connects in the order of their places but for those without events, with the events of all in order
 found_apart : (fs : List Filed) (a b : ℕ) (f g : Filed) → Ordered fs → events.Rising (given_in fs) → a < b → find (λ (h : Filed). h.connect == a) fs ≡ Some f → find (λ (h : Filed). h.connect == b) fs ≡ Some g →
     AllBelow f.publications g.publications
 found_apart [] a b f g r s l e k = cc

@@ -20,7 +20,6 @@ use Rattle.bx_world.proofs.Standing.{each_with, holds_there, in_range, place_the
 
 -- ---- places of the list
 
--- a place that has an entry is one of the list
 pub place_within : (config : Config) (list : List Listed) (n : ℕ) (e : Entry) → slice_get (entries config list) n ≡ Some e → n < length list
 place_within config list n e h = let l : n < length (entries config list) = slice_get_within (entries config list) n e h in omega (arith, l, entries_length config list)
 
@@ -28,11 +27,9 @@ past_end : (es : List Entry) (n m : ℕ) → length es ≡ m → slice_get es n 
 past_end [] n m l h = omega (arith, l)
 past_end (e ∷ es) n m l h = ⊎_elim (λ (k : n < length (e ∷ es)). absurd (none-some (get_or (e ∷ es) n e) (sym h ∙ slice_get-get_or (e ∷ es) n e k))) (λ (k : length (e ∷ es) ≤ n). omega (arith, k, l)) (cases_lt n (length (e ∷ es)))
 
--- and one that has none is behind it
 pub place_past : (config : Config) (list : List Listed) (n : ℕ) → slice_get (entries config list) n ≡ None → length list ≤ n
 place_past config list n h = past_end (entries config list) n (length list) (entries_length config list) h
 
--- no entry is found past the end of the list alone
 pub none_past : {X : Type 0} (entry_of : X → Entry) (config : Config) (list : List Listed) (n : ℕ) (P : Type 0) (found : Option X) →
     option_map entry_of found ≡ slice_get (entries config list) n → IfNone found ((length list ≤ n) ⊎ P)
 none_past entry_of config list n P None e = inl (place_past config list n (sym e))
@@ -41,7 +38,7 @@ none_past entry_of config list n P (Some x) e = tt
 pub place_before : (n len end : ℕ) → n < len → len ≤ end → n < end
 place_before n len end h g = omega arith
 
--- ---- what it gives
+-- ---- the result
 
 pub level_past : (w : WorldState) (shard : ℕ) → length w.applied ≤ shard → is_level w shard ≡ true
 level_past w shard h = grind arith
@@ -80,7 +77,6 @@ module _ {P : Type 0} (place_of : P → ℕ → ℕ → ℕ) (setup : Setup) (li
     past = let same : new.place ≡ old.place = a.same.place in omega (arith, h.past, same);
   }
 
-  -- it holds what it is to hold
   pub applied_holds : (a : applications.Applied) → 0 < setup.config.limits.batch → RefinesFrom place_of setup list taken first k old → IsApplication place_of (entries setup.config list) old a new → RefinesFrom place_of setup list taken first k new
   applied_holds Done room h a = done room h a
   applied_holds Level room h a = subst (RefinesFrom place_of setup list taken first k) (sym a.1) h
@@ -89,7 +85,6 @@ module _ {P : Type 0} (place_of : P → ℕ → ℕ → ℕ) (setup : Setup) (li
 -- ---- all shards
 
 module _ {P : Type 0} {g : Ghosts P} (w : World P g) (i : ℕ) (old new : Shard P) (there : slice_get w.shards.items i ≡ Some old) where
-  -- so it is with all shards, where the next entry is applied to one of them
   pub each_applied : (a : applications.Applied) → IsApplication g.place_of (entries w.admission.config w.admission.list) old a new →
       EachRefines g.place_of (setup_of w) w.admission.list w.taken w.admission.first (slice_set w.shards.items i new)
   each_applied a is =
@@ -109,7 +104,6 @@ module _ {P : Type 0} {g : Ghosts P} (w : World P g) (i : ℕ) (old new : Shard 
   is_behind : (e : Entry) → slice_get (entries w.admission.config w.admission.list) old.place ≡ Some e → is_level (world_of w) i ≡ false
   is_behind e next = behind (world_of w) i old.place (in_range w i old there) (place_there w i old there) (place_within w.admission.config w.admission.list old.place e next)
 
-  -- what it gives, and the world after it
   pub application_steps : (a : applications.Applied) → IsApplication g.place_of (entries w.admission.config w.admission.list) old a new →
       IsOutput (setup_of w) (world_of w) (Apply i) (application a) × (behind_it ≡ after (world_of w) (Apply i) (application a))
   application_steps Done a = (
@@ -124,7 +118,6 @@ module _ {P : Type 0} {g : Ghosts P} (w : World P g) (i : ℕ) (old new : Shard 
       let next : next_entry (setup_of w) (world_of w) i ≡ Some a.entry = ap (slice_get (entries w.admission.config w.admission.list)) (place_there w i old there) ∙ a.next in
       (gives_refusal (setup_of w) (world_of w) i (is_behind a.entry a.next) (ap may_take_memory next ∙ ap not a.takes), same_world a.same.place)
 
--- once fewer entries are kept, as long as each shard's next one is
 pub each_from : {P : Type 0} (place_of : P → ℕ → ℕ → ℕ) (placing : ℕ → ℕ → ℕ) (old new : Admitting) (taken : List ℕ) (xs : List (Shard P)) → EachRefines place_of (placed_by old.config old.shards placing) old.list taken old.first xs →
     new ≡ record old { first = new.first } → StandFrom new.first xs → EachRefines place_of (placed_by new.config new.shards placing) new.list taken new.first xs
 each_from {P} place_of placing old new taken xs each others from =

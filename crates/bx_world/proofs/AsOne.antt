@@ -1,4 +1,4 @@
--- What holds of every schedule, gathered.
+-- All laws of schedules, combined.
 use Rattle.std.proofs.Common.{◌≡◌, ℕ, ◌+◌, ◌-◌, ◌≤◌, List, take, drop, sym, ap, ◌∙◌, subst, arith, ◌++◌}
 use Rattle.std.proofs.Math.Seq.{take-add}
 use Rattle.bx_advice.specs.declared.config.Config.{Config}
@@ -8,7 +8,6 @@ use Rattle.bx_theory.proofs.Done.{done_never_falls}
 use Rattle.bx_world.specs.Headline.{Headline, session_before}
 use Rattle.bx_world.proofs.{Takes.list_is_admitted, Takes.takes_are_answers, Files.none_taken_twice, Replies.replies_are_answers, Giving.none_given_again, Repeats.batches_repeat, Apart.plain_given_once}
 
--- what was given for good behind fewer entries was so behind more
 done_rises : (config : Config) (list : List Listed) (number m n : ℕ) → m ≤ n → (session_before config list number m).done ≤ (session_before config list number n).done
 done_rises config list number m n fewer =
     let count : n ≡ m + (n - m) = omega (arith, fewer) in

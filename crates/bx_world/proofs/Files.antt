@@ -1,4 +1,4 @@
--- An answer that a shard has come past is filed there until it is taken, and none is taken twice.
+-- Answers that were given and not taken are filed, and no answer is taken twice.
 use Rattle.std.proofs.Common.{arith, ◌≡◌, ℕ, zero, suc, max, ⊎_elim, Bool, true, false, ◌||◌, Option, Some, None, List, [], ◌∷◌, ◌++◌, length, take, drop, map, filter, find, flat_map, option_map, slice_get, slice_index, nat_lt, ◌==◌, refl, sym, ap, ◌∙◌, subst, eq-eqb, take-append-drop, true≢false}
 use Rattle.std.proofs.lemmas.{Bool.cond-true, Bool.lt-ltb, List.map-append, List.Folds.find-append, List.Folds.list_any-append}
 use Rattle.std.specs.{Option.option_or, List.list_any}
@@ -20,7 +20,7 @@ use Rattle.bx_shard.proofs.{Elements.numbers, Elements.same_numbers, Waits.Waits
 or_true : (a b : Bool) → b ≡ true → (a || b) ≡ true
 or_true a b e = grind arith
 
--- ---- who waits is registered
+-- ---- sessions that a slot waits for are registered
 
 abbrev has : ℕ → List Registered → Bool
 has number rs = list_any (λ n. n == number) (numbers rs)
@@ -43,7 +43,6 @@ slot_has rs ts slot h s = grind (arith, h)
 abbrev Waiters : Registry → Type 0
 Waiters r = EachJudged (λ j. SlotHas r.sessions j.slot) r.judged
 
--- one more place, where no session goes
 waiters_push : (r : Registry) (ts : List Registered) (j : Judged) → ((n : ℕ) → has n r.sessions ≡ true → has n ts ≡ true) → SlotHas ts j.slot → Waiters r → EachJudged (λ i. SlotHas ts i.slot) (r.judged ++ j ∷ [])
 waiters_push r ts j h s w = each_judged_push (λ i. SlotHas ts i.slot) r.judged j (each_judged_map (λ i. SlotHas r.sessions i.slot) (λ i. SlotHas ts i.slot) r.judged (λ i g. slot_has r.sessions ts i.slot h g) w) s
 
@@ -51,7 +50,6 @@ slot_served : (config : Config) (b : Bool) (c : MessageKind) (p : Posted) (s : R
     SlotHas rs (slot_with (rider_for b s.number (slot_for config c p s)) (slot_for config c p s))
 slot_served config b c p s rs h = grind (arith, h)
 
--- sessions that keep their numbers are registered as they were
 has_same : (change : Registered → Registered) (rs ts : List Registered) → Mapped change rs ts → (n : ℕ) → has n rs ≡ true → has n ts ≡ true
 has_same change rs ts m n h = ap (list_any (λ k. k == n)) (same_numbers change rs ts m) ∙ h
 
@@ -75,16 +73,14 @@ judged_at P [] k j e d = cc
 judged_at P (i ∷ js) zero j e d = let same : i ≡ j = cc in subst P same d.0
 judged_at P (i ∷ js) (suc k) j e d = judged_at P js k j e d.1
 
--- ---- finding
+-- ---- look-ups
 
--- no other session has an answer to this connect
 same_session : (config : Config) (xs : List Listed) (m number place : ℕ) (f : Filed) → WaitsAt (registry config xs).judged number place →
     find (λ (g : Filed). g.connect == place) (session config m (entries_of (registry config xs))).answers ≡ Some f → m ≡ number
 same_session config xs m number place f w e =
     let both : Some (Waiting m) ≡ Some (Waiting number) = sym (waits_over config m place xs f e) ∙ w in
     cc
 
--- what is found in the first part, which is the one that has it or has none, or behind it
 first_found : (o mine rest : Option Filed) (m number : ℕ) (f : Filed) → ((k : Filed) → o ≡ Some k → m ≡ number) → (m ≡ number → o ≡ mine) → mine ≡ Some f → ((m == number) ≡ false → rest ≡ Some f) →
     {whole : Option Filed} → whole ≡ option_or o rest → whole ≡ Some f
 first_found o mine rest m number f own same is behind w = grind arith
@@ -107,7 +103,6 @@ has_standing setup shard number (r ∷ rs) h e = grind (arith, has_standing setu
 
 -- ---- the law
 
--- the answer of a session that is filed
 record FiledOf (config : Config) (xs : List Listed) (number place : ℕ) (a : PlacedAnswer) : Type 0 where
   waits : WaitsAt (registry config xs).judged number place
   filed : Filed
@@ -151,7 +146,6 @@ answers_are_filed setup list taken n place number a room waits e below free =
         subst (SlotHas (registry setup.config (take n list)).sessions) slot
         (judged_at (λ i. SlotHas (registry setup.config (take n list)).sessions i.slot) (registry setup.config (take n list)).judged place j h (all_waiters setup.config (take n list)))
 
--- a taking gives what is filed
 pub answers_can_be_taken : AnswersCanBeTaken
 answers_can_be_taken setup w t number a out room waits shard within e below free i =
     let n : ℕ = slice_index w.applied t.shard in
@@ -195,7 +189,7 @@ run_new setup w (step ∷ steps) (out ∷ outs) last r = step_new setup w step o
 pub none_taken_twice : NoneTakenTwice
 none_taken_twice setup first steps outs last r = run_new setup first steps outs last r
 
--- ---- one schedule behind another
+-- ---- one schedule after another
 
 pub schedules_compose : SchedulesCompose
 schedules_compose setup first middle last [] more [] given r m = subst (λ (w : WorldState). Runs setup w more given last) r m

@@ -1,4 +1,4 @@
--- Each answer that a taking gave is the one that its session filed, and has no event that was given for good before it.
+-- A taken answer is the one that its session filed, and repeats no permanently sent event.
 use Rattle.std.proofs.Common.{◌≡◌, ℕ, zero, suc, ◌+◌, ◌<◌, ◌≤◌, ⊎_elim, ◌==◌, Bool, cond, Option, Some, None, List, [], ◌∷◌, ◌++◌, length, take, find, fold, option_map, slice_get, refl, sym, ap, ◌∙◌, subst, arith, length-take}
 use Rattle.std.proofs.lemmas.{List.Sums.fold-append, List.Folds.find-append}
 use Rattle.bx_advice.specs.declared.config.Config.{Config}
@@ -15,7 +15,7 @@ use Rattle.bx_theory.proofs.{Counts.stays_in_step, Counts.unopened_in_step, List
 use Rattle.bx_theory.proofs.Moves.{Moved, step_moved, each_map, each_append}
 use Rattle.bx_world.proofs.Takes.{takes_are_answers}
 
--- ---- what was given is the list's
+-- ---- taken answers are the list's
 
 gave_in : (config : Config) (list : List Listed) (t : Ticket) (place : ℕ) (a : Answer) (out : StepOut) → t.place ≡ place → EachTook config list (Take t ∷ []) (out ∷ []) → GaveIn a out → option_map given_of (answer config list place) ≡ Some a
 gave_in config list t place a (Taken (Some b)) h d g = sym (ap (λ (n : ℕ). option_map given_of (answer config list n)) h) ∙ d.0 ∙ ap Some g
@@ -27,7 +27,7 @@ gave_answer config list (step ∷ steps) [] place a d g = absurd g
 gave_answer config list (Take t ∷ steps) (out ∷ outs) place a d g = ⊎_elim (λ h. gave_in config list t place a out h.0 (d.0, tt) h.1) (λ h. gave_answer config list steps outs place a d.1 h) g
 gave_answer config list (_ ∷ steps) (out ∷ outs) place a d g = ⊎_elim (λ h. absurd h) (λ h. gave_answer config list steps outs place a d.1 h) g
 
--- ---- what its session filed
+-- ---- the answer that the session filed
 
 record FiledFor (config : Config) (list : List Listed) (number place : ℕ) (a : Answer) : Type 0 where
   filed : Filed
@@ -51,7 +51,6 @@ filed_answer config list number place a w e =
 
 -- ---- the places of answers
 
--- entries below a place give answers below it
 answers_below : (config : Config) (n : ℕ) (s : Session) (es : List Entry) → 0 < config.limits.batch → PlacesFrom n es → InStep config s → Each (λ f. f.place < n) s.answers →
     Each (λ f. f.place < n + length es) (fold (step config) s es).answers
 answers_below config n s [] room d i h = each_map (λ f. f.place < n) (λ f. f.place < n + 0) s.answers (λ f l. omega (arith, l)) h
@@ -74,7 +73,6 @@ pub places_front : (n : ℕ) (xs ys : List Entry) → PlacesFrom n (xs ++ ys) �
 places_front n [] ys d = tt
 places_front n (x ∷ xs) ys d = (d.0, places_front (n + 1) xs ys d.1)
 
--- what was found and stands at or behind a place was found among those behind it
 find_behind : (n : ℕ) (P : Filed → Type 0) (test : Filed → Bool) (fs gs : List Filed) (f : Filed) → n ≤ f.place → Each (λ g. g.place < n) fs → Each P gs → find test (fs ++ gs) ≡ Some f → P f
 find_behind n P test fs gs f l b d e =
     let earlier : find test fs ≡ Some f → f.place < n = λ h. find_each (λ g. g.place < n) test fs f h b in
@@ -83,7 +81,6 @@ find_behind n P test fs gs f l b d e =
 
 -- ---- the law
 
--- the list's entries up to a place, the entry there, and those behind it
 record Parts (n : ℕ) (es : List Entry) : Type 0 where
   entry : Entry
   rest : List Entry

@@ -56,7 +56,7 @@ each_longer place_of placing old new taken xs input (Ok a) is each =
 each_longer place_of placing old new taken xs input (Err (Refused refusal)) is each = subst (EachOver place_of placing taken xs) (sym is.1) each
 each_longer place_of placing old new taken xs input (Err Memory) is each = subst (EachOver place_of placing taken xs) (sym is) each
 
--- ---- what it gives
+-- ---- the result
 
 pub admission_steps : (placing : ℕ → ℕ → ℕ) (old new : Admitting) (applied taken : List ℕ) (input : Input) (r : Result Admitted AdmitFault) → IsAdmission placing old (read_input input) r new →
     IsOutput (placed_by old.config old.shards placing) (record { list = old.list; applied = applied; taken = taken }) (Admit input) (admission r)

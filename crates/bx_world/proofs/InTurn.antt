@@ -1,4 +1,4 @@
--- A session answers each connect and each rider once, and those that are given events in the order of their places.
+-- A session answers each connect and rider once, and those with events in order of place.
 use Rattle.std.proofs.Common.{◌≡◌, ◌≢◌, ◌⊎◌, inl, ◌∙◌, ℕ, ◌+◌, ◌<◌, ◌≤◌, true, false, cond, ◌==◌, is_some, Option, Some, None, List, [], ◌∷◌, ◌++◌, length, drop, find, fold, refl, sym, subst, arith}
 use Rattle.std.proofs.lemmas.{Bool.cond_both, List.drop_all, Grind.common_steps}
 use Rattle.bx_advice.specs.declared.config.Config.{Config}
@@ -11,12 +11,10 @@ use Rattle.bx_entry.specs.Sessions.{Session, Publication, Pending, Filed, answer
 use Rattle.bx_theory.specs.Laws.{Each, InStep, PlacesFrom}
 use Rattle.bx_theory.proofs.{Counts.stays_in_step, Counts.step_by_in, Counts.unopened_in_step, Moves.each_map, Moves.each_append, Places.is_connecting}
 
--- The answer stands before one to the connect at this place: it is another's, which came earlier, or one without events. (A rider may be answered while
--- an earlier connect is held, and is given nothing then.)
+-- The answer is not to the connect at `place`; it is to an earlier one, or has no events.
 abbrev pub Before : ℕ → Filed → Type 0
 Before place f = (f.connect ≢ place) × ((f.connect < place) ⊎ (f.publications ≡ []))
 
--- each answer stands before those that were given later
 abbrev pub Ordered : List Filed → Type 0
 Ordered [] = Unit {0}
 Ordered (f ∷ fs) = Each (λ g. Before g.connect f) fs × Ordered fs
@@ -24,7 +22,6 @@ Ordered (f ∷ fs) = Each (λ g. Before g.connect f) fs × Ordered fs
 abbrev Below : ℕ → List Filed → Type 0
 Below n fs = Each (λ f. f.connect < n) fs
 
--- those that were answered stand before the one that is held, and all stand below a place
 abbrev Behind : ℕ → List Filed → Option Pending → Type 0
 Behind n fs None = Below n fs
 Behind n fs (Some p) = Each (Before p.place) fs × Below n fs × (p.place < n)
@@ -48,7 +45,6 @@ ordered_push : (fs : List Filed) (f : Filed) → Ordered fs → Each (Before f.c
 ordered_push [] f r b = (tt, tt)
 ordered_push (g ∷ fs) f r b = (each_append (λ h. Before h.connect g) fs (f ∷ []) r.0 (b.0, tt), ordered_push fs f r.1 b.1)
 
--- all answered connects stand below the place
 pub turn_below : (n : ℕ) (s : Session) → InTurn n s → Each (λ f. f.connect < n) s.answers
 turn_below n s t = grind (arith, common_steps)
 
@@ -64,7 +60,6 @@ turn_more m n s l t = record { ordered = t.ordered; behind = behind_more m n s.a
 released_turn : (config : Config) (n place : ℕ) (outcome : Outcome) (s : Session) → InTurn n s → InTurn n (released config place outcome s)
 released_turn config n place outcome s t = record { ordered = grind (arith, common_steps, ordered_push); behind = grind (arith, common_steps, below_push) }
 
--- a connect, behind the release of the one that is held
 freed_turn : (config : Config) (p : Pending) (acked : Option ℕ) (s t : Session) → t.held ≡ None → InTurn p.place t →
     InTurn (p.place + 1) (cond s.overflow (answered config p p.place [] (Failed QueueOverflow) t) (answered_or_held config p (acknowledged acked t)))
 freed_turn config p acked s t free i =
@@ -76,7 +71,6 @@ freed_turn config p acked s t free i =
 other_turn : (config : Config) (place moment : ℕ) (s : Session) (k : EntryKind) → is_connecting k ≡ false → InTurn place s → InTurn place (step_by config place moment s k)
 other_turn config place moment s k other t = record { ordered = grind (arith, common_steps, ordered_push); behind = grind (arith, common_steps, below_push) }
 
--- where a connect is held nothing waits
 abbrev Idle : Session → Type 0
 Idle s = is_some s.held ≡ true → s.queue ≡ []
 
@@ -115,7 +109,6 @@ session_turn config number es room d =
     turn_more (0 + length es) (length es) (session config number es) (omega arith)
     (run_turn config 0 (unopened number) es room d (unopened_in_step config number) (record { ordered = tt; behind = tt }))
 
--- so an answer is the one that is found by its connect
 pub find_middle : (fs gs : List Filed) (f : Filed) → Ordered (fs ++ f ∷ gs) → find (λ (g : Filed). g.connect == f.connect) (fs ++ f ∷ gs) ≡ Some f
 find_middle [] gs f r = grind (arith, common_steps)
 find_middle (h ∷ fs) gs f r = grind (arith, common_steps, middle fs gs f r.0, find_middle fs gs f r.1)

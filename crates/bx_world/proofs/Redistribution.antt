@@ -17,7 +17,6 @@ use Rattle.bx_world.specs.declared.world.World.{World}
 use Rattle.bx_world.proofs.{Slowest.all_stand, Slowest.not_below, Slowest.not_above, Starting.all_same}
 
 module _ {P : Type 0} (place_of : P → ℕ → ℕ → ℕ) (setup : Setup) (list : List Listed) (taken : List ℕ) (first : ℕ) (xs : List (Shard P)) where
-  -- where every shard has applied the whole list, each stands at its end
   pub at_end : EachRefines place_of setup list taken first xs → ((k n : ℕ) → slice_get (map (λ (s : Shard P). s.place) xs) k ≡ Some n → length list ≤ n) →
       (k : ℕ) (s : Shard P) → slice_get xs k ≡ Some s → s.place ≡ length list
   at_end each level k s e =
@@ -25,7 +24,6 @@ module _ {P : Type 0} (place_of : P → ℕ → ℕ → ℕ) (setup : Setup) (li
       let past : length list ≤ s.place = level k s.place (slice_get-map (λ (s : Shard P). s.place) xs k ∙ ap (option_map (λ (s : Shard P). s.place)) e) in
       omega (arith, within, past)
 
-  -- and so does its state
   pub states_hold : EachRefines place_of setup list taken first xs → ((k n : ℕ) → slice_get (map (λ (s : Shard P). s.place) xs) k ≡ Some n → length list ≤ n) →
       (k : ℕ) (t : State) → slice_get (map (state place_of) xs) k ≡ Some t → Refines setup list taken k (length list) t
   states_hold each level k t e =
@@ -33,7 +31,6 @@ module _ {P : Type 0} (place_of : P → ℕ → ℕ → ℕ) (setup : Setup) (li
       subst (Refines setup list taken k (length list)) m.is
       (subst (λ (n : ℕ). Refines setup list taken k n (state place_of m.one)) (at_end each level k m.one m.there) (each k m.one m.there).holds)
 
-  -- shards whose states hold what they are to hold at the end
   pub shards_hold : first ≤ length list → ((k : ℕ) (t : State) → slice_get (map (state place_of) xs) k ≡ Some t → Refines setup list taken k (length list) t) → EachRefines place_of setup list taken first xs
   shards_hold from each k s e =
       let held : Refines setup list taken k (length list) (state place_of s) = each k (state place_of s) (slice_get-map (state place_of) xs k ∙ ap (option_map (state place_of)) e) in
@@ -46,14 +43,12 @@ module _ {P : Type 0} (place_of : P → ℕ → ℕ → ℕ) (setup : Setup) (li
       all_same (λ (s : Shard P). s.place) xs n (length list) many
       (λ k s e. (each k (state place_of s) (slice_get-map (state place_of) xs k ∙ ap (option_map (state place_of)) e)).place_is)
 
-  -- no entry is kept then
   pub none_kept : EachRefines place_of setup list taken first xs → ((k n : ℕ) → slice_get (map (λ (s : Shard P). s.place) xs) k ≡ Some n → length list ≤ n) → some_stands_at first xs ≡ true → first ≡ length list
   none_kept each level some =
       let low : length list ≤ first = not_below xs (length list) first (λ k s e. let at : s.place ≡ length list = at_end each level k s e in omega (arith, at)) some in
       let high : first ≤ length list = not_above xs (length list) first (λ k s e. let at : s.place ≡ length list = at_end each level k s e in omega (arith, at)) some in
       omega (arith, low, high)
 
--- shards that hold what they are to hold at the end of the list
 pub record AreAtEnd {P : Type 0} (place_of : P → ℕ → ℕ → ℕ) (setup : Setup) (list : List Listed) (taken : List ℕ) (first : ℕ) (ys : List (Shard P)) : Type 0 where
   pub many : length ys ≡ setup.shards
   pub each : EachRefines place_of setup list taken first ys
@@ -61,7 +56,6 @@ pub record AreAtEnd {P : Type 0} (place_of : P → ℕ → ℕ → ℕ) (setup :
   pub places : map (λ (s : Shard P). s.place) ys ≡ replicate setup.shards (length list)
 
 module _ {P : Type 0} (place_of : P → ℕ → ℕ → ℕ) (setup : Setup) (list : List Listed) (taken : List ℕ) (first : ℕ) (xs ys : List (Shard P)) where
-  -- so are those whose sessions were redistributed
   pub redistributed_at_end : (shards : ℕ) (placing : ℕ → ℕ → ℕ) → 0 < setup.config.limits.batch → length xs ≡ setup.shards → ((m : ℕ) → setup.placing m setup.shards < setup.shards) →
       EachRefines place_of setup list taken first xs → ((k n : ℕ) → slice_get (map (λ (s : Shard P). s.place) xs) k ≡ Some n → length list ≤ n) → some_stands_at first xs ≡ true → 1 ≤ shards →
       Redistributed placing shards (map (state place_of) xs) (map (state place_of) ys) → AreAtEnd place_of (record { config = setup.config; shards = shards; placing = placing }) list taken first ys
@@ -80,7 +74,7 @@ module _ {P : Type 0} (place_of : P → ℕ → ℕ → ℕ) (setup : Setup) (li
         places = at;
       }
 
--- ---- the world as it was
+-- ---- the unchanged world
 
 module _ {P : Type 0} {g : Ghosts P} where
   still : (w : World P g) (bounded : length w.admission.list ≤ greatest_length) (some_shard : 1 ≤ w.admission.shards) (shards_in_range : w.admission.shards ≤ 64) (counted : length w.shards.items ≡ w.admission.shards)
@@ -100,7 +94,6 @@ module _ {P : Type 0} {g : Ghosts P} where
       ∙ ap (λ x. record w { holding = x; slowest = slowest }) (holding_once holding w.holding)
       ∙ ap (λ x. record w { slowest = x }) (slowest_once slowest w.slowest)
 
-  -- the world with its own row of shards, whatever the proofs
   pub same_world : (w : World P g) (row : Vec (Shard P) Global) → row ≡ w.shards → (bounded : length w.admission.list ≤ greatest_length) (some_shard : 1 ≤ w.admission.shards) (shards_in_range : w.admission.shards ≤ 64)
       (counted : length row.items ≡ w.admission.shards) (holding : EachRefines g.place_of (setup_of w) w.admission.list w.taken w.admission.first row.items) (slowest : some_stands_at w.admission.first row.items ≡ true) →
       record w { shards = row; bounded = bounded; some_shard = some_shard; shards_in_range = shards_in_range; counted = counted; holding = holding; slowest = slowest } ≡ w

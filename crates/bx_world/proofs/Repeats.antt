@@ -1,4 +1,4 @@
--- A connect that acknowledges nothing new is given the batch again that an earlier connect was given.
+-- A connect that acknowledges nothing new gets the outstanding batch again.
 use Rattle.std.proofs.Common.{◌≡◌, ℕ, zero, suc, ◌+◌, ◌<◌, ◌≤◌, ◌==◌, Bool, Some, List, [], ◌∷◌, ◌++◌, length, take, drop, find, fold, option_map, slice_get, refl, sym, ap, ◌∙◌, subst, arith, append_assoc, length-append, length-take}
 use Rattle.std.proofs.Math.Seq.{take-append_seam}
 use Rattle.std.proofs.lemmas.List.Sums.{fold-append}
@@ -17,13 +17,12 @@ use Rattle.bx_world.specs.declared.step.{Step.Step, StepOut.StepOut}
 use Rattle.bx_world.proofs.{Giving.places_front, Giving.gave_answer, Takes.takes_are_answers, Applications.place_within}
 use Rattle.bx_world.proofs.InTurn.{Ordered, InTurn, session_turn, turn_below, find_middle}
 
--- ---- the answer that was given last
+-- ---- the last answer
 
 last_of : (P : Filed → Type 0) (fs : List Filed) (f : Filed) → Each P (fs ++ f ∷ []) → P f
 last_of P [] f d = d.0
 last_of P (g ∷ fs) f d = last_of P fs f d.1
 
--- what the last answer over the first entries says of the whole list
 record LastOf (config : Config) (list : List Listed) (number count : ℕ) (f : Filed) : Type 0 where
   below : f.connect < count
   waits : slot_at config list f.connect ≡ Some (Waiting number)
@@ -49,7 +48,6 @@ last_answer config list number es more f room whole l =
       answer = session_answer config number f.connect list f found;
     }
 
--- what was given for its connect is what it has
 given_is : (config : Config) (list : List Listed) (f : Filed) (steps : List Step) (outs : List StepOut) (a : Answer) → EachTook config list steps outs → answer config list f.connect ≡ Some (answer_of f) →
     Gave steps outs f.connect a → given_of (answer_of f) ≡ a
 given_is config list f steps outs a d e g =
@@ -58,7 +56,6 @@ given_is config list f steps outs a d e g =
 
 -- ---- the law
 
--- the entries before the one at a place, it, and the others
 entry_parts : (k : ℕ) (es : List Entry) (e : Entry) → slice_get es k ≡ Some e → take k es ++ e ∷ drop (k + 1) es ≡ es
 entry_parts k [] e h = cc
 entry_parts zero (x ∷ es) e h = let same : e ≡ x = cc in ap (λ (y : Entry). y ∷ es) same
@@ -66,7 +63,6 @@ entry_parts (suc k) (x ∷ es) e h =
     let n : suc k + 1 ≡ suc (k + 1) = omega arith in
     ap (λ (m : ℕ). x ∷ (take k es ++ e ∷ drop m (x ∷ es))) n ∙ ap (λ (ys : List Entry). x ∷ ys) (entry_parts k es e h)
 
--- the answer that formed the batch which is outstanding behind the first entries was the last one then
 last_within : (config : Config) (list : List Listed) (place number : ℕ) (e : Entry) → 0 < config.limits.batch → place ≤ length list → (es : List Entry) → take place (entries config list) ≡ es →
     (r : Repetition config number es e) → 0 < (session config number es).out → LastAnswer (step config (session config number r.before) r.forming) r.same.first
 last_within config list place number e room l es is =
@@ -84,7 +80,6 @@ given_again config list steps outs number place room d a =
     last_within config list place number a.entry room (omega (arith, place_within config list place a.entry a.here)) (take place (entries config list)) refl r a.outstanding in
     let whole : take place (entries config list) ++ a.entry ∷ drop (place + 1) (entries config list) ≡ entries config list = entry_parts place (entries config list) a.entry a.here in
     let here : a.entry.place ≡ place = entry_placed config list place a.entry a.here in
-    -- the answer that formed the batch
     let front : List Entry = r.before ++ r.forming ∷ [] in
     let split : (r.before ++ r.forming ∷ []) ++ (r.between ++ a.entry ∷ drop (place + 1) (entries config list)) ≡ entries config list =
     append_assoc r.before (r.forming ∷ []) (r.between ++ a.entry ∷ drop (place + 1) (entries config list))
@@ -94,7 +89,6 @@ given_again config list steps outs number place room d a =
     let first : LastOf config list number (length (r.before ++ r.forming ∷ [])) r.same.first =
     last_answer config list number (r.before ++ r.forming ∷ []) (r.between ++ a.entry ∷ drop (place + 1) (entries config list)) r.same.first room split
     (subst (λ (u : Session). LastAnswer u r.same.first) (sym formed) last) in
-    -- the one that gives it again
     let after : session config number (take place (entries config list) ++ a.entry ∷ []) ≡ step config (session config number (take place (entries config list))) a.entry =
     fold-append (step config) (unopened number) (take place (entries config list)) (a.entry ∷ []) in
     let again : LastOf config list number (length (take place (entries config list) ++ a.entry ∷ [])) r.same.again =
@@ -106,7 +100,6 @@ given_again config list steps outs number place room d a =
     let whole_length : length (take place (entries config list)) ≡ length r.before + suc (length r.between) = ap length r.split ∙ length-append r.before (r.forming ∷ r.between) in
     let front_length : length (r.before ++ r.forming ∷ []) ≡ length r.before + 1 = length-append r.before (r.forming ∷ []) in
     omega (arith, whole_length, front_length, length-take place (entries config list)) in
-    -- the entry at which the batch was formed, and what the session is before it and behind it
     let front_length : length (r.before ++ r.forming ∷ []) ≡ length r.before + 1 = length-append r.before (r.forming ∷ []) in
     let behind_is : take (length r.before + 1) (entries config list) ≡ r.before ++ r.forming ∷ [] =
     ap (λ (n : ℕ). take n (entries config list)) (sym front_length)

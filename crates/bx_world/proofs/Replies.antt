@@ -1,4 +1,4 @@
--- Each reply that an admission gives at once is the one that the list gives.
+-- Each reply that an admission returns at once is the one that the list gives.
 use Rattle.std.proofs.Common.{◌≡◌, ℕ, zero, suc, ◌+◌, ⊎_elim, ◌==◌, ◌||◌, Bool, false, Option, Some, None, List, [], ◌∷◌, ◌++◌, length, take, drop, map, option_map, slice_get, refl, sym, ap, ◌∙◌, subst, arith, append_assoc}
 use Rattle.std.proofs.lemmas.List.{map-append, length-map, drop_at}
 use Rattle.std.proofs.Math.Seq.{take-append_seam}
@@ -18,9 +18,8 @@ use Rattle.bx_world.specs.declared.step.StepOut.TheVariants.{Admitted}
 use Rattle.bx_world.proofs.Takes.{Longer, run_longer}
 use Rattle.bx_theory.proofs.{Verdicts.Slotted, Verdicts.found_from, Verdicts.judged_behind, Verdicts.slotted, Lists.judged_more, Lists.judged_length}
 
--- ---- the slots of what is found
+-- ---- the slots of found elements
 
--- each of the elements has such a slot
 abbrev AllSlotted : List Listed → List Judged → Type 0
 AllSlotted [] [] = Unit {0}
 AllSlotted [] (j ∷ js) = ⊥
@@ -53,7 +52,6 @@ slot_here setup list place p j (Waiting number) rest e g s d =
     (record { session = number; waits = ap (option_map (λ (i : Judged). i.slot)) g ∙ ap Some e; place = refl; shard = refl }, d)
 slot_here setup list place p j NoSlot rest e g s d = absurd s
 
--- where these were judged from this place on, their slots are those of their places
 each_slot : (setup : Setup) (list : List Listed) (place : ℕ) (xs : List Listed) (js : List Judged) → Messages xs → AllSlotted xs js →
     ((k n : ℕ) (j : Judged) → place + k ≡ n → slice_get js k ≡ Some j → slice_get (registry setup.config list).judged n ≡ Some j) →
     EachSlot setup list place (given_from setup place (map (λ (j : Judged). j.slot) js))
@@ -86,7 +84,6 @@ tick_slots setup place moment [] a = absurd a
 tick_slots setup place moment (j ∷ []) a = tick_slot setup place moment j.slot a.0
 tick_slots setup place moment (j ∷ i ∷ js) a = absurd a.1
 
--- the slots that an admission gives are these, and the places behind the list are judged so
 record Judging (setup : Setup) (xs ys list : List Listed) : Type 0 where
   more : List Judged
   slotted : AllSlotted ys more

@@ -1,4 +1,4 @@
--- A schedule, one step longer.
+-- Schedules with one more step.
 use Rattle.std.proofs.Common.{◌≡◌, List, [], ◌∷◌, ◌++◌, refl, sym, ap, arith, ◌∙◌, subst, append-nil, append_assoc}
 use Rattle.bx_entry.specs.declared.Placing.{Ghosts}
 use Rattle.bx_entry.specs.Placings.{Setup}
@@ -14,7 +14,6 @@ runs_more setup w (s ∷ steps) [] last next step out r i e = absurd r
 runs_more setup w (s ∷ steps) (o ∷ outs) last next step out r i e = (r.0, runs_more setup (after w s o) steps outs last next step out r.1 i e)
 
 module _ {P : Type 0} {g : Ghosts P} where
-  -- what these steps gave is what one thread gives
   ran : (old new : World P g) (steps : List Step) (before outs given : List StepOut) → outs ≡ before ++ given → Runs (setup_of old) (world_of old) steps given (world_of new) → setup_of new ≡ setup_of old → Ran old steps before outs new
   ran old new steps before outs given b r s = record {
     given = given;

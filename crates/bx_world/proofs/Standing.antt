@@ -1,4 +1,4 @@
--- One shard of the world, and what holds of all where another is put in its place.
+-- The shards of a world after one of them is replaced.
 use Rattle.std.proofs.Common.{◌≡◌, ◌≢◌, ℕ, ◌<◌, true, Some, List, length, map, slice_get, slice_set, sym, ap, ◌∙◌, arith}
 use Rattle.std.specs.Prelude.{slice_index}
 use Rattle.std.proofs.lemmas.{List.length-map, Option.slice_get_within, Option.get_or_from_slice_get}
@@ -10,7 +10,6 @@ use Rattle.bx_world.specs.declared.world.World.{World}
 use Rattle.bx_world.proofs.{Rows.each_set, Rows.number_there, Slowest.same_slowest}
 
 module _ {P : Type 0} {g : Ghosts P} (w : World P g) (i : ℕ) (old : Shard P) (there : slice_get w.shards.items i ≡ Some old) where
-  -- what it holds, and how far it has come
   pub holds_there : RefinesFrom g.place_of (setup_of w) w.admission.list w.taken w.admission.first i old
   holds_there = w.holding i old there
 
@@ -21,14 +20,12 @@ module _ {P : Type 0} {g : Ghosts P} (w : World P g) (i : ℕ) (old : Shard P) (
   place_there = number_there (λ (s : Shard P). s.place) w.shards.items i old there
 
   module _ (new : Shard P) where
-    -- what holds of the other one, and of all that stay, holds of each
     pub each_with : (taken : List ℕ) → RefinesFrom g.place_of (setup_of w) w.admission.list taken w.admission.first i new →
         ((k : ℕ) (s : Shard P) → k ≢ i → RefinesFrom g.place_of (setup_of w) w.admission.list w.taken w.admission.first k s → RefinesFrom g.place_of (setup_of w) w.admission.list taken w.admission.first k s) →
         EachRefines g.place_of (setup_of w) w.admission.list taken w.admission.first (slice_set w.shards.items i new)
     each_with taken here others =
         each_set (RefinesFrom g.place_of (setup_of w) w.admission.list taken w.admission.first) w.shards.items i new (slice_get_within w.shards.items i old there) here (λ k s apart e. others k s apart (w.holding k s e))
 
-    -- where the other has come as far, all stand as before
     pub same_places : new.place ≡ old.place → map (λ (s : Shard P). s.place) (slice_set w.shards.items i new) ≡ (world_of w).applied
     same_places e = map-set_same (λ (s : Shard P). s.place) w.shards.items i new old (e ∙ ap (λ (s : Shard P). s.place) (sym (get_or_from_slice_get w.shards.items i old old there)))
 

@@ -1,4 +1,4 @@
--- What the shards hold at first.
+-- What the shards of a new world hold.
 use Rattle.std.proofs.Common.{◌≡◌, ℕ, zero, suc, Some, None, List, [], ◌∷◌, ◌++◌, length, map, slice_get, refl, sym, ap, ◌∙◌, subst, arith}
 use Rattle.std.specs.Prelude.{replicate}
 use Rattle.std.specs.Arc.{arc_value}
@@ -11,7 +11,6 @@ use Rattle.bx_shard.proofs.Holding.{refines_at_first}
 use Rattle.bx_world.specs.Words.{Admitting, EachRefines, WorldState, new_world}
 use Rattle.bx_entry.specs.Placings.{placed_by}
 
--- a shard of this index that has applied nothing
 pub record IsFirst {P : Type 0} (place_of : P → ℕ → ℕ → ℕ) (config : Config) (placing : P) (k : ℕ) (s : Shard P) : Type 0 where
   pub config_is : s.sessions.config ≡ config
   pub shards_is : s.shards ≡ config.shards
@@ -22,11 +21,8 @@ pub record IsFirst {P : Type 0} (place_of : P → ℕ → ℕ → ℕ) (config :
   pub connects : (p : ℕ) → connect_in (state place_of s) p ≡ None
   pub sound : IsSound (state place_of s)
 
--- so is each of a row
 abbrev pub AreFirst : {P : Type 0} → (P → ℕ → ℕ → ℕ) → Config → P → List (Shard P) → Type 0
 AreFirst {P} place_of config placing xs = (k : ℕ) (s : Shard P) → slice_get xs k ≡ Some s → IsFirst place_of config placing k s
-
--- the last of a row, or one of those before it
 
 pub none_first : {P : Type 0} (place_of : P → ℕ → ℕ → ℕ) (config : Config) (placing : P) → AreFirst place_of config placing []
 none_first place_of config placing k s e = absurd (cc)
@@ -50,7 +46,6 @@ first_hold place_of config placing xs each k s e =
       past = omega arith;
     }
 
--- a row of which each element has the same number
 pub all_same : {X : Type 0} (f : X → ℕ) (xs : List X) (n m : ℕ) → length xs ≡ n → ((k : ℕ) (x : X) → slice_get xs k ≡ Some x → f x ≡ m) → map f xs ≡ replicate n m
 all_same f [] zero m e each = refl
 all_same f [] (suc n) m e each = absurd (omega (arith, e))
@@ -61,7 +56,6 @@ all_same f (x ∷ xs) (suc n) m e each =
 pub first_places : {P : Type 0} (place_of : P → ℕ → ℕ → ℕ) (config : Config) (placing : P) (xs : List (Shard P)) (n : ℕ) → length xs ≡ n → AreFirst place_of config placing xs → map (λ (s : Shard P). s.place) xs ≡ replicate n 0
 first_places {P} place_of config placing xs n e each = all_same (λ (s : Shard P). s.place) xs n 0 e (λ k s g. (each k s g).place_is)
 
--- and the world with them
 pub world_first : (placing : ℕ → ℕ → ℕ) (config : Config) (a : Admitting) (ns taken : List ℕ) → a ≡ record { config = config; shards = config.shards; list = []; first = 0 } → ns ≡ replicate config.shards 0 → taken ≡ [] →
     record { list = a.list; applied = ns; taken = taken } ≡ new_world (placed_by a.config a.shards placing)
 world_first placing config a ns taken e n t =

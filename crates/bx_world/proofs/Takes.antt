@@ -1,4 +1,4 @@
--- Each answer that is taken from a shard is the one that the list gives.
+-- Each taken answer is the one that the list gives.
 use Rattle.std.proofs.Common.{arith, Bool, cond, ◌≡◌, ℕ, ◌<◌, ⊎_elim, Option, Some, None, List, [], ◌∷◌, ◌++◌, length, take, drop, find, option_map, slice_index, nat_lt, ◌==◌, refl, sym, ap, ◌∙◌, append-nil, append_assoc, take-append-drop, true≢false}
 use Rattle.bx_message.specs.declared.reply.Answer.{Answer}
 use Rattle.bx_entry.specs.Words.{Listed, Filed, PlacedAnswer, answer_of, answer}
@@ -28,7 +28,6 @@ filed_answer setup w t a room e =
 
 -- ---- schedules
 
--- the list only grows
 pub record Longer (v w : WorldState) : Type 0 where
   pub more : List Listed
   pub list : w.list ≡ v.list ++ more

@@ -37,18 +37,15 @@ module _ {P : Type 0} {g : Ghosts P} (w : World P g) (t : Ticket) (old new : Sha
   here : RefinesFrom g.place_of (setup_of w) w.admission.list w.taken w.admission.first t.shard old
   here = holds_there w t.shard old there
 
-  -- the shard that a ticket names is the one of its index
   pub own : nat_eq t.shard old.index ≡ true
   own = eq-eqb t.shard old.index (sym here.holds.index_is)
 
-  -- what is taken is what is filed
   pub answered : (o : Option Answer) → o ≡ (if nat_eq t.shard old.index then filed_answer (connect_in was t.place) else None) → o ≡ filed_answer (connect_in was t.place)
   answered o e = e ∙ cond-true (nat_eq t.shard old.index) (filed_answer (connect_in was t.place)) None own
 
   abbrev found_at : ℕ → ℕ → Option PlacedAnswer
   found_at place n = option_map answer_of (find (λ (f : Filed). f.connect == place) (shard_at (setup_of w) w.admission.list w.taken t.shard n).filed)
 
-  -- what is filed under a ticket of this shard is what the shard has filed
   filed_here : (place : ℕ) → filed_under (setup_of w) (world_of w) (record t { place = place }) ≡ filed_with_place (connect_in was place)
   filed_here place =
       cond-true (nat_lt t.shard (length (world_of w).applied)) (found_at place (slice_index (world_of w).applied t.shard)) None (lt-ltb t.shard (length (world_of w).applied) (in_range w t.shard old there))
@@ -57,18 +54,15 @@ module _ {P : Type 0} {g : Ghosts P} (w : World P g) (t : Ticket) (old new : Sha
   pub taking_gives : (o : Option Answer) → o ≡ filed_answer (connect_in was t.place) → IsOutput (setup_of w) (world_of w) (Take t) (Taken o)
   taking_gives o e = inl (ap Taken (e ∙ given_filed (connect_in was t.place) ∙ ap (option_map given_of) (sym (filed_here t.place))))
 
-  -- nothing is filed under any ticket, where the shard has filed none
   pub none_filed : ((p : ℕ) → filed_answer (connect_in was p) ≡ None) → (place : ℕ) → filed_under (setup_of w) (world_of w) (record t { place = place }) ≡ None
   none_filed none place = filed_here place ∙ none_placed (connect_in was place) (none place)
 
-  -- what shards hold where this one is as before
   pub each_same : new ≡ old → EachRefines g.place_of (setup_of w) w.admission.list w.taken w.admission.first (slice_set w.shards.items t.shard new)
   each_same same = each_with w t.shard old there new w.taken (subst (RefinesFrom g.place_of (setup_of w) w.admission.list w.taken w.admission.first t.shard) (sym same) here) (λ j x apart h. h)
 
   past_still : new.place ≡ old.place → w.admission.first ≤ new.place
   past_still e = subst (λ (n : ℕ). w.admission.first ≤ n) (sym e) here.past
 
-  -- where none was taken
   pub each_still : None ≡ filed_answer (connect_in was t.place) → Took t.place was is → IsSound is → EachRefines g.place_of (setup_of w) w.admission.list w.taken w.admission.first (slice_set w.shards.items t.shard new)
   each_still none took sound = each_with w t.shard old there new w.taken (record {
     holds = subst (λ (n : ℕ). Refines (setup_of w) w.admission.list w.taken t.shard n is) (sym took.place_is)
@@ -76,7 +70,6 @@ module _ {P : Type 0} {g : Ghosts P} (w : World P g) (t : Ticket) (old new : Sha
     past = past_still took.place_is;
   }) (λ j x apart h. h)
 
-  -- and where one was
   pub each_taken : (a : Answer) → Some a ≡ filed_answer (connect_in was t.place) → Took t.place was is → IsSound is →
       EachRefines g.place_of (setup_of w) w.admission.list (w.taken ++ t.place ∷ []) w.admission.first (slice_set w.shards.items t.shard new)
   each_taken a some took sound =

@@ -1,4 +1,4 @@
--- The entries that are kept, and the shards after they were brought up to their end.
+-- The kept entries, and the shards after they advance to the end of the list.
 use Rattle.std.proofs.Common.{◌≡◌, ℕ, suc, ◌+◌, ◌-◌, ◌<◌, ◌≤◌, Bool, false, cond, Some, List, [], ◌∷◌, length, map, drop, take, ◌++◌, nat_lt, slice_get, get_or, refl, sym, ap, ◌∙◌, subst, arith, length-drop}
 use Rattle.std.specs.Prelude.{count_by}
 use Rattle.std.proofs.lemmas.{Bool.le-ltb, List.get_or-drop, List.take-append-le, List.take_all, List.Sums.sum_by-cons}
@@ -15,9 +15,8 @@ use Rattle.bx_world.specs.Words.{Admitting, entries_kept, EachRefines, RefinesFr
 use Rattle.bx_theory.proofs.Lists.{entries_length}
 use Rattle.bx_world.proofs.Applications.{place_within}
 
--- ---- rows
+-- ---- lists
 
--- an element of the rest is one of the whole, and one of the whole is one of the rest
 from_drop : {X : Type 0} (n : ℕ) (xs : List X) (k : ℕ) (x : X) → slice_get (drop n xs) k ≡ Some x → slice_get xs (n + k) ≡ Some x
 from_drop n xs k x e =
     let short : k < length (drop n xs) = slice_get_within (drop n xs) k x e in
@@ -34,16 +33,14 @@ to_drop {X} n xs p x from e =
 count_cons : {X : Type 0} (p : X → Bool) (x : X) (xs : List X) → count_by p (x ∷ xs) ≡ cond (p x) 1 0 + count_by p xs
 count_cons {X} p x xs = sum_by-cons (λ (y : X). cond (p y) 1 0) x xs
 
--- elements and their numbers pass alike
 count_alike : {X : Type 0} (p : X → Bool) (q : ℕ → Bool) (f : X → ℕ) (xs : List X) → ((k : ℕ) (x : X) → slice_get xs k ≡ Some x → p x ≡ q (f x)) → count_by p xs ≡ count_by q (map f xs)
 count_alike p q f [] same = refl
 count_alike p q f (x ∷ xs) same =
     count_cons p x xs ∙ ap (λ (b : Bool). cond b 1 0 + count_by p xs) (same 0 x refl)
     ∙ ap (λ (n : ℕ). cond (q (f x)) 1 0 + n) (count_alike p q f xs (λ k y e. same (suc k) y e)) ∙ sym (count_cons q (f x) (map f xs))
 
--- ---- the entries that are kept
+-- ---- the kept entries
 
--- entries that stand from this place on
 abbrev StandAt : ℕ → List Entry → Type 0
 StandAt first es = (k : ℕ) (e : Entry) → slice_get es k ≡ Some e → e.place ≡ first + k
 
@@ -101,7 +98,6 @@ module _ (a : Admitting) where
       let at : slice_get xs k ≡ Some (get_or xs k t) = slice_get-get_or xs k t (omega (arith, within, up.all)) in
       record { old = get_or xs k t; there = at; went = up.each k (get_or xs k t) t at is }
 
-  -- each holds what it is to hold
   pub each_upward : {P : Type 0} (place_of : P → ℕ → ℕ → ℕ) (setup : Setup) (taken : List ℕ) (xs ys : List (Shard P)) → setup.config ≡ a.config → 0 < setup.config.limits.batch →
       EachRefines place_of setup a.list taken a.first xs → BroughtUp place_of (entries_kept a) xs ys → EachRefines place_of setup a.list taken a.first ys
   each_upward place_of setup taken xs ys same room each up k t is =
@@ -111,7 +107,6 @@ module _ (a : Admitting) where
       let on : before.old.place ≤ t.place = before.went.onward in
       record { holds = before.went.holds setup a.list taken k room (kept_of setup same) held.holds; past = omega (arith, past, on) }
 
-  -- each went on
   pub places_onward : {P : Type 0} (place_of : P → ℕ → ℕ → ℕ) (xs ys : List (Shard P)) → BroughtUp place_of (entries_kept a) xs ys → (k m n : ℕ) →
       slice_get (map (λ (s : Shard P). s.place) xs) k ≡ Some m → slice_get (map (λ (s : Shard P). s.place) ys) k ≡ Some n → m ≤ n
   places_onward {P} place_of xs ys up k m n old new =
@@ -126,7 +121,6 @@ module _ (a : Admitting) where
       let le : t.one.place ≤ length a.list = within k t.one t.there in
       omega (arith, le, t.is)
 
-  -- and stands before an entry for which memory can be refused, if before one
   pub places_stopped : {P : Type 0} (place_of : P → ℕ → ℕ → ℕ) (xs ys : List (Shard P)) → BroughtUp place_of (entries_kept a) xs ys → StandFrom a.first ys → (k n : ℕ) (e : Entry) →
       slice_get (map (λ (s : Shard P). s.place) ys) k ≡ Some n → slice_get (entries a.config a.list) n ≡ Some e → takes_no_memory e ≡ false
   places_stopped {P} place_of xs ys up from k n e at next =
@@ -146,13 +140,12 @@ module _ (a : Admitting) where
       alike [] end long = sym (le-ltb s.place (length a.list) (omega (arith, long, from, within)))
       alike (e ∷ es) end long = ap (nat_lt s.place) (end (omega arith))
 
-  -- those that stayed behind are those that have not applied the whole list
   pub count_upward : {P : Type 0} (ys : List (Shard P)) → StandFrom a.first ys → StandWithin (length a.list) ys →
       count_behind (entries_kept a) ys ≡ count_by (λ n. nat_lt n (length a.list)) (map (λ (s : Shard P). s.place) ys)
   count_upward {P} ys from within =
       count_alike (is_behind (entries_kept a)) (λ n. nat_lt n (length a.list)) (λ (s : Shard P). s.place) ys (λ k s there. behind_alike s (from k s there) (within k s there))
 
--- ---- all elements of a row are written back
+-- ---- all elements of a list are written back
 
 pub written_back : {X : Type 0} (n : ℕ) (xs ys : List X) → length xs ≡ n → length ys ≡ length xs → take n (ys ++ drop (length ys) xs) ≡ ys
 written_back n xs ys long same = take-append-le n ys (drop (length ys) xs) (omega (arith, long, same)) ∙ take_all n ys (omega (arith, long, same))

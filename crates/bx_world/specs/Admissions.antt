@@ -1,4 +1,4 @@
--- Admission in the world: the list, and the entries that some shard has not applied yet.
+-- Admission in a world: the list, and the entries that some shard has yet to apply.
 use Rattle.std.specs.Prelude.{ℕ, ◌≡◌, length, List, drop, ◌++◌, Result, Ok, Err, Some, None}
 use Rattle.bx_advice.specs.declared.config.Config.{Config}
 use Rattle.bx_entry.specs.Words.{ReadInput, added_by, refusal_of, Listed, entries}
@@ -19,8 +19,8 @@ pub record Admitting : Type 0 where
 abbrev pub entries_kept : Admitting → List Entry
 entries_kept a = drop a.first (entries a.config a.list)
 
--- An admitted input is appended to the list, and its messages get their slots. If it is refused, or
--- memory runs out, nothing changes.
+-- An admitted input is appended to the list, and its messages get their slots. If the input is
+-- rejected or memory runs out, nothing changes.
 abbrev pub IsAdmission : (ℕ → ℕ → ℕ) → Admitting → ReadInput → Result Admitted AdmitFault → Admitting → Type 0
 IsAdmission placing old input (Ok a) new =
     (refusal_of (length old.list) input ≡ None)

@@ -11,11 +11,11 @@ pub record Entries : Type 0 where
 abbrev pub kept_in : Entries → List Entry
 kept_in entries = drop entries.first entries.all
 
--- The entries, and how many more there is room for.
+-- The entries, and how many more fit.
 pub record Backlogged : Type 0 where
   pub contents : Entries
   pub spare : ℕ
 
--- No entries.
+-- An empty list.
 abbrev pub empty : Entries
 empty = record { all = []; first = 0 }

@@ -1,4 +1,4 @@
--- What a sharded server guarantees for every schedule, first world, number of shards and placing.
+-- What a world guarantees for every schedule, first state, number of shards and placing.
 use Rattle.std.specs.Prelude.{if◌then◌else◌, ℕ, ◌+◌, ◌≡◌, ◌<◌, ◌≤◌, ◌⊎◌, ◌==◌, false, List, [], ◌∷◌, ◌++◌, length, take, drop, find, Option, Some, option_map, slice_get, ⊤}
 use Rattle.bx_advice.specs.declared.config.Config.{Config}
 use Rattle.bx_message.specs.declared.reply.Answer.{Answer}
@@ -38,7 +38,7 @@ abbrev pub EachSlot : Setup → List Listed → ℕ → List Slot → Type 0
 EachSlot setup list place [] = ⊤
 EachSlot setup list place (slot ∷ slots) = IsSlot setup list place slot × EachSlot setup list (place + 1) slots
 
--- How many messages of an input are answered.
+-- The number of messages in an input.
 abbrev pub asked_by : ReadInput → ℕ
 asked_by (Request moment nonce messages) = length messages
 asked_by _ = 0
@@ -49,41 +49,41 @@ pub record IsAdmitted (setup : Setup) (list : List Listed) (input : ReadInput) (
   pub many : length slots ≡ asked_by input
   pub each : EachSlot setup list first slots
 
--- An input that was admitted is in the list, and its messages have their slots.
+-- If the output is an admission, the input is in the list, and its messages have their slots.
 abbrev pub RepliedBy : Setup → List Listed → Input → StepOut → Type 0
 RepliedBy setup list input (Admitted first slots) = IsAdmitted setup list (read_input input) first slots
 RepliedBy setup list input _ = ⊤
 
--- Only an admission gives slots, and it gives the right ones.
+-- If the step is an admission, it gives the right slots.
 abbrev pub Replied : Setup → List Listed → Step → StepOut → Type 0
 Replied setup list (Admit input) out = RepliedBy setup list input out
 Replied setup list (Apply shard) out = ⊤
 Replied setup list (Take ticket) out = ⊤
 
--- Each step that gives slots gives the right ones.
+-- Each admission of the schedule gives the right slots.
 abbrev pub EachReplied : Setup → List Listed → List Step → List StepOut → Type 0
 EachReplied setup list [] outs = ⊤
 EachReplied setup list (step ∷ steps) [] = ⊤
 EachReplied setup list (step ∷ steps) (out ∷ outs) = Replied setup list step out × EachReplied setup list steps outs
 
--- Every immediate reply is what one thread gives, whatever the steps.
+-- Under every schedule, each immediate reply is what one thread gives.
 abbrev pub RepliesAreAnswers : Type 0
 RepliesAreAnswers = (setup : Setup) (first : WorldState) (steps : List Step) (outs : List StepOut) (last : WorldState) → 0 < setup.config.limits.batch →
     Runs setup first steps outs last → EachReplied setup last.list steps outs
 
 -- ---- Taken answers
 
--- The output is this answer, taken.
+-- The output is this taken answer.
 abbrev pub GaveIn : Answer → StepOut → Type 0
 GaveIn answer (Taken (Some a)) = a ≡ answer
 GaveIn answer _ = ⊥
 
--- The step took this answer, that of the connect or rider at `place`.
+-- The step took this answer to the connect or rider at `place`.
 abbrev pub GaveBy : ℕ → Answer → Step → StepOut → Type 0
 GaveBy place answer (Take t) out = (t.place ≡ place) × GaveIn answer out
 GaveBy place answer _ out = ⊥
 
--- Some step of the schedule took this answer, that of the connect or rider at `place`.
+-- Some step of the schedule took this answer to the connect or rider at `place`.
 abbrev pub Gave : List Step → List StepOut → ℕ → Answer → Type 0
 Gave [] outs place answer = ⊥
 Gave (step ∷ steps) [] place answer = ⊥
@@ -142,7 +142,7 @@ pub record GivenAgain (config : Config) (list : List Listed) (steps : List Step)
   pub numbered_again : (a : Answer) → Gave steps outs place a → a.reply.ack ≡ AckNumber (session_before config list number place).num
   pub same : (a b : Answer) → Gave steps outs former a → Gave steps outs place b → b.events ≡ a.events
 
--- A connect that acknowledges nothing new gets the outstanding batch again, whatever the steps.
+-- Under every schedule, a connect that acknowledges nothing new gets the outstanding batch again.
 abbrev pub BatchesRepeat : Type 0
 BatchesRepeat = (setup : Setup) (first : WorldState) (steps : List Step) (outs : List StepOut) (last : WorldState) → 0 < setup.config.limits.batch →
     Runs setup first steps outs last → (number place : ℕ) → AsksAgain setup.config last.list number place → GivenAgain setup.config last.list steps outs number place
@@ -169,7 +169,7 @@ NoneGivenAgain = (setup : Setup) (first : WorldState) (steps : List Step) (outs 
     Runs setup first steps outs last → (number place : ℕ) (a : Answer) → slot_at setup.config last.list place ≡ Some (Waiting number) → Gave steps outs place a →
     GivenLater setup.config last.list number place a
 
--- All events of the first answer were published earlier than those of the second.
+-- All events of the first answer were published before those of the second.
 pub record GivenApart (config : Config) (list : List Listed) (number : ℕ) (connect later : ℕ) (a b : Answer) : Type 0 where
   pub filed : Filed
   pub next : Filed
@@ -179,7 +179,7 @@ pub record GivenApart (config : Config) (list : List Listed) (number : ℕ) (con
   pub given_next : b ≡ record { events = events_of next.publications; reply = next.reply }
   pub apart : AllBelow filed.publications next.publications
 
--- A plain session never sends an event in two answers, whatever the steps.
+-- Under every schedule, no event is in two answers of a plain session.
 abbrev pub PlainGivenOnce : Type 0
 PlainGivenOnce = (setup : Setup) (first : WorldState) (steps : List Step) (outs : List StepOut) (last : WorldState) → 0 < setup.config.limits.batch →
     Runs setup first steps outs last → (number place later : ℕ) (a b : Answer) → place < later → (session setup.config number (entries setup.config last.list)).ack ≡ false →
@@ -188,7 +188,7 @@ PlainGivenOnce = (setup : Setup) (first : WorldState) (steps : List Step) (outs 
 
 -- ---- The theorem
 
--- What holds of a schedule that runs from the world `first` to the world `last`.
+-- What holds for a schedule that runs from the world `first` to the world `last`.
 pub record AsOneThread (setup : Setup) (first : WorldState) (steps : List Step) (outs : List StepOut) (last : WorldState) : Type 0 where
   -- The list grows by what was admitted, in order.
   pub list : last.list ≡ first.list ++ admitted_in steps outs
@@ -204,12 +204,12 @@ pub record AsOneThread (setup : Setup) (first : WorldState) (steps : List Step) 
   pub done : (number m n : ℕ) → m ≤ n → (session_before setup.config last.list number m).done ≤ (session_before setup.config last.list number n).done
   -- Events that were acknowledged, or sent by a plain session, are never sent again.
   pub never : (number place : ℕ) (a : Answer) → slot_at setup.config last.list place ≡ Some (Waiting number) → Gave steps outs place a → GivenLater setup.config last.list number place a
-  -- A plain session never sends an event in two answers.
+  -- No event is in two answers of a plain session.
   pub apart : (number place later : ℕ) (a b : Answer) → place < later → (session setup.config number (entries setup.config last.list)).ack ≡ false →
       slot_at setup.config last.list place ≡ Some (Waiting number) → slot_at setup.config last.list later ≡ Some (Waiting number) → Gave steps outs place a → Gave steps outs later b →
       GivenApart setup.config last.list number place later a b
 
--- A sharded server gives what one thread gives, for every schedule, number of shards and placing.
+-- A world gives what one thread gives, for every schedule, number of shards and placing.
 abbrev pub Headline : Type 0
 Headline = (setup : Setup) (first : WorldState) (steps : List Step) (outs : List StepOut) (last : WorldState) → 0 < setup.config.limits.batch →
     Runs setup first steps outs last → AsOneThread setup first steps outs last

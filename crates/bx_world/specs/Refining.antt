@@ -1,4 +1,4 @@
--- How the shards of the world agree with the definitions.
+-- When the shards of a world agree with the definitions.
 use Rattle.std.specs.Prelude.{ℕ, ◌≡◌, ◌≤◌, ◌==◌, Bool, false, List, map, slice_get, Some, None}
 use Rattle.std.specs.List.{list_any}
 use Rattle.bx_entry.specs.Listing.{Listed}
@@ -37,7 +37,7 @@ pub record HasApplied {P : Type 0} (place_of : P → ℕ → ℕ → ℕ) (list 
   pub applied : states.Applied (state place_of old) entry (state place_of new)
   pub sound : IsSound (state place_of new)
 
--- An unchanged shard: memory ran out for its next entry, which may need some.
+-- A shard that is unchanged, because memory ran out for its next entry, which may allocate.
 pub record HasStayed {P : Type 0} (place_of : P → ℕ → ℕ → ℕ) (list : List Entry) (old new : Shard P) : Type 0 where
   pub entry : Entry
   pub next : slice_get list old.place ≡ Some entry

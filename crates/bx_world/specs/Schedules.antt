@@ -1,4 +1,4 @@
--- What holds of every schedule, whatever the placing and wherever memory ran out.
+-- What holds for every schedule and placing, at whatever steps memory runs out.
 use Rattle.std.specs.Prelude.{ℕ, ◌≡◌, ◌<◌, ◌==◌, false, List, [], ◌∷◌, ◌++◌, length, find, slice_get, slice_index, option_map, Some, ⊤}
 use Rattle.bx_advice.specs.declared.config.Config.{Config}
 use Rattle.bx_entry.specs.Words.{added_by, Listed, read_input, Judged, Waiting, registry, Filed, PlacedAnswer, answer, answer_of}
@@ -34,23 +34,23 @@ ListIsAdmitted = (setup : Setup) (first : WorldState) (steps : List Step) (outs 
 
 -- ---- Taken answers
 
--- A taken answer is the one that the message at the ticket's place has over this list.
+-- If the output is a taken answer, it is the one to the message at the ticket's place.
 abbrev pub TookBy : Config → List Listed → Ticket → StepOut → Type 0
 TookBy config list t (Taken (Some a)) = option_map given_of (answer config list t.place) ≡ Some a
 TookBy config list t _ = ⊤
 
--- If the step took an answer, it is the one over this list.
+-- If the step took an answer, it is the one that one thread gives over `list`.
 abbrev pub Took : Config → List Listed → Step → StepOut → Type 0
 Took config list (Take t) out = TookBy config list t out
 Took config list _ out = ⊤
 
--- Each taken answer is the one over this list.
+-- Each taken answer is the one that one thread gives over `list`.
 abbrev pub EachTook : Config → List Listed → List Step → List StepOut → Type 0
 EachTook config list [] outs = ⊤
 EachTook config list (step ∷ steps) [] = ⊤
 EachTook config list (step ∷ steps) (out ∷ outs) = Took config list step out × EachTook config list steps outs
 
--- Each taken answer is what one thread gives, over the last list and so over every longer one.
+-- Each taken answer is what one thread gives over the last list.
 abbrev pub TakesAreAnswers : Type 0
 TakesAreAnswers = (setup : Setup) (first : WorldState) (steps : List Step) (outs : List StepOut) (last : WorldState) → 0 < setup.config.limits.batch →
     Runs setup first steps outs last → EachTook setup.config last.list steps outs
@@ -62,7 +62,7 @@ AnswersAreFiled = (setup : Setup) (list : List Listed) (taken : List ℕ) (n pla
     answer setup.config list place ≡ Some a → a.place < n → is_taken taken place ≡ false →
     option_map answer_of (find (λ (f : Filed). f.connect == place) (shard_at setup list taken (setup.placing number setup.shards) n).filed) ≡ Some a
 
--- A taking yields a filed answer that nobody has taken, even if no memory is left.
+-- `Take` returns a filed answer that was not taken, even if memory has run out.
 abbrev pub AnswersCanBeTaken : Type 0
 AnswersCanBeTaken = (setup : Setup) (w : WorldState) (t : Ticket) (number : ℕ) (a : PlacedAnswer) (out : StepOut) → 0 < setup.config.limits.batch →
     option_map (λ (j : Judged). j.slot) (slice_get (registry setup.config w.list).judged t.place) ≡ Some (Waiting number) →
@@ -72,17 +72,17 @@ AnswersCanBeTaken = (setup : Setup) (w : WorldState) (t : Ticket) (number : ℕ)
 
 -- ---- No answer twice
 
--- The place of the answer that an output has, if any.
+-- The place, if the output is a taken answer.
 abbrev pub taken_as : ℕ → StepOut → List ℕ
 taken_as place (Taken (Some a)) = place ∷ []
 taken_as place _ = []
 
--- The place of the answer that a step took, if any.
+-- The place of the connect or rider with the answer that a step took, if any.
 abbrev pub taken_by : Step → StepOut → List ℕ
 taken_by (Take t) out = taken_as t.place out
 taken_by _ out = []
 
--- The places of the taken answers, in order.
+-- The places of the connects and riders with taken answers, in order.
 abbrev pub taken_places : List Step → List StepOut → List ℕ
 taken_places [] outs = []
 taken_places (step ∷ steps) [] = []
@@ -93,14 +93,14 @@ abbrev pub EachNew : List ℕ → List ℕ → Type 0
 EachNew seen [] = ⊤
 EachNew seen (p ∷ ps) = (is_taken seen p ≡ false) × EachNew (seen ++ p ∷ []) ps
 
--- No answer is taken twice, nor one that was taken before the schedule.
+-- No answer is taken twice, or again after it was taken before the schedule.
 abbrev pub NoneTakenTwice : Type 0
 NoneTakenTwice = (setup : Setup) (first : WorldState) (steps : List Step) (outs : List StepOut) (last : WorldState) → Runs setup first steps outs last →
     EachNew first.taken (taken_places steps outs)
 
 -- ---- Consecutive schedules
 
--- A schedule that begins where another ended forms one schedule with it.
+-- A schedule that begins in the world that another leaves forms one schedule with it.
 abbrev pub SchedulesCompose : Type 0
 SchedulesCompose = (setup : Setup) (first middle last : WorldState) (steps more : List Step) (outs given : List StepOut) →
     Runs setup first steps outs middle → Runs setup middle more given last → Runs setup first (steps ++ more) (outs ++ given) last

@@ -24,8 +24,8 @@ module _ {P : Type 0} {g : Ghosts P} where
     pub world : world_of new ≡ after (world_of old) step out
     pub setup : setup_of new ≡ setup_of old
 
-  -- Each shard agrees with the definitions' shard of its index after as many entries. It has the
-  -- same live sessions, with queue, batch and counts, and the same filed answers.
+  -- Each shard agrees with the definitions' shard of its index at the same place. It has the same
+  -- live sessions, with queue, batch and counts, and the same filed answers.
   abbrev pub ShardsRefine : World P g → Type 0
   ShardsRefine w = (k : ℕ) (s : Shard P) → slice_get w.shards.items k ≡ Some s → Refines (setup_of w) w.admission.list w.taken k s.place (state g.place_of s)
 

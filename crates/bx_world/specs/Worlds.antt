@@ -22,18 +22,18 @@ new_world setup = record { list = []; applied = replicate setup.shards 0; taken 
 
 -- ---- Outputs
 
--- Whether a shard has nothing to apply, or does not exist.
+-- Whether a shard has applied the whole list, or does not exist.
 abbrev pub is_level : WorldState → ℕ → Bool
 is_level w shard = not (nat_lt shard (length w.applied)) || (slice_index w.applied shard == length w.list)
 
--- The answer that the ticket's shard has filed for it and that nobody has taken, if any.
+-- The answer filed under a ticket, if any.
 abbrev pub filed_under : Setup → WorldState → Ticket → Option PlacedAnswer
 filed_under setup w t =
     if nat_lt t.shard (length w.applied)
     then option_map answer_of (find (λ (f : Filed). f.connect == t.place) (shard_at setup w.list w.taken t.shard (slice_index w.applied t.shard)).filed)
     else None
 
--- The output of an admission, which may be refused.
+-- The output of an admission. The last argument is why the input is rejected, if it is.
 abbrev pub output_admit : Setup → WorldState → ReadInput → Option Refusal → StepOut
 output_admit setup w input None = Admitted (length w.list) (admitted_slots setup w.list (added_by input))
 output_admit setup w input (Some refusal) = NotAdmitted refusal
@@ -57,14 +57,13 @@ after w step out = w
 abbrev pub next_entry : Setup → WorldState → ℕ → Option Entry
 next_entry setup w shard = slice_get (entries setup.config w.list) (slice_index w.applied shard)
 
--- Whether applying an entry may allocate. An unsubscription that is no rider, a disconnect, a
--- refused message and a tick do not.
+-- Whether applying an entry may allocate. A disconnect, a rejected message, a tick, and an
+-- unsubscription that is not a rider do not.
 abbrev pub may_take_memory : Option Entry → Bool
 may_take_memory None = false
 may_take_memory (Some e) = not (takes_no_memory e)
 
--- Whether memory may run out for a step. It may for admissions and for entries that may allocate;
--- nothing changes then.
+-- Whether memory may run out for a step: an admission, or an entry that may allocate.
 abbrev pub may_refuse : Setup → WorldState → Step → Bool
 may_refuse setup w (Admit input) = true
 may_refuse setup w (Apply shard) = not (is_level w shard) && may_take_memory (next_entry setup w shard)
@@ -74,7 +73,7 @@ may_refuse setup w (Take ticket) = false
 abbrev pub IsOutput : Setup → WorldState → Step → StepOut → Type 0
 IsOutput setup w step out = (out ≡ output setup w step) ⊎ ((may_refuse setup w step ≡ true) × (out ≡ OutOfMemory))
 
--- The schedule may give these outputs, one for each step, and ends in `last`.
+-- From `w`, the steps may give these outputs, one for each step, and lead to `last`.
 abbrev pub Runs : Setup → WorldState → List Step → List StepOut → WorldState → Type 0
 Runs setup w [] [] last = last ≡ w
 Runs setup w (step ∷ steps) (out ∷ outs) last = IsOutput setup w step out × Runs setup (after w step out) steps outs last

@@ -1,4 +1,4 @@
-//! The admission side of a world: the live sessions, and the list.
+//! Admission in a world: the live sessions and the list.
 ghost use Rattle.std.specs.Prelude.{ℕ, ◌≡◌, ◌≤◌, [], length, slice_get, option_map, max, IfErr, IfOk, IfSome, Err, ◌++◌};
 ghost use Rattle.bx_registry.specs.Standings.{LeadsTo};
 ghost use Rattle.bx_advice.specs.Limits.{greatest_length};
@@ -23,8 +23,8 @@ use std::thread::Threads;
 
 /// The live sessions, and the entries that some shard has yet to apply.
 ///
-/// Model: the configuration, the number of shards, the whole list, and the place from which entries
-/// are kept.
+/// Model: the configuration, the number of shards, the whole list, and the place of the first kept
+/// entry.
 #[derive(Drop)]
 pub(crate) struct Intake {
     registry: Registry,
@@ -96,7 +96,7 @@ impl Intake {
         take_in(&mut self.registry, &mut self.backlog, plan)
     }
 
-    /// Returns the length of the list.
+    /// Returns the number of entries in the list.
     pub(crate) fn entries(&self) -> u64
         ensures { result ≡ length self.now.list }
     {
@@ -120,7 +120,7 @@ impl Intake {
         self.backlog.get(place)
     }
 
-    /// Returns the place from which entries are kept.
+    /// Returns the place of the first kept entry, or the length of the list if none is kept.
     pub(crate) fn first(&self) -> u64
         ensures { result ≡ self.now.first }
     {
@@ -135,7 +135,7 @@ impl Intake {
         self.backlog.forget(place);
     }
 
-    /// Sets the number of shards among which sessions are placed.
+    /// Sets to `shards` the number of shards among which sessions are placed.
     pub(crate) fn reshard(&mut self, shards: ShardCount)
         ensures shards { self.new ≡ record self.old { shards = shards } }
         ensures in_range { (1 ≤ self.new.shards) × (self.new.shards ≤ 64) }
@@ -143,8 +143,9 @@ impl Intake {
         self.registry.reshard(shards);
     }
 
-    /// Advances every shard to the end of the list, with `workers` workers, and returns how many
-    /// lag.
+    /// Advances every shard to the end of the list, and returns how many shards lag.
+    ///
+    /// `workers`: the number of workers. A shard lags only if memory runs out.
     pub(crate) fn bring_up<R: Threads + Sync, G: Gate + Sync, P: Placing + Send + Sync>(
         &mut self,
         rt: &R,
@@ -164,8 +165,8 @@ impl Intake {
     }
 }
 
-// Commits `plan`, made from this very registry, and appends its entries to the backlog. If memory
-// runs out, nothing changes.
+// Commits `plan`, which `registry` made, and appends its entries to `backlog`. If memory runs out,
+// nothing has changed.
 fn take_in(
     registry: &mut Registry,
     backlog: &mut Backlog,

@@ -16,7 +16,7 @@ use std::thread::Threads;
 
 /// The entries of the list from place `first` on.
 ///
-/// Model: all entries of the list, the place from which they are kept, and how many more fit.
+/// Model: all entries of the list, the place of the first kept one, and how many more fit.
 #[derive(Drop)]
 pub(crate) struct Backlog {
     first: u64,
@@ -52,7 +52,7 @@ impl Backlog {
         }
     }
 
-    /// Returns the place from which entries are kept.
+    /// Returns the place of the first kept entry, or the length of the list if none is kept.
     pub(crate) fn first(&self) -> u64
         ensures { result ≡ self.now.contents.first }
     {
@@ -73,7 +73,7 @@ impl Backlog {
     ///
     /// # Errors
     ///
-    /// `AllocError` if memory runs out; no entry has changed.
+    /// `AllocError` if memory runs out; the entries are unchanged.
     pub(crate) fn reserve(&mut self, count: usize) -> Result<(), AllocError>
         ensures room { OnOk result (count ≤ self.new.spare) }
         ensures same { self.new.contents ≡ self.old.contents }
@@ -81,7 +81,7 @@ impl Backlog {
         self.kept.reserve(count)
     }
 
-    /// Appends `entry`, for which there must be room.
+    /// Appends `entry`. Room for it must be reserved.
     pub(crate) fn push(&mut self, entry: Entry)
         requires { 1 ≤ self.old.spare }
         ensures contents { self.new.contents ≡ record { all = self.old.contents.all ++ entry ∷ []; first = self.old.contents.first } }
@@ -91,7 +91,7 @@ impl Backlog {
         self.kept.push_back_reserved(entry);
     }
 
-    /// Appends `entries`, for which there must be room.
+    /// Appends `entries`. Room for them must be reserved.
     pub(crate) fn append(&mut self, entries: Sequence<Entry>)
         requires { length entries ≤ self.old.spare }
         ensures { self.new.contents ≡ record { all = self.old.contents.all ++ entries; first = self.old.contents.first } }
@@ -112,8 +112,9 @@ impl Backlog {
         }
     }
 
-    /// Advances every shard to the end of the list, with `workers` workers, and returns how many
-    /// lag.
+    /// Advances every shard to the end of the list, and returns how many shards lag.
+    ///
+    /// `workers`: the number of workers. A shard lags only if memory runs out.
     pub(crate) fn bring_up<R: Threads + Sync, G: Gate + Sync, P: Placing + Send + Sync>(
         &mut self,
         rt: &R,

@@ -2,12 +2,12 @@
 ghost use Rattle.bx_world.specs.Schedules.{AnswersAreFiled, AnswersCanBeTaken, ListIsAdmitted, NoneTakenTwice, SchedulesCompose, TakesAreAnswers};
 ghost use Rattle.bx_world.specs.Headline.{BatchesRepeat, Headline, NoneGivenAgain, PlainGivenOnce, RepliesAreAnswers};
 
-/// Proves that the list has what was admitted, in order, and nothing else.
+/// Proves that the list grows by exactly what is admitted, in order.
 pub fn list_is_admitted()
     ensures { ListIsAdmitted }
 {}
 
-/// Proves that each answer taken is what one thread gives.
+/// Proves that each taken answer is what one thread gives.
 pub fn takes_are_answers()
     ensures { TakesAreAnswers }
 {}
@@ -17,7 +17,7 @@ pub fn answers_are_filed()
     ensures { AnswersAreFiled }
 {}
 
-/// Proves that `Take` returns an answer that is filed and was not taken, even without memory.
+/// Proves that `Take` returns a filed answer that was not taken, even if memory has run out.
 pub fn answers_can_be_taken()
     ensures { AnswersCanBeTaken }
 {}
@@ -56,11 +56,11 @@ pub fn batches_repeat()
 ///
 /// For every number of shards and every placing:
 ///
-/// - Each reply, and each answer taken, is what one thread gives that handles one message at a
-///   time.
+/// - Each immediate reply and each taken answer is what one thread gives that handles one message
+///   at a time.
 /// - No answer is taken twice.
 /// - A connect that acknowledges nothing new while a batch is outstanding gets that batch again.
-/// - What was acknowledged is never sent again.
+/// - An acknowledged event is never sent again.
 /// - No event is in two answers of a session that does not acknowledge.
 pub fn headline()
     ensures { Headline }

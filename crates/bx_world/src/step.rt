@@ -21,16 +21,16 @@ pub enum Step {
 /// The output of a step.
 #[derive(Drop)]
 pub enum StepOut {
-    /// The request or tick was admitted.
+    /// The request or tick was admitted, and its entries are in the list.
     Admitted {
         /// The place of its first entry.
         first: u64,
-        /// How each message is answered, in order; empty for a tick.
+        /// How each message is answered, in order. Empty for a tick.
         slots: Sequence<Slot>,
     },
-    /// The request or tick was refused; nothing has changed.
+    /// The request or tick was rejected; nothing has changed.
     NotAdmitted(Refusal),
-    /// The shard has applied its next entry.
+    /// The shard applied its next entry.
     Applied,
     /// The shard does not exist, or has applied the whole list.
     Level,
@@ -43,7 +43,7 @@ pub enum StepOut {
 /// The result of applying a shard's next entry.
 #[derive(Clone, Copy, Debug, PartialEq, Eq)]
 pub enum Applied {
-    /// The shard has applied it.
+    /// The shard applied the entry.
     Done,
     /// The shard does not exist, or has applied the whole list.
     Level,

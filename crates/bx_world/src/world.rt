@@ -22,9 +22,9 @@ use std::thread::Threads;
 
 /// The server for one thread.
 ///
-/// Requests and ticks are appended to one list. Each shard applies the list's entries in order, at
-/// its own pace, and files answers, which can then be taken. Only entries that some shard has yet
-/// to apply are kept.
+/// Requests and ticks are appended to one list. Each shard applies the entries of the list in
+/// order, at its own pace, and files answers, which can then be taken. An entry is kept until every
+/// shard has applied it.
 ///
 /// Model: the list, how many entries each shard has applied, and which answers were taken.
 #[derive(Drop)]
@@ -32,7 +32,7 @@ pub struct World<P: Placing> {
     placing: Arc<P>,
     admission: Intake,
     shards: Vec<Shard<P>>,
-    // Ghost: the places of the connects and riders whose answers were taken.
+    // Ghost: the places of the connects and riders with taken answers.
     taken: History<u64>,
     ghost bounded: { length admission.list ≤ greatest_length },
     ghost some_shard: { 1 ≤ admission.shards },
@@ -82,7 +82,7 @@ impl<P: Placing> World<P> {
         })
     }
 
-    /// Appends a request to the list, and returns how its messages are answered.
+    /// Appends a request to the list, and returns how each of its messages is answered.
     ///
     /// # Errors
     ///
@@ -116,10 +116,10 @@ impl<P: Placing> World<P> {
         self.admission.tick(alloc, moment)
     }
 
-    /// Applies the next entry of the list to the shard with index `shard`.
+    /// Applies the next entry of the list to the shard with index `shard`, counted from 0.
     ///
-    /// Memory cannot run out for a disconnect, a refused message, a tick, or an unsubscription that
-    /// is not a rider.
+    /// Memory cannot run out for a disconnect, a rejected message, a tick, or an unsubscription
+    /// that is not a rider.
     pub fn apply(&mut self, alloc: Global, shard: usize) -> Applied
         ensures { Steps self.old (Apply shard) (application result) self.new }
     {
@@ -134,7 +134,7 @@ impl<P: Placing> World<P> {
 
     /// Takes the answer filed under `ticket`, if any.
     ///
-    /// Each answer is returned once. After [`reshard`](Self::reshard), an older ticket finds no
+    /// Each answer is returned once. After [`reshard`](Self::reshard), an earlier ticket finds no
     /// answer if its session is now in another shard, even if the answer is filed there.
     pub fn take(&mut self, ticket: Ticket) -> Option<Answer>
         ensures { Steps self.old (Take ticket) (Taken result) self.new }
@@ -144,10 +144,9 @@ impl<P: Placing> World<P> {
         Some(answer)
     }
 
-    /// Advances every shard to the end of the list, with `workers` workers, and returns how many
-    /// lag.
+    /// Advances every shard to the end of the list, and returns how many shards lag.
     ///
-    /// A shard lags only if memory ran out.
+    /// `workers`: the number of workers. A shard lags only if memory runs out.
     pub fn bring_up<R: Threads + Sync, G: Gate + Sync>(
         &mut self,
         rt: &R,
@@ -185,14 +184,14 @@ impl<P: Placing> World<P> {
         self.shards.len()
     }
 
-    /// Returns the length of the list.
+    /// Returns the number of entries in the list.
     pub fn entries(&self) -> u64
         ensures { result ≡ length (world_of self.now).list }
     {
         self.admission.entries()
     }
 
-    /// Returns how many entries the slowest shard has yet to apply.
+    /// Returns the number of entries that the slowest shard has yet to apply.
     pub fn lacking(&self) -> u64
         ensures most { (k n : ℕ) → slice_get (world_of self.now).applied k ≡ Some n → length (world_of self.now).list ≤ n + result }
         ensures in_list { result ≤ length (world_of self.now).list }
@@ -203,7 +202,7 @@ impl<P: Placing> World<P> {
             .saturating_sub(self.admission.first())
     }
 
-    /// Returns the entry at `place`, if it exists and some shard has yet to apply it.
+    /// Returns the entry at `place`, if it is in the list and some shard has yet to apply it.
     pub fn entry(&self, place: u64) -> Option<&Entry>
         ensures some { IfSome result (λ e. slice_get (entries (setup_of self.now).config (world_of self.now).list) place ≡ Some e.now) }
         ensures none { IfNone result ((length (world_of self.now).list ≤ place)
@@ -224,7 +223,7 @@ impl<P: Placing> World<P> {
 
     /// Takes any one answer that the shard with index `shard` has filed.
     ///
-    /// Returns `None` if it has filed none, or does not exist.
+    /// Returns `None` if the shard has filed none, or does not exist.
     pub fn take_any(&mut self, shard: usize) -> Option<Filing>
         ensures some { IfSome result (λ f. Steps self.old (Take (record { place = f.connect; shard = shard })) (Taken (Some f.answer)) self.new) }
         ensures none { IfNone result (((place : ℕ) → filed_under (setup_of self.old) (world_of self.old) (record { place = place; shard = shard }) ≡ None)
@@ -237,12 +236,13 @@ impl<P: Placing> World<P> {
 
     /// Redistributes the sessions among `shards` shards, by `placing`.
     ///
-    /// Every shard must have applied the whole list. The list stays, and so does what was taken.
-    /// Filed answers move with their sessions, so an older ticket may name the wrong shard.
+    /// Every shard must have applied the whole list. The list does not change, and taken answers
+    /// stay taken. Filed answers move with their sessions, so an earlier ticket may name the wrong
+    /// shard.
     ///
     /// # Errors
     ///
-    /// The unchanged world and an `AllocError` if memory runs out.
+    /// The unchanged world and `AllocError` if memory runs out.
     pub fn reshard(
         self,
         alloc: Global,
@@ -292,8 +292,8 @@ impl<P: Placing> World<P> {
     ///
     /// # Errors
     ///
-    /// The index of the first step that was not made, if there is no memory for its output. The
-    /// earlier steps were made, and their outputs appended.
+    /// The index of the first step that was not made, if memory runs out for its output. The
+    /// earlier steps are made, and their outputs appended.
     pub fn run_schedule(
         &mut self,
         alloc: Global,
@@ -329,8 +329,8 @@ impl<P: Placing> World<P> {
     }
 }
 
-// Applies the next entry to `shard`. The entries from its place on must be kept. No task waits for
-// its answers.
+// Applies the next entry to `shard`. The entries from its place on must be kept. A world registers
+// no wakers, so the list of wakers stays empty.
 fn apply_next<P: Placing>(alloc: Global, shard: &mut Shard<P>, admission: &Intake) -> Applied
     requires kept { admission.now.first ≤ shard.old.place }
     requires end { length admission.now.list ≤ greatest_length }
@@ -346,8 +346,8 @@ fn apply_next<P: Placing>(alloc: Global, shard: &mut Shard<P>, admission: &Intak
     }
 }
 
-// Drops the entries that all of `shards` have applied. `place` is where a shard was before it
-// advanced. If that is after the first kept entry, another shard still needs that entry.
+// Drops the entries that all of `shards` have applied. `place`: the place of a shard before it
+// advanced. If it is after the first kept entry, another shard still needs that entry.
 fn forget_applied<P: Placing>(admission: &mut Intake, shards: &[Shard<P>], place: u64)
     requires first { StandFrom admission.old.first shards.now }
     requires end { StandWithin (length admission.old.list) shards.now }

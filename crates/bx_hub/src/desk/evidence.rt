@@ -53,8 +53,8 @@ impl<J: Naming> Stood<J> {
 /// The result of advancing a shard to a note.
 ///
 /// The shard has learned the note. It has reached the note's end, or `stays` is the fault that
-/// stopped it. With `Misplaced`, the shard was not found. Ghost: the wakers added to the caller's
-/// list.
+/// stopped it. With `Misplaced`, the shard was not found and nothing was done. Ghost: the wakers
+/// added to the caller's list.
 #[derive(Drop)]
 pub(crate) struct Brought<J: Naming> {
     index: Snapshot<usize>,
@@ -123,7 +123,7 @@ impl<J: Naming> Brought<J> {
 /// Evidence of why there is no answer under a ticket.
 ///
 /// The ticket's shard has filed no answer, and the fault stopped it. With `Misplaced`, the shard
-/// was not found.
+/// was not found, and may have filed one.
 #[derive(Drop)]
 pub struct Stopped<J: Naming> {
     ticket: Snapshot<Ticket>,
@@ -223,7 +223,9 @@ impl<J: Naming> Watching<J> {
         Watching::new(ticket, waker, said)
     }
 
-    /// Returns evidence that the shard is closed and filed no answer, for the result `Shut`.
+    /// Returns evidence that the shard is closed and has filed no answer.
+    ///
+    /// `self` must be the result `Shut` for `ticket`.
     pub fn stopped(&self, ticket: &Ticket) -> Stopped<J>
         requires ticket { self.now.ticket.value ≡ ticket.now }
         requires shut { IsShut self.now.said.value }
@@ -322,7 +324,7 @@ impl<J: Naming> Changed<J> {
     }
 }
 
-/// Evidence of which wakers a call under a shard's lock added to its caller's list.
+/// Evidence of the wakers that a call added to its caller's list under a shard's lock.
 ///
 /// Model: these wakers, in order.
 #[derive(Drop)]
@@ -340,7 +342,7 @@ impl Model for Woken {
 }
 
 impl Woken {
-    /// Returns the wakers added to `wakers` since it was `before`.
+    /// Returns evidence of the wakers that were added to `wakers` since it was `before`.
     pub(super) fn since(before: History<Waker>, wakers: &Wakers) -> Woken
         ensures { result ≡ drop (length before) wakers.now }
     {
@@ -349,7 +351,7 @@ impl Woken {
     }
 }
 
-/// Returns the ghost list of `wakers`.
+/// Returns a ghost copy of the list `wakers`.
 pub(super) fn listed(wakers: &Wakers) -> History<Waker>
     ensures { result ≡ wakers.now }
 {

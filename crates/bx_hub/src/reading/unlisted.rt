@@ -1,4 +1,4 @@
-//! Why a request or a tick was not listed.
+//! Why a request or a tick was not admitted.
 ghost use Rattle.std.specs.Prelude.{◌≡◌, None, true, false};
 ghost use Rattle.bx_hub.specs.Faults.{of_admission};
 ghost use Rattle.bx_hub.specs.declared.fault.PostFault.TheVariants as faults;
@@ -12,10 +12,10 @@ use std::fmt;
 use std::snapshot::Snapshot;
 use std::sync::Wait;
 
-/// Evidence of why a request or a tick was not listed.
+/// Evidence of why a request or a tick was not admitted.
 ///
-/// It is created from the locked admission, or earlier, if reading the request fails. Ghost:
-/// whether the hub was closed and, with `Behind` or `Overrun`, a shard that lagged.
+/// It is created while admission is locked, or before, if the request cannot be read. It records
+/// whether the hub was closed. With `Behind` or `Overrun`, it also records a shard that lagged.
 #[derive(Drop)]
 pub struct Unlisted<J: Naming> {
     fault: PostFault,
@@ -28,10 +28,10 @@ pub struct Unlisted<J: Naming> {
 impl<J: Naming> Unlisted<J> {
     ghost use Rattle.bx_hub.specs.Lags.{IsLagging};
 
-    /// Creates evidence that `admission` refused with `fault`.
+    /// Creates evidence that `admission` failed with `fault`.
     ///
-    /// `fault` is `Closed` exactly if admission is closed. `lag`: with `Behind`, a shard that had
-    /// not applied the oldest batch; with `Overrun`, the overrun shard.
+    /// `fault` must be `Closed` if and only if `admission` is closed. `lag`: with `Behind`, a shard
+    /// that had not applied the whole oldest batch; with `Overrun`, the overrun shard.
     pub(crate) fn of<R: Wait + Drop>(
         admission: &Admission<J, R>,
         fault: PostFault,
@@ -60,7 +60,7 @@ impl<J: Naming> Unlisted<J> {
         }
     }
 
-    /// Returns the reason.
+    /// Returns why it was not admitted.
     pub fn fault(&self) -> PostFault
         ensures { result ≡ self.now.fault }
     {

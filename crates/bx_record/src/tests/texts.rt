@@ -22,7 +22,7 @@ fn whole(alloc: Global, body: &str) -> Result<Bodies, Fail> {
     Ok(Bodies::Whole(Vec::from_slice(alloc, body.as_bytes())?))
 }
 
-// Returns `true` if the request has exactly `lines`.
+// Returns `true` if the request with `body` has exactly `lines`.
 fn has_lines(alloc: Global, body: &str, lines: &str) -> Result<bool, Fail> {
     match text_of(alloc, whole(alloc, body)?)? {
         Some(text) => Ok(text.as_slice() == lines.as_bytes()),
@@ -128,7 +128,7 @@ fn answers_have_their_place_and_digest(rt: HostRuntime) -> Result<(), Fail> {
     Ok(())
 }
 
-// Returns `true` if the configuration has exactly `line`.
+// Returns `true` if the line of `config` is exactly `line`.
 fn has_line(alloc: Global, config: Option<Config>, line: &str) -> Result<bool, Fail> {
     match config {
         Some(config) => Ok(config_text(alloc, &config)?.as_slice() == line.as_bytes()),

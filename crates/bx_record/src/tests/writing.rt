@@ -1,4 +1,4 @@
-//! Tests of the writer, with a file that fails at the k-th write.
+//! Tests of the writer, with a file that fails after a given number of writes.
 ghost use Rattle.std.specs.Prelude.{◌≡◌, ◌==◌, [], codes, if◌then◌else◌};
 
 use crate::writer::SOON;
@@ -8,7 +8,7 @@ use std::io::Write;
 use std::sync::atomic::{AtomicBool, Ordering};
 use std::test::Fail;
 
-// A text of three lines, up to 0, 2 or 3 of them.
+// A position in a text of three lines: before them (`count` is 0), after two (1) or after all (2).
 #[derive(Clone, Copy, Drop)]
 struct Stage {
     count: u8,
@@ -28,7 +28,8 @@ impl Extent for Stage {
     }
 }
 
-// A source of two lines, then one with a fault, and a note each time. `waiting` bytes wait.
+// A source of two lines and then a third with a fault, each time with a note. It reports `waiting`
+// waiting bytes.
 #[derive(Drop)]
 struct Lines<'a> {
     turn: usize,
@@ -77,7 +78,7 @@ impl<'a> Source for Lines<'a> {
     }
 }
 
-// A file that accepts one byte per write, `left` times.
+// A file that writes one byte at a time, and fails after `left` bytes.
 #[derive(Drop)]
 struct Failing {
     left: usize,
@@ -102,7 +103,7 @@ impl Write for Failing {
     }
 }
 
-// How writing ended.
+// An `End` that can be compared.
 #[derive(Clone, Copy, Debug, PartialEq, Eq)]
 enum Ending {
     Told,
@@ -175,7 +176,7 @@ fn ends_as_it_is_told(rt: HostRuntime) -> Result<(), Fail> {
     Ok(())
 }
 
-// Bytes are written even if few wait.
+// Checks that bytes are written even if few wait.
 #[test]
 fn few_bytes_are_written_too(rt: HostRuntime) -> Result<(), Fail> {
     let (stopped, over) = (AtomicBool::new(false), AtomicBool::new(false));

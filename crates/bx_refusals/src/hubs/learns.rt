@@ -1,4 +1,4 @@
-//! Two callers of a hub; one learns what the other has seen.
+//! Two callers of a hub. One learns what the other has seen.
 use crate::hubs::Served;
 use crate::hubs::said::{Said, connect, poll, post, tick};
 use crate::requests::{HANDSHAKE, PUBLISH};
@@ -9,7 +9,11 @@ use bx_window::Naming;
 use std::alloc::Global;
 use std::sync::Wait;
 
-/// Adds the lines of a connect, of another session's publish and of the answer.
+/// Appends the lines of a connect, of the publish of another session, and of the answer.
+///
+/// # Errors
+///
+/// As for `hubs::run`.
 pub fn run<J: Naming, H: Wait + Drop, R: Wait>(
     rt: &R,
     alloc: Global,

@@ -1,4 +1,4 @@
-//! Calls of a hub, each made once more if memory runs out, and the lines of their results.
+//! Calls of a hub, retried if memory runs out, and the lines of their results.
 use crate::hubs::Served;
 use crate::requests::{CONNECT, HANDSHAKE, SUBSCRIBE, add_line, arrival, reply, text_of};
 use crate::unlike::Unlike;
@@ -9,7 +9,7 @@ use bx_window::Naming;
 use std::alloc::Global;
 use std::sync::Wait;
 
-/// The lines so far, and how many shards have lagged for lack of memory.
+/// The lines so far, and how many shards have lagged because memory ran out.
 #[derive(Drop)]
 pub struct Said {
     text: String,
@@ -17,7 +17,7 @@ pub struct Said {
 }
 
 impl Said {
-    /// Creates a value with no lines.
+    /// Creates a value without lines.
     pub fn new(alloc: Global) -> Said {
         Said {
             text: String::new(alloc),
@@ -31,19 +31,23 @@ impl Said {
         text
     }
 
-    /// Adds the line of an answer.
+    /// Appends the line of an answer.
+    ///
+    /// # Errors
+    ///
+    /// `Memory` if memory runs out.
     pub fn add_answer(&mut self, alloc: Global, answer: Answer) -> Result<(), Unlike> {
         add_line(&mut self.text, text_of(alloc, answer)?.as_str())
     }
 
-    // Adds a line for what is at `place`.
+    // Appends a line for what is at `place`.
     fn add(&mut self, alloc: Global, place: u64, what: &str) -> Result<(), Unlike> {
         let line = format!(in alloc; "{place} {what}")?;
         add_line(&mut self.text, line.as_str())
     }
 
-    // Returns `true` if a shard lags after a call. Fails if one does so again, or not for lack of
-    // memory: only one allocation fails in a run.
+    // Returns `true` if a shard lags after a call because memory ran out. Fails if a shard lags for
+    // another reason, or if one has lagged before, since only one allocation fails in a run.
     fn is_behind(&mut self, behind: Lagging) -> Result<bool, Unlike> {
         let memory = behind.memory;
         let by_memory = Lagging {
@@ -57,8 +61,8 @@ impl Said {
         Ok(memory == 1)
     }
 
-    // Adds a line for each message from place `first` on: its reply, or that it waits. Returns the
-    // last ticket.
+    // Appends a line for each message from place `first` on: its reply, or that it waits. Returns
+    // the last ticket.
     fn add_slots(
         &mut self,
         alloc: Global,
@@ -89,7 +93,12 @@ pub struct PostEnd {
     pub is_behind: bool,
 }
 
-/// Posts `body`, whose first message must get `place`.
+/// Posts `body`, and again if memory runs out. The first message must get `place`.
+///
+/// # Errors
+///
+/// `Memory` if memory runs out outside of the hub's call; `Wrong` for another result than expected,
+/// or if the second attempt fails.
 pub fn post<J: Naming, H: Wait + Drop, R: Wait>(
     rt: &R,
     alloc: Global,
@@ -128,7 +137,11 @@ fn end_of<J: Naming>(
 
 /// Opens and subscribes the first session, and posts its connect.
 ///
-/// Returns the connect's ticket, and whether a shard lagged after it.
+/// Returns the ticket of the connect, and whether a shard lagged after it.
+///
+/// # Errors
+///
+/// As for [`post`].
 pub fn connect<J: Naming, H: Wait + Drop, R: Wait>(
     rt: &R,
     alloc: Global,
@@ -146,7 +159,11 @@ pub fn connect<J: Naming, H: Wait + Drop, R: Wait>(
     }
 }
 
-/// Posts a tick of moment 0, which must get place 5.
+/// Posts a tick at moment 0, and again if memory runs out. It must get place 5.
+///
+/// # Errors
+///
+/// As for [`post`].
 pub fn tick<J: Naming, H: Wait + Drop, R: Wait>(
     rt: &R,
     alloc: Global,
@@ -179,7 +196,11 @@ fn end_of_tick<J: Naming>(
     said.add(alloc, ticked.place, "ticks")
 }
 
-/// Asks for the answer under `ticket`.
+/// Takes the answer under `ticket`, if it is filed. Tries again if memory runs out.
+///
+/// # Errors
+///
+/// `Wrong` if the call fails for another reason, or fails again.
 pub fn poll<J: Naming, H: Wait + Drop, R: Wait>(
     rt: &R,
     alloc: Global,

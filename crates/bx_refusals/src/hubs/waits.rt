@@ -1,4 +1,4 @@
-//! A task that waits for a connect in the only shard, and so shows whether that shard really lags.
+//! A task that waits for a connect in the only shard, and so shows whether that shard lags.
 use crate::hubs::Served;
 use crate::hubs::said::{Said, connect, post, tick};
 use crate::requests::{HANDSHAKE, PUBLISH};
@@ -14,7 +14,11 @@ use std::alloc::{AllocGlobal, Global};
 use std::random::RandomSource;
 use std::sync::{Arc, Wait};
 
-/// Connects a session, and has a task wait for the answer until another session publishes.
+/// Connects a session, and lets a task wait for the answer until another session publishes.
+///
+/// # Errors
+///
+/// As for `hubs::run`.
 pub fn run<'a, J, R>(
     rt: &'a R,
     alloc: Global,
@@ -44,7 +48,7 @@ fn waker(task: &MockTask) -> Result<Waker, Unlike> {
     slot.ok_or(Unlike::Memory)
 }
 
-// Returns `true` if the shard already holds the connect.
+// Returns `true` if the shard holds the connect, and `false` if it does not know the connect yet.
 fn is_there<J: Naming, H: Wait + Drop, R: Wait>(
     rt: &R,
     hub: &Served<J, H>,
@@ -59,7 +63,7 @@ fn is_there<J: Naming, H: Wait + Drop, R: Wait>(
     }
 }
 
-// Returns a future of the answer under `ticket`. Fails if the pass ends before its place.
+// Returns a future of the answer under `ticket`. Fails if `pass` has not seen its place.
 fn waiting<J: Naming>(pass: &Pass<J>, ticket: Ticket) -> Result<PendingAnswer<J>, Unlike> {
     let pass = pass.again();
     if ticket.place >= pass.len() {
@@ -107,8 +111,8 @@ fn look<J: Naming, H: Wait + Drop, R: Wait>(
     }
 }
 
-// Checks that the connect is held once memory is available, even if the shard lagged, and that the
-// task waits for it. If memory runs out in the poll, a new future is polled.
+// Checks that the connect is held, even if the shard lagged before, and that the task waits. If
+// memory runs out in the poll, polls a new future.
 fn wait<J: Naming, H: Wait + Drop, R: Wait>(
     rt: &R,
     alloc: Global,
@@ -130,7 +134,7 @@ fn wait<J: Naming, H: Wait + Drop, R: Wait>(
     answer(rt, alloc, hub, task, &mut held, said)
 }
 
-// Checks that a publish answers the connect. The last poll allocates nothing, so it is not retried.
+// Checks that a publish answers the connect. The last poll does not allocate, so it is not retried.
 fn answer<J: Naming, H: Wait + Drop, R: Wait>(
     rt: &R,
     alloc: Global,
@@ -146,7 +150,7 @@ fn answer<J: Naming, H: Wait + Drop, R: Wait>(
     }
 }
 
-// Checks that the publish wakes the task or, if the shard lags, the next tick does.
+// Checks that the publish wakes the task or, if the shard lags after it, that the next tick does.
 fn publish<J: Naming, H: Wait + Drop, R: Wait>(
     rt: &R,
     alloc: Global,

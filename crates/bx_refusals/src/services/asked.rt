@@ -17,7 +17,7 @@ pub const SUBSCRIBE: &str =
 pub const CONNECT: &str =
     r#"[{"channel":"/meta/connect","clientId":"ID","connectionType":"long-polling","ext":{"ack":0}}]"#;
 
-/// A publish of 7.
+/// A publish with the data 7.
 pub const PUBLISH: &str = r#"[{"channel":"/a/b","clientId":"ID","data":7}]"#;
 
 /// A query with a connect that is never held, answered by a script.
@@ -33,7 +33,11 @@ pub enum Asked<'a> {
     Get(&'a str),
 }
 
-/// Builds the request.
+/// Builds the HTTP request for `asked`.
+///
+/// # Errors
+///
+/// `Memory` if memory runs out.
 pub fn request(alloc: Global, asked: Asked<'_>) -> Result<Request<Full<Bytes>>, Unlike> {
     let made = match asked {
         Asked::Post(text) => {
@@ -48,6 +52,10 @@ pub fn request(alloc: Global, asked: Asked<'_>) -> Result<Request<Full<Bytes>>, 
 }
 
 /// Returns `text` with the first `word` replaced by `by`, or `text` if `word` is missing.
+///
+/// # Errors
+///
+/// `AllocError` if memory runs out.
 pub fn replaced(alloc: Global, text: &str, word: &str, by: &str) -> Result<String, AllocError> {
     match text.split_once(word) {
         Some((front, back)) => format!(in alloc; "{front}{by}{back}"),

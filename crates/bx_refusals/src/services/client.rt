@@ -1,4 +1,4 @@
-//! A client that makes an exchange once more if memory runs out.
+//! A client that retries an exchange if memory runs out.
 ghost use Rattle.std.specs.Prelude.{IfOk};
 ghost use Rattle.futures.specs.Poll.{OnPending};
 
@@ -17,7 +17,7 @@ use http::Response;
 use hyper::service::Service;
 use std::alloc::Global;
 
-/// The output of an exchange.
+/// What an exchange results in.
 pub type Given = Result<Response<Pieces<Bytes>>, ServiceFault>;
 
 /// A service, its hub's list, and the task that polls the exchanges.
@@ -34,7 +34,14 @@ pub struct Client<S: Drop, C: Drop> {
 }
 
 impl<S: Drop, C: Count + Drop> Client<S, C> {
-    /// Makes an exchange that must not wait. Retries once if memory runs out.
+    /// Makes an exchange that must not wait, and returns the line of its response.
+    ///
+    /// Retries once if memory runs out. `adds`: what the request adds to the list.
+    ///
+    /// # Errors
+    ///
+    /// `Memory` if memory runs out outside of the exchange; `Wrong` if the exchange waits, fails
+    /// again, or changes the list when it fails.
     pub fn ask<I>(&mut self, asked: Asked<'_>, adds: Adds) -> Result<String, Unlike>
     where
         S: Backend<Items = I> + Drop,
@@ -60,6 +67,11 @@ impl<S: Drop, C: Count + Drop> Client<S, C> {
     }
 
     /// Polls an exchange once. If it is ready, returns its response, or `None` if memory ran out.
+    ///
+    /// # Errors
+    ///
+    /// `Memory` if memory runs out for the line of the response; `Wrong` if the response's body
+    /// waits.
     pub fn poll<E: Future<Output = Given>>(
         &self,
         exchange: &mut E,
@@ -75,6 +87,10 @@ impl<S: Drop, C: Count + Drop> Client<S, C> {
 }
 
 /// Returns the result of a poll that must be ready.
+///
+/// # Errors
+///
+/// The error of `polled`, if it is one; `Wrong` if it is pending.
 pub fn ended(polled: Result<Poll<Option<String>>, Unlike>) -> Result<Option<String>, Unlike> {
     match polled? {
         Poll::Ready(line) => Ok(line),

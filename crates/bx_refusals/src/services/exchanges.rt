@@ -22,11 +22,16 @@ struct Session {
 
 /// Makes all exchanges and returns a line for each, with names in place of client ids.
 ///
-/// An acknowledging session opens, a body is refused, and a second session opens. The first one
+/// An acknowledging session opens, a body is rejected, and a second session opens. The first one
 /// subscribes, and its connect waits until the second one publishes. The second session connects by
 /// a query, and a third session opens.
 ///
-/// A session's number counts the handshakes in the list. A handshake that fails earlier gets none.
+/// Sessions are numbered by their handshakes in the list. A handshake that fails before it is
+/// admitted gets no number.
+///
+/// # Errors
+///
+/// As for `services::run`.
 pub fn made<S, I, C>(client: &mut Client<S, C>) -> Result<String, Unlike>
 where
     S: Backend<Items = I> + Drop,
@@ -64,7 +69,7 @@ where
     Ok(session)
 }
 
-// Makes the exchanges of the first two sessions after their handshakes.
+// Makes the exchanges of the first two sessions that follow their handshakes.
 fn talk<S, I, C>(
     client: &mut Client<S, C>,
     first: &Session,
@@ -156,8 +161,8 @@ where
     }
 }
 
-// Returns the response to a connect that waited. If memory ran out for it, a repeated connect with
-// the same acknowledgement gets the same.
+// Returns the response to a connect that waited. If memory ran out for it, connects again with the
+// same acknowledgement, which gets the same response.
 fn answered<S, I, C>(
     client: &mut Client<S, C>,
     connect: &str,
@@ -177,7 +182,7 @@ where
     }
 }
 
-// Adds a line, with the session's name in place of its client id.
+// Appends a line, with the name of the session in place of its client id.
 fn add_named(
     alloc: Global,
     text: &mut String,

@@ -1,4 +1,4 @@
-//! The number of entries in a hub's list.
+//! Counts of the entries in a hub's list, and of its sessions.
 use crate::hubs::Served;
 use crate::requests::arrival;
 use crate::unlike::Unlike;
@@ -6,16 +6,20 @@ use bx_window::Naming;
 use std::alloc::Global;
 use std::sync::{Arc, Wait};
 
-/// A list whose entries can be counted.
+/// A list of entries that can be counted.
 pub trait Count {
     /// Returns the number of entries.
+    ///
+    /// # Errors
+    ///
+    /// `Memory` if memory runs out before the hub is asked; `Wrong` if the hub fails.
     fn entries(&self, alloc: Global) -> Result<u64, Unlike>;
 }
 
 /// The list of a hub.
 #[derive(Drop)]
 pub struct HubList<J: Naming, R: Wait + Drop> {
-    /// The handle that may wait for locks.
+    /// The handle that can wait for locks.
     pub rt: R,
     /// The hub.
     pub hub: Arc<Served<J, R>, Global>,
@@ -37,7 +41,7 @@ impl<J: Naming, R: Wait + Drop> Count for HubList<J, R> {
 /// What a request adds to the list.
 #[derive(Clone, Copy, Debug, PartialEq, Eq)]
 pub enum Adds {
-    /// No entry: the request is refused, or its entry is already there.
+    /// No entry: the request is rejected, or its entry is already counted.
     Nothing,
     /// One entry.
     Entry,
@@ -45,7 +49,7 @@ pub enum Adds {
     Session,
 }
 
-/// A list, with the expected numbers of its entries and of the sessions they opened.
+/// A list, with the expected numbers of its entries and of the sessions that they opened.
 #[derive(Drop)]
 pub struct List<C: Drop> {
     list: C,
@@ -78,7 +82,11 @@ impl<C: Count + Drop> List<C> {
         }
     }
 
-    /// Checks that a failed request added nothing, or just what it should, and counts that.
+    /// Checks that a failed request added nothing, or just `adds`, and counts what it added.
+    ///
+    /// # Errors
+    ///
+    /// As for [`Count::entries`]; `Wrong` if the request added something else.
     pub fn check(&mut self, alloc: Global, adds: Adds) -> Result<(), Unlike> {
         let entries = self.list.entries(alloc)?;
         if entries == self.entries {

@@ -5,8 +5,12 @@ use std::alloc::Global;
 
 /// Returns what `reader` finds at each place from 0 to `end`, and what it has then seen.
 ///
-/// It has seen a number of steps, and where the window begins and ends. A batch is given by its
-/// first place and the place after its last entry.
+/// It has seen a number of steps, and at which places the window begins and ends. A batch is given
+/// by its first place and the place after its last entry.
+///
+/// # Errors
+///
+/// `Memory` if memory runs out outside of `LogReader::next`; `Wrong` if that call fails again.
 pub fn shown<J: Naming>(
     alloc: Global,
     reader: &mut LogReader<J>,

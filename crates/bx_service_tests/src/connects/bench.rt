@@ -29,15 +29,15 @@ pub enum Task {
 pub enum Want {
     /// No answer yet.
     Pending,
-    /// An answer: its events, then its reply, as one array.
+    /// An answer. The text is the array of its events and its reply.
     Answer(&'static str),
-    /// No answer, and none will come.
+    /// No answer, now or later.
     None,
     /// This fault.
     Fault(HubFault),
 }
 
-// Returns an answer's events, followed by its reply, as one array.
+// Returns the array of an answer's events and its reply.
 fn array_of(alloc: Global, answer: &Answer) -> Result<Vec<u8>, AllocError> {
     let mut text = b"[".to_vec(alloc)?;
     for event in answer.events.as_slice() {
@@ -50,6 +50,10 @@ fn array_of(alloc: Global, answer: &Answer) -> Result<Vec<u8>, AllocError> {
 }
 
 /// Checks that `poll` is what `want` describes.
+///
+/// # Errors
+///
+/// If `poll` is of another kind than `want`, or memory runs out.
 pub fn check_poll<A: Abort>(
     rt: &A,
     alloc: Global,
@@ -74,7 +78,7 @@ pub fn check_poll<A: Abort>(
     }
 }
 
-/// A hub, a pass and two tasks, neither of them woken.
+/// A hub, a pass and two tasks. Neither task is woken.
 #[derive(Drop)]
 pub struct Bench<J: Naming, H: Wait + Drop, R: Wait + Copy + Drop> {
     pub rt: R,
@@ -95,6 +99,10 @@ impl<J: Naming, H: Wait + Drop, R: Wait + Copy + Drop> Bench<J, H, R> {
     }
 
     /// Posts `body` at moment 0.
+    ///
+    /// # Errors
+    ///
+    /// If memory runs out or the request is not admitted.
     pub fn post(&mut self, body: &str) -> Result<(), Fail> {
         let arrival = Arrival {
             moment: 0,
@@ -109,6 +117,10 @@ impl<J: Naming, H: Wait + Drop, R: Wait + Copy + Drop> Bench<J, H, R> {
     }
 
     /// Opens the first session, subscribes it, and posts its connect, which is held.
+    ///
+    /// # Errors
+    ///
+    /// If memory runs out or a request is not admitted.
     pub fn hold(&mut self) -> Result<(), Fail> {
         for body in [HANDSHAKE, SUBSCRIBE, CONNECT] {
             self.post(body)?;
@@ -117,6 +129,10 @@ impl<J: Naming, H: Wait + Drop, R: Wait + Copy + Drop> Bench<J, H, R> {
     }
 
     /// Posts a tick at `moment`, in milliseconds.
+    ///
+    /// # Errors
+    ///
+    /// If the tick is not appended.
     pub fn tick(&mut self, moment: u64) -> Result<(), Fail> {
         self.hub
             .tick(&self.rt, self.alloc, &mut self.pass, moment)
@@ -124,7 +140,11 @@ impl<J: Naming, H: Wait + Drop, R: Wait + Copy + Drop> Bench<J, H, R> {
         Ok(())
     }
 
-    /// Returns a future of the answer under `ticket`. Fails if the pass ends before its place.
+    /// Returns a future of the answer under `ticket`.
+    ///
+    /// # Errors
+    ///
+    /// If the pass has not seen the entry of `ticket`.
     pub fn wait(&self, ticket: Ticket) -> Result<PendingAnswer<J>, Fail> {
         let pass = self.pass.again();
         if ticket.place >= pass.len() {

@@ -1,4 +1,4 @@
-//! Runs with requests at the read-only listener.
+//! Runs with requests to the read-only listener.
 use crate::requests::{Ask, Content, FORM, POST, Want};
 use crate::runs::{Held, Run, Step};
 use crate::texts;
@@ -10,10 +10,10 @@ const BAD: Want = Want::Status(400);
 
 const PUBLISH: Step = Step::Post(texts::PUBLISH, texts::PUBLISHED);
 
-/// A request with a message forbidden to readers gets 403, and none of its messages is admitted.
+/// A request with a message forbidden to readers gets 403 and is not admitted.
 ///
-/// Faults of its path, method, length or documents are reported first. The session opened last is
-/// the hub's first.
+/// Faults of its path, method, length or documents are reported first. At the end, a handshake
+/// opens the hub's first session.
 pub const PUBLISH_NOTHING: Run = Run {
     first: &[
         Step::ReadText(texts::HANDSHAKE_AND_PUBLISH, FORBIDDEN),
@@ -95,7 +95,7 @@ pub const PUBLISH_NOTHING: Run = Run {
     ride: false,
 };
 
-/// Both listeners serve all sessions. The read-only one takes publishes to service channels only.
+/// Both listeners serve all sessions. The read-only one accepts publishes only to service channels.
 pub const HEAR: Run = Run {
     first: &[
         Step::Post(texts::HANDSHAKE, texts::HANDSHAKEN),
@@ -144,7 +144,7 @@ pub const HEAR: Run = Run {
     ride: false,
 };
 
-/// Waiting events do not ride with a refused request.
+/// Waiting events are not sent with the response to a rejected request.
 pub const RIDE: Run = Run {
     first: &[
         Step::Post(texts::HANDSHAKE, texts::HANDSHAKEN),

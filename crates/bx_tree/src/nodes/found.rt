@@ -1,4 +1,4 @@
-//! The result of a search in the index.
+//! Results of a search in the index.
 ghost use Rattle.std.specs.Prelude.{◌≡◌, ℕ, ◌+◌, ◌<◌, ◌^◌, ◌||◌, OnOk, IfOk, Contains, vec_len, ◌↔◌};
 ghost use Rattle.std.specs.List.Sorted.{IsStrictlyIncreasing};
 ghost use Rattle.bx_tree.specs.Lists.{stands_at};
@@ -7,17 +7,17 @@ ghost use Rattle.bx_tree.specs.Walks.{is_among};
 use super::path_lists::PathLists;
 use std::alloc::AllocError;
 
-/// The sessions that were found for a channel name.
+/// The sessions with a pattern that matches a channel name.
 #[derive(Debug, Drop)]
 pub struct Found {
     /// The numbers of the sessions, in ascending order, each once.
     pub numbers: Vec<u64>,
-    /// How many lists were looked up.
+    /// The number of lookups of lists, which is 2 more than the name has segments.
     pub visited: usize,
 }
 
 impl Found {
-    /// Looks up the list at `path`, counts that, and appends its numbers.
+    /// Looks up the list at `path`, counts the lookup, and appends the numbers in the list.
     pub(super) fn reach(&mut self, lists: &PathLists, path: &str) -> Result<(), AllocError>
         requires { self.old.visited + 1 < 2 ^ 64 }
         ensures numbers { OnOk result ((n : ℕ)

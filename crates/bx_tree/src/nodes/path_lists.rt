@@ -1,4 +1,4 @@
-//! Lists of sessions by path.
+//! Lists of sessions, by path.
 ghost use Rattle.std.specs.Prelude.{◌≡◌, ℕ, true, List};
 ghost use Rattle.std.specs.BTreeMap.{get_by_text};
 ghost use Rattle.bx_tree.specs.Kept.{is_kept};
@@ -33,7 +33,7 @@ impl PathLists {
 
     /// Returns the sessions at `path`, if any, in ascending order, and adds 1 to `visited`.
     ///
-    /// A walk looks up lists only by this function, so that each lookup is counted.
+    /// A search uses only this function, so that each lookup is counted.
     pub(super) fn reach(&self, path: &str, visited: &mut usize) -> Option<&BTreeMap<u64, u64>>
         requires { visited.old + 1 < 2 ^ 64 }
         ensures list { option_copied result ≡ get_by_text self.now.by_path path.now }
@@ -53,7 +53,7 @@ impl PathLists {
         }
     }
 
-    /// Adds session `number` with its stamp at `path`. On error, nothing visible has changed.
+    /// Adds session `number` with `stamp` at `path`. On error, no list has changed.
     pub(super) fn add(
         &mut self,
         alloc: Global,

@@ -10,11 +10,9 @@ use Rattle.bx_cut.proofs.string.spells.Goals.{After-as_bytes, After-as_bytes-in-
 use Rattle.std.proofs.lemmas.Grind.{common_steps}
 use Rattle.std.proofs.Common.{arith}
 
--- the plain bytes that are next stand behind what was spelled
 ran : (c : After-as_bytes) → spelled c.args.value.now ≡ prepend (c.loop-left.invariant.1.0 ++ c.as_bytes.result.now) (content plain c.split_at.result.1.now)
 ran c = after-run c.loop-left.rest.now _ _ _ _ _ c.plain_len.ensures.value (c.as_bytes.ensures.value ∙ c.split_at.ensures.front) c.split_at.ensures.back c.loop-left.invariant.1.2
 
--- what is wanted behind them, and the bytes of the character that is next
 wanted : (c : After-as_bytes-in-Escape) → (c.args.text.now ≡ (c.loop-left.invariant.1.0 ++ c.as_bytes.result.now) ++ c.in-Some-without.left.now) × (c.as_bytes-in-Escape.result.now ≡ encode_utf8 c.in-Escape.c)
 wanted c = grind (arith, common_steps, append_assoc)
 

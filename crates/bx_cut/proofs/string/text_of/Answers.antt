@@ -7,7 +7,6 @@ use Rattle.bx_cut.proofs.Insides.{text_is}
 use Rattle.bx_cut.proofs.string.text_of.Goals as goal
 use Rattle.bx_cut.proofs.string.text_of.Goals.{After-push_str}
 
--- the plain bytes that are next stand behind the text so far
 ran : (c : After-push_str) → spelled c.args.value.now ≡ prepend (string_bytes c.loop-text.text ++ c.split_at.result.0.now) (content plain c.split_at.result.1.now)
 ran c = after-run c.loop-text.rest.now _ _ _ _ _ c.plain_len.ensures.value c.split_at.ensures.front c.split_at.ensures.back c.loop-text.invariant.1
 

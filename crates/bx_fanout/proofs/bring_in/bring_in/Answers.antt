@@ -8,7 +8,6 @@ use Rattle.bx_fanout.proofs.TakingIn.{can-drain, can-drain-held, collected-intak
 use Rattle.bx_fanout.proofs.bring_in.bring_in.Goals as goal
 use Rattle.bx_fanout.proofs.bring_in.bring_in.Goals.{After-collect}
 
--- what stands once answers were collected
 collected : (g : _) (c : After-collect g) →
     IsTakenIn (setup_of c.collect.new.world) (map read_input c.args.inputs.now) (world_of c.collect.new.world) c.args.held.now c.collect.new.self (map seen_out c.args.added.now)
 collected g c =

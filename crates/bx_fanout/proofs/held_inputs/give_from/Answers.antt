@@ -5,7 +5,6 @@ use Rattle.bx_fanout.proofs.Giving.{First, Last, first-given, gives-none, gives-
 use Rattle.bx_fanout.proofs.held_inputs.give_from.Goals as goal
 use Rattle.bx_fanout.proofs.held_inputs.give_from.Goals.{in-Some-2, in_default-2}
 
--- the last mark is the least place of those that are answered
 last : (c : goal.After-pop) → Last (answered_places c.loop-place.held.entries) c.in-Some.place c.pop.new.self.items
 last c = last-first c.loop-place.answered.items c.pop.new.self.items (answered_places c.loop-place.held.entries) c.in-Some.place c.loop-place.invariant.marked
     (ap (λ (ns : List ℕ). slice_get ns (length ns - 1)) (sym c.deref.ensures.value) ∙ sym c.last.ensures.value ∙ sym c.in-Some.ensures)

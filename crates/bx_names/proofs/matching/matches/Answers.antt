@@ -7,7 +7,6 @@ use Rattle.bx_names.proofs.matching.matches.Goals.{In-Some}
 use Rattle.std.proofs.lemmas.Grind.{common_steps}
 use Rattle.std.proofs.Common.{arith}
 
--- the text of the name is that of the pattern's own segments, and the rest
 cut : (c : In-Some) → c.as_str.result.now ≡ c.split-tail.result.0.now ++ c.in-Some.rest.now
 cut c = c.in-Some.ensures.cases.1.1 ∙ ap (λ rest. c.split-tail.result.0.now ++ rest) (sym c.in-Some.ensures.cases.2)
 

@@ -7,7 +7,6 @@ use Rattle.bx_registry.proofs.judge.judge.Goals as goal
 use Rattle.bx_registry.proofs.judge.judge.Goals.{After-is_some}
 use Rattle.bx_registry.proofs.judge.judge.Given.{Over}
 
--- whether a session is named
 known : (g : Over) (c : After-is_some g) →
     c.is_some.result ≡ is_some (named_by (members_of c.args.draft.now).live c.args.posted.message_kind c.args.posted.message.now)
 known g c = c.is_some.ensures ∙ found-known _ _ c.named_by-sender.ensures

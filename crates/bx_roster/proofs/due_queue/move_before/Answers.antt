@@ -5,7 +5,6 @@ use Rattle.bx_roster.specs.declared.due_queue.Due.{Due}
 use Rattle.bx_roster.proofs.due_queue.move_before.Goals as goal
 use Rattle.std.proofs.lemmas.Grind.{common_steps}
 
--- one more entry that is late
 late-more : (moment : ℕ) (first late new : List Due) (due : Due) → new ≡ late ++ due ∷ [] → due.moment.0 < moment → IsLateBy moment first late → IsLateBy moment first new
 late-more moment first late new due is before by = grind (arith, common_steps, append_assoc)
 

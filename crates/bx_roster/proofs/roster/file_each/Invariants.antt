@@ -4,7 +4,6 @@ use Rattle.bx_entry.specs.Registry.{Registered}
 use Rattle.bx_roster.specs.Words.{sessions_in, AllFiled, entries}
 use Rattle.bx_roster.proofs.roster.file_each.Given as goal
 
--- those that were looked at are filed, and behind them are those that are left
 abbrev pub invariant-loop-record : goal.invariant-loop-record
 invariant-loop-record l =
     (done : List Registered) × (AllFiled (entries l.queue) done × (length (entries l.queue) ≡ length done)

@@ -7,15 +7,12 @@ use Rattle.bx_connects.specs.Connects.{count_filed_below, filing_at, is_both, ke
 use Rattle.bx_connects.proofs.connects.Connects.sweep.Goals as goal
 use Rattle.std.proofs.lemmas.Grind.{common_steps}
 
--- whether an answer stays
 abbrev stays : ℕ → FiledAnswer → Bool
 stays before f = not (nat_lt f.place before)
 
--- what `retain` leaves, of the entries themselves
 kept : (c : goal.After-len) → c.retain.new.self.entries ≡ kept_from c.args.before c.self.inside.filed.entries
 kept c = filter-RetainsPairs _ _ _ (λ k v b w g call. search rules) _ _ c.retain.ensures.filtered
 
--- the same, of the answer for one place
 kept_at : (c : goal.After-len) (p : ℕ) → filing_at c.retain.new.self.entries p ≡ option_filter (stays c.args.before) (filing_at c.self.inside.filed.entries p)
 kept_at c p =
     ap (λ es. filing_at es p) (kept c) ∙ lookup-filter-values nat_eq_equiv (stays c.args.before) p c.self.inside.filed.entries c.len-len.ensures.unique

@@ -3,7 +3,6 @@ use Rattle.bx_fanout.specs.HeldInputs.{AllBelow, Row, waits}
 use Rattle.bx_fanout.proofs.HeldInputs.{count-behind, held-behind, marked-behind}
 use Rattle.bx_fanout.proofs.held_inputs.HeldInputs.hold.Goals as goal
 
--- the connects that are held then
 behind : (c : goal.Joined-branch-3) → c.insert.new.self.entries ≡ c.self.inside.held.entries ++ (c.args.place, record { number = c.args.number; answer = None }) ∷ []
 behind c = c.in_ok-insert.ensures.entries ∙ held-behind c.args.place _ c.self.inside.held.entries (subst (AllBelow c.args.place) (sym c.self.view_is) c.requires)
 

@@ -9,7 +9,6 @@ use Rattle.bx_registry.proofs.draft.Draft.live_with_id.Goals as goal
 use Rattle.std.proofs.lemmas.Grind.{common_steps}
 use Rattle.std.proofs.Common.{arith}
 
--- what the number at the id's end finds of the sessions behind the edits, as they are seen
 found : (d seen : Drafted) (text : List ℕ) (number : ℕ) {count opened : ℕ} → IsDrafted d.base d.edits count opened → d ≡ seen → number ≡ number_in text → Finds (members_of seen).live text (known_at number (members_of seen).live)
 found d seen text number i same e = grind (arith, common_steps, finds)
 

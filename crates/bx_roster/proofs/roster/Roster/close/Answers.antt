@@ -25,7 +25,6 @@ returns-in_default-clause-closed c =
     rw (← c.self.view_is) (made i.limit refl (ap (λ (es : List (ℕ × Option Registered)). sessions_to (under es) i.opened) same ∙ none)
     (ap (λ (es : List (ℕ × Option Registered)). is_some (under es (i.opened + 1))) same))
 
--- the session leaves the map
 kept : (c : In-Some) →
     IsKept (under c.swap_remove.new.self.entries) (length c.swap_remove.new.self.entries) c.self.inside.limit (c.self.inside.count - 1)
     c.self.inside.opened

@@ -13,7 +13,6 @@ returns-in_default-clause-extended c =
     rw (← c.self.view_is) (made i.limit refl (ap (λ (es : List (ℕ × Option Registered)). sessions_to (under es) i.opened) same ∙ none)
     (ap (λ (es : List (ℕ × Option Registered)). is_some (under es (i.opened + 1))) same))
 
--- the record under the number changes, and no other
 moved : (c : After-move_on) →
     Changed (under c.self.inside.records.entries) (under (c.get_mut.follows.lender c.move_on.new.session).entries) c.args.number
     (Some (option_map (later c.args.due) c.in-Some.session.now))

@@ -5,14 +5,12 @@ use Rattle.bx_roster.proofs.Kept.{under, made, Changed, changed-by, opened-kept,
 use Rattle.bx_roster.proofs.roster.Roster.open.Goals as goal
 use Rattle.bx_roster.proofs.roster.Roster.open.Goals.{In-Some}
 
--- the session has the next number
 own : (c : In-Some) → c.args.session.number ≡ c.session.inside.number
 own c = ap (λ (r : Registered). r.number) (sym c.session.view_is)
 
 next : (c : In-Some) → c.session.inside.number ≡ c.self.inside.opened + 1
 next c = sym (own c) ∙ c.requires.next.number ∙ ap (λ (v : Prepared). v.members.opened + 1) (sym c.self.view_is)
 
--- the vacant record is filled, and no other
 filled : (c : In-Some) →
     Changed (under c.self.inside.records.entries) (under (c.get_mut.follows.lender (Some c.args.session)).entries) c.session.inside.number
     (Some (Some c.args.session))

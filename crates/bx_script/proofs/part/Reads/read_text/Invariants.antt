@@ -2,7 +2,6 @@ use Rattle.std.proofs.Common.{◌≤◌}
 use Rattle.bx_script.specs.Reading.{ReadingOn}
 use Rattle.bx_script.proofs.part.Reads.read_text.Given as goal
 
--- the parts of what the loop keeps
 pub record Keeps (A B : Type 0) : Type 0 where
   pub reads : A
   pub line : B

@@ -3,7 +3,6 @@ use Rattle.futures.specs.Task.{Keeps}
 use Rattle.bx_service.specs.Bodies.{Gives}
 use Rattle.bx_service.proofs.collect.CollectFuture.poll.Given as goal
 
--- what may be given from here on might have been given when the poll began
 abbrev pub invariant-loop : goal.invariant-loop
 invariant-loop g l =
     g.B.Body.can_poll l.self.body × Keeps l.initial.cx l.cx × (l.self.limit ≡ l.initial.self.limit)

@@ -6,7 +6,6 @@ use Rattle.bx_message.specs.declared.reply.Item.{Item}
 use Rattle.bx_service.specs.Gatherings.{AreAll, awaited_as}
 use Rattle.bx_service.proofs.gathering.Gathering.gather.Given as goal
 
--- no connect is waited for, and what is still to come is still what was to come
 abbrev pub invariant-loop-slot : goal.invariant-loop-slot
 invariant-loop-slot g l =
     ((all : List Item) → AreAll (setup_of g.J.Naming.config g.J.Naming.placing) l.self.pass l.self.items.items

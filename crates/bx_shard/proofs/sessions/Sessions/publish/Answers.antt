@@ -6,7 +6,6 @@ use Rattle.bx_shard.proofs.Handing.{AreApart, AreOf, Handed, are_apart, are_of, 
 use Rattle.bx_shard.proofs.sessions.Sessions.publish.Goals as goal
 use Rattle.bx_shard.proofs.sessions.Sessions.publish.Goals.{In_ok-parcels}
 
--- the parcels are of this event, for the sessions that it reaches, one each
 of : (c : In_ok-parcels) → AreOf c.args.event.now c.in_ok-parcels.parcels.items
 of c = are_of c.args.event.now c.in_ok-parcels.parcels.items c.in_ok-parcels.ensures.event
 
@@ -30,7 +29,6 @@ hand_out-requires-clause-ready c =
     let k = (goal.at.hand_out-requires-clause-ready c).In_ok-parcels in
     are_ready s.config c.args.place e s t t xs c.requires.counted c.pack.ensures.sessions (of k) (reached k) c.requires.countable (apart k) c.in_ok-parcels.ensures.packed
 
--- so it is once they were handed out
 given_out : (c : In_ok-parcels) (new : Sessions) → Turns c.args.self.now.config c.args.place c.in_ok-parcels.parcels.items c.pack.new.self new → Handed c.args.self.now.config c.args.place c.args.event.now c.args.self.now new
 given_out c new turns =
     let s = c.args.self.now in

@@ -9,14 +9,12 @@ use Rattle.bx_world.proofs.{Applications.application_steps, Applications.each_ap
 use Rattle.bx_world.proofs.world.World.apply.Goals as goal
 use Rattle.bx_world.proofs.world.World.apply.Goals.{After-apply_next-applied}
 
--- the shard of this index stands in the row
 there : (g : _) (c : After-apply_next-applied g) → slice_get c.args.self.now.shards.items c.args.shard ≡ Some c.in-Some.next.now
 there g c =
     let row = c.args.self.now.shards in
     let here : c.args.shard < row.len = c.in-Some.ensures.variant.0 (refl {a = true}) in
     slice_get_read row.items row.len c.args.shard c.in-Some.next.now (omega (arith, row.ok.0)) here c.in-Some.ensures.value
 
--- so each shard holds what it is to hold, once that one has applied its next entry
 each : (g : _) (c : After-apply_next-applied g) →
     EachRefines g.P.Placing.place_of (setup_of c.args.self.now) c.args.self.now.admission.list c.args.self.now.taken c.args.self.now.admission.first (slice_set c.args.self.now.shards.items c.args.shard c.apply_next-applied.new.shard)
 each g c = each_applied c.args.self.now c.args.shard c.in-Some.next.now c.apply_next-applied.new.shard (there g c) c.apply_next-applied.result c.apply_next-applied.ensures

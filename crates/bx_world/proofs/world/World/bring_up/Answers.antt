@@ -20,7 +20,6 @@ pub bring_up-behind-requires-clause-within : goal.bring_up-behind-requires-claus
 bring_up-behind-requires-clause-within g c κs lived = λ k s e.
     (c.args.self.now.holding k s (ap (λ (xs : List (Shard g.row.P.Denot)). slice_get xs k) (sym c.deref_mut.ensures.value) ∙ e)).holds.within
 
--- the shards were brought up, and hold what they are to hold
 brought : (g : _) (c : After-bring_up-behind g) → BroughtUp g.P.Placing.place_of (entries_kept c.args.self.now.admission) c.args.self.now.shards.items c.bring_up-behind.new.shards
 brought g c = subst (λ (xs : List (Shard g.row.P.Denot)). BroughtUp g.P.Placing.place_of (entries_kept c.args.self.now.admission) xs c.bring_up-behind.new.shards) c.deref_mut.ensures.value c.bring_up-behind.ensures.brought
 
@@ -31,7 +30,6 @@ holds g c =
     let room : 0 < w.admission.config.limits.batch = omega (arith, w.admission.config.limits.some_batch) in
     each_upward w.admission g.P.Placing.place_of (placed_by w.admission.config w.admission.shards (g.P.Placing.place_of (arc_value w.placing))) w.taken w.shards.items c.bring_up-behind.new.shards refl room w.holding (brought g c)
 
--- what the shards' row holds then
 abbrev now : (g : _) (c : After-bring_up-behind g) → List (Shard g.row.P.Denot)
 now g c = take c.args.self.now.shards.len (c.bring_up-behind.new.shards ++ drop (length c.bring_up-behind.new.shards) c.args.self.now.shards.items)
 
@@ -50,7 +48,6 @@ forget_applied-requires-clause-end g c = λ k s e.
     let there : slice_get c.bring_up-behind.new.shards k ≡ Some s = ap (λ (xs : List (Shard g.row.P.Denot)). slice_get xs k) (sym (c.deref.ensures.value ∙ back g before)) ∙ e in
     subst (λ (a : Admitting). s.place ≤ length a.list) (sym c.bring_up-behind.ensures.same) (holds g before k s there).holds.within
 
--- nothing but the first place that is kept may have changed
 whole : (g : _) (c : After-forget_applied g) → c.forget_applied.new.admission ≡ record c.args.self.now.admission { first = c.forget_applied.new.admission.first }
 whole g c = c.forget_applied.ensures.others ∙ ap (λ (a : Admitting). record a { first = c.forget_applied.new.admission.first }) c.bring_up-behind.ensures.same
 

@@ -11,7 +11,6 @@ use Rattle.bx_world.proofs.Redistribution.{AreAtEnd, redistributed_at_end, same_
 use Rattle.bx_world.proofs.world.World.reshard.Goals as goal
 use Rattle.bx_world.proofs.world.World.reshard.Goals.{In-Ok-redistribute, Start}
 
--- what the shards hold whose sessions are redistributed is the same list's, at its end
 apart : (g : _) (c : Start g) →
     AreAlike (map (state g.P.Placing.place_of) c.args.self.shards.items) × AreApart (map (state g.P.Placing.place_of) c.args.self.shards.items)
 apart g c =
@@ -27,7 +26,6 @@ redistribute-requires-clause-alike g c = (apart g (goal.at.redistribute-requires
 pub redistribute-requires-clause-apart : goal.redistribute-requires-clause-apart
 redistribute-requires-clause-apart g c = (apart g (goal.at.redistribute-requires-clause-apart g c).Start).1
 
--- what the shards hold whose sessions were redistributed
 redistributed : (g : _) (c : In-Ok-redistribute g) → 1 ≤ c.args.shards →
     AreAtEnd g.P.Placing.place_of (placed_by c.args.self.admission.config c.args.shards (g.P.Placing.place_of (arc_value c.args.placing))) c.args.self.admission.list c.args.self.taken c.args.self.admission.first c.in-Ok-redistribute.row.items
 redistributed g c some =

@@ -10,14 +10,12 @@ use Rattle.bx_world.proofs.Takings.{answered, each_still, each_taken, own, takin
 use Rattle.bx_world.proofs.world.World.take.Goals as goal
 use Rattle.bx_world.proofs.world.World.take.Goals.{After-take}
 
--- the shard that the ticket names stands in the row
 there : (g : _) (c : After-take g) → slice_get c.args.self.now.shards.items c.args.ticket.shard ≡ Some c.in_ok-get_mut.field-0.now
 there g c =
     let row = c.args.self.now.shards in
     let here : c.args.ticket.shard < row.len = c.in_ok-get_mut.ensures.variant.0 (refl {a = true}) in
     slice_get_read row.items row.len c.args.ticket.shard c.in_ok-get_mut.field-0.now (omega (arith, row.ok.0)) here c.in_ok-get_mut.ensures.value
 
--- the ticket is one of its own, so what it has filed under it is gone
 took : (g : _) (c : After-take g) → Took c.args.ticket.place (state g.P.Placing.place_of c.in_ok-get_mut.field-0.now) (state g.P.Placing.place_of c.take.new.self)
 took g c = c.take.ensures.taken (own c.args.self.now c.args.ticket c.in_ok-get_mut.field-0.now c.take.new.self (there g c))
 

@@ -10,7 +10,6 @@ use Rattle.bx_world.proofs.{Standing.same_places, Standing.still_some, Takings.e
 use Rattle.bx_world.proofs.world.World.take_any.Goals as goal
 use Rattle.bx_world.proofs.world.World.take_any.Goals.{After-take_any}
 
--- the shard of this index stands in the row
 there : (g : _) (c : After-take_any g) → slice_get c.args.self.now.shards.items c.args.shard ≡ Some c.in_ok-get_mut.field-0.now
 there g c =
     let row = c.args.self.now.shards in

@@ -1,0 +1,63 @@
+//! The examples of doc comments, run as tests.
+//!
+//! `tests/documents/run` checks that each example is here.
+ghost use Rattle.std.specs.Prelude.{◌≡◌};
+ghost use Rattle.bx_entry.specs.Placings.{by_remainder};
+
+use bx_advice::Config;
+use bx_calls::{CONNECT, HANDSHAKE, arrival, post};
+use bx_entry::{ByRemainder, Placing, Slot};
+use bx_hub::{Gate, Hub, OpenGate};
+use bx_window::{Naming, Opened};
+use std::alloc::Global;
+use std::marker::Brand;
+use std::process::Abort;
+use std::sync::{Arc, Wait};
+use std::test::*;
+
+fn posts_and_polls<J: Naming, P: Placing, G: Gate + Drop, H: Wait + Drop, R: Wait + Abort>(
+    rt: &R,
+    alloc: Global,
+    hub: &Hub<J, P, G, H>,
+) -> Result<(), Fail> {
+    post(rt, alloc, hub, &mut hub.pass(), HANDSHAKE)?;
+    let connect = arrival(alloc, CONNECT)?;
+    let mut pass = hub.pass();
+    let receipt = hub
+        .post(rt, alloc, &mut pass, connect)
+        .map_err(|_| "rejected")?;
+    let Some(Slot::Waiting(ticket)) = receipt.slots.as_slice().first() else {
+        return Err(Fail::from("answered at once"));
+    };
+    let answer = hub
+        .poll_answer(rt, alloc, &mut pass, *ticket)
+        .map_err(|_| "stopped")?;
+    assert!(rt; answer.is_none());
+    Ok(())
+}
+
+fn over_a_hub<J: Naming, R: Wait + Abort>(
+    rt: &R,
+    alloc: Global,
+    opened: Opened,
+    config: Config,
+    placing: Arc<ByRemainder, Global>,
+) -> Result<(), Fail>
+    requires book { opened.seen.book ≡ J.book }
+    requires config { config ≡ J.config }
+    requires placing { by_remainder ≡ J.placing }
+{
+    let hub = Hub::<J, ByRemainder, OpenGate, &R>::new(
+        alloc, rt, opened, config, placing, OpenGate,
+    )?;
+    posts_and_polls(rt, alloc, &hub)
+}
+
+// Runs the example of `Hub::post`.
+#[test]
+fn hub_post(rt: HostRuntime) -> Result<(), Fail> {
+    let alloc = rt.alloc();
+    let config = Config::new(4, 30_000, 0, 10_000).ok_or("shards: 1 to 64")?;
+    let placing = Arc::new(alloc, ByRemainder)?;
+    over_a_hub::<Brand, _>(&rt, alloc, Opened::new(), config, placing)
+}
