@@ -1,12 +1,12 @@
-/* Counts a program's calls for memory, and writes how many there were to the file that CALLS names, once the program ends by itself. To
-   be preloaded into it. */
+/* A library to preload into a program. It counts the program's allocations. When the program ends by itself, the library
+   writes their number to the file named in the environment variable CALLS. */
 #include "../tests/lib/memory.h"
 #include <stdio.h>
 #include <sys/syscall.h>
 
 static atomic_ulong calls;
 
-/* None is refused. */
+/* No allocation is made to fail. */
 static int is_refused(void) { return atomic_fetch_add_explicit(&calls, 1, memory_order_relaxed), 0; }
 
 __attribute__((destructor)) static void tell(void) {
@@ -18,7 +18,7 @@ __attribute__((destructor)) static void tell(void) {
     close(file);
 }
 
-/* A program that has threads may end by this, which calls no destructor. */
+/* A program with threads may end by calling this function, which runs no destructors. */
 void _exit(int status) {
     tell();
     for (;;) syscall(SYS_exit_group, status);

@@ -1,4 +1,4 @@
-"""A server of one's own on loopback: bayeuxd, or a bare HTTP server beside it."""
+"""Starts servers for the benchmarks on loopback: bayeuxd, or a bare HTTP server to compare it with."""
 import contextlib
 import os
 import signal
@@ -11,7 +11,7 @@ from daemon import SEED, Daemon
 
 @contextlib.contextmanager
 def undisturbed():
-    """Puts off until the end of the context what SIGINT and SIGTERM do."""
+    """Delays the effect of SIGINT and SIGTERM until the end of the context."""
     came = []
     handlers = {it: signal.signal(it, lambda number, _: came.append(number)) for it in (signal.SIGINT, signal.SIGTERM)}
     try:
@@ -24,10 +24,10 @@ def undisturbed():
 
 
 class Child(Daemon):
-    """A running server, which ends where it does not listen, or where a signal ends this process."""
+    """A running server. It is ended if it does not listen, or if a signal interrupts its start."""
 
     def begin(self, words, **streams):
-        """Starts the process, waits until it listens, and ends it where it does not."""
+        """Starts the process and waits until it listens. If that fails, ends the process and raises the exception again."""
         try:
             super().begin(words, **streams)
         except BaseException:
@@ -36,15 +36,20 @@ class Child(Daemon):
             raise
 
     def start(self, words, **streams):
-        """Starts the process, of which a signal would leave nothing to end it by."""
+        """Starts the process. A signal takes effect only after that, so that the process is known and can be ended."""
         with undisturbed():
             super().start(words, **streams)
 
 
 class Server(Child):
-    """A running server, which is a bare one or a daemon, on these processors or on all. It ends after so many connections; 0: never."""
+    """A running bayeuxd or bare server."""
 
     def __init__(self, name, program, processors=None, connections=0, **streams):
+        """Starts `program`, and waits until it listens.
+
+        `name`: "bare" for the bare server. `processors`: those that it may use, as taskset takes them, or None for all.
+        `connections`: the number of connections after which it ends, or 0 for never.
+        """
         # pylint: disable=super-init-not-called
         first = ["taskset", "-c", processors] if processors else []
         words = [] if name == "bare" else ["4", "30000", "0", "10000", SEED]
@@ -52,7 +57,10 @@ class Server(Child):
 
 
 def program_of(name, variable):
-    """Returns the path of a program, which is built where it is missing."""
+    """Returns the path of program `name`, which is built if it is missing.
+
+    `variable`: the environment variable that may name another one. Exits with a message if that is missing.
+    """
     given = os.environ.get(variable)
     path = given or f"{TOP}/crates/{name}/out/{name}"
     if not os.access(path, os.X_OK):
@@ -63,7 +71,10 @@ def program_of(name, variable):
 
 
 def status_of(measure):
-    """Returns the status of what measures: 1 where a server failed, which is told, or an answer was wrong. Says behind it how busy the machine is."""
+    """Calls `measure`, and returns the status: 0 if it returns True, and 1 if it returns False or a server failed.
+
+    Prints the failure, and at the end the load of the machine.
+    """
     try:
         return 0 if measure() else 1
     except (Wrong, subprocess.SubprocessError) as error:

@@ -11,35 +11,41 @@
  *       document.onclick = () => client.publish('/chat/hall', { text: 'Hello' }).catch(console.error);
  *     </script>
  *
- * A message is an object with a `channel`. A request carries an array of messages; its response has a reply for each,
- * in order, and events. A reply has the member `successful`; an event has none.
+ * A message is an object with a `channel`. A request has an array of messages. Its response has a
+ * reply to each, in order, and events. A reply has the member `successful`, and an event has not.
  *
- * A listener gets the events of its pattern in order, each once, also over a connection that breaks, as long as the
- * server knows the session. Where the server has forgotten it (it was started anew, or the page was away for too long)
- * the client opens a new session and subscribes again. What was published in between is lost: `ongap` tells of it.
+ * A listener gets each event of its pattern once, in order, even if connections break, while the
+ * server knows the session. If the server has forgotten it (the server was restarted, or the page
+ * was away for too long), the client opens a new session and subscribes again. Events that were
+ * published meanwhile are lost, and `ongap` is called.
  *
- * The windows of one origin share one session, where the browser has what that takes. docs/CLIENT.md has all of it;
- * bayeux-module.js is the same as a module.
+ * The windows of one origin share a session if the browser supports it. docs/CLIENT.md describes
+ * the client. bayeux-module.js is the same client as a module.
  */
 
-// Milliseconds: how long a response may take beside the time for which the server holds it; the pauses after failures.
+// How long a response may take in addition to the time that the server holds it, in milliseconds.
 const NETWORK_PATIENCE = 10000;
 const NO_ANSWER = 'no answer in time';
 const SILENCE = { message: NO_ANSWER, mayHaveArrived: true };
-// The status of a publish that is not allowed: the server lets in readers alone where it is asked, or what stands in
-// front of it refuses this page.
+// The HTTP status of a publish that is not allowed: the address is the server's listener for
+// readers, or a server in front rejects this page.
 const FORBIDDEN = 403;
+// The first and the longest pause after a failure, in milliseconds.
 const FIRST_PAUSE = 250;
 const LONGEST_PAUSE = 10000;
-// How many patterns go into one request, so that the address of a callback-polling request stays short.
+// The greatest number of patterns in one request. It keeps the URLs of callback-polling short.
 const PATTERNS_AT_ONCE = 16;
 
-/** A failure in these words. It says whether what was asked may have been done all the same. */
+/** Returns an error with this message. `mayHaveArrived`: whether the request may have succeeded. */
 function failureOf(words, mayHaveArrived, more) {
   return Object.assign(new Error(words), { mayHaveArrived, ...more });
 }
 
-/** Long-polling: a POST of JSON. The page has to come from the server's own origin. */
+/**
+ * Sends messages by long-polling: by a POST of JSON. The page must be from the server's origin.
+ *
+ * `patience`: milliseconds to wait. Returns the items of the response.
+ */
 async function askByFetch(url, messages, patience, headers) {
   try {
     const response = await fetch(url, {
@@ -58,7 +64,12 @@ async function askByFetch(url, messages, patience, headers) {
 
 let callbackCount = 0;
 
-/** Callback-polling: the response is a script that calls a function of the page. A script may come from any origin. */
+/**
+ * Sends messages by callback-polling: the response is a script that calls a function of the page.
+ * The script may be from any origin.
+ *
+ * `patience`: milliseconds to wait. Returns the items of the response.
+ */
 async function askByScript(url, messages, patience) {
   await pageIsLoaded();
   return new Promise((resolve, reject) => {
@@ -78,7 +89,8 @@ async function askByScript(url, messages, patience) {
   });
 }
 
-// A script that is added while the page loads keeps it loading for as long as the server holds the script.
+// Waits until the page is loaded. A script that is added earlier would keep the page loading for as
+// long as the server holds the response.
 function pageIsLoaded() {
   if (document.readyState === 'complete') return Promise.resolve();
   return new Promise((resolve) => window.addEventListener('load', () => setTimeout(resolve), { once: true }));
@@ -86,12 +98,12 @@ function pageIsLoaded() {
 
 const TRANSPORTS = { 'long-polling': askByFetch, 'callback-polling': askByScript };
 
-/** The transport that works from this page: fetch to its own origin, script tags to any other. */
+/** Returns the transport that works from this page: fetch to its own origin, scripts to any other. */
 function transportFor(url) {
   return new URL(url, location.href).origin === location.origin ? 'long-polling' : 'callback-polling';
 }
 
-/** Whether the channel matches: a last segment `*` stands for one segment, `**` for one or more. */
+/** Returns whether `channel` matches: a last segment `*` stands for one segment, `**` for one or more. */
 function isMatch(pattern, channel) {
   if (!pattern.endsWith('*')) return pattern === channel;
   const path = pattern.replace(/\*+$/, '');
@@ -103,15 +115,18 @@ function pause(milliseconds) {
   return new Promise((resolve) => setTimeout(resolve, milliseconds));
 }
 
-/** Whether windows can share a session: not from disk, and over HTTP only from this machine. */
+/** Returns whether windows can share a session: not from disk, and over HTTP only from this machine. */
 function canShareSession() {
   return self.origin !== 'null' && 'locks' in navigator && 'BroadcastChannel' in self;
 }
 
 /**
- * The windows that share a session. A browser opens at most six connections to a server over HTTP/1.1, and each connect
- * takes one. So one window leads: it holds a lock, has the session, and does what the others ask for. What comes it
- * tells to all. Once it is gone the next window gets the lock, and goes on with the session from where it was told.
+ * The windows that share a session.
+ *
+ * A browser opens at most six connections to a server over HTTP/1.1, and each connect takes one. So
+ * one window, the leader, holds a lock, has the session, and acts for the others. It sends all
+ * events and states to them. Once it is gone, the next window gets the lock, and continues with the
+ * session as it last heard of it.
  */
 class BayeuxWindows {
   constructor(client, lead) {
@@ -119,11 +134,11 @@ class BayeuxWindows {
     this.client = client;
     this.id = `${Date.now()} ${Math.random()}`;
     this.isLeading = false;
-    this.leader = ''; // who leads, as far as this window was told
-    this.wanted = new Map(); // where this one leads: the patterns of each other window
-    this.inherited = []; // the patterns of the session as it was taken over, until the others have told theirs
-    this.asked = new Map(); // what the leader was asked for and has not answered, by its number
-    this.taken = new Set(); // what of that the leader has sent
+    this.leader = ''; // the id of the leader, as far as this window knows
+    this.wanted = new Map(); // if this window leads: the patterns of each other window, by its id
+    this.inherited = []; // the session's patterns at a takeover, until the others have sent theirs
+    this.asked = new Map(); // the requests to the leader that it has not answered, by their numbers
+    this.taken = new Set(); // the numbers of those that the leader has sent to the server
     this.count = 0;
     this.channel = new BroadcastChannel(name);
     this.channel.onmessage = ({ data }) => this.hear(JSON.parse(data));
@@ -163,7 +178,7 @@ class BayeuxWindows {
     this.channel.postMessage(JSON.stringify({ ...words, kind, from: this.id }));
   }
 
-  // Tells the others the state and the session of this window, and the events that came.
+  // Sends the others this window's state and session, and `events`, if this window leads.
   tell(events = []) {
     const { state, why, knownId, clientId, advice, mayPublish, hasBatches, lastBatch, subscribed } = this.client;
     const session = { clientId, advice, mayPublish, hasBatches, lastBatch };
@@ -191,7 +206,7 @@ class BayeuxWindows {
     }
   }
 
-  // Asks the leader for something.
+  // Sends a request to the leader. The promise rejects if the leader does not answer in time.
   ask(kind, words) {
     const number = ++this.count;
     return new Promise((resolve, reject) => {
@@ -204,7 +219,8 @@ class BayeuxWindows {
     });
   }
 
-  // Another window leads. What the one before had sent may have been published; the rest is asked of the new one.
+  // Repeats the open requests for a new leader. Publishes that the old one had sent may have
+  // arrived, so they fail instead. Patterns are sent anew by `join`.
   askAnew() {
     this.asked.forEach(({ kind, words }, number) => {
       const settle = (failure) => this.settle(number, failure);
@@ -223,14 +239,14 @@ class BayeuxWindows {
 
   settle(number, failure) {
     const { resolve, reject, timer } = this.asked.get(number) || {};
-    // An answer came too late, so the state that was shown meanwhile is asked for.
+    // The answer is late, and this window has shown `interrupted` since. `join` gets the state.
     if (!this.asked.delete(number)) return this.join();
     this.taken.delete(number);
     clearTimeout(timer);
     return failure ? reject(Object.assign(new Error(failure.message), failure)) : resolve();
   }
 
-  // Tells the leader all patterns of this window.
+  // Sends the leader all patterns of this window.
   async want() {
     try {
       await this.ask('want', { patterns: [...this.client.listeners.keys()] });
@@ -244,18 +260,18 @@ class BayeuxWindows {
     if (!this.isLeading) this.want().catch(() => {});
   }
 
-  /** The patterns of all other windows. */
+  /** Returns the patterns of all other windows. */
   patterns() {
     return [...this.inherited, ...[...this.wanted.values()].flat()];
   }
 
-  // Takes patterns away, and unsubscribes from what nobody wants any more.
+  // Calls `change`, which removes patterns, and unsubscribes from those that no window wants.
   forget(change) {
     change();
     this.client.adjust().catch(() => {});
   }
 
-  /** Whether another window goes on with the session. */
+  /** Returns whether another window continues with the session when this one leaves. */
   hasOthers() {
     return !this.isLeading || this.wanted.size > 0;
   }
@@ -267,10 +283,14 @@ class BayeuxWindows {
 
 class BayeuxClient {
   /**
-   * `url` is the server's address, as `/cometd`. Of the options `connectionType` is one of the two keys of TRANSPORTS,
-   * which may also stand in their place; `headers` are sent with each request by long-polling; `share` says whether
-   * windows share a session, as they do by default where there are no headers; and `name` is what the session gives
-   * itself as a name, by which a record of the server is searched.
+   * Creates a client that is stopped.
+   *
+   * `url`: the server's address, such as `/cometd`.
+   * `options`: an object with these members, or the connection type alone:
+   * - `connectionType`: a key of TRANSPORTS. By default, the one that works from this page.
+   * - `headers`: header fields for each long-polling request.
+   * - `share`: whether windows share a session. By default, they do if there are no headers.
+   * - `name`: the session's name, which finds it in a record of the server.
    */
   constructor(url, options = {}) {
     const given = typeof options === 'string' ? { connectionType: options } : options;
@@ -279,27 +299,27 @@ class BayeuxClient {
     this.headers = given.headers ?? {};
     this.name = given.name;
     this.isShared = (given.share ?? !given.headers) && canShareSession();
-    /** Called with 'connecting', 'connected', 'interrupted' or 'stopped', and with why. */
+    /** Is called with 'connecting', 'connected', 'interrupted' or 'stopped', and the reason. */
     this.onstate = () => {};
-    /** Called where events may be missing: another session is subscribed, in place of one that this window had. */
+    /** Is called if events may be missing: a new session is subscribed in place of an earlier one. */
     this.ongap = () => {};
     this.state = 'stopped';
     this.why = '';
     this.starts = 0; // how often it was started or stopped
-    this.windows = null; // those that share the session, once it was started
+    this.windows = null; // the windows that share the session, while the client is started
     this.clientId = null;
-    this.knownId = null; // the session that was subscribed last
+    this.knownId = null; // the client id of the session that was last subscribed
     this.advice = {};
     this.failures = 0;
-    this.mayPublish = true; // whether no publish was forbidden since one was done
+    this.mayPublish = true; // whether no publish was forbidden since the last successful one
     this.hasBatches = false; // whether the server numbers its batches of events
     this.lastBatch = 0;
     this.listeners = new Map(); // a list of listeners for each pattern
-    this.subscribed = new Set(); // the patterns that the server knows of this session
-    this.sending = Promise.resolve(); // ends when all that was asked before is answered
+    this.subscribed = new Set(); // the session's patterns that the server has accepted
+    this.sending = Promise.resolve(); // settles when all earlier requests are answered
   }
 
-  /** Opens a session, or joins that of other windows, and keeps it until `stop`. */
+  /** Opens a session, or joins that of other windows, and keeps it until `stop`. Does nothing if started. */
   start() {
     if (this.state !== 'stopped') return;
     const start = ++this.starts;
@@ -309,17 +329,18 @@ class BayeuxClient {
   }
 
   /**
-   * Ends the session, unless other windows go on with it; and publishes these first, as `[{ channel, data }]`. All that
-   * is sent even while the page goes away, so call it at 'pagehide' too.
+   * Publishes `last`, a list of `{ channel, data }`, and ends the session unless other windows share
+   * it. The browser sends this even while the page unloads, so call it at 'pagehide' too.
    */
   stop(last = []) {
-    // It goes out as one request, since the page sees no answer. A publish that is forbidden has all of it refused.
+    // All of it is one request, since the page gets no answer. A forbidden publish would make the
+    // server reject the whole request, with the disconnect.
     const publishes = this.mayPublish ? last : [];
     const messages = this.windows?.hasOthers() ? publishes : [...publishes, { channel: '/meta/disconnect' }];
     if (this.clientId !== null && messages.length > 0) {
       const body = JSON.stringify(messages.map((message) => ({ ...message, clientId: this.clientId })));
       const hasHeaders = this.connectionType === 'long-polling' && Object.keys(this.headers).length > 0;
-      // A beacon has no headers.
+      // A beacon cannot have headers.
       if (hasHeaders) fetch(this.url, { method: 'POST', keepalive: true, headers: this.headers, body }).catch(() => {});
       else navigator.sendBeacon(this.url, body);
     }
@@ -335,13 +356,17 @@ class BayeuxClient {
     this.setState('stopped', why);
   }
 
-  /** Calls `listener(data, channel)` for each event whose channel matches. Fails where the server refuses the pattern. */
+  /**
+   * Calls `listener(data, channel)` for each event that matches `pattern`.
+   *
+   * The promise rejects if the server rejects the pattern. Before `start` it resolves at once.
+   */
   subscribe(pattern, listener) {
     this.listeners.set(pattern, [...(this.listeners.get(pattern) || []), listener]);
     return this.adjust();
   }
 
-  /** Takes a listener of a pattern away, or all. */
+  /** Removes this listener of `pattern`, or all if there is no `listener`. */
   unsubscribe(pattern, listener) {
     const others = (this.listeners.get(pattern) || []).filter((it) => listener && it !== listener);
     if (others.length > 0) this.listeners.set(pattern, others);
@@ -349,9 +374,13 @@ class BayeuxClient {
     return this.adjust();
   }
 
-  // Fails where the value was refused, or where no reply came. In the latter case it may have been published all the
-  // same (`mayHaveArrived`): a page that publishes it again may publish it twice. Where publishing is forbidden here
-  // (`status` 403) it is so the next time too, and the session goes on.
+  /**
+   * Publishes `data` to `channel`.
+   *
+   * The promise rejects if the server rejects the publish, or if no reply arrives. Without a reply,
+   * `data` may have been published (`mayHaveArrived`): a page that repeats it may publish it twice.
+   * If publishing is forbidden here (`status` 403), it stays so, and the session continues.
+   */
   publish(channel, data) {
     if (this.isLed()) {
       if (this.clientId === null) return Promise.reject(failureOf('not connected', false));
@@ -376,24 +405,26 @@ class BayeuxClient {
     });
   }
 
-  // Whether another window has the session.
+  // Returns whether another window has the session.
   isLed() {
     return this.windows !== null && !this.windows.isLeading;
   }
 
-  // Does something once all that was asked before is done, well or not. So publishes keep their order.
+  // Calls `action` once all earlier requests have succeeded or failed, so that publishes keep their
+  // order.
   inOrder(action) {
     const result = this.sending.then(action);
     this.sending = result.catch(() => {});
     return result;
   }
 
-  // Lets the server know which patterns are wanted. Before there is a session this is left to `run`.
+  // Subscribes and unsubscribes as the listeners require. Without a session, `run` does this later.
   adjust() {
     return this.isLed() ? this.windows.want() : this.inOrder(() => this.askForPatterns());
   }
 
-  // Subscribes to the patterns that this session lacks, and unsubscribes from those that no window wants any more.
+  // Subscribes to the patterns that the session lacks, and unsubscribes from those that no window
+  // wants.
   async askForPatterns() {
     const wanted = new Set([...this.listeners.keys(), ...(this.windows?.patterns() || [])]);
     const missing = [...wanted].filter((it) => !this.subscribed.has(it));
@@ -415,14 +446,16 @@ class BayeuxClient {
       const pattern = some[refused].subscription;
       const words = `${pattern}: ${replies[refused].error}`;
       if (this.clientId === null) throw failureOf(words, false);
-      // A wrong pattern stays wrong, so it is not asked for again. A session that is gone comes back.
+      // An invalid pattern stays invalid, so its listeners are removed. (If the session is gone, the
+      // patterns are kept for the next one.)
       this.listeners.delete(pattern);
       this.windows?.refuse(pattern);
       throw failureOf(words, false, { pattern });
     }
   }
 
-  // The loop: one handshake, then one connect after another. After a failure it waits, longer each time.
+  // Runs the client: one handshake, followed by one connect after another. After a failure it
+  // pauses, longer each time.
   async run(start) {
     const isOver = () => this.starts !== start;
     while (!isOver()) {
@@ -435,7 +468,8 @@ class BayeuxClient {
         if (isOver()) return;
         this.setState('connected');
         this.failures = 0;
-        // (A page that is not seen has slow clocks, and may lead others that are.)
+        // Without an interval there is no pause: timers are slow in hidden pages, and a hidden page
+        // may be the leader.
         if (this.advice.interval > 0) await pause(this.advice.interval);
       } catch (failure) {
         if (isOver()) return;
@@ -445,7 +479,7 @@ class BayeuxClient {
         }
         this.setState('interrupted', failure.message);
         const longest = Math.min(LONGEST_PAUSE, FIRST_PAUSE * 2 ** this.failures++);
-        // By chance shorter, so that the clients of a server that comes back do not come all at once.
+        // A random length, so that not all clients return at once when a server restarts.
         await pause(longest * (0.5 + Math.random() / 2));
       }
     }
@@ -463,7 +497,7 @@ class BayeuxClient {
     this.lastBatch = 0;
   }
 
-  // Tells the page of a gap, where this is another session than the last one.
+  // Records that session `id` is subscribed. Calls `ongap` if it replaces an earlier one.
   noteSession(id) {
     if (id === this.knownId || id === null) return;
     const hadOne = this.knownId !== null;
@@ -472,18 +506,21 @@ class BayeuxClient {
     if (hadOne) this.ongap();
   }
 
-  // One long poll. The server holds it until there is an event, or until its timeout is over.
+  // Sends a connect. The server holds it until there is an event, or until its timeout has passed.
   async connect() {
     const message = { channel: '/meta/connect', connectionType: this.connectionType };
-    // What came is acknowledged by the next connect. A response that was lost on its way is not, and comes again.
+    // Each connect acknowledges the last batch that arrived. The events of a lost response are not
+    // acknowledged, so the server sends them again.
     if (this.hasBatches) message.ext = { ack: this.lastBatch };
-    // After a gap the server is not to hold it: so the page is told at once that it is connected.
+    // Until the client is connected, the server must not hold the connect, so that the page learns
+    // at once that it is connected.
     const isHeld = this.state === 'connected';
     if (!isHeld) message.advice = { timeout: 0 };
     await this.ask(message, isHeld ? this.advice.timeout : 0);
   }
 
-  // Sends one message, and fails where it is refused.
+  // Sends one message, and returns the reply. Fails if the server rejects it. `hold`: milliseconds
+  // for which the server may hold it.
   async ask(message, hold = 0) {
     const [reply] = await this.askAll([message], hold);
     this.advice = { ...this.advice, ...reply.advice };
@@ -491,13 +528,13 @@ class BayeuxClient {
     throw failureOf(reply.error, false, { isFinal: reply.advice?.reconnect === 'none' });
   }
 
-  // Sends messages, hands events to their listeners, and returns the replies.
+  // Sends messages, passes events to their listeners, and returns the replies.
   async askAll(messages, hold = 0) {
     const { clientId } = this;
     if (clientId !== null) messages.forEach((message) => (message.clientId = clientId));
     const items = await this.items(messages, hold);
     const replies = items.filter((item) => 'successful' in item);
-    // What comes for a session that was left is told to nobody.
+    // The client has left this session meanwhile, so its events are ignored.
     if (clientId !== this.clientId) return replies;
     const isAnswered = clientId !== null && clientId === this.knownId && replies.some((reply) => reply.successful);
     if (isAnswered && this.why === NO_ANSWER) this.setState('connected');
@@ -506,7 +543,7 @@ class BayeuxClient {
     events.forEach((event) => this.deliver(event));
     if (events.length > 0) this.windows?.tell(events);
     if (clientId !== null && replies.some((reply) => reply.advice?.reconnect === 'handshake')) {
-      // The session is gone, but the server can be reached: the handshake need not wait for long.
+      // The session is gone, but the server can be reached, so the next pause may be short.
       this.clientId = null;
       this.failures = 0;
     }
@@ -522,7 +559,7 @@ class BayeuxClient {
     }
   }
 
-  // Takes over what the window that leads tells. A batch of events may come twice, where another one leads since.
+  // Applies the leader's state, session and events. With a new leader, a batch may arrive twice.
   mirror({ state, why, knownId, session, subscribed, events }) {
     const isNew = session.clientId !== this.clientId || !session.hasBatches || session.lastBatch > this.lastBatch;
     Object.assign(this, session);
@@ -535,7 +572,7 @@ class BayeuxClient {
   deliver({ channel, data }) {
     for (const [pattern, listeners] of this.listeners) {
       if (!isMatch(pattern, channel)) continue;
-      // Each as a task of its own: a listener that fails keeps no other from its events.
+      // Each call is its own task, so that a listener that throws does not stop the others.
       listeners.forEach((listener) => queueMicrotask(() => listener(data, channel)));
     }
   }

@@ -1,15 +1,15 @@
 #!/usr/bin/env python3
-"""A Bayeux 1.0 client over plain HTTP, by Python's standard library alone.
+"""A Bayeux 1.0 client over plain HTTP, with only Python's standard library.
 
 usage: bayeux.py listen PATTERN ..  |  bayeux.py publish CHANNEL JSON
 
-BAYEUX_URL is the server, by default http://127.0.0.1:8087/cometd, BAYEUX_NAME a name by which its record is searched
+BAYEUX_URL: the server, by default http://127.0.0.1:8087/cometd. BAYEUX_NAME: a name to find the session in a record
 """
 import http.client, json, os, random, sys, time, urllib.error, urllib.request
 
 
 class Refused(Exception):
-    """The server refused a message."""
+    """The server rejected a message. The text is its error."""
 
 
 class Client:
@@ -18,7 +18,7 @@ class Client:
         self.ext = {"ack": True} | ({"name": name} if name else {})
 
     def ask(self, channel, hold=0, **members):
-        """Sends a message in a request of its own, and returns the events that came with the reply, and the reply."""
+        """Sends one message, and returns the events of the response and the reply. `hold`: how long it may be held, in seconds."""
         message = {"channel": channel, **members, **({"clientId": self.id} if self.id else {})}
         request = urllib.request.Request(self.url, json.dumps([message]).encode(), {"Content-Type": "application/json"})
         with urllib.request.urlopen(request, timeout=hold + 10) as response:
@@ -35,7 +35,7 @@ class Client:
         self.id, self.batch = reply["clientId"], 0
 
     def publish(self, channel, data):
-        """Fails where the session is gone; the next publish opens another one. Where publishing is not allowed, it never is."""
+        """Publishes. Raises `Refused` if that is not allowed, or if the session is gone: the next publish opens a new one."""
         if not self.id:
             self.handshake()
         try:
@@ -44,14 +44,14 @@ class Client:
             raise Refused("publishing is not allowed here: HTTP status 403") if failure.code == 403 else failure
 
     def listen(self, *patterns):
-        """Yields the channel and the data of each event. After a failure it waits and goes on."""
+        """Yields the channel and the data of each event. After a lost connection or session it waits and tries again."""
         pause = 0.25
         while True:
             try:
                 if not self.id:
                     self.handshake()
                     self.ask("/meta/subscribe", subscription=patterns)
-                # This acknowledges what came. A response that was lost on its way comes again.
+                # Acknowledges what arrived. The server sends the events of a lost response again.
                 hold, ack = self.advice.get("timeout", 0) / 1000, {"ack": self.batch}
                 events, reply = self.ask("/meta/connect", hold, connectionType="long-polling", ext=ack)
                 self.batch, pause = reply["ext"]["ack"], 0.25

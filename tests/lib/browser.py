@@ -1,4 +1,4 @@
-"""A Chromium that is led by its driver, its windows, and keys that are pressed in them."""
+"""A headless Chromium that is controlled by WebDriver, its windows, and keyboard input."""
 import contextlib
 import json
 import os
@@ -9,10 +9,10 @@ from base64 import b64decode
 
 from base import Wrong, can_connect, end, free_port, until
 
-# The name under which a WebDriver hands out an element.
+# The key of an element's id in a response of WebDriver.
 ELEMENT = "element-6066-11e4-a52e-4f735466cecf"
 ENTER, TAB, SHIFT = "\ue007", "\ue004", "\ue008"
-# The element that has the focus, and whether an outline shows it.
+# Returns the name of the element with the focus, and whether an outline shows the focus.
 FOCUS = """
 const it = document.activeElement, style = getComputedStyle(it);
 return [it.id || it.textContent, it.matches(':focus-visible') && style.outlineStyle !== 'none' && parseFloat(style.outlineWidth) >= 2];
@@ -20,7 +20,10 @@ return [it.id || it.textContent, it.matches(':focus-visible') && style.outlineSt
 
 
 class Browser:
-    """A Chromium that is led by its driver, in the words of WebDriver."""
+    """A headless Chromium, controlled by chromedriver.
+
+    `folder`: the folder for the browser's profile and the driver's log.
+    """
 
     def __init__(self, folder):
         self.port, self.session = free_port(), ""
@@ -37,20 +40,23 @@ class Browser:
             raise
 
     def begin(self, folder):
-        """Has the driver start the browser."""
+        """Waits until the driver listens, and starts the browser."""
         until("the driver listens", lambda: can_connect(self.port))
-        # Names other than loopback's are not looked up, so that the browser asks nobody else.
+        # Only names of loopback are resolved, so that the browser connects to no other machine.
         words = ["--headless=new", "--disable-gpu", "--no-first-run", "--disable-background-networking", "--disable-component-update"]
         words += [f"--user-data-dir={folder}/profile", "--host-resolver-rules=MAP * ~NOTFOUND, EXCLUDE 127.0.0.1, EXCLUDE localhost"]
         if os.geteuid() == 0:
             words.append("--no-sandbox")
         wanted = {"browserName": "chrome", "acceptInsecureCerts": True, "goog:chromeOptions": {"args": words}}
         self.session = "/session/" + self.call("POST", "/session", {"capabilities": {"alwaysMatch": wanted}})["sessionId"]
-        # The window that it begins with stays, since a new one is asked for from an open one.
+        # The first window stays open, because a new window can only be requested from an open one.
         self.first = self.call("GET", "/window")
 
     def call(self, method, path, content=None):
-        """Calls the driver, and returns what it answers."""
+        """Sends a command to the driver, and returns the value in its response.
+
+        `content`: the body, sent as JSON. Raises `Wrong` if the driver reports an error.
+        """
         data = None if content is None else json.dumps(content).encode()
         request = urllib.request.Request(f"http://127.0.0.1:{self.port}{self.session}{path}", data, method=method)
         try:
@@ -67,7 +73,7 @@ class Browser:
 
 
 class Window:
-    """One window of the browser."""
+    """A window of the browser at `address`. `width` and `height`: pixels."""
 
     def __init__(self, browser, address, width=860, height=1010):
         self.browser = browser
@@ -80,11 +86,11 @@ class Window:
         return self.browser.call(method, path, content)
 
     def run(self, script, *words):
-        """Runs a script in the page, and returns what it returns."""
+        """Runs `script` in the page with `words` as its arguments, and returns its result."""
         return self.call("POST", "/execute/sync", {"script": script, "args": list(words)})
 
     def texts(self, selector):
-        """Returns the texts of all elements that the selector finds."""
+        """Returns the texts of all elements that match `selector`."""
         return self.run("return [...document.querySelectorAll(arguments[0])].map((it) => it.textContent)", selector)
 
     def element(self, selector):
@@ -108,26 +114,32 @@ class Window:
 
 
 def press(window, *keys):
-    """Presses keys one after another, wherever the focus is."""
+    """Presses `keys` one after another. The element with the focus gets them."""
     strokes = [{"type": kind, "value": key} for key in keys for kind in ("keyDown", "keyUp")]
     window.call("POST", "/actions", {"actions": [{"type": "key", "id": "keys", "actions": strokes}]})
 
 
 def press_back(window):
-    """Presses Tab with Shift held."""
+    """Presses Shift+Tab."""
     strokes = [("keyDown", SHIFT), ("keyDown", TAB), ("keyUp", TAB), ("keyUp", SHIFT)]
     actions = [{"type": kind, "value": key} for kind, key in strokes]
     window.call("POST", "/actions", {"actions": [{"type": "key", "id": "keys", "actions": actions}]})
 
 
 def has_focus(window, name):
-    """Raises where another element has the focus, or nothing shows that."""
+    """Raises `Wrong` if another element has the focus, or if no outline shows the focus.
+
+    `name`: the id of the element, or its text if it has no id.
+    """
     if window.run(FOCUS) != [name, True]:
         raise Wrong(f"{window.run(FOCUS)} has the focus and shows it, and not {name}")
 
 
 def emulate(window, width=0, height=0, scheme=""):
-    """Shows a page on a screen of this size, and in these colours; without them as it is."""
+    """Shows the page on a screen of `width` by `height` pixels, in light or dark colours.
+
+    `scheme`: "light" or "dark". Without arguments, ends the emulation.
+    """
     size = {"width": width, "height": height, "deviceScaleFactor": 1, "mobile": False}
     colours = {"features": [{"name": "prefers-color-scheme", "value": scheme}]}
     for command, words in (("DeviceMetricsOverride", size), ("EmulatedMedia", colours)):

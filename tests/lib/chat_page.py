@@ -1,14 +1,14 @@
-"""What is tried of the chat: two people talk while connections are cut, a line is slow, and by keyboard alone."""
+"""Tests of the chat: two users, cut connections, a slow line, and the keyboard alone."""
 from base import Wrong, until
 from browser import ENTER, TAB, Window, has_focus, press, press_back
 from sight import check_names, check_sight
 
-# Where the page says what was not sent.
+# The element that says why a message was not sent.
 PROBLEM = "#problem:not([hidden])"
 
 
 class Chat(Window):
-    """A window of the chat whose user has joined."""
+    """A window of the chat in which the user `name` has joined."""
 
     def __init__(self, browser, address, name):
         super().__init__(browser, address)
@@ -28,7 +28,7 @@ class Chat(Window):
         return self.texts("#messages li p")
 
     def wait_messages(self, expected):
-        """Waits until these messages are shown, in this order, and no other."""
+        """Waits until the window shows the messages `expected`, in this order, and no others."""
         try:
             until("", lambda: self.messages() == expected)
         except Wrong:
@@ -36,7 +36,10 @@ class Chat(Window):
 
 
 def try_talk(ann, ben):
-    """Both windows show what either sends, as text."""
+    """Checks that both windows show each message, as plain text.
+
+    Returns the messages that were sent.
+    """
     said = ["Hello Ben! Do you read this?", "I do. Two windows, and one server between them.", "Shown as text: <b>1 < 2</b> & \"so on\""]
     until("Ann sees that Ben joined", lambda: "Ben joined" in ann.texts(".notice"))
     ann.send(said[0])
@@ -50,7 +53,12 @@ def try_talk(ann, ben):
 
 
 def try_writing(ann, ben, said):
-    """Who reads further up stays there; two people may have one name, and one Enter sends once."""
+    """Checks how windows show their own messages, and a user who has scrolled up.
+
+    A message counts as a window's own only if it was sent there, even if the names are equal. New
+    messages do not scroll the list while a user reads further up. `said`: the messages so far.
+    Returns them and the new ones.
+    """
     if [len(chat.texts("#messages li.own")) for chat in (ann, ben)] != [2, 1]:
         raise Wrong("a message is not shown as one's own, or another's is")
     lines = "\n".join(["A message of many lines"] * 40)
@@ -71,7 +79,10 @@ def try_writing(ann, ben, said):
 
 
 def try_slow_line(stand):
-    """While a message is on its way Enter sends nothing, and what is typed stays; without an answer it comes back."""
+    """Checks that Enter sends nothing while a message is being sent, and that the typed text stays.
+
+    If the response is an error, the text of the message returns to its field.
+    """
     site = stand.site
     chat = Chat(stand.browser, f"{site.address}/chat/", "Ann")
     chat.run("const ask = client.publish; client.publish = (...words) => new Promise((go) => (window.go = go)).then(() => ask.apply(client, words))")
@@ -98,7 +109,10 @@ def try_slow_line(stand):
 
 
 def try_cut(stand, ann, ben, said):
-    """What is published while connections are cut and responses are lost is shown once, in order."""
+    """Checks that no message is lost or repeated if connections are cut and responses are lost.
+
+    `said`: the messages so far. Returns them and the new ones.
+    """
     server, relay = stand.server, stand.relay
     more = [f"Sent while the line was broken: {number}" for number in range(1, 4)]
     relay.is_down = True
@@ -123,7 +137,11 @@ def try_cut(stand, ann, ben, said):
 
 
 def try_restart(server, ann, ben, said):
-    """After the server is killed and started again the windows find each other, and nothing is sent by itself."""
+    """Checks that both windows recover from a restart of the server.
+
+    They share a channel again. A message that failed is not sent again until the user does so.
+    `said`: the messages so far. Returns them and the new one.
+    """
     server.kill()
     for chat in (ann, ben):
         chat.wait_state("interrupted")
@@ -142,7 +160,10 @@ def try_restart(server, ann, ben, said):
 
 
 def try_leaving(server, ann, ben):
-    """The others see that somebody left, and the last page that has a session ends it at once."""
+    """Checks that the other window shows who left, and that the session then ends at once.
+
+    If the windows share a session, it ends when the last one leaves.
+    """
     publishes = [{"channel": "/nobody", "data": 0, "clientId": chat.run("return client.clientId")} for chat in (ann, ben)]
     is_shared = publishes[0] == publishes[1]
     for chat, publish, is_last in ((ann, publishes[0], not is_shared), (ben, publishes[1], True)):
@@ -156,7 +177,11 @@ def try_leaving(server, ann, ben):
 
 
 def try_chat(stand, address, transport, picture=None):
-    """Tries the chat in two windows."""
+    """Runs the tests with two windows at `address`.
+
+    `transport`: the name of the transport that the page must show. `picture`: a path for a
+    screenshot, or `None`.
+    """
     ann, ben = (Chat(stand.browser, address, name) for name in ("Ann", "Ben"))
     if ann.texts("#state") != [f"connected by {transport}"]:
         raise Wrong(f"the page says {ann.texts('#state')}, and not that it is connected by {transport}")
@@ -172,7 +197,7 @@ def try_chat(stand, address, transport, picture=None):
 
 
 def try_keyboard(stand):
-    """The chat is used by keyboard alone, and shown on a narrow screen."""
+    """Checks that the chat can be used by keyboard alone, and fits on a narrow screen."""
     window = Window(stand.browser, stand.from_disk("chat/index.html"))
     check_names(window, ["#name", "#join button"])
     check_sight(window)

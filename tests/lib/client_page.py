@@ -1,11 +1,11 @@
-"""What is tried of the client for web pages: on a blank page, alone, and shared by windows."""
+"""Tests of the client for web pages: on a blank page, alone, and shared by windows."""
 import time
 
 from base import Wrong, until
 from browser import Window
 from daemon import HANDSHAKE
 
-# Makes a client, which keeps what it is told.
+# Creates a client that records its events, states and errors in `told`.
 MADE = """
 const [url, options] = arguments, client = new BayeuxClient(url, options);
 client.told = [];
@@ -20,7 +20,10 @@ client.say = (channel, data) => client.publish(channel, data).then(() => client.
 
 
 class Client:
-    """A client of a blank page of the site, which keeps what it is told."""
+    """A client on a blank page of the site, which records its events and errors.
+
+    `patterns`: what it subscribes to. `options`: the options of `BayeuxClient`.
+    """
 
     def __init__(self, window, *patterns, **options):
         self.window = window
@@ -37,14 +40,14 @@ class Client:
         return self.do("state") == "connected"
 
     def told(self):
-        """Returns what the client was told, but that it is connecting or connected."""
+        """Returns what the client has recorded, without the states connecting and connected."""
         return [it for it in self.do("told") if it not in ("connecting", "connected")]
 
     def clear(self):
         self.do("told.splice(0)")
 
     def wait_told(self, *wanted):
-        """Waits until it was told just this, in any order."""
+        """Waits until the client has recorded `wanted`, in any order, and nothing more."""
         try:
             until("", lambda: sorted(map(str, self.told())) == sorted(map(str, wanted)))
         except Wrong:
@@ -52,7 +55,7 @@ class Client:
 
 
 def try_client(stand):
-    """The client as a script and as a module, with headers, listeners that are taken away, and gaps."""
+    """Checks the script and the module, header fields, the removal of listeners, and gaps."""
     page = Window(stand.browser, stand.site.address)
     client = Client(page, "/a", headers={"X-Token": "of my own"}, name="Ben")
     until("the module is the same client", lambda: page.run("return window.modules?.every((it) => it === BayeuxClient)"))
@@ -68,7 +71,10 @@ def try_client(stand):
 
 
 def try_listeners(site, client):
-    """Each of two listeners is told, and the client unsubscribes with the last one."""
+    """Checks that two listeners of a channel both get each event.
+
+    The client unsubscribes only when the last listener is removed.
+    """
     client.do("subscribe('/a', window.second = (data) => clients[0].told.push(`second ${data}`))")
     client.do("say('/a', 1)")
     client.wait_told(1, "second 1", "published")
@@ -86,7 +92,7 @@ def try_listeners(site, client):
 
 
 def try_gaps(stand, client):
-    """A connection that is cut is no gap, and a restart of the server is one."""
+    """Checks that a cut connection causes no gap, and that a restart of the server causes one."""
     client.do("listen('/b')")
     stand.relay.is_down = True
     stand.relay.cut()
@@ -107,12 +113,16 @@ def try_gaps(stand, client):
 
 
 def unsubscribed(site):
-    """Returns the patterns that were unsubscribed."""
+    """Returns the patterns of all unsubscribe messages that the site received."""
     return [it["subscription"] for it in site.messages("/meta/unsubscribe")]
 
 
 def try_silence(stand):
-    """With six clients that share nothing the browser has no connection left, and after ten seconds the state says so."""
+    """Checks what a client reports if the browser has no connection left for it.
+
+    Six clients that do not share a session take all connections. A publish then fails because there
+    is no answer in time.
+    """
     page = Window(stand.browser, stand.site.address)
     client = [Client(page, share=False) for _ in range(6)][0]
     until("all wait", lambda: page.run("return clients.every((it) => it.told.length === 2)"))
@@ -124,7 +134,11 @@ def try_silence(stand):
 
 
 def try_sharing(stand):
-    """Eight clients in two windows share one session over HTTP/1.1, of a server that takes no second one; one takes over from another."""
+    """Checks that eight clients in two windows share one session over HTTP/1.1.
+
+    The server allows one session only. When the client that leads goes away, another one takes
+    over.
+    """
     stand.server.restart("--sessions", "1")
     shared = Shared(stand)
     shared.hear()
@@ -147,7 +161,7 @@ class Shared:
         self.session = self.clients[0].do("clientId")
 
     def hear(self):
-        """An event comes to all that listen, and to no other."""
+        """Checks that all clients that listen to a channel get an event, and no others."""
         for number, client in enumerate(self.clients):
             client.do(f"say('/a', {number})")
             until(f"event {number} has come to all", lambda number=number: all(number in it.told() for it in self.clients))
@@ -158,7 +172,7 @@ class Shared:
             client.clear()
 
     def refuse(self):
-        """What is refused is told to who asked, and to nobody else."""
+        """Checks that only the client that sent a request gets its error."""
         self.clients[6].do("listen('/meta/a')")
         self.clients[6].do("say('/*', 0)")
         self.clients[6].wait_told("/meta/a: 403::Subscription denied", ["400::Invalid channel", False])
@@ -166,13 +180,17 @@ class Shared:
             client.wait_told()
 
     def lose_a_pattern(self):
-        """One that goes away takes its pattern with it."""
+        """Checks that the session unsubscribes from the pattern of a client that stops."""
         self.site.asked.clear()
         self.clients.pop().do("stop()")
         until("a pattern is unsubscribed", lambda: unsubscribed(self.site) == ["/own/7"])
 
     def take_over(self):
-        """The one that has the session goes away, and then a whole window without a word, while another one publishes."""
+        """Checks that another client takes over the session while a client publishes.
+
+        First the leading client stops. Then a whole window closes, and its clients cannot stop
+        first.
+        """
         for client in self.clients:
             client.clear()
         self.publish_while(0, lambda: self.clients.pop(0).do("stop()"))
@@ -181,7 +199,10 @@ class Shared:
         self.publish_while(1, lambda: self.pages.pop(0).close())
 
     def publish_while(self, number, leave):
-        """Publishes eight events while one leaves, and waits until another one has the session."""
+        """Publishes eight events, calls `leave` meanwhile, and waits for a new leading client.
+
+        `number`: distinguishes the events of one call from those of another.
+        """
         words = "for (let number = 0; number < 8; number++) setTimeout(() => clients[2].say('/a', arguments[0] + number), 50 * number)"
         self.pages[-1].run(words, 100 * number)
         time.sleep(0.2)
@@ -191,18 +212,22 @@ class Shared:
         until("an event comes", lambda: f"over {number}" in self.clients[-3].told())
 
     def events(self):
-        """Returns the events that clients were told, each such list once."""
+        """Returns the set of the lists of events that the clients got."""
         return {tuple(it for it in client.told() if isinstance(it, int)) for client in self.clients}
 
     def check_events(self):
-        """All were told the same events, none twice, and nobody of a gap, since the session is the same."""
+        """Checks that all clients got the same events, none twice, and that there was no gap.
+
+        There is no gap because the session is still the first one.
+        """
         publisher, silent = self.clients[-1], ["no answer in time", True]
         until("all publishes have ended", lambda: sum(it in ("published", silent) for it in publisher.told()) == 18)
         until("all are told the same events", lambda: len(self.events()) == 1)
         events = max(self.events(), key=len)
         if len(set(events)) != len(events):
             raise Wrong(f"they were told some twice: {events}")
-        # One that was on its way as its window went may be lost, and then nobody says that it was published.
+        # An event may be lost if its window closes while it is sent. No client then records that it
+        # was published.
         if len(events) < max(14, publisher.told().count("published") - 2):
             raise Wrong(f"events were lost: {publisher.told()}")
         if any("gap" in client.told() for client in self.clients):
@@ -211,7 +236,7 @@ class Shared:
             raise Wrong("the session is another one")
 
     def go_on_behind_a_restart(self):
-        """After a restart there is one new session, and each is told of the gap."""
+        """Checks that after a restart each client reports one gap, in one new session."""
         self.server.kill()
         until("all are interrupted", lambda: not any(client.is_connected() for client in self.clients))
         self.server.start("--sessions", "1")
@@ -220,7 +245,7 @@ class Shared:
         until("all are told", lambda: all("after" in client.told() and client.told().count("gap") == 1 for client in self.clients))
 
     def end(self):
-        """With the last one the session ends, so there is room for another."""
+        """Checks that the session ends with its last client, and the server allows another one."""
         for client in self.clients[1:]:
             client.do("stop()")
         until("it has the session alone", lambda: not self.clients[0].do("windows.hasOthers()"))

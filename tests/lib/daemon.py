@@ -223,15 +223,16 @@ def succeed(items, count):
 
 
 def opened(connection, **further):
-    """Opens a session by a handshake, and returns a dictionary with its client id only.
+    """Opens a session by a handshake, and returns the member with its client id.
 
-    `further`: more members of the handshake. Add the dictionary to each message of the session.
+    `further`: more members of the handshake. Each later message of the session needs the returned
+    member.
     """
     return {"clientId": succeed(connection.ask([{**HANDSHAKE, **further}]), 1)[0]["clientId"]}
 
 
 def held(address, channel):
-    """Returns a connection whose connect is held. Its session is subscribed to `channel`.
+    """Returns a connection with a held connect. The session is subscribed to `channel`.
 
     Does not wait until the daemon holds the connect.
     """

@@ -1,4 +1,4 @@
-"""What is tried of the dashboard, and of the page of figures beside it."""
+"""Tests of the dashboard, and of the page of metrics in the same folder."""
 import contextlib
 import os
 import re
@@ -9,7 +9,7 @@ from browser import Window
 from sight import check_names, check_sight
 
 WAVE = ["sh", "-c", "date +%s.%N | awk '{ printf \"%.2f\", 60 + 25 * sin($1 / 2) }'"]
-# Of each curve how many points it has, of how many pieces it is, and where it starts.
+# Scripts that return, for each curve, its number of points, its number of pieces, and its start.
 COUNTS, PIECES, STARTS = (
     f"return [...document.querySelectorAll('.curve')].map((it) => it.getAttribute('d')).map((it) => {found})"
     for found in ("it.split(/[LM]/).length - 1", "it.split('M').length - 1", "parseFloat(it.slice(1))")
@@ -18,7 +18,10 @@ COUNTS, PIECES, STARTS = (
 
 @contextlib.contextmanager
 def feed(server, *words, **further):
-    """Runs a feed that publishes to the server, with these words and further variables."""
+    """Runs the feed, which publishes to `server`, until the block ends.
+
+    `words`: its arguments. `further`: more environment variables.
+    """
     env = {**os.environ, "BAYEUX_URL": f"http://127.0.0.1:{server.port}/cometd", **further}
     process = subprocess.Popen([TOP / "examples/dashboard/feed", *words], env=env, stdout=subprocess.DEVNULL, stderr=subprocess.DEVNULL)
     try:
@@ -28,7 +31,10 @@ def feed(server, *words, **further):
 
 
 def try_dashboard(stand, address, picture=None):
-    """The dashboard shows the numbers that two feeds publish, goes on after a restart, and says how old a number is."""
+    """Checks that the dashboard shows the numbers of two feeds, also after a restart of the server.
+
+    `picture`: a path for a screenshot, or `None`.
+    """
     window = Window(stand.browser, address + ("&" if "?" in address else "?") + "seconds=20", 900, 960)
     window.wait_state("connected")
     with feed(stand.server, BAYEUX_PAUSE="0.4"), feed(stand.server, "wave", *WAVE, BAYEUX_PAUSE="0.4"):
@@ -42,7 +48,7 @@ def try_dashboard(stand, address, picture=None):
 
 
 def try_curves(window):
-    """Two feeds have two cards with curves."""
+    """Checks that there is a card with a curve for each of two feeds."""
     until("two cards with curves", lambda: [count > 5 for count in window.run(COUNTS)] == [True, True])
     if sorted(window.texts(".card h2")) != ["processor percent", "wave"]:
         raise Wrong(f"the cards are {window.texts('.card h2')}")
@@ -51,7 +57,7 @@ def try_curves(window):
 
 
 def try_gaps(server, window):
-    """After a restart of the server the curves go on behind a gap."""
+    """Checks that the curves continue after a restart of the server, with a gap."""
     server.kill()
     window.wait_state("interrupted")
     server.start()
@@ -62,9 +68,12 @@ def try_gaps(server, window):
 
 
 def try_old_numbers(server, window):
-    """Once the feeds have ended both numbers are told to be old, and one that is published then is not."""
+    """Checks that the page marks numbers as old once the feeds have ended.
+
+    A number that is then published is shown as new.
+    """
     until("both numbers say that they are old", lambda: re.fullmatch(r"\d+ s ago,\d+ s ago", ",".join(window.texts(".old .age"))))
-    # A number of which the page is to show exactly this.
+    # The page must show this number exactly.
     server.publish("/dashboard/wave", 12.5)
     until("the number that was published is shown", lambda: window.texts(".value")[1] == "12.5")
     if window.texts(".card:not(.old) h2") != ["wave"]:
@@ -72,7 +81,7 @@ def try_old_numbers(server, window):
 
 
 def try_narrow_dashboard(stand):
-    """The dashboard is shown on a narrow screen."""
+    """Checks that the dashboard fits on a narrow screen."""
     window = Window(stand.browser, stand.from_disk("dashboard/index.html"))
     window.wait_state("connected")
     check_sight(window)
@@ -85,7 +94,10 @@ def try_narrow_dashboard(stand):
 
 
 def try_figures(stand):
-    """The page of figures shows those that are published, says how old they are, and shows the server's own."""
+    """Checks that the page of metrics shows published metrics, and their age once they are old.
+
+    It also shows the server's own metrics.
+    """
     figures_at = f"127.0.0.1:{free_port()}"
     stand.server.restart("--figures", figures_at)
     window = Window(stand.browser, stand.from_disk("dashboard/figures.html"))
@@ -103,7 +115,7 @@ def try_figures(stand):
 
 
 def try_cards(server, window):
-    """Each number has a card under its name, with what it means, and no text is shown as a number."""
+    """Checks that each number has a card with its name and meaning, and that a text has none."""
     figures = {"bayeux_sessions": 3, 'bayeux_replies_total{kind="publish"}': 12, 'bayeux_replies_total{kind="connect"}': 0, "text": "3"}
     server.publish("/figures/all", {"figures": figures, "help": {"bayeux_sessions": "Sessions that live."}})
     until("the figures are shown", lambda: window.texts("h2") == ["sessions", "replies in all"])

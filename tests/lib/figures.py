@@ -1,17 +1,20 @@
-"""The page of figures of a daemon."""
+"""The page of metrics of a daemon (`--figures`)."""
 import re
 import time
 
 from base import Wrong
 from daemon import PATIENCE, Connection, get
 
-# The lines of the page.
+# The two kinds of lines of a page: a comment, and a value with its name and labels.
 COMMENT = re.compile(r"# (HELP|TYPE) ([a-z_]+) (?:counter|gauge|[A-Z][^\\]*\.)")
 SAMPLE = re.compile(r'([a-z_]+)(|\{[a-z]+="[^"\\]+"\}) ([0-9]+)')
 
 
 def ask_for(address, request):
-    """Returns the response of the listener of figures, which then ends the connection."""
+    """Sends `request` to the metrics listener at `address`, and returns the response.
+
+    Raises `Wrong` if there is not exactly one response before the listener ends the connection.
+    """
     with Connection(address) as connection:
         connection.send(request)
         responses = connection.rest()
@@ -21,7 +24,10 @@ def ask_for(address, request):
 
 
 def read_page(text):
-    """Returns the values of a page of figures by their names and labels, and raises where it is not in Prometheus' text format 0.0.4."""
+    """Returns the values of a page of metrics, by name and labels.
+
+    Raises `Wrong` if the page is not in Prometheus' text format 0.0.4.
+    """
     values, family, told = {}, None, set()
     if not text.endswith("\n"):
         raise Wrong(f"no end of a line at the end of the page: {text[-80:]!r}")
@@ -41,7 +47,10 @@ def read_page(text):
 
 
 def scrape(address):
-    """Returns the values of the page of figures."""
+    """Returns the values of the page of metrics at `address`, by name and labels.
+
+    Raises `Wrong` if there is no valid page.
+    """
     response = ask_for(address, get(b"", b"/metrics"))
     if (response.status, response.fields[b"content-type"]) != (200, b"text/plain; version=0.0.4; charset=utf-8"):
         raise Wrong(f"no page of figures: {response.status} {response.fields}")
@@ -49,7 +58,10 @@ def scrape(address):
 
 
 def expect_values(address, expected):
-    """Raises where the figures do not come to these."""
+    """Waits until the metrics have the values `expected`, and returns all values.
+
+    Raises `Wrong` after `PATIENCE` seconds.
+    """
     end = time.monotonic() + PATIENCE
     while True:
         values = scrape(address)

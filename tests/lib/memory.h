@@ -1,4 +1,5 @@
-/* The calls for memory of a program that a library is preloaded into. Who includes this says of each one whether it is refused. */
+/* Replaces the allocation functions of a program into which a library is preloaded. A file that
+   includes this header defines is_refused, which decides whether a call fails. */
 #define _GNU_SOURCE
 #include <errno.h>
 #include <fcntl.h>
@@ -11,7 +12,7 @@ void *__libc_calloc(size_t count, size_t size);
 void *__libc_realloc(void *old, size_t size);
 void *__libc_memalign(size_t alignment, size_t size);
 
-/* Whether the next call, which is counted, is refused; errno then says so. */
+/* Counts a call. Returns nonzero, with errno set to ENOMEM, if the call must fail. */
 static int is_refused(void);
 
 void *malloc(size_t size) { return is_refused() ? NULL : __libc_malloc(size); }

@@ -1,4 +1,4 @@
-"""nginx in front of a server, with the configuration of packaging/nginx/nginx.conf, and what it serves and refuses."""
+"""Runs nginx with packaging/nginx/nginx.conf, and checks what it serves and rejects."""
 import contextlib
 import getpass
 import pathlib
@@ -6,7 +6,7 @@ import subprocess
 
 from base import TOP, Wrong, can_connect, end, free_port, until
 
-# By what callback-polling is closed.
+# The lines of the configuration that disable callback-polling.
 CLOSED = """            limit_except POST {
                 deny all;
             }
@@ -14,13 +14,16 @@ CLOSED = """            limit_except POST {
 
 
 def status_of(address, *words):
-    """Returns the status that curl gets."""
+    """Returns the status that curl gets from `address`. `words`: more arguments of curl."""
     ran = subprocess.run(["curl", "-sk", "-o", "/dev/null", "-w", "%{http_code}", *words, address], capture_output=True, text=True, check=True)
     return int(ran.stdout)
 
 
 def try_refusals(address, of_a_get):
-    """The own page, and programs, are served; others are refused, and a GET has this status."""
+    """Checks that nginx serves its own pages and programs, and rejects other requests.
+
+    `of_a_get`: the status of a GET without a browser's header fields.
+    """
     post = ["-d", "[]", "-H", "Content-Type: application/json"]
     query = "message=%5B%5D&jsonp=name"
     foreign = {"https://localhost.example": 403, "null": 403, "https://sub.localhost": 403, address: 200}
@@ -41,14 +44,18 @@ def expect(what, found, wanted):
 
 
 def make_certificate(folder):
-    """Makes a certificate of localhost, and its key, in a folder."""
+    """Creates a certificate for localhost, valid for a day, and its key in `folder`."""
     certificate = ["openssl", "req", "-x509", "-newkey", "rsa:2048", "-nodes", "-days", "1", "-subj", "/CN=localhost"]
     certificate += ["-keyout", f"{folder}/key.pem", "-out", f"{folder}/chain.pem"]
     subprocess.run(certificate, check=True, stderr=subprocess.DEVNULL)
 
 
 def configuration(upper, secure, folder, changes):
-    """Returns the configuration with this folder and these changes, for a server on one port and nginx on another."""
+    """Returns the configuration for tests, with `changes`: new texts by old texts.
+
+    `upper`: the port of the server. `secure`: the port of nginx. `folder`: for the files of nginx.
+    Raises `Wrong` if a text that is to be replaced is missing.
+    """
     text = (TOP / "packaging/nginx/nginx.conf").read_text(encoding="utf-8")
     for old, new in {
         "user www-data;": f"user {getpass.getuser()};",
@@ -72,7 +79,11 @@ def configuration(upper, secure, folder, changes):
 
 @contextlib.contextmanager
 def serving(upper, folder, changes):
-    """Runs nginx with its files in this folder in front of a server on this port, with these changes to its configuration; gives its address."""
+    """Runs nginx in front of the server at port `upper`, and yields the address of nginx.
+
+    `folder`: for the files of nginx. `changes`: see `configuration`. Raises `Wrong` if nginx does
+    not start.
+    """
     make_certificate(folder)
     secure = free_port()
     pathlib.Path(folder, "nginx.conf").write_text(configuration(upper, secure, folder, changes), encoding="utf-8")

@@ -1,4 +1,7 @@
-"""What is tried of pages at the address of readers, who may not publish there: they show what is published at the other, and say so."""
+"""Tests of pages at the readers' listener, which does not allow them to publish.
+
+They show what is published at the other listener, and say that they may only read.
+"""
 import os
 import subprocess
 
@@ -15,14 +18,17 @@ client.publish(arguments[0], 0).then(() => (window.said = 'published'), (it) => 
 
 
 class Door:
-    """The address of a server's readers."""
+    """The port of the readers' listener, in the form that `Site` expects."""
 
     def __init__(self, server):
         self.port = server.readers
 
 
 def try_readers(stand):
-    """From a site, by long-polling; from disk, by callback-polling, which does not tell why; and by the feed."""
+    """Checks the pages over long-polling and callback-polling, and the feed.
+
+    The page on disk uses callback-polling, which does not say why a publish failed.
+    """
     site = Site(Door(stand.server))
     try_pages(stand, site.address, site)
     window = Window(stand.browser, f"{stand.file('dashboard/index.html')}?server=http://127.0.0.1:{stand.server.readers}/cometd")
@@ -38,19 +44,25 @@ def try_readers(stand):
 
 
 def try_pages(stand, address, site=None):
-    """Dashboard and chat of a site, or behind nginx, by long-polling."""
+    """Checks the dashboard and the chat at `address`, over long-polling.
+
+    `site`: the web server, or `None` if nginx serves the pages.
+    """
     try_dashboard(stand.server, Window(stand.browser, f"{address}/dashboard/"), site)
     try_chat(stand, address)
 
 
 def show(server, window):
-    """What is published at the other address is shown."""
+    """Checks that the window shows numbers that are published at the other listener."""
     with feed(server, "wave", *WAVE, BAYEUX_PAUSE="0.2"):
         until("the numbers are shown", lambda: window.texts(".card h2") == ["wave"] and len(window.run("return cards.get('/dashboard/wave').points")) > 3)
 
 
 def try_dashboard(server, window, site):
-    """A publish of a page fails at once, in words, is sent once, and its session goes on."""
+    """Checks that a publish from the page fails at once, with a message and a status.
+
+    The page sends it once only, and keeps its session.
+    """
     window.wait_state("connected")
     show(server, window)
     session = window.run("return client.clientId")
@@ -68,7 +80,10 @@ def try_dashboard(server, window, site):
 
 
 def try_chat(stand, address):
-    """Two windows read, say that they may not write, and the last one ends their session at once."""
+    """Checks that two windows show messages, and say that they cannot send any.
+
+    Their session ends at once when both have left.
+    """
     chats = [Window(stand.browser, f"{address}/chat/") for _ in range(2)]
     for chat in chats:
         chat.write("#name", "Ann")

@@ -1,4 +1,7 @@
-"""An empty Debian with the package's neighbours, in a network, a process space and mounts of its own."""
+"""A minimal Debian with given packages, in a folder.
+
+Programs in it run with their own network, processes and mounts.
+"""
 import os
 import pathlib
 import shutil
@@ -13,11 +16,14 @@ TOOLS = {"mmdebstrap": "mmdebstrap", "unshare": "util-linux", "ip": "iproute2"}
 
 
 class Missing(Exception):
-    """Nothing can be tried here."""
+    """The test cannot run on this machine. The message says why."""
 
 
 def release():
-    """Returns the name of this machine's release of Debian."""
+    """Returns the code name of this machine's Debian release.
+
+    Raises `Missing` if the machine does not run Debian.
+    """
     with open("/etc/os-release", encoding="utf-8") as file:
         words = dict(line.strip().replace('"', "").split("=", 1) for line in file if "=" in line)
     if words.get("ID") != "debian":
@@ -26,7 +32,7 @@ def release():
 
 
 def check_tools():
-    """Raises where no such room can be made."""
+    """Raises `Missing` if the user is not root, or if a tool is not installed."""
     if os.geteuid() != 0:
         raise Missing("only root can make an empty Debian and a network of its own")
     for tool, package in TOOLS.items():
@@ -35,7 +41,10 @@ def check_tools():
 
 
 def make(root, packages):
-    """Makes an empty Debian with these packages of Debian, and what they depend on, in a folder."""
+    """Installs an empty Debian with `packages` and their dependencies in the folder `root`.
+
+    Raises `Missing` if the installation fails.
+    """
     words = ["mmdebstrap", "--quiet", "--variant=minbase", f"--include={','.join(packages)}", release(), root]
     ran = subprocess.run(words, stdin=subprocess.DEVNULL, capture_output=True, text=True, check=False)
     if ran.returncode != 0:
@@ -43,12 +52,12 @@ def make(root, packages):
 
 
 def is_mounted(folder):
-    """Returns whether something is mounted in a folder."""
+    """Returns `True` if there is a mount in `folder`."""
     return any(f" {folder}/" in line for line in pathlib.Path("/proc/self/mountinfo").read_text(encoding="utf-8").splitlines())
 
 
 def take_away(folder):
-    """Deletes a folder; where something is mounted in it, it stays, and that is told."""
+    """Deletes `folder`. If there is a mount in it, prints a message and keeps the folder."""
     if is_mounted(folder):
         print(f"something is still mounted in {folder}, which stays", file=sys.stderr)
     else:
@@ -56,9 +65,13 @@ def take_away(folder):
 
 
 def with_room(packages, words):
-    """Runs this script once more with these words and the folder of such a Debian, and returns the status.
+    """Installs a Debian, runs this script again in namespaces of its own, and returns the status.
 
-    Nothing outside can be reached there. All that it started is ended behind it, and the folder is taken away."""
+    The script gets the arguments `--inside ROOT` and `words`. ROOT is the folder of the Debian. It
+    has no network except loopback. All its processes end with it, and the folder is deleted.
+
+    Raises `Missing` if the Debian cannot be installed.
+    """
     check_tools()
     folder = os.path.realpath(tempfile.mkdtemp(prefix="gadzilk-debian-"))
     try:
@@ -72,7 +85,7 @@ def with_room(packages, words):
 
 
 class Room:
-    """The inside of such a Debian."""
+    """The Debian in the folder `root`, as seen by the script that runs with `--inside`."""
 
     def __init__(self, root):
         self.root = pathlib.Path(root)
@@ -85,7 +98,10 @@ class Room:
         return [*apart, "/usr/bin/env", "-i", "HOME=/root", "LANG=C.UTF-8", "PATH=/usr/sbin:/usr/bin:/sbin:/bin", "bash", "-ec", script]
 
     def run(self, script):
-        """Runs a script as root, and returns what it prints; raises where it fails."""
+        """Runs a shell script as root in the Debian, and returns what it prints.
+
+        Raises `Wrong` if it fails.
+        """
         how = {"cwd": "/", "stdin": subprocess.DEVNULL, "capture_output": True, "text": True, "check": False}
         ran = subprocess.run(self.words(f"cd\n{script}"), **how, timeout=120)
         if ran.returncode != 0:
@@ -93,19 +109,28 @@ class Room:
         return ran.stdout
 
     def start(self, script, user=None):
-        """Starts a script that goes on."""
+        """Starts a shell script in the Debian, and returns the process without waiting.
+
+        `user`: USER:GROUP, or `None` for root.
+        """
         how = {"cwd": "/", "stdin": subprocess.DEVNULL, "stdout": subprocess.PIPE, "text": True, "start_new_session": True}
         process = subprocess.Popen(self.words(script, user), **how)
         self.processes.append(process)
         return process
 
     def stop(self, process):
-        """Ends what was started as systemd stops a unit, by a signal to all its processes, and returns the status of the first."""
+        """Sends SIGTERM to all processes that `process` started, and returns its status.
+
+        This is how systemd stops a unit.
+        """
         os.killpg(process.pid, signal.SIGTERM)
         return process.wait(PATIENCE)
 
     def serve(self):
-        """Starts bayeuxd as the service's unit says, as a user without rights, and waits until it listens. No systemd runs here."""
+        """Starts bayeuxd with the command line and settings of its systemd unit, as user nobody.
+
+        Waits until it listens, and returns the process. systemd itself does not run here.
+        """
         unit = (self.root / "lib/systemd/system/bayeuxd.service").read_text(encoding="utf-8").splitlines()
         command = next(it for it in unit if it.startswith("ExecStart=")).partition("=")[2]
         settings = " ".join(it.partition("=")[2] for it in unit if it.startswith("Environment="))

@@ -1,4 +1,4 @@
-"""A bayeuxd that pages ask, and what stands between: a relay that breaks connections and loses responses, and a web server."""
+"""A bayeuxd for pages, a relay that breaks connections and loses responses, and a web server."""
 import contextlib
 import http.server
 import json
@@ -14,7 +14,10 @@ from daemon import HANDSHAKE
 
 
 class Server:
-    """A bayeuxd with these flags, on two ports, one of readers, that stay the same when it is started again."""
+    """A bayeuxd with two ports, one for all clients and one for readers.
+
+    The ports stay the same after a restart. `flags`: flags for each start.
+    """
 
     def __init__(self, program, *flags):
         self.port, self.readers = free_port(), free_port()
@@ -22,7 +25,7 @@ class Server:
         self.process = None
 
     def start(self, *further):
-        """Starts it with further flags."""
+        """Starts the daemon with more flags, `further`, and waits until it listens."""
 
         def is_listening():
             self.process = subprocess.Popen([*self.words, *further], stdout=subprocess.PIPE, stderr=subprocess.DEVNULL)
@@ -37,7 +40,7 @@ class Server:
         self.process.stdout.close()
 
     def stop(self):
-        """Kills it where it runs."""
+        """Kills the daemon if it is running."""
         if self.process.poll() is None:
             self.kill()
 
@@ -46,14 +49,17 @@ class Server:
         self.start(*further)
 
     def ask(self, *messages):
-        """Posts messages, and returns the items of the response."""
+        """Posts `messages`, and returns the items of the response."""
         head = {"Content-Type": "application/json"}
         request = urllib.request.Request(f"http://127.0.0.1:{self.port}/cometd", json.dumps(messages).encode(), head)
         with urllib.request.urlopen(request, timeout=PATIENCE) as response:
             return json.load(response)
 
     def publish(self, channel, *values):
-        """Publishes values by a session of its own."""
+        """Publishes `values` to `channel` in a new session, and ends the session.
+
+        Raises `Wrong` if a publish fails.
+        """
         mine = {"clientId": self.ask(HANDSHAKE)[0]["clientId"]}
         replies = self.ask(*({"channel": channel, "data": value, **mine} for value in values), {"channel": "/meta/disconnect", **mine})
         if not all(reply["successful"] for reply in replies):
@@ -61,7 +67,11 @@ class Server:
 
 
 class Relay:
-    """Stands between the pages and the server, and can break connections and lose responses."""
+    """Forwards connections from pages to the server. It can break connections and lose responses.
+
+    While `is_down` is set, it closes new connections. While `loses_responses` is set, it closes a
+    connection when the server sends something, and counts it in `lost`.
+    """
 
     def __init__(self, server):
         self.server = server
@@ -79,7 +89,7 @@ class Relay:
             threading.Thread(target=self.carry, args=(client,), daemon=True).start()
 
     def carry(self, client):
-        """Carries bytes both ways until one side ends."""
+        """Copies bytes in both directions until one side ends its connection."""
         with client, contextlib.suppress(OSError):
             if self.is_down:
                 return
@@ -107,14 +117,18 @@ class Relay:
                     side.shutdown(socket.SHUT_RDWR)
 
 
-# What a page without anything on it has.
+# A blank page that loads the client as a script and as a module.
 BLANK = """<!DOCTYPE html><html lang="en"><title>Blank</title><link rel="icon" href="data:,"><script src="/client/bayeux.js"></script>
 <script type="module">import Client, { BayeuxClient } from '/client/bayeux-module.js'; window.modules = [Client, BayeuxClient];</script>"""
 KINDS = {".html": "text/html", ".js": "text/javascript", ".css": "text/css"}
 
 
 class Site(http.server.ThreadingHTTPServer):
-    """A web server over plain HTTP/1.1, with the examples, a blank page at /, and the relay's server at /cometd (or one that has its port)."""
+    """A web server over plain HTTP/1.1: the examples, a blank page at /, and the server at /cometd.
+
+    `relay`: a `Relay` or another object with the `port` of a server. `status`: if it is not 200,
+    each POST gets this status, and the server does not see it.
+    """
 
     daemon_threads = True
 
@@ -122,21 +136,21 @@ class Site(http.server.ThreadingHTTPServer):
         super().__init__(("127.0.0.1", 0), Visit)
         self.relay = relay
         self.status = 200
-        # Of each request to /cometd its header fields and its messages.
+        # The header fields and the messages of each POST.
         self.asked = []
         self.address = f"http://127.0.0.1:{self.server_address[1]}"
         threading.Thread(target=self.serve_forever, daemon=True).start()
 
     def handle_error(self, *_):
-        """A browser breaks connections off."""
+        """Ignores errors, because browsers break off connections."""
 
     def messages(self, channel):
-        """Returns the messages to this channel that came."""
+        """Returns all messages to `channel` that pages have sent."""
         return [message for _, messages in self.asked for message in messages if message["channel"] == channel]
 
 
 class Visit(http.server.BaseHTTPRequestHandler):
-    """A connection of the site."""
+    """A connection to the site."""
 
     protocol_version = "HTTP/1.1"
 

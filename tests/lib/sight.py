@@ -1,14 +1,15 @@
-"""What is seen of a page: on a narrow screen, in light and dark, and read aloud."""
+"""Checks of how a page looks: on a narrow screen, in light and dark, and to a screen reader."""
 import time
 
 from base import Wrong
 from browser import emulate
 
-# What a text and its ground must differ by, as WCAG 2 reckons it: the least of small and of large text.
+# The least contrast, as WCAG 2 defines it, of small and of large text with its background.
 CONTRAST, LARGE_CONTRAST = 4.5, 3.0
-# A narrow screen in points, and how large what is pressed and the letters must be there.
+# A narrow screen, and the least sizes of fields, buttons and letters on it, in CSS pixels.
 NARROW, LEAST_TARGET, LEAST_LETTERS = (320, 640), 24, 11
-# Of each text that is shown: what it says, its contrast, and how large its letters are; of each field the same of its placeholder.
+# Returns each visible text and placeholder, with its contrast, the size of its letters in CSS
+# pixels, and whether WCAG 2 counts it as large.
 CONTRASTS = """
 const parts = (text) => { const [r, g, b, a = 1] = text.match(/[\\d.]+/g).map(Number); return [r, g, b, a]; };
 const over = ([r, g, b, a], under) => [r, g, b].map((it, at) => it * a + under[at] * (1 - a));
@@ -31,7 +32,8 @@ for (const it of document.querySelectorAll('body *')) {
 }
 return found;
 """
-# What is wider than the screen or its picture, and which fields and buttons are too small to be pressed.
+# Returns the elements that are wider than the screen or their picture, and the fields and buttons
+# that are too small.
 TOO_WIDE = """
 const shown = (selector) => [...document.querySelectorAll(selector)].filter((it) => it.getClientRects().length);
 const box = (it) => it.getBoundingClientRect();
@@ -44,7 +46,10 @@ return [...wide, ...small, ...cut, ...whole].map((it) => it.outerHTML.slice(0, 8
 
 
 def check_sight(window):
-    """Raises where a text stands out too little, in light or dark, or the page does not fit on a narrow screen."""
+    """Raises `Wrong` if texts are hard to read, or if the page does not fit on a narrow screen.
+
+    Checks contrast in light and dark colours, and the sizes of letters, fields and buttons.
+    """
     for scheme in ("light", "dark"):
         emulate(window, *NARROW, scheme)
         time.sleep(1.2)
@@ -60,7 +65,10 @@ def check_sight(window):
 
 
 def check_names(window, selectors):
-    """Raises where one of these elements has no name that is read aloud."""
+    """Raises `Wrong` if an element has no name that a screen reader can read aloud.
+
+    `selectors`: one for each element. The page must also have a language and a title.
+    """
     for selector in selectors:
         if not window.call("GET", f"/element/{window.element(selector)}/computedlabel"):
             raise Wrong(f"{selector} has no name")

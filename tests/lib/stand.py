@@ -1,4 +1,4 @@
-"""What pages are tried with: a browser, a server, a relay in front of it, and a site in front of that."""
+"""What tests of pages need: a server, a relay, a web server, and a browser."""
 import contextlib
 
 from base import TOP
@@ -7,7 +7,10 @@ from server import Relay, Server, Site
 
 
 class Stand:
-    """A server that runs, what stands in front of it, and a browser with its files in a folder."""
+    """A running server, a relay to it, a web server that uses the relay, and a browser.
+
+    A context manager that ends the server and the browser. `folder`: for the files of the browser.
+    """
 
     def __init__(self, program, folder):
         self.server = Server(program, "--shards", "4", "--timeout", "20s")
@@ -18,7 +21,7 @@ class Stand:
             stack.callback(self.server.stop)
             self.browser = Browser(folder)
             stack.callback(self.browser.end)
-            # (What was started until here is ended where something of it does not start.)
+            # If the browser does not start, the stack ends the server.
             self.ending = stack.pop_all()
 
     def __enter__(self):
@@ -29,9 +32,9 @@ class Stand:
 
     @staticmethod
     def file(page):
-        """Returns the address of a page of the examples on disk."""
+        """Returns the address of `page`, a path below examples, on disk."""
         return f"file://{TOP}/examples/{page}"
 
     def from_disk(self, page):
-        """The same where it asks the relay."""
+        """Returns the address of `page` on disk, with the relay as its server."""
         return f"{self.file(page)}?server=http://127.0.0.1:{self.relay.port}/cometd"

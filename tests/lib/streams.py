@@ -68,7 +68,7 @@ def lying_chunks(random, clients):
 
 
 def lying_length(random, clients):
-    """Returns a POST with a body that is longer or shorter than its `content-length`."""
+    """Returns a POST with a `content-length` that is not the length of its body."""
     body = document(random, clients)
     length = max(0, len(body) + random.choice((-len(body), -9, -1, 1, 9, 1000)))
     head = b"POST /cometd HTTP/1.1\r\nhost: h\r\ncontent-type: application/json\r\ncontent-length: %d\r\n\r\n"

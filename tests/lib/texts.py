@@ -1,22 +1,26 @@
-"""The rows of a text file, and the words in which they are written."""
+"""The rows of a text file, and the words in angle brackets that abbreviate longer texts."""
 import os
 import re
 from collections import namedtuple
 
 from base import TOP
 
-# What a run is about, its arguments where it names some, the script that is given, and what must be printed.
+# A run of the replay: its name, its arguments or `None` for the usual ones, its script, and its
+# expected output.
 Row = namedtuple("Row", "name arguments script expected")
 
 WORD = re.compile("<([^<>]*)>")
-# How many digits a client id has.
+# The number of hexadecimal digits of a client id.
 CLIENT = 48
-# What stands for characters that are not to be seen in a text file.
+# Words for characters that cannot be seen in a text file.
 CHARACTERS = {"space": " ", "return": "\r", "zero": "\0"}
 
 
 def read_words():
-    """Returns how many arguments each word has, and what stands for it."""
+    """Returns the words in tests/rows/words.txt and those for characters.
+
+    Each name has the number of its arguments and its text.
+    """
     found = {it: (0, character) for it, character in CHARACTERS.items()}
     with open(f"{TOP}/tests/rows/words.txt", encoding="utf-8") as file:
         for line in file.read().splitlines():
@@ -30,7 +34,10 @@ WORDS = read_words()
 
 
 def expanded(match):
-    """Returns what stands for a word and its arguments, of which the last one reaches to the end."""
+    """Returns the text for one word and its arguments. The last argument extends to the end.
+
+    Raises `ValueError` if the number of arguments is wrong.
+    """
     name, *rest = match[1].split(" ", 1)
     if name == "client":
         return rest[0].zfill(CLIENT)
@@ -44,14 +51,18 @@ def expanded(match):
 
 
 def spelled(text):
-    """Returns the text with what stands for each of its words."""
+    """Returns `text` with all words replaced by their texts."""
     while WORD.search(text):
         text = WORD.sub(expanded, text)
     return text
 
 
 def row_of(name, lines):
-    """Returns the row of this name and these lines, each of which begins with its mark."""
+    """Returns the row `name` from its lines. Each line begins with its mark.
+
+    `$` marks arguments, `>` the script, and `<` the expected output, in this order. Raises
+    `ValueError` if the lines have another form.
+    """
     parts = {"$": [], ">": [], "<": []}
     for line in lines:
         if line[1:2] not in ("", " "):
@@ -64,7 +75,7 @@ def row_of(name, lines):
 
 
 def rows_of(file):
-    """Yields the rows of a text file: a line with the name of each, and then its lines."""
+    """Yields the rows of a text file. Each begins with a line that is its name."""
     name, lines = None, []
     with open(file, encoding="utf-8", newline="\n") as text:
         for line in [*text.read().split("\n"), "the end"]:

@@ -1,22 +1,25 @@
-"""What pages say where no server answers, where it refuses, or where their address is wrong."""
+"""Tests of what pages say if no server answers, if it rejects them, or if an address is wrong."""
 from base import Wrong, free_port, until
 from browser import Window
 from sight import check_sight
 
 
-# Where a page says what is wrong.
+# The element that says what is wrong.
 TROUBLE = "#trouble:not([hidden])"
-# What a page says of a status.
+# A part of what a page says about a status.
 STATUSES = {401: "Log in", 403: "Log in", 404: "Look at the path", 429: "no more requests", 502: "Start bayeuxd", 503: "too much to do"}
 
 
 def wait_trouble(window, *words):
-    """Waits until the page says these words of what is wrong."""
+    """Waits until the page's error message contains all `words`."""
     until(f"the page says {words}", lambda: all(word in "".join(window.texts(TROUBLE)) for word in words))
 
 
 def try_statuses(stand):
-    """The page says what a status means: who is to log in is not told that no server runs."""
+    """Checks that the page explains each HTTP status, and gives no explanation of another one.
+
+    For example, a user who must log in is not asked to start a server.
+    """
     site = stand.site
     for status, wanted in STATUSES.items():
         site.status = status
@@ -33,7 +36,7 @@ def try_statuses(stand):
 
 
 def try_login(site, window):
-    """The page goes on once somebody has logged in, and says so where that ends."""
+    """Checks that the page continues after a login, and says so when the login expires."""
     site.status = 200
     window.wait_state("connected")
     site.status = 401
@@ -42,13 +45,16 @@ def try_login(site, window):
 
 
 def try_wrong_addresses(stand):
-    """With a wrong address each page says what is wrong and what to do, and goes on once somebody answers."""
+    """Checks that a page with a wrong address says what is wrong and what to do.
+
+    It continues as soon as a server answers.
+    """
     for page in ("dashboard/figures.html", "dashboard/index.html"):
         try_wrong_address(stand.browser, stand.server, stand.file(page))
 
 
 def try_wrong_address(browser, server, address):
-    """The same of one page."""
+    """Checks this for the page at `address`."""
     nobody = f"http://127.0.0.1:{free_port()}/cometd"
     for wrong, words in (("ftp://127.0.0.1/", ["is no address", "?server="]), (nobody, ["No Bayeux server answers", "Start bayeuxd"])):
         window = Window(browser, f"{address}?server={wrong}")
@@ -66,7 +72,10 @@ def try_wrong_address(browser, server, address):
 
 
 def try_refused(stand):
-    """Where the server takes no further session, the page says so, and goes on once one is gone."""
+    """Checks that the page says so if the server allows no further session.
+
+    It continues as soon as another session ends.
+    """
     stand.server.restart("--sessions", "1")
     first = Window(stand.browser, stand.from_disk("dashboard/index.html"))
     first.wait_state("connected")
@@ -79,14 +88,14 @@ def try_refused(stand):
 
 
 def try_wrong_path(stand, address):
-    """The dashboard of this nginx says that no server is where another path leads."""
+    """Checks that the dashboard of nginx says that another path leads to no server."""
     window = Window(stand.browser, f"{address}/dashboard/?server=/elsewhere")
     wait_trouble(window, "/elsewhere answers with status 404", "Look at the path")
     window.close()
 
 
 def try_other_site(stand, address):
-    """A page of another site is refused by this nginx."""
+    """Checks that nginx rejects a page of another site."""
     foreign = Window(stand.browser, stand.file(f"dashboard/index.html?server={address}/cometd"))
     foreign.wait_state("interrupted")
     foreign.close()

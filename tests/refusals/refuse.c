@@ -1,5 +1,5 @@
-/* Refuses one call for memory: that whose number REFUSE says, counted from 1. It then makes the file that REFUSE_MET names. To be
-   preloaded into a program. */
+/* A library to preload into a program. It lets one allocation fail: the one with the number in the environment variable
+   REFUSE, counted from 1. It then creates the file named in REFUSE_MET. */
 #include "../lib/memory.h"
 
 static atomic_ulong calls;

@@ -1,13 +1,13 @@
-"""Rows that are made by code, since they are too long to be written out, and arguments that are refused."""
+"""Makes the rows that are too long to be written out, and has the arguments that bayeux_replay must reject."""
 from texts import spelled
 
-# The limits: the bytes of a body, the messages of a request, and the patterns of a message.
+# The limits: bytes of a body, messages of a request, and patterns of a message.
 BODY, MESSAGES, PATTERNS = 1_048_576, 256, 64
 
 # The arguments of a record.
 RECORD = "--record .."
 
-# What is said of a word that is wrong, by its name.
+# What the error message expects of an argument, by the argument's name.
 SAID = {
     "shards": "a number from 1 to 64",
     "workers": "a number from 1 to 16",
@@ -21,7 +21,8 @@ SAID = {
     "patterns": "a number from 1 to 1024",
 }
 
-# Arguments that are refused, with one space between each two, by the first word that is wrong, or by none where there are too few or too many.
+# Arguments that must be rejected, separated by single spaces, by the name of the first wrong one.
+# By "": those that are too few or too many.
 REFUSED = {
     "": [
         "",
@@ -107,18 +108,18 @@ REFUSED = {
 
 
 def listed(text, count):
-    """Returns the text so many times, with commas between."""
+    """Returns `count` copies of `text`, separated by commas."""
     return ",".join([text] * count)
 
 
 def ends():
-    """Yields the script that has no line, and one whose last line does not end."""
+    """Yields an empty script, and one that does not end with a line end."""
     yield "a script without lines", "", ""
     yield "a last line without its end counts", "0 P []\n0 P []", "1 200 []\n2 200 []\n"
 
 
 def long_lines():
-    """Yields bodies and forms of as many bytes as may be, and more, and long lines of another form."""
+    """Yields the longest allowed bodies and forms, longer ones, and long lines of other forms."""
     for front, count, printed, *arguments in (
         ("0 P []", BODY - 2, "200 []"),
         ("0 P []", BODY - 1, "413"),
@@ -130,7 +131,7 @@ def long_lines():
         yield f"{front} and {count} spaces", f"{front}{' ' * count}\n0 P []\n", f"1 {printed}\n2 200 []\n", *arguments
     yield "a long line of another form is bad", f"{'0' * (BODY * 3)}\n0 P []\n", "1 bad\n2 200 []\n"
     yield "a long nonce is bad", f"0 N {'0' * (BODY * 3)}\n0 P []\n", "1 bad\n2 200 []\n", RECORD
-    # A place of zeros, a space, and the digits of a digest.
+    # The lines have a place of `count` zeros, a space, and a digest of 64 digits.
     for count, printed in ((BODY - 65, ""), (BODY - 64, "1 bad\n"), (BODY * 3, "1 bad\n")):
         yield f"a note with {count} digits of a place", f"A {'0' * count} {'f' * 64}\n0 P []\n", f"{printed}2 200 []\n", RECORD
 
@@ -141,7 +142,7 @@ def million_lines():
 
 
 def fronts():
-    """Yields each front of a body: it is refused whole."""
+    """Yields each proper prefix of a body: the whole request is rejected."""
     body = spelled('[{"channel":"/a/b","clientId":"<client 1>","data":1,"data":{"a" : 1.50},"id":"q"}]')
     tried = "".join(f"0 P {body[:length]}\n" for length in range(len(body)))
     refused = "".join(f"{length + 2} 400\n" for length in range(len(body)))
@@ -150,7 +151,7 @@ def fronts():
 
 
 def nested():
-    """Yields data that is nested as deep as may be, and deeper."""
+    """Yields data that is nested as deeply as allowed, and more deeply."""
     data = "[" * 125 + "]" * 125
     yield (
         "data of nested arrays",
@@ -160,7 +161,7 @@ def nested():
 
 
 def messages():
-    """Yields requests of as many messages as may be, and one more, in one document and over several."""
+    """Yields requests with the greatest number of messages, and with one more, in one document and in several."""
     ping, reply = '{"channel":"/meta/ping"}', "<refused /meta/ping 404::Unknown meta channel>"
     most, replies = listed(ping, MESSAGES), listed(reply, MESSAGES)
     yield "as many messages as may be, and one more", f"0 P [{most}]\n0 P [{most},{ping}]\n", f"1 200 [{replies}]\n2 400\n"
@@ -177,7 +178,7 @@ def messages():
 
 
 def patterns():
-    """Yields subscriptions of as many patterns as a message may have, and of more."""
+    """Yields subscriptions with the greatest number of patterns in a message, and with more."""
     most = listed('"/a"', PATTERNS)
     many, wrong = f'{most},"/meta/*"', f'{most},"a"'
     script, expected = "0 P [<handshake>]\n", "1 200 [<opened 1>]\n"
@@ -192,7 +193,7 @@ def patterns():
 
 
 def as_many_patterns(line):
-    """Returns 16 subscriptions from a line on, by which the first session has as many patterns as it may, and their replies."""
+    """Returns 16 subscriptions after which session 1 has the greatest number of patterns, and their replies from `line` on."""
     script, expected = "", ""
     for number in range(line, line + 16):
         members = '<meta subscribe 1>,"subscription":[%s]' % ",".join(f'"/{number}/{index}"' for index in range(64))
@@ -202,7 +203,10 @@ def as_many_patterns(line):
 
 
 def overflows():
-    """Yields sessions with as many events as may wait, one event more, and one pattern too many, which ends no hold and lets nothing ride."""
+    """Yields sessions with the greatest number of waiting events, with one more, and with one pattern too many.
+
+    A pattern too many ends no hold, and afterwards no events ride.
+    """
     script, expected = "0 P [<handshake>]\n0 P [<subscribe 1 /a/b>]\n", "1 200 [<opened 1>]\n2 200 [<subscribed 1 /a/b>]\n"
     for line in range(3, 7):
         script += f"0 P [{listed('<publish 1 /a/b 1>', 256)}]\n"
@@ -233,7 +237,7 @@ def overflows():
 
 
 def limits():
-    """Yields two sessions for which as many events wait as may: one more overflows that which has fetched none."""
+    """Yields two sessions for which the greatest number of events waits. One more overflows the one that has fetched none."""
     for limit in (1_025, 65_536):
         script = "0 P [<handshake>]\n0 P [<handshake>]\n0 P [<subscribe 1 /a/b>,<subscribe 2 /a/b>]\n"
         expected = "1 200 [<opened 1>]\n2 200 [<opened 2>]\n3 200 [<subscribed 1 /a/b>,<subscribed 2 /a/b>]\n"
@@ -249,7 +253,10 @@ def limits():
 
 
 def riders():
-    """Yields riders past which more events wait than go out at once, behind a connect too, and one that publishes as many events to itself."""
+    """Yields riders while more events wait than one answer carries.
+
+    One of them follows a connect in its request, and one publishes as many events to its own session.
+    """
     script = "0 P [<handshake>]\n0 P [<handshake>]\n0 P [<subscribe 1 /a/b>]\n"
     expected = "1 200 [<opened 1>]\n2 200 [<opened 2>]\n3 200 [<subscribed 1 /a/b>]\n"
     events, replies = listed("<event /a/b 1>", MESSAGES), listed("<published /a/b>", MESSAGES)
@@ -265,7 +272,7 @@ def riders():
 
 
 def crowds():
-    """Yields a rider and a connect behind so many sessions that several workers find something to do: the connect is held until its event."""
+    """Yields a rider, and a connect that is held until its event, after enough handshakes to give several workers work."""
     script = "0 P [<handshake>]\n" * 1_024
     expected = "".join(f"{line} 200 [<opened {line:x}>]\n" for line in range(1, 1_025))
     lines = (
@@ -292,7 +299,7 @@ def crowds():
 
 
 def audiences():
-    """Yields a publish that as many sessions hear as few servers have at once: the first and the last one get it."""
+    """Yields a publish to which 5,000 sessions are subscribed: the first and the last one get its event."""
     count = 5_000
     script = "0 P [<handshake>]\n" * count + "".join(f"0 P [<subscribe {number:x} /a/b>]\n" for number in range(1, count + 1))
     expected = "".join(f"{number} 200 [<opened {number:x}>]\n" for number in range(1, count + 1))
@@ -304,7 +311,7 @@ def audiences():
 
 
 def holds():
-    """Yields connects that are held at once, more than ten thousand, each behind the handshake of a session of its own."""
+    """Yields more than ten thousand connects that are held at the same time, each of its own session."""
     count = 10_001
     script = "".join(f"0 P [<handshake>]\n0 P [<connect {number:x}>]\n" for number in range(1, count + 1))
     expected = "".join(f"{2 * number - 1} 200 [<opened {number:x}>]\n" for number in range(1, count + 1))
@@ -313,7 +320,7 @@ def holds():
 
 
 def long_arrays():
-    """Yields a publish whose body is as long as may be, for an array of half a million numbers, and one that is a byte longer."""
+    """Yields a publish with the longest allowed body, an array of half a million numbers, and one that is a byte longer."""
     front, end = spelled('[{"channel":"/a/b","clientId":"<client 1>","data":['), "]}]"
     room = BODY - len(front) - len(end)
     data = listed("1", room // 2 + 1) if room % 2 else listed("1", room // 2 - 1) + ",10"
@@ -325,6 +332,9 @@ def long_arrays():
 
 
 def made():
-    """Yields the name of each row, its script and what it must print, in words, and then its arguments where it names some."""
+    """Yields each row: its name, its script, its expected output, and its arguments if it has some.
+
+    The texts may contain the words in angle brackets of words.txt.
+    """
     for part in (ends, long_lines, million_lines, fronts, nested, messages, patterns, overflows, limits, riders, crowds, audiences, holds, long_arrays):
         yield from part()

@@ -9,13 +9,13 @@ use Rattle.bx_advice.specs.declared.advice.Outcome.TheVariants.{Opened, Connecte
 abbrev pub retry : Config → Advice
 retry c = record { interval = c.interval; reconnect = Retry; timeout = Some c.timeout }
 
--- Advice to do `reconnect`, not to connect again.
+-- Advice other than to connect again: `reconnect`, without a timeout.
 abbrev pub instead : Config → Reconnect → Advice
 instead c reconnect = record { interval = c.interval; reconnect = reconnect; timeout = None }
 
--- What an error advises. If the session is unknown, has overflowed or found no room, the client
--- should handshake. If the client is not supported, it should not reconnect. Other errors advise
--- nothing. Policy of this server.
+-- What a client should do after an error, if anything. It should handshake again if its session is
+-- unknown, has overflowed or found no room, and do nothing if the server does not support it. Other
+-- errors come without advice. Policy of this server.
 abbrev pub reconnect_of : Error → Option Reconnect
 reconnect_of UnsupportedVersion = Some Never
 reconnect_of NoSupportedConnectionType = Some Never

@@ -69,8 +69,8 @@ pub fn advice_for(outcome: Outcome, config: &Config) -> Option<Advice>
     })
 }
 
-// Returns what an error advises, if anything. Most errors leave the session unchanged and need no
-// advice.
+// Returns what a client should do after `error`, if anything. Most errors leave the session
+// unchanged and need no advice.
 fn reconnect_after(error: Error) -> Option<Reconnect>
     ensures { result ≡ reconnect_of error }
 {

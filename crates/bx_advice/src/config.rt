@@ -85,8 +85,8 @@ pub struct Config {
     pub limits: Limits,
     /// Whether the reply to a request's last message also carries the session's waiting events.
     ///
-    /// This message must be a subscribe, an unsubscribe or a publish. All messages of the request
-    /// must come from one session, which must not acknowledge.
+    /// This message must be a subscription, an unsubscription or a publish. All messages of the
+    /// request must come from one session, which must not acknowledge.
     pub ride: bool,
     /// Whether a publish without a client id is accepted. It belongs to no session.
     pub anonymous: bool,
@@ -146,6 +146,15 @@ impl Config {
     /// Creates a configuration with the standard limits and without options.
     ///
     /// The times are in milliseconds. Returns `None` if `shards` is not from 1 to [`MAX_SHARDS`].
+    ///
+    /// # Examples
+    ///
+    /// ```
+    /// let config = Config::new(4, 30_000, 0, 10_000).ok_or("shards: 1 to 64")?;
+    /// assert_eq!(rt; config.shards, 4);
+    /// assert_eq!(rt; config.timeout, 30_000);
+    /// assert!(rt; Config::new(65, 30_000, 0, 10_000).is_none());
+    /// ```
     pub fn new(shards: usize, timeout: u32, interval: u32, max_interval: u32) -> Option<Config>
         ensures valid { IsSome result ↔ ((1 ≤ shards) × (shards ≤ MAX_SHARDS)) }
         ensures shards { IfSome result (λ c. c.shards ≡ shards) }

@@ -5,7 +5,7 @@ ghost use Rattle.bx_advice.specs.Options.{options_in};
 /// Features of a server that are off by default.
 #[derive(Clone, Copy, Debug, PartialEq, Eq)]
 pub struct Options {
-    /// Whether replies to subscribes, unsubscribes and publishes can carry waiting events.
+    /// Whether replies to subscriptions, unsubscriptions and publishes can carry waiting events.
     pub ride: bool,
     /// Whether publishes without a client id are accepted.
     ///

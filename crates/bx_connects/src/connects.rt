@@ -160,9 +160,9 @@ impl Connects {
         }
     }
 
-    /// Files `answer` to the rider at `place`, given by `session` at the same place.
+    /// Files `answer`, which `session` gives to the rider at `place`.
     ///
-    /// No connect or answer may be known at `place`.
+    /// The entry at `place` gives the answer. No connect or answer may be known at `place`.
     ///
     /// # Errors
     ///
@@ -183,7 +183,7 @@ impl Connects {
         Ok(())
     }
 
-    /// Replaces the events of the answer filed for `place`, if any.
+    /// Replaces the events of the answer filed for the connect or rider at `place`, if any.
     pub fn complete(&mut self, place: u64, events: Vec<SharedEvent>)
         ensures { (p : ℕ) → connect_at self.new p
             ≡ (if nat_eq place p then completed events.items (connect_at self.old place) else connect_at self.old p) }
@@ -215,7 +215,7 @@ impl Connects {
         Some(session)
     }
 
-    /// Takes the answer filed for `place`, if any.
+    /// Takes the answer filed for the connect or rider at `place`, if any.
     pub fn take(&mut self, place: u64) -> Option<Answer>
         ensures answer { result ≡ filed_answer (connect_at self.old place) }
         ensures taken { (p : ℕ) → connect_at self.new p

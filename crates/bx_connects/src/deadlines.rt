@@ -10,7 +10,7 @@ pub(crate) type Hold = (u64, u64, u64);
 
 /// The holds of a shard, ordered by deadline.
 ///
-/// A tick looks only at the holds that end, and at one more.
+/// A tick examines only the holds that it ends, and at most one more.
 #[derive(Drop)]
 pub(crate) struct Deadlines {
     holds: BTreeSet<Hold>,
@@ -48,7 +48,7 @@ impl Deadlines {
         self.holds.remove(&hold);
     }
 
-    /// Returns the first hold to end, if its deadline is at or before `moment`.
+    /// Returns the hold with the earliest deadline, if that is at or before `moment`.
     pub(crate) fn first_due(&self, moment: u64) -> Option<Hold>
         ensures due { IfSome result (λ hold. hold.0 ≤ moment) }
         ensures noted { IfSome result (λ hold. is_noted self.now hold ≡ true) }

@@ -122,7 +122,7 @@ impl HeldConnects {
         Some(held)
     }
 
-    /// Returns the first hold to end, if its deadline is at or before `moment`.
+    /// Returns the hold with the earliest deadline, if that is at or before `moment`.
     pub(crate) fn first_due(&self, moment: u64) -> Option<Hold>
         ensures due { IfSome result (λ hold. hold.0 ≤ moment) }
         ensures held { IfSome result (λ hold. is_held_until (hold_at self.now hold.1) hold.2 hold.0 ≡ true) }

@@ -3,10 +3,12 @@ use futures::task::Waker;
 
 /// The result of registering a waker with a connect.
 ///
-/// `Ready`, `Unknown` and `Shut` return the waker itself.
+/// `Ready`, `Unknown` and `Shut` return the waker that was to be registered.
 #[derive(Drop)]
 pub enum Watch {
-    /// The waker is stored. Returns the one that it replaces, if any. Dropping that wakes its task.
+    /// The waker is stored. Returns the earlier waker that it replaces, if any.
+    ///
+    /// Dropping the earlier waker wakes its task.
     Stored(Option<Waker>),
     /// The answer is filed and can be taken.
     Ready(Waker),

@@ -24,8 +24,8 @@ pub data Scan : Type 0 where
   quoted : Scan
   escaped : Scan
 
--- The length of an array or object from here through its closing bracket, in bytes. Inside it,
--- `depth` further brackets are open.
+-- The length of the rest of an array or object, through its closing bracket, in bytes. The list
+-- begins inside it, where `depth` more brackets are open.
 unfoldable pub nest_len : Scan → ℕ → List ℕ → ℕ
 nest_len m depth [] = 0
 nest_len outside depth (x ∷ xs) =
@@ -33,8 +33,8 @@ nest_len outside depth (x ∷ xs) =
 nest_len quoted depth (x ∷ xs) = 1 + cond (x == ascii.quote) (nest_len outside depth xs) (cond (x == ascii.backslash) (nest_len escaped depth xs) (nest_len quoted depth xs))
 nest_len escaped depth (x ∷ xs) = 1 + nest_len quoted depth xs
 
--- The length of the value at the start of a text, in bytes. It is a string, an array, an object, a
--- number or a literal.
+-- The length of the value at the start of a text, in bytes. The value is a string, an array, an
+-- object, a number or a literal.
 unfoldable pub value_len : List ℕ → ℕ
 value_len [] = 0
 value_len (x ∷ xs) = cond (x == ascii.quote) (1 + span in_string xs) (cond (opens x) (1 + nest_len outside 0 xs) (prefix_len is_word_byte (x ∷ xs)))
@@ -49,7 +49,7 @@ begins_with b (x ∷ xs) = x == b
 unfoldable pub after_first : ℕ → List ℕ → Option (List ℕ)
 after_first b t = cond (begins_with b t) (Some (drop 1 t)) None
 
--- The rest after the byte `b`, if it comes next after whitespace.
+-- The rest after whitespace and the byte `b`, if the text begins with them.
 abbrev pub past_byte : ℕ → List ℕ → Option (List ℕ)
 past_byte b t = after_first b (past_blank t)
 
@@ -79,7 +79,8 @@ pub record IsRest (rest text : List ℕ) : Type 0 where
 
 -- ---- Parts separated by commas
 
--- The parts and the rest. The last part has no comma after it, or no part after its comma.
+-- The parts at the start of a text, and the rest. `split` splits off one part. The last part has no
+-- comma after it, or no part after its comma.
 -- The number in `separated` limits the recursion; the text's length is always enough.
 module _ {A : Type 0} (split : List ℕ → Option (A × List ℕ)) where
   abbrev pub then_more : (List ℕ → List A × List ℕ) → List ℕ → Option (List ℕ) → List A × List ℕ

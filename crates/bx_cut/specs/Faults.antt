@@ -13,7 +13,8 @@ abbrev pub all_objects : Items → Bool
 all_objects no_items = true
 all_objects (item d ds) = is_some (as_object d) && all_objects ds
 
--- The fault of an array with these elements. `None` is any other value, except an object.
+-- The fault of an array with these elements, if any. `None` stands for a value that is neither an
+-- array nor an object.
 abbrev pub array_fault : Option Items → Option CutError
 array_fault None = Some NotObject
 array_fault (Some ds) = cond (all_objects ds) (cond (nat_lt MAX_MESSAGES (items_len ds)) (Some TooMany) None) (Some NotObject)

@@ -20,8 +20,9 @@ EndsBare t = (front : List ℕ) (last : ℕ) → t ≡ front ++ (last ∷ []) �
 abbrev pub IsBare : List ℕ → Type 0
 IsBare t = BeginsBare t × EndsBare t
 
--- The text of `o` reads as `d`, and its members are those of the text. The value of each name reads
--- as what `get` finds. Neither the text nor a value has whitespace around it.
+-- The text of `o` parses as `d`, and the members of `o` are those of its text. For each name, the
+-- value of the last such member parses as the one that `get` finds in `d`. Neither the text nor a
+-- value has whitespace around it.
 pub record IsObjectOf (o : Object) (d : Data) : Type 0 where
   pub reads : read o.0 ≡ Some d
   pub trim : IsBare o.0
@@ -66,8 +67,8 @@ IsBlank w = prefix_len is_space w ≡ length w
 abbrev pub IsShut : List ℕ → Type 0
 IsShut t = (w : List ℕ) × (rest : List ℕ) × (t ≡ w ++ (93 ∷ rest)) × IsBlank w × IsBlank rest
 
--- The messages come in order, up to the closing bracket. Only whitespace is before the first one,
--- and only a comma and whitespace before each other one.
+-- The messages are in order, followed by the closing bracket. Before the first message is only
+-- whitespace, and before each later one only a comma and whitespace.
 abbrev mutual
   pub StandsIn : List Object → List ℕ → Type 0
   StandsIn [] t = IsShut t

@@ -65,12 +65,22 @@ impl<'a> Document<'a> {
     ///
     /// - `NotJson`, `NotObject`, `TooMany`: the first that applies.
     /// - `Memory`: memory ran out, whether the body is valid or not.
+    ///
+    /// # Examples
+    ///
+    /// ```
+    /// let document = Document::read(alloc, br#"[{"channel":"/chat/hall","data":1}]"#)?;
+    /// let message = document.pieces().first().ok_or("no message")?;
+    /// assert_eq!(rt; document.pieces().len(), 1);
+    /// assert_eq!(rt; message.member("channel"), Some(r#""/chat/hall""#));
+    /// assert_eq!(rt; message.member("id"), None);
+    /// ```
     pub fn read(alloc: Global, body: &'a [u8]) -> Result<Document<'a>, CutError>
         ensures ok { OnOk result (fault body.now ≡ None) }
         ensures fault { IfErr result (λ e. e ≢ CutError.Memory → fault body.now ≡ Some e) }
         ensures pieces { IfOk result (λ document. document ≡ pieces body.now) }
 
-        // Each piece reads as its element, and `member` finds in it what `get` finds in that.
+        // Each message parses as its element of the body, and has the same members.
         ensures reads { IfOk result (λ document. (d : Data) → read body.now ≡ Some d
             → ArePiecesOf document d) }
         ensures order { IfOk result (λ document. LieIn document body.now) }

@@ -28,7 +28,7 @@ pub(crate) fn past_blank(text: &str) -> &str
     text.split_at(blank_len(text)).1
 }
 
-// Returns the rest of `text` after `byte`, if it comes first, except for whitespace.
+// Returns the rest of `text` after whitespace and `byte`, or `None` if it does not begin with them.
 pub(crate) fn past(text: &str, byte: u8) -> Option<&str>
     requires { byte < 128 }
     ensures value { option_map (λ rest. rest.now) result ≡ past_byte byte text.now }

@@ -21,19 +21,18 @@ added_by (Request moment nonce ms) = request moment nonce ms
 added_by (Unread fault) = []
 added_by (Tick moment) = messages.Tick moment ∷ []
 
--- Why an input at `moment` that makes the list `end` long is rejected, if it is: its moment is too
--- large or, otherwise, the list would be too long.
+-- Why an input at `moment` is rejected, if the list would have length `end` after it. The moment is
+-- tested first, then the length. `None` if neither is too large.
 abbrev pub refused_beyond : ℕ → ℕ → Option Refusal
 refused_beyond moment end = first_case ((nat_lt greatest_moment moment, BadMoment) ∷ (nat_lt greatest_length end, Ended) ∷ [])
 
--- Why an input is rejected, if it is, when the list has length `len`.
+-- Why an input is rejected if the list has length `len` before it, or `None` if it is admitted.
 abbrev pub refusal_of : ℕ → ReadInput → Option Refusal
 refusal_of len (Request moment nonce ms) = refused_beyond moment (len + length ms)
 refusal_of len (Unread fault) = Some (Body fault)
 refusal_of len (Tick moment) = refused_beyond moment (len + 1)
 
--- The fault that a program may report: the refusal, if there is one, and otherwise that memory ran
--- out.
+-- The fault that a program may report: the refusal or, only if there is none, that memory ran out.
 abbrev pub IsFault : Option Refusal → AdmitFault → Type 0
 IsFault refusal (Refused r) = refusal ≡ Some r
 IsFault refusal Memory = refusal ≡ None

@@ -199,7 +199,7 @@ extended number due sessions = map (λ (r : Registered). if r.number == number t
 abbrev pub closed : ℕ → List Registered → List Registered
 closed number sessions = map (λ (r : Registered). if r.number == number then record r { live = false } else r) sessions
 
--- Whether a tick at `moment` closes a session: the session is live and was due before.
+-- Whether a tick at `moment` closes a session: the session is live and was due before `moment`.
 abbrev pub is_overdue : ℕ → Registered → Bool
 is_overdue moment r = r.live && nat_lt r.due moment
 

@@ -301,7 +301,7 @@ ride_filing config place reply s = record { connect = place; place = place; publ
 abbrev pub ridden : Config → ℕ → Reply → Session → Session
 ridden config place reply s = record (forgotten (ride_portion config s) s) { answers = s.answers ++ ride_filing config place reply s ∷ [] }
 
--- Whether the session is live and the rider is its own.
+-- Whether the session is live and the rider belongs to it.
 abbrev pub is_riding : Rider → Session → Bool
 is_riding rider s = (rider.session == s.number) && is_live s.stage
 

@@ -91,8 +91,8 @@ pub struct Batch {
 
 /// The place and the shard under which the answer to a connect or a rider is filed.
 ///
-/// If sessions are redistributed, the answer may move to another shard. Its ticket then names the
-/// wrong one.
+/// If the sessions are redistributed, the answer may move to another shard. The ticket then names
+/// the wrong shard.
 #[derive(Clone, Copy, Debug, PartialEq, Eq)]
 pub struct Ticket {
     /// The message's place in the list.

@@ -51,7 +51,7 @@ impl Listing {
         }
     }
 
-    /// Appends `messages`, which are one request's, with its `moment` and `nonce`.
+    /// Appends the messages of a request that arrived at `moment` and has the nonce `nonce`.
     pub fn post(&mut self, moment: u64, nonce: u128, messages: &[Message])
         ensures { self.new ≡ self.old ++ elements.request moment nonce messages.now }
     {

@@ -7,9 +7,9 @@ ghost use Rattle.bx_entry.specs.Registry.{is_one, joined};
 pub enum Senders {
     /// No message has been judged yet.
     NoneYet,
-    /// All are accepted messages of this session.
+    /// All messages were accepted and come from this session.
     Only(u64),
-    /// A message is rejected, is a handshake, or has no session or another one.
+    /// Some message was rejected, is a handshake, has no session, or comes from another session.
     Mixed,
 }
 

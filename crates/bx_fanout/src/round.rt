@@ -75,6 +75,25 @@ impl<P: Placing> Round<P> {
     ///
     /// `Memory` if memory runs out, with the number of `inputs` that were started. The next run,
     /// even one without inputs, appends their remaining outs. No out is appended twice.
+    ///
+    /// # Examples
+    ///
+    /// ```
+    /// let workers = WorkerCount::new(2).ok_or("workers: 1 to 16")?;
+    /// let mut round = Round::new(alloc, config, placing, workers)?;
+    /// let arrival = Arrival {
+    ///     moment: 0,
+    ///     nonce: 0,
+    ///     door: Door::Publishers,
+    ///     bodies: Bodies::Whole(br#"{"channel":"/meta/ping"}"#.to_vec(alloc)?),
+    /// };
+    /// let inputs = [Input::Post(arrival), Input::Tick(100)];
+    /// let mut outs = Vec::new(alloc);
+    /// round
+    ///     .run(&rt, alloc, &OpenGate, &inputs, &mut outs)
+    ///     .map_err(|_| "out of memory")?;
+    /// assert_eq!(rt; outs.len(), 2);
+    /// ```
     pub fn run<R: Threads + Sync, G: Gate + Sync>(
         &mut self,
         rt: &R,

@@ -140,6 +140,22 @@ impl<J: Naming, P: Placing, G: Gate + Drop, R: Wait + Drop> Hub<J, P, G, R> {
     /// Locks admission, then each shard in turn. Tasks are woken after their shard is unlocked, or
     /// before if memory runs out. If the window is full, all of this also happens while admission
     /// is locked. Trimming takes all locks again.
+    ///
+    /// # Examples
+    ///
+    /// ```
+    /// let mut pass = hub.pass();
+    /// let receipt = hub
+    ///     .post(rt, alloc, &mut pass, connect)
+    ///     .map_err(|_| "rejected")?;
+    /// let Some(Slot::Waiting(ticket)) = receipt.slots.as_slice().first() else {
+    ///     return Err(Fail::from("answered at once"));
+    /// };
+    /// let answer = hub
+    ///     .poll_answer(rt, alloc, &mut pass, *ticket)
+    ///     .map_err(|_| "stopped")?;
+    /// assert!(rt; answer.is_none());
+    /// ```
     pub fn post<W: Wait>(
         &self,
         rt: &W,

@@ -16,12 +16,12 @@ object members = 123 ∷ (join_with_byte 44 members ++ 125 ∷ [])
 abbrev pub array : List (List ℕ) → List ℕ
 array values = 91 ∷ (join_with_byte 44 values ++ 93 ∷ [])
 
--- A member with the sender's bytes as its value, if any.
+-- The member `name` with the sender's bytes as its value, or no member if there are no bytes.
 abbrev pub raw_member : List ℕ → Option (List ℕ) → List (List ℕ)
 raw_member name None = []
 raw_member name (Some value) = member name value ∷ []
 
--- A member with a text as its value, if any.
+-- The member `name` with a text as its value, or no member if there is no text.
 abbrev pub text_member : List ℕ → Option (List ℕ) → List (List ℕ)
 text_member name None = []
 text_member name (Some text) = member name (quoted text) ∷ []

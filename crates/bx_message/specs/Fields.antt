@@ -53,7 +53,7 @@ abbrev pub listed_texts : Option (List ℕ) → List (List ℕ)
 listed_texts None = []
 listed_texts (Some json) = texts_among (elements json)
 
--- The text that a value is, or the texts among its elements.
+-- The text, if a value is one, or the texts among its elements, if it is an array.
 abbrev pub subscribed_texts : Option (List ℕ) → List (List ℕ)
 subscribed_texts None = []
 subscribed_texts (Some json) = option_map_or (λ text. text ∷ []) (spelled json) (texts_among (elements json))

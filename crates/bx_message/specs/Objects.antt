@@ -27,7 +27,7 @@ separator o = if o.is_empty then [] else 44 ∷ []
 abbrev pub with_name : OpenObject → List ℕ → List ℕ
 with_name o name = o.text ++ (separator o ++ (quoted name ++ 58 ∷ []))
 
--- The object after the value of a member, with the bytes `text` so far.
+-- The object after a member was written. `text`: the bytes so far.
 abbrev pub resumed : List ℕ → OpenObject
 resumed text = record { text = text; is_empty = false }
 

@@ -11,7 +11,8 @@ client_for Publish client = None
 client_for UnknownMeta client = None
 client_for _ client = client
 
--- The subscription in a reply. Only subscribes and unsubscribes have it, even if they are rejected.
+-- The `subscription` in a reply. Only replies to subscriptions and unsubscriptions have it, even if
+-- the message is rejected.
 abbrev pub subscription_for : MessageKind → Option (List ℕ) → Option (List ℕ)
 subscription_for Subscribe subscription = subscription
 subscription_for Unsubscribe subscription = subscription

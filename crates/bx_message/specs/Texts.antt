@@ -11,7 +11,7 @@ use Rattle.bx_message.specs.declared.{message_kind.MessageKind.MessageKind, repl
 use Rattle.bx_message.specs.declared.reply.Item.TheVariants.{EventItem, ReplyItem}
 use Rattle.bx_message.specs.declared.reply.AckReply.TheVariants.{NoAck, AckTrue, AckNumber}
 
--- A member with a number as its value, if any.
+-- The member `name` with a number as its value, or no member if there is no number.
 abbrev pub number_member : List ℕ → Option ℕ → List (List ℕ)
 number_member name None = []
 number_member name (Some n) = member name (decimal n) ∷ []

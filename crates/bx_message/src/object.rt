@@ -12,7 +12,9 @@ use json::Writer;
 use std::alloc::AllocError;
 use std::marker::Model;
 
-/// The name of a member that this server writes, in JSON with a lower-case first letter.
+/// The name of a member that this server writes.
+///
+/// In JSON, its first letter is in lower case.
 #[derive(Clone, Copy, Debug)]
 pub enum Name {
     Ack,
@@ -212,7 +214,7 @@ fn push_plain(out: &mut Vec<u8>, text: &str) -> Result<(), AllocError>
     Ok(())
 }
 
-// Appends a string with escapes. `Writer` fills the spare room of its buffer, so it gets its own.
+// Appends a string with escapes. Uses a new buffer, since `Writer` fills the spare room of its own.
 fn push_escaped(out: &mut Vec<u8>, text: &str) -> Result<(), AllocError>
     ensures { OnOk result (out.new.items ≡ out.old.items ++ quoted text.now) }
 {

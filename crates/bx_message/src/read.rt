@@ -15,7 +15,7 @@ use std::alloc::{AllocError, AllocFailed, Global};
 /// Why a message cannot be parsed.
 #[derive(Clone, Copy, Debug, PartialEq, Eq)]
 pub enum MessageError {
-    /// It has no `channel`, or one that is not a string.
+    /// The message has no `channel`, or one that is not a string.
     NoChannel,
     /// Memory ran out.
     Memory,

@@ -4,9 +4,8 @@ ghost use Rattle.bx_message.specs.Statuses.{code_of};
 
 /// An HTTP status that this server responds with.
 ///
-/// Each type of errors has a function that returns their statuses.
-///
-/// The choice of statuses is a policy of this server.
+/// Error types of requests have a method `status`. The choice of statuses is a policy of this
+/// server.
 #[derive(Clone, Copy, Debug, PartialEq, Eq)]
 pub enum Status {
     /// 200

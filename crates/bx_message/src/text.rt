@@ -12,7 +12,7 @@ use std::sync::ArcStr;
 enum Stored {
     // In memory that its clones share.
     Shared(ArcStr),
-    // In the program: the channel of connects.
+    // In the program itself: the text is `/meta/connect`, the channel of connects.
     Connect,
 }
 

@@ -7,7 +7,7 @@ use Rattle.bx_names.specs.declared.error.NameError.{NameError}
 use Rattle.bx_names.specs.declared.error.NameError.TheVariants.{NoSlash, EmptySegment, BadByte, Wild, TooLong, TooDeep}
 use Rattle.bx_names.specs.declared.limits.TheConstants.{MAX_NAME_BYTES, MAX_NAME_SEGMENTS}
 
--- The error of the first case of a table that has a true test.
+-- The error of the first case with a true test, if any. A case is a test and its error.
 abbrev pub first_case : {E : Type 0} → List (Bool × E) → Option E
 first_case [] = None
 first_case (c ∷ cs) = if c.0 then Some c.1 else first_case cs
@@ -28,8 +28,8 @@ is_star byte = byte == 42
 abbrev pub has_star : List ℕ → Bool
 has_star = list_any is_star
 
--- The first fault of a path, in this order. The segments `own` may not contain `*`. They are those
--- of a name, or those of a pattern without its wildcard.
+-- The first fault of a path, if any, in this order. `own`: the segments that must not contain `*`,
+-- which are those of a name, or those of a pattern without its wildcard.
 abbrev pub path_fault : List ℕ → List (List ℕ) → Option NameError
 path_fault text own = first_case (
     (not (is_absolute text), NoSlash)
@@ -40,11 +40,11 @@ path_fault text own = first_case (
     ∷ (nat_lt MAX_NAME_SEGMENTS (length (segments text)), TooDeep)
     ∷ [])
 
--- The first fault of a channel name, an absolute path without `*`.
+-- The first fault of a text as a channel name, which is an absolute path without `*`.
 abbrev pub name_fault : List ℕ → Option NameError
 name_fault text = path_fault text (segments text)
 
--- The first fault of a pattern, an absolute path without `*` except for its wildcard.
+-- The first fault of a text as a pattern, which is an absolute path with `*` only in its wildcard.
 abbrev pub pattern_fault : List ℕ → Option NameError
 pattern_fault text = path_fault text (glob_of (segments text)).segments
 

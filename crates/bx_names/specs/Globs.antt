@@ -18,11 +18,11 @@ last_segment [] = []
 last_segment (s ∷ []) = s
 last_segment (s ∷ t ∷ ts) = last_segment (t ∷ ts)
 
--- The wildcard that a last segment is, if any.
+-- The wildcard that a pattern with this last segment has, if any.
 abbrev pub tail_of : List ℕ → Tail
 tail_of segment = if bytes_eq segment (codes "*") then One else (if bytes_eq segment (codes "**") then Many else Exact)
 
--- The pattern with segments `ss` and this wildcard. If there is one, it is the last segment.
+-- The pattern with all segments `ss`. If it has a wildcard, the wildcard is the last of them.
 abbrev pub ending_in : Tail → List (List ℕ) → Glob
 ending_in Exact ss = record { segments = ss; tail = Exact }
 ending_in One ss = record { segments = take (length ss - 1) ss; tail = One }
@@ -62,8 +62,9 @@ same_glob p q = same_segments p.segments q.segments && same_tail p.tail q.tail
 
 -- ---- Matching
 
--- Whether a pattern with this wildcard and segments `own` matches `name`. Without a wildcard, they
--- must be equal. With `*`, the name has one more segment, and with `**` at least one more.
+-- Whether a pattern with this wildcard and the other segments `own` matches `name`. Without a
+-- wildcard, `name` must equal `own`. Otherwise it must begin with `own` and have one more segment
+-- for `*`, and one or more for `**`.
 abbrev pub matches_by : Tail → List (List ℕ) → List (List ℕ) → Bool
 matches_by Exact own name = same_segments own name
 matches_by One own name = (length name == length own + 1) && starts_with bytes_eq name own

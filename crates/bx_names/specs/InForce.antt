@@ -7,10 +7,10 @@ use Rattle.bx_names.specs.Globs.{Glob, same_glob}
 abbrev pub in_force : List Glob → Glob → Bool
 in_force patterns p = list_any (same_glob p) patterns
 
--- The patterns followed by `p`, or the same ones if it is already active.
+-- The patterns followed by `p`, or unchanged if `p` is already active.
 abbrev pub with_pattern : List Glob → Glob → List Glob
 with_pattern patterns p = if in_force patterns p then patterns else patterns ++ p ∷ []
 
--- The patterns without `p`, or the same ones if it is not active.
+-- The patterns without `p`, or unchanged if `p` is not active.
 abbrev pub without_pattern : List Glob → Glob → List Glob
 without_pattern patterns p = filter (λ q. not (same_glob p q)) patterns

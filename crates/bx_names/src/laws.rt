@@ -15,7 +15,7 @@ pub fn exact_pattern_matches_one_name(pattern: &Pattern, name: &ChannelName)
     ensures { IsTrue (matches pattern.now name.now) ↔ (name.now ≡ pattern.now.segments) }
 {}
 
-/// Proves that a pattern with `*` matches exactly the names of its segments and one more.
+/// Proves that a pattern with `*` matches exactly the names with its segments and one more.
 #[tactic(auto, using(crate::proofs::MatchLemmas::one_decides))]
 pub fn star_matches_one_more_segment(pattern: &Pattern, name: &ChannelName)
     requires { pattern.now.tail ≡ One }
@@ -24,7 +24,7 @@ pub fn star_matches_one_more_segment(pattern: &Pattern, name: &ChannelName)
         × (take (length pattern.now.segments) name.now ≡ pattern.now.segments)) }
 {}
 
-/// Proves that a pattern with `**` matches exactly the names of its segments and one or more.
+/// Proves that a pattern with `**` matches exactly the names that continue its segments.
 #[tactic(auto, using(crate::proofs::MatchLemmas::many_decides))]
 pub fn double_star_matches_any_longer_name(pattern: &Pattern, name: &ChannelName)
     requires { pattern.now.tail ≡ Many }
@@ -32,7 +32,7 @@ pub fn double_star_matches_any_longer_name(pattern: &Pattern, name: &ChannelName
         ↔ ((rest : List (List ℕ)) × (0 < length rest) × (name.now ≡ pattern.now.segments ++ rest)) }
 {}
 
-/// Proves that `/a/*` matches exactly the names of `/a/**` with one segment after `/a`.
+/// Proves that `/a/*` matches the names that `/a/**` matches with just one segment after `/a`.
 pub fn stars_differ_on_depth(one: &Pattern, many: &Pattern, name: &ChannelName)
     requires one { one.now.tail ≡ One }
     requires many { many.now.tail ≡ Many }

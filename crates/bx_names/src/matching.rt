@@ -1,4 +1,4 @@
-//! Matching of patterns with channel names.
+//! Matching of channel names against patterns.
 ghost use Rattle.std.specs.Prelude.{◌≡◌, ◌==◌, ◌&&◌, length};
 ghost use Rattle.bx_names.specs.Segments.{is_absolute, segments};
 ghost use Rattle.bx_names.specs.Globs.{matches};

@@ -46,6 +46,16 @@ impl Pattern {
     /// # Errors
     ///
     /// The first [`NameError`] that applies. `Memory` occurs only if `text` is a pattern.
+    ///
+    /// # Examples
+    ///
+    /// ```
+    /// let pattern = Pattern::read(alloc, "/chat/*")?;
+    /// let hall = ChannelName::read(alloc, "/chat/hall")?;
+    /// let table = ChannelName::read(alloc, "/chat/hall/table")?;
+    /// assert!(rt; matches(&pattern, &hall));
+    /// assert!(rt; !matches(&pattern, &table));
+    /// ```
     pub fn read(alloc: Global, text: &str) -> Result<Pattern, NameError>
         ensures valid { OnOk result (pattern_fault text.now ≡ None) }
         ensures pattern { IfOk result (λ pattern. pattern ≡ glob_of (segments text.now)) }

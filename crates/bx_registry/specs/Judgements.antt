@@ -43,7 +43,7 @@ pub record IsRidden (setup : Setup) (place : ℕ) (rider : Option Rider) (answer
 abbrev pub has_fault : List (List ℕ) → Bool
 has_fault texts = list_any (λ text. is_some (pattern_fault text)) texts
 
--- The patterns of a subscribe or an unsubscribe, and the channel of a publish, are valid.
+-- The patterns of a subscription or an unsubscription, and the channel of a publish, are valid.
 abbrev pub AreReadable : MessageKind → Message → Type 0
 AreReadable message_kinds.Subscribe message = has_fault message.texts ≡ false
 AreReadable message_kinds.Unsubscribe message = has_fault message.texts ≡ false

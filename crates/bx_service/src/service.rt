@@ -54,6 +54,18 @@ impl<S: Drop> BayeuxService<S, ()> {
     /// # Errors
     ///
     /// `AllocError` if memory runs out.
+    ///
+    /// # Examples
+    ///
+    /// ```
+    /// let backend = HubBackend::new(rt, alloc, hub, Door::Publishers, clock, nonces);
+    /// let service = BayeuxService::new(alloc, backend)?;
+    /// let mut exchange = service.call(request);
+    /// let Poll::Ready(Ok(response)) = task.poll(&mut exchange) else {
+    ///     return Err(Fail::from("no response"));
+    /// };
+    /// assert_eq!(rt; response.status().as_u16(), 200);
+    /// ```
     pub fn new(alloc: Global, backend: S) -> Result<BayeuxService<S>, AllocError>
         ensures backend { IfOk result (λ service. arc_value service.backend ≡ backend) }
         ensures limit { IfOk result (λ service. service.limit ≡ BODY_LIMIT) }

@@ -45,9 +45,10 @@ impl<O: Observer> Outlook<O> {
         })
     }
 
-    /// Reports a new request, whose end is reported when the result is dropped.
+    /// Reports a new request. Dropping the result reports the request's end.
     ///
-    /// If the observer cannot be cloned, the request gets no response, which is reported at once.
+    /// If the observer cannot be cloned, reports at once that the request ended without a response.
+    /// The caller then must not answer it.
     pub(crate) fn ask(&self) -> Watch<O> {
         self.observer.see(Event::Asked);
         let observer = Arc::try_clone(&self.observer).ok();

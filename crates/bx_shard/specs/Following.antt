@@ -29,7 +29,7 @@ rider_in sessions e = option_and_then (λ (r : Rider). if is_some (sessions r.se
 abbrev pub unridden : Rider → Answer
 unridden rider = record { events = []; reply = rider.reply }
 
--- A session after a rider gets waiting events, at most one batch.
+-- A session after the answer to a rider got its waiting events, at most one batch.
 abbrev pub given_up : Config → Kept → Kept
 given_up config k = after (forgotten (ride_portion config (resumed k))) k
 

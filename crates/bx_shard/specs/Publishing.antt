@@ -1,4 +1,4 @@
--- How an event is delivered to one session after another.
+-- How an event is delivered to one session after another, in a parcel for each.
 use Rattle.std.specs.Prelude.{ℕ, ◌≡◌, ◌&&◌, nat_eq, true, false, List, [], ◌∷◌, Bool, Some, map, option_map, IfSome, if◌then◌else◌}
 use Rattle.bx_names.specs.Words.{Glob, any_matches, segments, is_broadcast}
 use Rattle.bx_advice.specs.declared.config.Config.{Config}
@@ -23,7 +23,7 @@ reaches e patterns = is_broadcast e.channel && any_matches patterns (segments e.
 abbrev pub numbers_of : List Parcel → List ℕ
 numbers_of xs = map (λ (x : Parcel). x.number) xs
 
--- The session has room for the event. The parcel has a clone if the session needs one.
+-- The parcel's session has room for the event. The parcel has a clone if the session needs one.
 pub record IsPacked (s : Sessions) (x : Parcel) : Type 0 where
   pub room : HasRoom s x.number
   pub further : IfSome (kept_in s x.number) (λ (k : Kept). wants_two k ≡ true → x.further ≡ Some x.event)

@@ -14,7 +14,7 @@ use Rattle.bx_shard.specs.declared.sessions.Sessions.{Sessions}
 abbrev pub kept_in : Sessions → ℕ → Option Kept
 kept_in s n = option_map (λ (x : WithRoom). x.kept) (lookup (nat_eq n) s.by_number.entries)
 
--- The patterns that the tree has for session `n`.
+-- The patterns of session `n` in the shard's tree of patterns.
 abbrev pub patterns_in : Sessions → ℕ → List Glob
 patterns_in s n = patterns_of s.tree n
 
@@ -28,8 +28,8 @@ AreCountable s = (n : ℕ) → IfSome (kept_in s n) Countable
 
 -- ---- Invariants
 
--- The session is live and stored under its number. The tree has its patterns, none after an
--- overflow.
+-- The session is live and stored under its number. The tree has its patterns. After an overflow,
+-- there are none.
 pub record IsOwn (n : ℕ) (k : Kept) (patterns : List Glob) : Type 0 where
   pub number : k.number ≡ n
   pub live : k.stage ≡ Live

@@ -13,10 +13,10 @@ use bx_session::PendingConnect;
 use std::alloc::{AllocError, Global};
 
 impl Sessions {
-    /// Applies an entry, and answers its rider last.
+    /// Applies `entry`, and answers its rider last.
     ///
-    /// `stands`: whether a session that `entry` opens belongs to this shard. Moves the wakers of
-    /// connects that it answers or forgets to `wakers`. On error, no session or connect has
+    /// `stands`: whether a session that `entry` opens belongs to this shard. If `entry` answers or
+    /// removes held connects, their wakers move to `wakers`. On error, no session or connect has
     /// changed.
     pub(crate) fn follow(
         &mut self,
@@ -50,7 +50,7 @@ impl Sessions {
         Ok(())
     }
 
-    // Applies an entry without its rider.
+    // Applies `entry` without its rider.
     fn follow_alone(
         &mut self,
         alloc: Global,

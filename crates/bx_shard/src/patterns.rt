@@ -65,9 +65,9 @@ impl Sessions {
         session.unsubscribe(patterns, gone);
     }
 
-    /// Delivers a parcel to its session, which must not have overflowed.
+    /// Delivers `parcel` to its session, which must not have overflowed.
     ///
-    /// If the session overflows, removes all its patterns. Moves the waker of an answered connect
+    /// `place`: that of the publish. If the session overflows, removes all its patterns. Moves the waker of an answered connect
     /// to `wakers`.
     #[tactic(auto, using(crate::proofs::Receiving::received_patterns, crate::proofs::Receiving::received_hold))]
     pub(crate) fn receive(&mut self, place: u64, parcel: Parcel, wakers: &mut Wakers)

@@ -73,8 +73,9 @@ impl Sessions {
 
     /// Answers or holds `connect`, if session `number` is in this shard.
     ///
-    /// No connect or answer may be known at the place of `connect`. Moves the waker of a superseded
-    /// connect to `wakers`. On error, no session or connect has changed.
+    /// `acked`: the batch number that the connect acknowledges, if any. No connect or answer may be
+    /// known at the place of `connect`. Moves the waker of a superseded connect to `wakers`. On
+    /// error, no session or connect has changed.
     pub(crate) fn connect(
         &mut self,
         alloc: Global,
@@ -121,7 +122,7 @@ impl Sessions {
 
     /// Reserves room for `event` in session `number`, and clones it if it is to be sent and kept.
     ///
-    /// Returns the clone. A session that is not in this shard needs neither. On error, no session
+    /// Returns the clone. Does nothing if the session is not in this shard. On error, no session
     /// has changed.
     pub(crate) fn reserve(
         &mut self,

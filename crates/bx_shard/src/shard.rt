@@ -15,7 +15,7 @@ use indexmap::IndexMap;
 use std::alloc::{AllocError, Global};
 use std::sync::Arc;
 
-/// One shard of the server.
+/// One shard of the server, with sessions placed by a `P`.
 ///
 /// Holds the live sessions that are placed in it, their patterns and held connects, and the filed
 /// answers that are not taken yet. It applies the entries of the list in order, independently of
@@ -93,9 +93,9 @@ impl<P: Placing> Shard<P> {
     /// `entry.place` must be [`place`](Self::place), and less than 2^62. Disconnects, rejected
     /// messages, ticks, and unsubscriptions that are not riders always succeed.
     ///
-    /// Moves the wakers of connects that it answers or forgets to `wakers`. To wake their tasks,
-    /// drop that list after unlocking the shard. If memory runs out for the list, a task is woken
-    /// at once.
+    /// If `entry` answers or removes held connects, their wakers move to `wakers`. To wake their
+    /// tasks, drop `wakers` after unlocking the shard. If memory runs out for the list, a task is
+    /// woken at once.
     ///
     /// # Errors
     ///
@@ -167,8 +167,8 @@ impl<P: Placing> Shard<P> {
     /// Registers `waker` with a held connect, and returns the waker that it replaces.
     ///
     /// Returns `waker` itself if the answer is filed (`Ready`), no connect of this shard is held
-    /// under `ticket` (`Unknown`), or the shard was shut (`Shut`). A stored waker moves to the list
-    /// of the [`apply`](Self::apply) that answers the connect.
+    /// under `ticket` (`Unknown`), or the shard was shut (`Shut`). When
+    /// [`apply`](Self::apply) answers the connect, it moves the stored waker to its list.
     pub fn watch(&mut self, ticket: Ticket, waker: Waker) -> Watch
         ensures watch { nat_eq ticket.shard self.old.index ≡ true
             → result ≡ watched self.old.is_shut waker (connect_in (state P.place_of self.old) ticket.place) }

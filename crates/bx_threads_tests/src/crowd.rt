@@ -49,7 +49,7 @@ enum Job {
     Sweep,
 }
 
-// Publishes `EVENTS` events, whose data are their numbers, from `first` on.
+// Publishes `EVENTS` events. The data of each is its number, counted from `first`.
 fn publishes<J: Naming, P: Placing, G: Gate + Drop, H: Wait + Drop, R: Wait>(
     rt: &R,
     alloc: Global,
@@ -78,8 +78,9 @@ fn ticks<J: Naming, P: Placing, G: Gate + Drop, H: Wait + Drop, R: Wait>(
     Some(Vec::new(alloc))
 }
 
-// Appends the numbers of the events that one connect gets to `given`, those of session 1 raised by
-// `ALL_EVENTS`.
+// Appends the numbers of the events that one connect gets to `given`.
+//
+// Adds `ALL_EVENTS` to those of session 1, so that no two events have the same number.
 fn asks<J: Naming, P: Placing, G: Gate + Drop, H: Wait + Drop, R: Wait>(
     rt: &R,
     alloc: Global,
@@ -226,8 +227,9 @@ fn opens<J: Naming, P: Placing, G: Gate + Drop, H: Wait + Drop, R: Wait>(
     Some(())
 }
 
-// Returns the numbers of the events that both sessions get, with the rest fetched after the threads
-// end, in ascending order.
+// Returns the numbers of the events that both sessions get, in ascending order.
+//
+// Connects after the threads end fetch the events that are left.
 fn given<
     J: Naming + Send + Sync,
     P: Placing + Send + Sync,

@@ -26,6 +26,17 @@ use std::alloc::Global;
 /// - `TooLarge`: `body` is longer than [`bx_advice::BODY_LIMIT`].
 /// - `Memory`: memory ran out.
 /// - `NoMessage`: a form has no parameter `message`.
+///
+/// # Examples
+///
+/// ```
+/// let content_type = Some(b"application/x-www-form-urlencoded".as_slice());
+/// let body = b"message=%5B%5D&message=%7B%7D".to_vec(alloc)?;
+/// let bodies = read_post(alloc, content_type, body)?;
+/// assert_eq!(rt; bodies.len(), 2);
+/// assert_eq!(rt; bodies.get(0), b"[]".as_slice());
+/// assert_eq!(rt; bodies.get(1), b"{}".as_slice());
+/// ```
 pub fn read_post(
     alloc: Global,
     content_type: Option<&[u8]>,

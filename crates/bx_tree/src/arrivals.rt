@@ -87,7 +87,7 @@ impl Arrivals {
         Some(last.1)
     }
 
-    /// Removes `pattern`, if it is here. If `stamp` is its stamp, this needs no search.
+    /// Removes `pattern`, if the session has it. If `stamp` is its stamp, this needs no search.
     pub(crate) fn remove(&mut self, pattern: &Pattern, stamp: u64)
         ensures { self.new ≡ without_pattern self.old pattern.now }
     {

@@ -34,7 +34,7 @@ fn put(
     Ok(())
 }
 
-/// Adds `patterns` for session `number`, in order. On error, a first part may be added.
+/// Adds `patterns` for session `number`, in order. On error, the first few may have been added.
 fn put_each(
     alloc: Global,
     nodes: &mut Nodes,

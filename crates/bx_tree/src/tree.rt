@@ -14,8 +14,8 @@ use std::slice;
 
 /// The active patterns of each session, with an index by path.
 ///
-/// The index is flat: there is one map for each [`Tail`](bx_names::Tail), which has the sessions at
-/// each path. A search looks up each prefix of the name. Empty lists are dropped.
+/// The index is flat: for each [`Tail`](bx_names::Tail), one map from paths to the sessions with
+/// that pattern. A search looks up each prefix of the name. Empty lists are dropped.
 ///
 /// Model: the sessions that have patterns, each with its patterns in the order in which they were
 /// added.

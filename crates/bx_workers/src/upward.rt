@@ -11,7 +11,7 @@ use std::alloc::{AllocError, Global};
 use std::thread;
 use std::thread::Threads;
 
-/// Advances every shard to the end of `entries`, and returns how many do not reach it.
+/// Advances every shard to the end of `entries`, and returns how many shards do not reach it.
 ///
 /// `entries` must have consecutive places. Each shard's next entry must be one of them, or the one
 /// after the last. A shard stops at the first entry for which memory runs out. Tasks are woken once

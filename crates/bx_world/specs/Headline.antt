@@ -150,7 +150,8 @@ BatchesRepeat = (setup : Setup) (first : WorldState) (steps : List Step) (outs :
 -- ---- No event again
 
 -- How many events of the session are never sent again, as of the entry at place `n`. Events that
--- this entry acknowledges count; those that a plain session sends at it do not yet.
+-- this entry acknowledges count. A plain session does not acknowledge; the events that it sends at
+-- this entry do not count yet.
 abbrev pub done_at : Config → List Listed → ℕ → ℕ → ℕ
 done_at config list number n =
     if (session_before config list number (n + 1)).ack then (session_before config list number (n + 1)).done else (session_before config list number n).done

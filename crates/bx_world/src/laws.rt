@@ -37,12 +37,14 @@ pub fn replies_are_answers()
     ensures { RepliesAreAnswers }
 {}
 
-/// Proves that no answer has an event that was acknowledged, or sent by a plain session, before.
+/// Proves that no answer has an event that was acknowledged, or sent by a plain session, before it.
+///
+/// A plain session does not acknowledge.
 pub fn none_given_again()
     ensures { NoneGivenAgain }
 {}
 
-/// Proves that no event is in two answers of a session that does not acknowledge.
+/// Proves that no event is in two answers of a plain session.
 pub fn plain_given_once()
     ensures { PlainGivenOnce }
 {}

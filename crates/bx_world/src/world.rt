@@ -146,7 +146,8 @@ impl<P: Placing> World<P> {
 
     /// Advances every shard to the end of the list, and returns how many shards lag.
     ///
-    /// `workers`: the number of workers. A shard lags only if memory runs out.
+    /// A shard lags only if memory runs out. `workers` and `gate` are as for
+    /// [`bring_up`](bx_workers::bring_up) of `bx_workers`.
     pub fn bring_up<R: Threads + Sync, G: Gate + Sync>(
         &mut self,
         rt: &R,
@@ -288,12 +289,30 @@ impl<P: Placing> World<P> {
         }
     }
 
-    /// Makes `steps` in order, and appends the output of each to `outs`.
+    /// Runs `steps` in order, and appends the output of each to `outs`.
     ///
     /// # Errors
     ///
-    /// The index of the first step that was not made, if memory runs out for its output. The
-    /// earlier steps are made, and their outputs appended.
+    /// The index of the first step that was not run, if memory runs out for its output. The earlier
+    /// steps were run, and their outputs appended.
+    ///
+    /// # Examples
+    ///
+    /// ```
+    /// let config = Config::new(1, 30_000, 0, 10_000).ok_or("shards: 1 to 64")?;
+    /// let mut world = World::new(alloc, config, Arc::new(alloc, ByRemainder)?)?;
+    /// let steps = [
+    ///     Step::Admit(Input::Tick(100)),
+    ///     Step::Apply(0),
+    ///     Step::Apply(0),
+    /// ];
+    /// let mut outs = Vec::new(alloc);
+    /// world
+    ///     .run_schedule(alloc, &steps, &mut outs)
+    ///     .map_err(|_| "out of memory")?;
+    /// assert!(rt; matches!(outs.get(1), Some(StepOut::Applied)));
+    /// assert!(rt; matches!(outs.get(2), Some(StepOut::Level)));
+    /// ```
     pub fn run_schedule(
         &mut self,
         alloc: Global,
@@ -312,7 +331,7 @@ impl<P: Placing> World<P> {
         Ok(())
     }
 
-    /// Makes one step and returns its output.
+    /// Runs one step and returns its output.
     pub fn step(&mut self, alloc: Global, step: &Step) -> StepOut
         ensures { Steps self.old step.now result self.new }
     {

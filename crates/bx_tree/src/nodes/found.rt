@@ -12,7 +12,7 @@ use std::alloc::AllocError;
 pub struct Found {
     /// The numbers of the sessions, in ascending order, each once.
     pub numbers: Vec<u64>,
-    /// The number of lookups of lists, which is 2 more than the name has segments.
+    /// The number of lookups of lists: the number of the name's segments plus 2.
     pub visited: usize,
 }
 
