@@ -47,7 +47,7 @@ class Server(Child):
     def __init__(self, name, program, processors=None, connections=0, **streams):
         """Starts `program`, and waits until it listens.
 
-        `name`: "bare" for the bare server. `processors`: those that it may use, as taskset takes them, or None for all.
+        `name`: "bare" for the bare server. `processors`: those that it may use, as taskset takes them, or `None` for all.
         `connections`: the number of connections after which it ends, or 0 for never.
         """
         # pylint: disable=super-init-not-called

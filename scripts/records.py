@@ -61,7 +61,7 @@ class Unreadable(Broken):
 
 @contextlib.contextmanager
 def reading(path):
-    """Raises Unreadable, with `path`, in place of an OSError within the context."""
+    """Raises `Unreadable`, with `path`, in place of an OSError within the context."""
     try:
         yield
     except OSError as error:
@@ -69,7 +69,7 @@ def reading(path):
 
 
 def decoded(text):
-    """Returns the value of a JSON text, given as bytes. Numbers become texts. Raises ValueError if it is not valid, or too deep."""
+    """Returns the value of a JSON text, given as bytes. Numbers become texts. Raises `ValueError` if it is not valid, or too deep."""
     try:
         return json.loads(text.decode("utf-8", "replace"), parse_int=str, parse_float=str, parse_constant=str)
     except RecursionError as error:
@@ -105,7 +105,7 @@ def client_of(message):
 def items_of(text):
     """Returns the items of a JSON array, given as bytes: pairs of the item's value and its own text.
 
-    Raises ValueError if it is no valid array, or too deep.
+    Raises `ValueError` if it is no valid array, or too deep.
     """
     text = text.decode("utf-8", "surrogateescape")
     if not text.startswith("["):
@@ -124,7 +124,7 @@ def items_of(text):
 
 
 def answer_of(line):
-    """Returns the place and the digest of a line A, or None if the line is none."""
+    """Returns the place and the digest of a line A, or `None` if the line is none."""
     found = ANSWER.fullmatch(line)
     if not found or int(found[1]) >= 1 << 64:
         return None
@@ -139,7 +139,7 @@ class Reader:
         self.place = 0
 
     def read(self, line):
-        """Returns a `Line` and its messages. Returns None and [] for a line A and for a line that is not valid."""
+        """Returns a `Line` and its messages. Returns `None` and [] for a line A and for a line that is not valid."""
         found = LINE.fullmatch(line)
         if not found:
             return None, []
@@ -151,7 +151,7 @@ class Reader:
 
 
 def is_request(line):
-    """Returns whether `line`, as `Reader.read` returned it, is a request."""
+    """Returns `True` if `line`, as `Reader.read` returned it, is a request."""
     return line is not None and line.kind in (b"P", b"F", b"G")
 
 
@@ -159,19 +159,19 @@ class Source:
     """The file of a record."""
 
     def __init__(self, path):
-        """Opens the file at `path`. Raises Refused if it is no regular file, or cannot be opened."""
+        """Opens the file at `path`. Raises `Refused` if it is no regular file, or cannot be opened."""
         self.path = path
         if not os.path.isfile(path):
-            raise Refused(f"{path} is no file that can be read")
+            raise Refused(f"{path} is not a regular file")
         try:
             self.file = open(path, "rb", buffering=0)
         except OSError as error:
-            raise Refused(f"{path} is no file that can be read: {error.strerror}") from error
+            raise Refused(f"cannot open {path}: {error.strerror}") from error
         # The number of bytes of the whole lines that were read so far.
         self.read = 0
 
     def begin(self):
-        """Returns the first line. Raises Refused if it is not the first line of a record, Unreadable if reading fails."""
+        """Returns the first line. Raises `Refused` if it is not the first line of a record, `Unreadable` if reading fails."""
         first = b""
         while b"\n" not in first and len(first) < 200:
             data = self.block(200 - len(first))
@@ -185,12 +185,12 @@ class Source:
         return line
 
     def size(self):
-        """Returns the file's length in bytes. Raises Unreadable if that fails."""
+        """Returns the file's length in bytes. Raises `Unreadable` if that fails."""
         with reading(self.path):
             return os.fstat(self.file.fileno()).st_size
 
     def block(self, size):
-        """Reads and returns at most `size` bytes, or b"" at the end of the file. Raises Unreadable if that fails."""
+        """Reads and returns at most `size` bytes, or b"" at the end of the file. Raises `Unreadable` if that fails."""
         with reading(self.path):
             return self.file.read(size)
 
@@ -198,7 +198,7 @@ class Source:
         """Yields the number and the text of each further line that is whole when the call begins.
 
         Begins after the last line that was read. The first line that it yields has number 2, as directly after `begin`.
-        Raises Unreadable if reading fails.
+        Raises `Unreadable` if reading fails.
         """
         number, rest, left = 1, [], self.size() - self.read
         self.file.seek(self.read)
@@ -211,8 +211,8 @@ class Source:
     def followed(self, stop, idle):
         """Yields the number and the text of each further line as the file grows, as `lines` does.
 
-        Ends when the event `stop` is set. Ends too when the file has not grown for `idle` seconds, unless `idle` is None.
-        Yields None each time it has reached the end of the file, and every MOMENT seconds while there is more to read.
+        Ends when the event `stop` is set. Ends too when the file has not grown for `idle` seconds, unless `idle` is `None`.
+        Yields `None` each time it has reached the end of the file, and every MOMENT seconds while there is more to read.
         """
         number, rest, grown = 1, [], time.monotonic()
         told = grown
@@ -278,12 +278,12 @@ class Replay:
     """A running replay, started with the first line of a record."""
 
     def __init__(self, first, output=subprocess.PIPE):
-        """Starts the program and writes the line `first` to it. Raises Refused if it cannot be started."""
+        """Starts the program and writes the line `first` to it. Raises `Refused` if it cannot be started."""
         try:
             # If this process reads the output, Ctrl-C must interrupt this process alone.
             self.process = subprocess.Popen([REPLAY, "--record", "-"], stdin=subprocess.PIPE, stdout=output, start_new_session=output is subprocess.PIPE)
         except OSError as error:
-            raise Refused(f"{REPLAY} does not start: {error.strerror}") from error
+            raise Refused(f"cannot start {REPLAY}: {error.strerror}") from error
         self.printed, self.feeder = Printed(), None
         # The exception due to which it did not get the whole record; whether `kill` ended it.
         self.failed, self.is_killed = None, False
@@ -300,7 +300,7 @@ class Replay:
     def feed(self, parts):
         """Starts a thread that writes `parts` to its input, and then closes it.
 
-        A part that is None means: flush. If `parts` raises an exception, the input is closed too, and `end` raises the exception.
+        A part that is `None` means: flush. If `parts` raises an exception, the input is closed too, and `end` raises the exception.
         """
 
         def run():
@@ -342,7 +342,7 @@ class Replay:
         self.end()
 
     def end(self):
-        """Waits until the program has ended. Raises Broken if its status is not 0, or if it did not get the whole record."""
+        """Waits until the program has ended. Raises `Broken` if its status is not 0, or if it did not get the whole record."""
         status = self.process.wait()
         if self.failed:
             raise self.failed

@@ -71,15 +71,15 @@ def toolchain():
     """Returns the folder of the toolchain. Exits with a message if its command `rt` is not on the path or has another version."""
     found = shutil.which("rt")
     if not found:
-        sys.exit("gadzilk: the toolchain's command rt is not on the path: README.md says what it is")
+        sys.exit("gadzilk: the toolchain's command rt is not on the path; see README.md")
     kit = os.path.dirname(os.path.dirname(os.path.realpath(found)))
     try:
         with open(f"{kit}/KIT-ID", encoding="ascii") as text:
             said = text.read().strip()
     except OSError:
-        said = "no toolchain that this repository knows"
+        said = "an unknown toolchain"
     if LOGIC not in said:
-        sys.exit(f"gadzilk: rt is of {said}, and this repository is written for {LOGIC}: put the folder of that one first on the path")
+        sys.exit(f"gadzilk: expected rt of {LOGIC}, got {said}; put the folder of the right one first on the path")
     return kit
 
 
@@ -122,7 +122,7 @@ def mark(program, made_of):
 
 
 def is_made(program, made_of):
-    """Returns whether `program` exists and PROGRAM.made says that this very file was built from the sum `made_of`."""
+    """Returns `True` if `program` exists and PROGRAM.made says that this very file was built from the sum `made_of`."""
     if not os.path.isfile(program) or not os.path.isfile(f"{program}.made"):
         return False
     with open(f"{program}.made", encoding="ascii") as text:
@@ -130,7 +130,7 @@ def is_made(program, made_of):
 
 
 def has_tests(name):
-    """Returns whether a file of crate `name` contains a test."""
+    """Returns `True` if a file of crate `name` contains a test."""
     for file in files_of(name):
         with open(file, encoding="utf-8") as text:
             if "#[test]" in text.read():
@@ -139,7 +139,7 @@ def has_tests(name):
 
 
 def is_program(name):
-    """Returns whether crate `name` is a program: whether it has src/main.rt."""
+    """Returns `True` if crate `name` is a program, that is, if it has src/main.rt."""
     return os.path.isfile(f"{TOP}/crates/{name}/src/main.rt")
 
 
@@ -229,7 +229,7 @@ class Work:
         self.go_on()
 
     def go_on(self):
-        """Starts the next command if there is one and none has failed, and returns whether it started one."""
+        """Starts the next command if there is one and none has failed, and returns `True` if it started one."""
         if self.status or not self.left:
             return False
         how = {"stdin": subprocess.DEVNULL, "stdout": self.log, "stderr": subprocess.STDOUT}
@@ -237,7 +237,7 @@ class Work:
         return True
 
     def is_at_work(self):
-        """Returns whether a command is running. Starts the next one if the last has ended."""
+        """Returns `True` if a command is running. Starts the next one if the last has ended."""
         if self.process.poll() is None:
             return True
         self.status = self.process.returncode

@@ -1,11 +1,11 @@
 'use strict';
-// A chat: everybody who joined publishes to one channel, and is subscribed to it.
+// A chat: everybody who has joined publishes to one channel and is subscribed to it.
 
 const CHANNEL = '/chat/hall';
 
-// What this window sends carries a mark, since two people may have one name.
+// This window's messages carry this mark, since two people may have the same name.
 const OWN_MARK = Math.random().toString(36).slice(2);
-// How far from its end the list still counts as read to the end, in points.
+// The list counts as read to the end if at most this many pixels follow.
 const NEAR = 40;
 
 let ownName = '';
@@ -18,7 +18,8 @@ client.onstate = (state, why) => {
   if (state === 'connected') showProblem('');
 };
 
-// What others publish may be anything, so its form is looked at. It is shown as text and never as HTML.
+// Shows an event. Others may publish anything, so the form of `data` is checked, and it is shown as
+// text and never as HTML.
 function showEvent(data) {
   if (typeof data?.name !== 'string') return;
   if (data.joined === true) showNotice(`${data.name} joined`);
@@ -47,7 +48,7 @@ function showNotice(text) {
   show(item);
 }
 
-// Who reads further up stays there.
+// Appends `item` to the list. Scrolls to it if the user is at the end or has sent it.
 function show(item) {
   const list = element('messages');
   const isAtEnd = list.scrollHeight - list.scrollTop - list.clientHeight < NEAR;
@@ -55,7 +56,7 @@ function show(item) {
   if (isAtEnd || item.className === 'own') list.scrollTop = list.scrollHeight;
 }
 
-// The same colour for the same name in each window.
+// Returns a hue, in degrees, that is the same for a name in all windows.
 function hueOf(name) {
   let hue = 0;
   for (const character of name) hue = (hue * 31 + character.codePointAt(0)) % 360;
@@ -67,7 +68,8 @@ function showProblem(text) {
   element('problem').hidden = text === '';
 }
 
-// One message at a time. What was not sent comes back into the field, in front of what was typed meanwhile.
+// Sends one message at a time. A message that could not be sent is put back into the field, before
+// what was typed meanwhile.
 async function send() {
   const field = element('text');
   const text = field.value;
@@ -101,7 +103,7 @@ element('join').addEventListener('submit', (event) => {
   announce();
 });
 
-// Tells the others once the client is connected.
+// Publishes that this user has joined, once the client is connected.
 async function announce() {
   while (client.state !== 'connected') await pause(50);
   client.publish(CHANNEL, { name: ownName, joined: true }).catch((failure) => {

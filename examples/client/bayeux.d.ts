@@ -1,4 +1,4 @@
-// The types of bayeux.js, which is a script and makes BayeuxClient known to the whole page.
+// The types of bayeux.js, a script that defines BayeuxClient for the whole page.
 
 type BayeuxState = 'connecting' | 'connected' | 'interrupted' | 'stopped';
 type BayeuxConnectionType = 'long-polling' | 'callback-polling';
@@ -6,19 +6,19 @@ type BayeuxListener<T = any> = (data: T, channel: string) => void;
 
 interface BayeuxOptions {
   connectionType?: BayeuxConnectionType;
-  /** Sent with each request by long-polling. */
+  /** Header fields for each long-polling request. */
   headers?: Record<string, string>;
-  /** Whether the windows of one origin share a session; by default where there are no headers. */
+  /** Whether windows of one origin share a session. By default, they do if there are no headers. */
   share?: boolean;
-  /** What the session gives itself as a name, by which a record of the server is searched. */
+  /** The session's name, which finds it in a record of the server. */
   name?: string;
 }
 
-/** Why a publish or a subscription failed. */
+/** The reason why a publish or a subscription failed. */
 interface BayeuxFailure extends Error {
-  /** Whether what was asked may have been done all the same, since no reply came. */
+  /** Whether the request may have succeeded, since no reply arrived. */
   mayHaveArrived: boolean;
-  /** The status of HTTP, where it is what failed; of a publish that is not allowed, 403. By long-polling alone. */
+  /** The HTTP status, if that is the failure. 403: publishing is not allowed. Long-polling only. */
   status?: number;
 }
 
@@ -30,14 +30,14 @@ declare class BayeuxClient {
   readonly clientId: string | null;
   headers: Record<string, string>;
   onstate: (state: BayeuxState, why: string) => void;
-  /** Called where events may be missing: another session is subscribed, in place of one that this window had. */
+  /** Is called if events may be missing: a new session has replaced an earlier one. */
   ongap: () => void;
   start(): void;
-  /** Ends the session, unless other windows share it; and publishes these first. */
+  /** Publishes `last`, and ends the session unless other windows share it. */
   stop(last?: { channel: string; data: unknown }[]): void;
   subscribe<T = any>(pattern: string, listener: BayeuxListener<T>): Promise<void>;
-  /** Takes this listener away, or all of the pattern. */
+  /** Removes this listener, or all of the pattern. */
   unsubscribe(pattern: string, listener?: BayeuxListener): Promise<void>;
-  /** Fails with a BayeuxFailure. */
+  /** Publishes. The promise rejects with a BayeuxFailure. */
   publish(channel: string, data: unknown): Promise<void>;
 }

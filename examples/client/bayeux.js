@@ -98,12 +98,12 @@ function pageIsLoaded() {
 
 const TRANSPORTS = { 'long-polling': askByFetch, 'callback-polling': askByScript };
 
-/** Returns the transport that works from this page: fetch to its own origin, scripts to any other. */
+/** Returns the transport that works from this page: fetch to its own origin, otherwise scripts. */
 function transportFor(url) {
   return new URL(url, location.href).origin === location.origin ? 'long-polling' : 'callback-polling';
 }
 
-/** Returns whether `channel` matches: a last segment `*` stands for one segment, `**` for one or more. */
+/** Returns whether `channel` matches: a final `*` stands for one segment, `**` for one or more. */
 function isMatch(pattern, channel) {
   if (!pattern.endsWith('*')) return pattern === channel;
   const path = pattern.replace(/\*+$/, '');
@@ -115,7 +115,7 @@ function pause(milliseconds) {
   return new Promise((resolve) => setTimeout(resolve, milliseconds));
 }
 
-/** Returns whether windows can share a session: not from disk, and over HTTP only from this machine. */
+/** Returns whether windows can share a session: not from disk, over HTTP only on this machine. */
 function canShareSession() {
   return self.origin !== 'null' && 'locks' in navigator && 'BroadcastChannel' in self;
 }
@@ -220,7 +220,7 @@ class BayeuxWindows {
   }
 
   // Repeats the open requests for a new leader. Publishes that the old one had sent may have
-  // arrived, so they fail instead. Patterns are sent anew by `join`.
+  // arrived, so they fail instead. `join` sends the patterns again.
   askAnew() {
     this.asked.forEach(({ kind, words }, number) => {
       const settle = (failure) => this.settle(number, failure);
@@ -301,7 +301,7 @@ class BayeuxClient {
     this.isShared = (given.share ?? !given.headers) && canShareSession();
     /** Is called with 'connecting', 'connected', 'interrupted' or 'stopped', and the reason. */
     this.onstate = () => {};
-    /** Is called if events may be missing: a new session is subscribed in place of an earlier one. */
+    /** Is called if events may be missing: a new session has replaced an earlier one. */
     this.ongap = () => {};
     this.state = 'stopped';
     this.why = '';
@@ -319,7 +319,7 @@ class BayeuxClient {
     this.sending = Promise.resolve(); // settles when all earlier requests are answered
   }
 
-  /** Opens a session, or joins that of other windows, and keeps it until `stop`. Does nothing if started. */
+  /** Opens a session, or joins that of other windows, and keeps it until `stop`. */
   start() {
     if (this.state !== 'stopped') return;
     const start = ++this.starts;
@@ -329,8 +329,8 @@ class BayeuxClient {
   }
 
   /**
-   * Publishes `last`, a list of `{ channel, data }`, and ends the session unless other windows share
-   * it. The browser sends this even while the page unloads, so call it at 'pagehide' too.
+   * Publishes `last`, a list of `{ channel, data }`, and ends the session unless other windows
+   * share it. The browser sends this even while the page unloads, so call it at 'pagehide' too.
    */
   stop(last = []) {
     // All of it is one request, since the page gets no answer. A forbidden publish would make the
@@ -446,8 +446,8 @@ class BayeuxClient {
       const pattern = some[refused].subscription;
       const words = `${pattern}: ${replies[refused].error}`;
       if (this.clientId === null) throw failureOf(words, false);
-      // An invalid pattern stays invalid, so its listeners are removed. (If the session is gone, the
-      // patterns are kept for the next one.)
+      // An invalid pattern stays invalid, so its listeners are removed. (If the session is gone,
+      // the patterns are kept for the next one.)
       this.listeners.delete(pattern);
       this.windows?.refuse(pattern);
       throw failureOf(words, false, { pattern });
@@ -543,7 +543,7 @@ class BayeuxClient {
     events.forEach((event) => this.deliver(event));
     if (events.length > 0) this.windows?.tell(events);
     if (clientId !== null && replies.some((reply) => reply.advice?.reconnect === 'handshake')) {
-      // The session is gone, but the server can be reached, so the next pause may be short.
+      // The session is gone, but the server can be reached. So the next pause may be short.
       this.clientId = null;
       this.failures = 0;
     }

@@ -1,5 +1,5 @@
 'use strict';
-// What the pages have in common: where the server is, and what they say of the connection.
+// What the pages share: the server's address, and the texts about the connection.
 
 const WORDS_OF_STATES = {
   connecting: 'connecting …',
@@ -10,7 +10,7 @@ const WORDS_OF_STATES = {
   stopped: 'not connected',
 };
 
-// What a status of HTTP means, where bayeuxd answers with another one, or what stands in front of it.
+// What an HTTP status other than 200 means. It is from bayeuxd or from a server in front.
 const WORDS_OF_STATUSES = {
   401: 'refuses this page. Log in, and load it anew.',
   403: 'refuses this page. Log in, or open it from the server’s own site.',
@@ -23,31 +23,32 @@ const NO_SERVER_THERE = 'is no Bayeux server’s. Look at the path, as /cometd.'
 
 const element = (id) => document.getElementById(id);
 
-// The words behind the page's address, as `?server=ADDRESS`.
+// The parameters in the page's address, such as `?server=ADDRESS`.
 const WORDS = new URLSearchParams(location.search);
 
-// From disk: a server on this machine. From a web server: the path /cometd there. `?server=ADDRESS` is any other.
+// Returns the server's address: from disk one on this machine, from a web server its path /cometd,
+// or what `?server=ADDRESS` names.
 function serverAddress() {
   const own = location.protocol === 'file:' ? 'http://127.0.0.1:8087/cometd' : '/cometd';
   return WORDS.get('server') || own;
 }
 
-/** Whether this is an address over HTTP, by itself or from this page's own server. */
+/** Returns whether `address` is an HTTP address, absolute or relative to this page's server. */
 function isAddress(address) {
   const own = location.protocol === 'file:' ? undefined : location.href;
   return URL.canParse(address, own) && /^https?:$/.test(new URL(address, own).protocol);
 }
 
-/** Whether this is the error of a reply, as `503::Too many sessions`. */
+/** Returns whether `why` is the error of a reply, such as `503::Too many sessions`. */
 const isError = (why) => /^\d{3}::/.test(why);
 
-/** The status of HTTP that a failure tells of, as 404. */
+/** Returns the HTTP status in the text of a failure, such as 404, or NaN if it has none. */
 const statusOf = (why) => Number((why.match(/^HTTP status (\d+)$/) || [])[1]);
 
-// What does not pass by itself, or not soon: it is told to a page that was connected, too.
+// Returns whether a failure may last. It is then shown even if the page was connected before.
 const isLasting = (why) => why === NO_ANSWER || [401, 403, 429].includes(statusOf(why));
 
-/** The words for a state that is not connected. */
+/** Returns the text for a state other than `connected`. `why`: its reason. */
 function wordsFor(state, why, wasConnected) {
   if (state === 'interrupted' && why === NO_ANSWER) return WORDS_OF_STATES.unanswered;
   if (state === 'interrupted' && isLasting(why)) return WORDS_OF_STATES.refused;
@@ -55,7 +56,7 @@ function wordsFor(state, why, wasConnected) {
   return isError(why) || statusOf(why) ? WORDS_OF_STATES.refused : WORDS_OF_STATES.unreached;
 }
 
-/** What is wrong where no connection came about, and what to do. */
+/** Returns a text about what is wrong if the page cannot connect to `address`, and what to do. */
 function troubleWith(address, why) {
   if (!isAddress(address)) {
     return `“${address}” is no address of a server. Write one as ?server=http://127.0.0.1:8087/cometd behind this page’s address.`;
@@ -69,7 +70,7 @@ function troubleWith(address, why) {
   return `No Bayeux server answers this page at ${address}. Start bayeuxd there, or name another server by ?server=ADDRESS.`;
 }
 
-/** Why something was not published, where a client's publish failed so. */
+/** Returns the text about the failure of a publish. */
 function notPublished({ message, mayHaveArrived, status }) {
   if (status === 403) return 'Not sent: pages may only read here, or the server refuses this one. To send it again does not help.';
   return mayHaveArrived ? 'No answer: it may have been sent.' : `Not sent: ${message}`;
@@ -79,7 +80,7 @@ function inWords(value) {
   return value.toLocaleString('en', { maximumFractionDigits: Math.abs(value) < 10 ? 2 : 1 });
 }
 
-/** How long ago something was, as 12 s ago. */
+/** Returns the text for an age, such as `12 s ago`. */
 function agoInWords(milliseconds) {
   const seconds = Math.round(milliseconds / 1000);
   return seconds < 120 ? `${seconds} s ago` : `${Math.round(seconds / 60)} min ago`;
@@ -91,8 +92,10 @@ function showTrouble(text) {
 }
 
 /**
- * A client whose state the page shows, and which stops with the page, with these last messages. With a wrong address it
- * does not start.
+ * Creates a client for `serverAddress()`. The page shows its state. It stops when the page unloads.
+ *
+ * `lastMessages`: returns the messages to publish then. If the address is wrong, the client does
+ * not start.
  */
 function newClient(lastMessages = () => []) {
   const address = serverAddress();

@@ -1,20 +1,23 @@
 'use strict';
-// A dashboard: a card with a live chart for each channel below /dashboard/ on which numbers are published.
+// A dashboard: a card with a live chart for each channel below /dashboard/ that gets numbers.
 
 const PATTERN = '/dashboard/*';
-// The chart shows n seconds (`?seconds=NUMBER`), in this box of a picture as wide as the card; its margin stands right of it.
+// How many seconds the chart shows (`?seconds=NUMBER`).
 const SECONDS = Number(WORDS.get('seconds')) || 60;
+// The box of the chart within its picture, in pixels. The picture is as wide as the card. `margin`:
+// the space to the right of the box.
 const BOX = { left: 50, margin: 8, top: 10, bottom: 144, height: 166 };
 const LEAST_WIDTH = 200;
-// A number is old, and the line has a gap, after three times the usual time between two numbers, and three seconds at the least.
+// A number is old after three times the usual time between two numbers, and at least after three
+// seconds (in milliseconds). The curve then has a gap.
 const USUAL_TIMES = 3;
 const LEAST_PATIENCE = 3000;
 const LINES = 4;
 
 const cards = new Map();
-let gaps = 0; // how often events may have been missed
+let gaps = 0; // how often events may have been lost
 
-/** One channel's newest numbers, and their chart. */
+/** The newest numbers of a channel, and their chart. */
 class Card {
   constructor(channel) {
     this.points = [];
@@ -34,13 +37,13 @@ class Card {
     this.draw();
   }
 
-  // After how long without a number something is amiss.
+  // Returns the milliseconds after which a number is old.
   patience() {
     const times = this.points.slice(1).map((point, index) => point.time - this.points[index].time).sort((a, b) => a - b);
     return Math.max(LEAST_PATIENCE, USUAL_TIMES * (times[Math.floor(times.length / 2)] || 0));
   }
 
-  // The points in runs, between which numbers are missing.
+  // Returns the points in groups. Between two groups, numbers are missing.
   runs() {
     const runs = [];
     const patience = this.patience();
@@ -52,7 +55,7 @@ class Card {
     return runs;
   }
 
-  // Says how old the newest number is, where it is old.
+  // Shows the age of the newest number if it is old.
   showAge(newest) {
     const age = Date.now() - newest.time;
     const isOld = age > this.patience();
@@ -62,7 +65,8 @@ class Card {
     this.part('svg').setAttribute('aria-label', `${this.name}: ${inWords(newest.value)} ${words || 'now'}, and the last ${SECONDS} seconds`);
   }
 
-  // Draws the curve anew. One point before its beginning is kept, so that it starts at the left edge.
+  // Draws the chart. Keeps one point that is older than the chart, so that the curve begins at the
+  // left edge.
   draw() {
     const start = Date.now() - 1000 * SECONDS;
     while (this.points.length > 1 && this.points[1].time <= start) this.points.shift();
@@ -76,7 +80,7 @@ class Card {
     const newest = this.points[this.points.length - 1];
     const runs = this.runs().filter((run) => run[run.length - 1].time > start);
 
-    // (A run of one point is a dot, by a line that does not move.)
+    // A group of one point is drawn as a dot: a line of length 0.
     this.part('.curve').setAttribute('d', runs.map((run) => `M${run.map(spot).join('L')}${run[1] ? '' : 'h0'}`).join(''));
     this.part('.area').setAttribute('d', runs.map((run) => `M${[foot(run[0]), ...run.map(spot), foot(run[run.length - 1])].join('L')}Z`).join(''));
     this.part('.newest').setAttribute('cx', across(newest.time));
@@ -89,7 +93,8 @@ class Card {
     this.part('.mean').textContent = inWords(values.reduce((sum, value) => sum + value, 0) / values.length);
   }
 
-  // Makes the picture as wide as its card, so that its letters keep their size, and returns its right edge.
+  // Makes the picture as wide as its card, so that its text keeps its size. Returns the right edge
+  // of the box.
   fit() {
     const width = Math.max(LEAST_WIDTH, this.part('svg').clientWidth);
     this.part('svg').setAttribute('viewBox', `0 0 ${width} ${BOX.height}`);
@@ -116,7 +121,7 @@ function shape(kind, attributes, text = '') {
   return made;
 }
 
-// Round numbers round the values; from nought, where none is below it.
+// Returns round bounds for the axis that enclose `values` and 0.
 function scaleOf(values) {
   const least = Math.min(0, ...values);
   const greatest = Math.max(...values, least + 1e-9);
@@ -127,7 +132,7 @@ function scaleOf(values) {
   return { low, high: low + step * LINES < greatest ? low + 2 * step * LINES : low + step * LINES };
 }
 
-// As on the axis, where there is little room: 12.5K.
+// Returns a short text for a number on the axis, such as 12.5K.
 function inBrief(value) {
   return value.toLocaleString('en', { notation: 'compact', maximumSignificantDigits: 3 });
 }
@@ -145,6 +150,6 @@ client.subscribe(PATTERN, (data, channel) => {
   cards.get(channel).add(data);
 });
 
-// The curve goes on to the left while nothing comes.
+// The curve moves on even if no numbers arrive.
 setInterval(() => cards.forEach((card) => card.draw()), 1000);
 client.start();

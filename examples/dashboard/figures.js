@@ -1,20 +1,21 @@
 'use strict';
-// The server's own figures in cards. The feed publishes them as { figures: {NAME: NUMBER}, help: {NAME: WORDS} }, where a
-// NAME of figures may have labels, as bayeux_replies_total{kind="publish"}.
+// The server's own metrics in cards. The feed publishes them as
+// { figures: {NAME: NUMBER}, help: {NAME: TEXT} }. A NAME in `figures` may have labels, as in
+// bayeux_replies_total{kind="publish"}.
 
 const CHANNEL = '/figures/all';
-// How old the figures may be, in milliseconds.
+// Metrics are old after this time, in milliseconds.
 const PATIENCE = 5000;
 
 let before = null;
 
-/** The figures of one name: its card says what they mean, and has a line for each label. */
+/** Returns the card of a metric, with its meaning and a line for each label. */
 function card(name, lines, help, time) {
   const root = element('card').content.firstElementChild.cloneNode(true);
   root.querySelector('h2').textContent = name.replace('bayeux_', '').replace(/_total$/, ' in all').replaceAll('_', ' ');
   root.querySelector('code').textContent = name;
   root.querySelector('.meaning').textContent = help[name] || '';
-  // Of several lines those of nought are left out.
+  // If there are several lines, those with 0 are left out.
   const shown = lines.length > 1 ? lines.filter(({ value }) => value !== 0) : lines;
   if (shown.length === 0) shown.push({ label: 'each', value: 0 });
   root.querySelector('dl').append(...shown.flatMap((line) => [
@@ -30,7 +31,7 @@ function part(kind, text, name = '') {
   return made;
 }
 
-// How much this figure changed in each second since the figures before; empty where it did not.
+// Returns the text for the change of a metric a second since the metrics before, or '' if none.
 function changeOf({ key, value }, time) {
   if (!before || !(key in before.figures) || time <= before.time) return '';
   const change = (1000 * (value - before.figures[key])) / (time - before.time);
@@ -53,7 +54,7 @@ function show({ figures, help }) {
   showAge();
 }
 
-// Says how old the figures are, where they are old.
+// Shows the age of the metrics if they are old.
 function showAge() {
   const age = before ? Date.now() - before.time : 0;
   element('figures').classList.toggle('old', age > PATIENCE);

@@ -1,13 +1,17 @@
 #!/bin/sh
-# Prints the script of an overflow, and with the word `expected` what it must print. A session is subscribed to /a/b and fetches nothing:
-# four requests publish 1,024 events there, and one more event is one too many. Written out, each of the two is longer than it is worth.
+# Prints a script in which a session overflows, or its expected output.
+#
+# usage: overflow.make script|expected
+#
+# A session is subscribed to /a/b and fetches nothing. Four requests publish 1,024 events there, and
+# one more event is too many. Both texts are too long to keep in files.
 set -eu
 first=000000000000000000000000000000000000000000000001
 second=000000000000000000000000000000000000000000000002
 retry='"advice":{"interval":0,"reconnect":"retry","timeout":30000}'
 served='"successful":true,"supportedConnectionTypes":["long-polling","callback-polling"],"version":"1.0"'
 
-# Prints the text $1 256 times, with commas between: as many messages as a request may have.
+# Prints the text $1 256 times, separated by commas: the greatest number of messages in a request.
 often() {
     awk -v text="$1" 'BEGIN { for (n = 1; n <= 256; n++) printf "%s%s", (n > 1 ? "," : ""), text }'
 }
@@ -21,10 +25,10 @@ script() {
         echo "0 P [$(often "$publish")]"
     done
     echo "0 P [$publish]"
-    # The session has overflowed: its connects are refused, and its other messages are served.
+    # The session has overflowed: its connects fail, and its other messages are accepted.
     echo '0 P [{"channel":"/meta/connect","clientId":"'$first'","connectionType":"long-polling"}]'
     echo "0 P [$publish]"
-    # Its client opens another one, and goes on with that.
+    # Its client opens a new session, and continues with that.
     echo "0 P [$handshake]"
     echo '0 P [{"channel":"/meta/subscribe","clientId":"'$second'","subscription":"/a/b"},{"channel":"/a/b","clientId":"'$second'","data":2}]'
     echo '0 P [{"channel":"/meta/connect","clientId":"'$second'","connectionType":"long-polling"}]'

@@ -69,8 +69,8 @@ class Daemon:
 
     def readers_address(self):
         """Waits until the log has the address of the readers' listener, and returns it."""
-        until("a line that tells where readers come", lambda: re.search(rb"readers at \S+\n", self.told()))
-        return self.told_address("readers at ")
+        until("a line that tells where readers come", lambda: re.search(rb"readers listening address=\S+\n", self.told()))
+        return self.told_address("readers listening address=")
 
     def told(self):
         """Returns the last 2,000 bytes that the daemon wrote to standard error."""

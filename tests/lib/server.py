@@ -30,7 +30,7 @@ class Server:
         def is_listening():
             self.process = subprocess.Popen([*self.words, *further], stdout=subprocess.PIPE, stderr=subprocess.DEVNULL)
             lines = [self.process.stdout.readline() for _ in range(2)]
-            return lines[0].startswith(b"listening ") and lines[1].startswith(b"readers at ")
+            return lines[0].startswith(b"listening ") and lines[1].startswith(b"readers listening ")
 
         until("bayeuxd listens", is_listening)
 

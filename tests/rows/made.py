@@ -16,7 +16,7 @@ SAID = {
     "max_interval": "a number from 0 to 4294967295",
     "options": "-, r, a or ra",
     "limit": "a number from 1 to 65536",
-    "bytes": "-, or a number from 1 to 4294967295",
+    "bytes": "- or a number from 1 to 4294967295",
     "sessions": "a number from 1 to 65536",
     "patterns": "a number from 1 to 1024",
 }

@@ -21,7 +21,7 @@ use tokio::runtime::Runtime;
 // Pause after a failed accept, in milliseconds.
 const PAUSE: u64 = 20;
 
-/// A future that drops the output of another.
+/// A future that runs another future and drops its output.
 #[derive(Drop)]
 pub struct Quiet<F> {
     inner: F,

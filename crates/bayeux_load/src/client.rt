@@ -30,7 +30,7 @@ pub struct Client {
     role: Role,
     id: String,
     state: Awaited,
-    // When it last sent a request or became ready; 0 before.
+    // When it last sent a request or became ready, in nanoseconds since the load started; 0 before.
     asked: u64,
 }
 
@@ -66,9 +66,9 @@ impl Client {
         }
     }
 
-    /// Writes and reads as far as possible, and returns `true` if a response is complete.
+    /// Writes and reads without waiting, and returns `true` if the response is complete.
     ///
-    /// `buffer`: what to read through.
+    /// `buffer`: scratch space for reading.
     ///
     /// # Errors
     ///

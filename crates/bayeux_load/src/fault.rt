@@ -28,14 +28,14 @@ impl Fault {
     pub fn text(self) -> &'static str {
         match self {
             Fault::Memory => "out of memory",
-            Fault::Unreachable => "the server cannot be reached",
-            Fault::Ended => "the server ended a connection",
-            Fault::System => "the system refused a call; are there enough descriptors (ulimit -n)?",
-            Fault::BadResponse => "the server answered with no status of 200 and replies",
+            Fault::Unreachable => "cannot reach the server",
+            Fault::Ended => "the server closed a connection",
+            Fault::System => "a system call failed; are there enough file descriptors (ulimit -n)?",
+            Fault::BadResponse => "unexpected response (not 200 with replies)",
             Fault::Refused =>
-                "the server refused a message; more events may have waited than it keeps",
-            Fault::Silent => "the server was silent for 30 seconds",
-            Fault::Other => "another thread ended",
+                "the server rejected a message; a session's queue may have overflowed",
+            Fault::Silent => "no progress for 30 seconds",
+            Fault::Other => "another thread failed",
         }
     }
 }

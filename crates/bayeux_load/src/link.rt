@@ -48,7 +48,7 @@ impl Link {
         })
     }
 
-    /// Writes `request` as far as possible. The previous request must be answered.
+    /// Writes as much of `request` as it can without waiting. The previous one must be answered.
     ///
     /// # Errors
     ///
@@ -59,7 +59,7 @@ impl Link {
         self.flush()
     }
 
-    /// Writes the rest of the request as far as possible.
+    /// Writes as much of the rest of the request as it can without waiting.
     ///
     /// # Errors
     ///
@@ -80,7 +80,9 @@ impl Link {
         Ok(())
     }
 
-    /// Reads what is available, through `buffer`.
+    /// Reads what is available, and appends it to the response.
+    ///
+    /// `buffer`: scratch space for reading, not empty.
     ///
     /// # Errors
     ///
@@ -92,7 +94,7 @@ impl Link {
                 Ok(0) => return Err(Fault::Ended),
                 Ok(count) => {
                     self.input.extend_from_slice(&buffer[..count])?;
-                    // More data causes another event.
+                    // If more data arrives, the poll reports the connection again.
                     if count < buffer.len() {
                         break;
                     }

@@ -112,7 +112,7 @@ impl LoadPart {
 
     /// Writes and reads for client `token`, and handles its response if it is complete.
     ///
-    /// `buffer`: what to read through. Does nothing if the client does not exist.
+    /// `buffer`: scratch space for reading. Does nothing if the client does not exist.
     ///
     /// # Errors
     ///

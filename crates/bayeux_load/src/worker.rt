@@ -62,7 +62,7 @@ fn make_waiting(net: &impl Net, alloc: Global, is_shown: bool) -> Result<Waiting
     })
 }
 
-// Takes turns until the load is over.
+// Serves the part's clients until the load is over.
 fn turns<R>(
     rt: &R,
     context: &Context,
@@ -80,7 +80,7 @@ where
     Ok(())
 }
 
-// Takes one turn, and returns `true` if the load is over.
+// Serves the clients once, and returns `true` if the load is over.
 fn is_last<R>(
     rt: &R,
     context: &Context,

@@ -44,7 +44,7 @@ fn run<T: Threads + Sync>(rt: &HostRuntime, threads: &T) -> Result<ExitCode, Scr
     }
 }
 
-// Returns the command-line arguments.
+// Returns the command-line arguments, without the name of the program.
 fn words(rt: &HostRuntime) -> io::Result<Vec<String>> {
     let mut words = Vec::new(rt.alloc());
     for word in env::args(rt)?.skip(1) {

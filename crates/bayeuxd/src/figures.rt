@@ -49,7 +49,7 @@ where
         &rt,
         move || answer_all(&rt, rt.alloc(), &listener, &*counts, start),
     )?;
-    info!(rt; target: "bayeuxd", "figures at {at}");
+    info!(rt; target: "bayeuxd", "metrics listening address={at}");
     Ok(())
 }
 

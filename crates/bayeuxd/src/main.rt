@@ -32,22 +32,23 @@ use std::{env, io, thread};
 const USAGE: &str =
     "usage: bayeuxd address shards timeout interval max_interval seed connections [options [limit]]";
 
-/// Second line of the usage text, printed if there are no arguments.
-const FLAGS: &str = "or bayeuxd [--listen ADDRESS] [FLAG ..], of which bayeuxd --help tells all";
+/// The rest of the usage text, printed if there are no arguments.
+const FLAGS: &str = "or bayeuxd [--listen ADDRESS] [FLAG ..]\nSee bayeuxd --help";
 
 /// Error text if the server cannot listen or serve. The log has the reason.
 const CANNOT_LISTEN: &str = "bayeuxd: cannot listen";
 
 /// Error text if the metrics listener cannot start. Its address and the reason follow.
-const NO_FIGURES: &str = "bayeuxd: cannot listen for figures";
+const NO_FIGURES: &str = "bayeuxd: cannot listen for metrics";
 
 /// Error text if the record file cannot be created or written. Its name and the reason follow.
-const CANNOT_RECORD: &str = "bayeuxd: cannot record";
+const CANNOT_RECORD: &str = "bayeuxd: cannot create the record";
 
 /// Error text if the thread that reads standard input cannot start.
 const NO_READER: &str = "bayeuxd: cannot read standard input";
 
-// One second, in milliseconds. The user may have meant a shorter time in seconds.
+// One second, in milliseconds. For a shorter time the log has a warning, since the user may have
+// meant seconds.
 const SECOND: u32 = 1000;
 
 /// Error text if memory runs out.
@@ -191,7 +192,7 @@ fn not_served(rt: &HostRuntime, fault: ServeFault<'_>) -> ExitCode {
             failed(rt, OUT_OF_MEMORY)
         }
         ServeFault::CannotServe(error) => {
-            error!(rt; target: "bayeuxd", "cannot serve: {error}");
+            error!(rt; target: "bayeuxd", "cannot serve error=\"{error}\"");
             failed(rt, CANNOT_LISTEN)
         }
     }
@@ -214,7 +215,7 @@ fn tell_settings(rt: &HostRuntime, settings: &Settings<'_>) {
     ];
     for (name, time) in times {
         if time > 0 && time < SECOND {
-            warn!(rt; target: "bayeuxd", "{name}={time} is {time} milliseconds: for seconds write {time}s");
+            warn!(rt; target: "bayeuxd", "time is below one second {name}={time} hint=\"for seconds, write {time}s\"");
         }
     }
 }
@@ -331,7 +332,7 @@ fn addresses_of(rt: &HostRuntime, name: &str) -> io::Result<Vec<SocketAddr>> {
 
 // Reports that the server cannot listen at `listen`, and returns the exit status.
 fn cannot_listen(rt: &HostRuntime, listen: &str, error: &io::Error) -> ExitCode {
-    error!(rt; target: "bayeuxd", "cannot listen at {listen}: {error}");
+    error!(rt; target: "bayeuxd", "cannot listen address={listen} error=\"{error}\"");
     failed(rt, CANNOT_LISTEN)
 }
 

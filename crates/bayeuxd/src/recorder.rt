@@ -48,7 +48,7 @@ pub fn make_record(
         .open(rt, path)?;
     let mut file = CountedFile::new(file);
     file.write_all(config_text(rt.alloc(), config)?.as_slice())?;
-    info!(rt; target: "bayeuxd", "recording to {path}");
+    info!(rt; target: "bayeuxd", "recording started file={path}");
     Ok(RecordFile { file, has_answers })
 }
 
@@ -185,7 +185,7 @@ impl<J: Naming, R: Wait + Log + Drop> Source for HubRecord<J, R> {
         let TakenAnswers { bytes, fault, .. } = self.log.take(&self.rt, empty);
         if let Some(fault) = fault {
             let why = why_of(fault);
-            warn!(&self.rt; target: "bayeuxd", "answers are recorded no further: {why}");
+            warn!(&self.rt; target: "bayeuxd", "recording of answers ended early reason=\"{why}\"");
         }
         bytes
     }
@@ -200,16 +200,16 @@ impl<J: Naming, R: Wait + Log + Drop> Source for HubRecord<J, R> {
 fn tell<R: Log>(rt: &R, written: &Written<Ended>) {
     let count = written.count;
     match &written.end {
-        End::Told => info!(rt; target: "bayeuxd", "recorded {count} bytes"),
+        End::Told => info!(rt; target: "bayeuxd", "recording complete bytes={count}"),
         End::Ended(Ended { fault, place }) => {
             let why = why_of(*fault);
-            warn!(rt; target: "bayeuxd", "record ended after {count} bytes, at place {place}: {why}");
+            warn!(rt; target: "bayeuxd", "recording ended early bytes={count} place={place} reason=\"{why}\"");
         }
         End::Gone => {
-            warn!(rt; target: "bayeuxd", "record ended after {count} bytes: nothing is recorded");
+            warn!(rt; target: "bayeuxd", "recording ended early bytes={count} reason=\"nothing is recorded\"");
         }
         End::Refused(error) => {
-            warn!(rt; target: "bayeuxd", "record ended after {count} bytes: {error}");
+            warn!(rt; target: "bayeuxd", "recording ended early bytes={count} reason=\"{error}\"");
         }
     }
 }
@@ -217,8 +217,8 @@ fn tell<R: Log>(rt: &R, written: &Written<Ended>) {
 // Returns the log text for `fault`.
 fn why_of(fault: RecordFault) -> &'static str {
     match fault {
-        RecordFault::Full => "more than 64 MiB would wait to be written",
-        RecordFault::Unsayable => "no line can say a request",
+        RecordFault::Full => "more than 64 MiB waiting to be written",
+        RecordFault::Unsayable => "a request is too large for a record line",
         RecordFault::Memory => "out of memory",
     }
 }

@@ -7,32 +7,38 @@ use log::{Log, warn};
 const CAUSES: [(Figure, &str); 10] = [
     (
         Figure::Responses(Status::BadRequest),
-        "400, a body or a query is wrong, or did not come whole",
+        "400: malformed or incomplete body or query",
     ),
     (
         Figure::Responses(Status::Forbidden),
-        "403, a publish came by the readers' door",
+        "403: publish at the read-only listener",
     ),
     (
         Figure::Responses(Status::TooLarge),
-        "413, a body or a query is too large",
+        "413: body or query too large",
     ),
     (
         Figure::Refused(Reason::Behind),
-        "a shard lags behind and the window is full",
+        "the window is full because a shard lags",
     ),
     (
         Figure::Refused(Reason::Overrun),
-        "the window begins past the place of a shard",
+        "internal error: the window has dropped entries that a shard needs",
     ),
     (
         Figure::Refused(Reason::Misplaced),
-        "another shard stands under a lock",
+        "internal error: shard lock mismatch",
     ),
-    (Figure::Refused(Reason::Memory), "no memory for a request"),
-    (Figure::Refused(Reason::Closed), "the hub is closed"),
-    (Figure::Unanswered, "no answer can be given"),
-    (Figure::Missing, "no memory for a response"),
+    (
+        Figure::Refused(Reason::Memory),
+        "out of memory for a request",
+    ),
+    (
+        Figure::Refused(Reason::Closed),
+        "the server is shutting down",
+    ),
+    (Figure::Unanswered, "answer unavailable"),
+    (Figure::Missing, "out of memory for a response"),
 ];
 
 /// How many requests are already logged, by cause.
@@ -53,7 +59,7 @@ impl Refusals {
             let count = counts.get(*figure);
             let more = count.saturating_sub(*told);
             if more > 0 {
-                warn!(rt; target: "bayeuxd", count = more; "refused: {text}");
+                warn!(rt; target: "bayeuxd", count = more; "requests failed: {text}");
             }
             *told = count;
         }

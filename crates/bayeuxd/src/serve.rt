@@ -220,7 +220,7 @@ where
     counts.set_listens(true);
     tell(&rt, "listening", &listener, writer)?;
     if let Some(readers) = &readers {
-        tell(&rt, "readers at", readers, writer)?;
+        tell(&rt, "readers listening", readers, writer)?;
     }
     let is_over = Arc::new(alloc, AtomicBool::new(false))?;
     let (ticked, over) = (Arc::try_clone(&hub)?, Arc::try_clone(&is_over)?);
@@ -271,7 +271,7 @@ fn tell<R: Log, W: Write>(
     writer: &mut W,
 ) -> io::Result<()> {
     let address = listener.local_addr()?;
-    info!(rt; target: "bayeuxd", "{what} {address}");
+    info!(rt; target: "bayeuxd", "{what} address={address}");
     writeln!(writer, "{what} {address}")?;
     writer.flush()
 }

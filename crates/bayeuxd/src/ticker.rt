@@ -19,17 +19,18 @@ const TICK: u64 = 100;
 // Number of ticks after which a filed answer is dropped: a minute. Policy of this server.
 const KEPT: usize = 600;
 
-// The same while more answers are filed than sessions may be live: a second. Policy of this server.
+// Number of ticks after which a filed answer is dropped while more answers are filed than sessions
+// may be live: a second. Policy of this server.
 const KEPT_IN_A_CROWD: usize = 10;
 
-// Number of ticks between calls that log rejected requests: a second. Policy of this server.
+// Number of ticks between the log lines for rejected requests: a second. Policy of this server.
 const TELLING: u64 = 10;
 
 /// Posts a tick every 100 ms until `is_over` is set.
 ///
 /// Counts the ticks and copies the hub's state to `counts`. Once a second, logs why requests were
-/// rejected. Drops filed answers that are not taken within a minute, or within a second while more
-/// than `crowd` are filed.
+/// rejected or not answered. Drops filed answers that are not taken within a minute, or within a
+/// second while more than `crowd` are filed.
 ///
 /// # Blocking
 ///
@@ -87,7 +88,8 @@ where
     }
 }
 
-// Removes all places except the newest `kept`, and returns the last one removed.
+// Removes all places except the newest `kept`. Returns the last one removed, or `None` if all are
+// kept.
 fn last_before(places: &mut VecDeque<u64>, kept: usize) -> Option<u64> {
     let mut last = None;
     for _ in kept..places.len() {

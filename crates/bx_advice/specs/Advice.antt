@@ -13,9 +13,9 @@ retry c = record { interval = c.interval; reconnect = Retry; timeout = Some c.ti
 abbrev pub instead : Config → Reconnect → Advice
 instead c reconnect = record { interval = c.interval; reconnect = reconnect; timeout = None }
 
--- What a client should do after an error, if anything. It should handshake again if its session is
--- unknown, has overflowed or found no room, and do nothing if the server does not support it. Other
--- errors come without advice. Policy of this server.
+-- What a client should do after an error, if anything. It should not reconnect if the server does
+-- not support it, and handshake again if its session is unknown, has overflowed or found no room.
+-- Other errors give no advice. Policy of this server.
 abbrev pub reconnect_of : Error → Option Reconnect
 reconnect_of UnsupportedVersion = Some Never
 reconnect_of NoSupportedConnectionType = Some Never

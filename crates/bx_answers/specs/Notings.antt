@@ -29,7 +29,7 @@ fault_in Open = None
 fault_in (Ended fault) = Some fault
 fault_in Over = None
 
--- The state after that was reported.
+-- The state after the fault, if any, was reported.
 abbrev pub told_of : Noting → Noting
 told_of Open = Open
 told_of (Ended fault) = Over

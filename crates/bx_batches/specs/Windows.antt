@@ -1,8 +1,8 @@
--- A window as the program stores it.
+-- The queue and batches of a session, as the program stores them.
 use Rattle.std.specs.Prelude.{ℕ}
 use Rattle.bx_entry.specs.Windows.{Window}
 
--- A window, and for how many more events it has room.
+-- The queue and batches of a session, and for how many more events there is room.
 pub record Windowed : Type 0 where
   pub contents : Window
   pub spare : ℕ

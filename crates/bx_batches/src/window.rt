@@ -66,7 +66,7 @@ pub struct Given<'a> {
 }
 
 impl Window {
-    /// Creates an empty window.
+    /// Creates an empty queue without batches.
     pub fn new(alloc: Global) -> Window
         ensures { result.contents ≡ empty }
     {

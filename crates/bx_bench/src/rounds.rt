@@ -1,7 +1,7 @@
 //! Workloads of rounds with several workers, from JSON to outs.
 //!
-//! Each returns the number of items in all responses. It does not drop its round: a server would
-//! continue, and one thread would need time to drop it.
+//! Each returns the number of items in all responses. The rounds are never dropped: a server would
+//! continue to run, and the time that one thread needs to drop a round would distort the result.
 use crate::bodies::{HANDSHAKE, arrival, connect};
 use anyhow::{Result, anyhow};
 use bx_advice::Config;

@@ -109,7 +109,7 @@ pub fn wait(alloc: Global) -> Result<usize> {
     Ok(sessions.len())
 }
 
-/// Delivers 100 events to each of 1,000 sessions, which then connects, 10 times.
+/// Delivers 100 events to each of 1,000 sessions and then connects each session, 10 times.
 ///
 /// # Errors
 ///
@@ -131,7 +131,7 @@ pub fn batches(alloc: Global) -> Result<usize> {
     Ok(total as usize)
 }
 
-/// Holds a connect of each of 1,000 sessions, which an event answers, 1,000 times.
+/// Holds a connect of each of 1,000 sessions and answers it with an event, 1,000 times.
 ///
 /// # Errors
 ///

@@ -66,7 +66,7 @@ pub fn plain_build(alloc: Global) -> Result<usize> {
     Ok(pairs(alloc)?.len())
 }
 
-/// Builds the same list, and looks up 100 names in it, each in all pairs.
+/// Builds the same list, and looks up 100 names in it, comparing each with all patterns.
 ///
 /// # Errors
 ///
@@ -88,7 +88,7 @@ fn find_plainly(pairs: &[(u64, Pattern)], names: &[ChannelName]) -> usize {
 
 /// Builds a tree of `sessions` sessions with a pattern each, and looks up a name `finds` times.
 ///
-/// Each time, it finds one session.
+/// Each look-up finds one session. Returns the number of sessions found in all.
 ///
 /// # Errors
 ///

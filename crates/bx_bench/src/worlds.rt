@@ -121,8 +121,8 @@ pub fn opened(alloc: Global, shards: usize) -> Result<usize> {
 
 /// Opens the sessions as [`opened`], and makes 900,000 publishes and 100,000 connects.
 ///
-/// A request has 100 publishes. Each publish reaches ten sessions, which get the event by their
-/// connects.
+/// Each request has 100 publishes or one connect. Each publish reaches ten sessions, which get the
+/// event by their connects. Returns the number of entries and events.
 ///
 /// # Errors
 ///

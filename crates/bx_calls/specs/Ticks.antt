@@ -4,7 +4,7 @@ use Rattle.bx_entry.specs.Listing.{Listed, Tick}
 use Rattle.bx_entry.specs.declared.entry.Entry.{Entry}
 use Rattle.bx_entry.specs.declared.entry.EntryKind.TheVariants as kinds
 
--- A list with this many ticks.
+-- A list of a given number of ticks.
 abbrev pub ticks : ℕ → List Listed
 ticks zero = []
 ticks (suc n) = Tick 0 ∷ ticks n
@@ -13,7 +13,7 @@ ticks (suc n) = Tick 0 ∷ ticks n
 abbrev pub tick_at : ℕ → Entry
 tick_at place = record { place = place; moment = 0; kind = kinds.Tick []; rides = None }
 
--- The entries of this many ticks, the first of them at `place`.
+-- The entries of a given number of ticks, from `place` on.
 abbrev pub tick_entries : ℕ → ℕ → List Entry
 tick_entries place zero = []
 tick_entries place (suc n) = tick_at place ∷ tick_entries (place + 1) n

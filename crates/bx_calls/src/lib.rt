@@ -72,11 +72,11 @@ pub const RIDDEN: &str =
 pub enum Found {
     /// No answer is filed.
     Nothing,
-    /// An answer with the expected text.
+    /// An answer with the expected text was taken.
     Wanted,
-    /// Another answer.
+    /// An answer with another text was taken.
     Other,
-    /// The fault with which the poll failed.
+    /// The poll failed with this fault.
     Stopped(HubFault),
 }
 

@@ -13,18 +13,18 @@ use std::sync::Wait;
 // A writer publishes only while its log, its list and the batch are each shorter than this.
 const MOST: u64 = 1_000_000;
 
-/// What happened to a batch.
+/// The result of publishing a batch.
 #[derive(Clone, Copy, Debug, PartialEq, Eq)]
 pub enum Taken {
-    /// It was published.
+    /// The batch was published.
     Published,
-    /// It was returned.
+    /// The batch was not published, and was returned.
     Refused {
         /// The reason.
         why: PublishFault,
-        /// Its first place.
+        /// The first place of the returned batch.
         first: u64,
-        /// Its number of entries.
+        /// The number of entries of the returned batch.
         entries: usize,
     },
 }

@@ -1,4 +1,4 @@
--- Which bodies are rejected, and why.
+-- Which documents are rejected, and why.
 use Rattle.std.specs.Prelude.{ℕ, List, Bool, true, cond, ◌&&◌, nat_lt, is_some, Option, Some, None}
 use Rattle.std.specs.Str.{is_utf8}
 use Rattle.serde_json.specs.Data.{Data, Items, no_items, item}
@@ -13,8 +13,8 @@ abbrev pub all_objects : Items → Bool
 all_objects no_items = true
 all_objects (item d ds) = is_some (as_object d) && all_objects ds
 
--- The fault of an array with these elements, if any. `None` stands for a value that is neither an
--- array nor an object.
+-- The fault of an array with these elements, if any. With `None`, the fault of a value that is
+-- neither an array nor an object.
 abbrev pub array_fault : Option Items → Option CutError
 array_fault None = Some NotObject
 array_fault (Some ds) = cond (all_objects ds) (cond (nat_lt MAX_MESSAGES (items_len ds)) (Some TooMany) None) (Some NotObject)
@@ -23,6 +23,6 @@ abbrev pub value_fault : Option Data → Option CutError
 value_fault None = Some NotJson
 value_fault (Some d) = cond (is_some (as_object d)) None (array_fault (as_array d))
 
--- The first fault of a body, if any.
+-- The first fault of a document, if any.
 unfoldable pub fault : List ℕ → Option CutError
 fault body = cond (is_utf8 body) (value_fault (read body)) (Some NotJson)

@@ -17,8 +17,8 @@ quoted text = ascii.quote ∷ (text ++ (ascii.quote ∷ []))
 
 -- ---- The next part of a string, for private clauses
 
--- `r` is the next character and the length of its escape in bytes, of which the last is ASCII. If
--- `r` is `None`, the text is not the rest of a string.
+-- `r` is the next character and the length of its escape in bytes. The last byte of the escape is
+-- ASCII. If `r` is `None`, the text is not the rest of a string.
 abbrev pub Unescapes : Within → List ℕ → Option (ℕ × ℕ) → Type 0
 Unescapes within text r =
     MatchOption r (content within text ≡ None)

@@ -24,7 +24,7 @@ use std::marker::Model;
 /// Policy of this server.
 pub const MAX_MESSAGES: usize = 256;
 
-/// A JSON document, split into messages that borrow the body.
+/// A JSON document, split into messages that borrow its text.
 ///
 /// Model: the list of the messages.
 #[derive(Debug, Drop)]
@@ -32,7 +32,7 @@ pub struct Document<'a> {
     pieces: Vec<Piece<'a>>,
 }
 
-/// A message: the part of a body that is one JSON object, without surrounding whitespace.
+/// A message: the part of a document that is one JSON object, without surrounding whitespace.
 ///
 /// Model: its text, and its members as pairs of a quoted key and the text of a value.
 #[derive(Debug, Drop)]
@@ -59,12 +59,14 @@ impl<'a> Model for Document<'a> {
 }
 
 impl<'a> Document<'a> {
-    /// Parses a body and splits it into messages: its object, or the objects of its array.
+    /// Parses a document and splits it into messages: its object, or the objects of its array.
+    ///
+    /// `body`: the bytes of the document.
     ///
     /// # Errors
     ///
     /// - `NotJson`, `NotObject`, `TooMany`: the first that applies.
-    /// - `Memory`: memory ran out, whether the body is valid or not.
+    /// - `Memory`: memory ran out, whether the document is valid or not.
     ///
     /// # Examples
     ///
@@ -80,7 +82,7 @@ impl<'a> Document<'a> {
         ensures fault { IfErr result (λ e. e ≢ CutError.Memory → fault body.now ≡ Some e) }
         ensures pieces { IfOk result (λ document. document ≡ pieces body.now) }
 
-        // Each message parses as its element of the body, and has the same members.
+        // Each message parses as its object in the document, and has the same members.
         ensures reads { IfOk result (λ document. (d : Data) → read body.now ≡ Some d
             → ArePiecesOf document d) }
         ensures order { IfOk result (λ document. LieIn document body.now) }

@@ -1,4 +1,4 @@
-//! Errors of splitting a body into messages.
+//! Errors of splitting a document into messages.
 ghost use Rattle.std.specs.Prelude.{◌≡◌};
 ghost use Rattle.bx_cut.specs.declared.error.CutError.TheVariants.{Memory};
 
@@ -6,15 +6,15 @@ use std::alloc::{AllocError, AllocFailed};
 use std::error::Error;
 use std::fmt;
 
-/// Why a body cannot be split into messages.
+/// Why a document cannot be split into messages.
 ///
 /// The variants are in the order in which they are tested, except `Memory`.
 #[derive(Clone, Copy, Debug, PartialEq, Eq)]
 pub enum CutError {
     /// The bytes are not UTF-8, or not JSON that `serde_json` accepts.
     ///
-    /// It also rejects more than 127 levels of arrays and objects, and numbers too large for a
-    /// 64-bit float.
+    /// `serde_json` also rejects more than 127 levels of arrays and objects, and numbers too large
+    /// for a 64-bit float.
     NotJson,
     /// The JSON value is neither an object nor an array of objects.
     ///

@@ -1,4 +1,4 @@
-//! Splits request bodies into messages, and messages into members, without copying.
+//! Splits the documents of requests into messages, and messages into members, without copying.
 #![tactic(auto)]
 
 mod bodies;

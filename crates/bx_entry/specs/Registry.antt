@@ -262,7 +262,7 @@ may_ride _ = false
 abbrev pub is_rider : Config → Senders → MessageKind → Posted → Registered → Bool
 is_rider config senders message_kind p s = config.ride && (p.last && (not s.ack && (is_one (joined senders s.number) && may_ride message_kind)))
 
--- The rider that a message is, if it is one, with the reply from its slot.
+-- The rider for a message, if the message is one, with the reply from its slot.
 abbrev pub rider_for : Bool → ℕ → PlaceSlot → Option Rider
 rider_for true number (Ready reply) = Some (record { session = number; reply = reply })
 rider_for true number (Waiting session) = None
@@ -330,7 +330,7 @@ abbrev pub left_by : MessageKind → ℕ → List Registered → List Registered
 left_by MessageKind.Disconnect number sessions = closed number sessions
 left_by _ number sessions = sessions
 
--- The rider that an accepted message of a live session is, if any.
+-- The rider for an accepted message of a live session, if the message is one.
 abbrev pub rider_by : Config → Senders → MessageKind → Posted → Registered → Option Rider
 rider_by config senders message_kind p s = rider_for (is_rider config senders message_kind p s) s.number (slot_for config message_kind p s)
 

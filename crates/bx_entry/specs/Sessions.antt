@@ -87,11 +87,11 @@ pending_count s = length s.queue
 abbrev pub pending_bytes : Session → ℕ
 pending_bytes s = bytes_of s.queue
 
--- The session's window.
+-- The session's queue and batches, as a `Window`.
 abbrev pub window_in : Session → Window
 window_in s = record { queue = s.queue; out = s.out; number = s.num }
 
--- The session with another window.
+-- The session with the queue and batches of another `Window`.
 abbrev pub with_window : Window → Session → Session
 with_window w s = record s { queue = w.queue; out = w.out; num = w.number }
 

@@ -35,7 +35,7 @@ pub record Keeps (place : ℕ) (old new : WorldState) : Type 0 where
 
 -- ---- One answer
 
--- The list has no answer to the message at `place`; or it was taken, and its slot was removed.
+-- The list has no answer to the message at `place`, or that answer was taken and its slot removed.
 abbrev pub NextBy : Setup → WorldState → ℕ → List Slot → List Slot → WorldState → Option Answer → Type 0
 NextBy setup old place before after new None = (given_at setup.config old.list place ≡ None) × (after ≡ before) × (new ≡ old)
 NextBy setup old place before after new (Some a) =
@@ -69,7 +69,7 @@ abbrev pub IsWhole : Config → List Listed → CurrentInput → Bool → Type 0
 IsWhole config list n true = n.slots.items ≡ []
 IsWhole config list n false = (0 < length n.slots.items) × (given_at config list (next_place n) ≡ None)
 
--- Answers may have taken the place of slots; the rest is unchanged.
+-- Some slots may have been replaced by collected answers; the rest is unchanged.
 pub record Collects (old new : CurrentInput) : Type 0 where
   pub number : new.number ≡ old.number
   pub first : new.first ≡ old.first

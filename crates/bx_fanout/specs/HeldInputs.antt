@@ -65,7 +65,7 @@ room_by (Some h) = elim h.answer [ None ↦ 0 | Some a ↦ length a.events + 1 ]
 abbrev pub numbers : List Row → List ℕ
 numbers rows = map (λ (row : Row). row.1.number) rows
 
--- A first part of the outs of answered connects was appended. The waiting connects are unchanged.
+-- A prefix of the outs of answered connects was appended. The waiting connects are unchanged.
 pub record Gives (old : List Row) (before after : List Out) (new : List Row) : Type 0 where
   pub more : List Out
   pub behind : after ≡ before ++ more

@@ -42,7 +42,7 @@ module _ {P : Type 0} {g : Ghosts P} where
     pub level : (k n : ℕ) → slice_get (world_of r.world).applied k ≡ Some n → n ≡ length (world_of r.world).list
     pub holds : ShardsRefine r.world
 
-  -- Outs were appended. The outs of all runs are a first part of the inputs' outs.
+  -- Outs were appended. The outs of all runs are a prefix of the inputs' outs.
   pub record Adds (old : RoundState P g) (before after : List Out) (new : RoundState P g) : Type 0 where
     pub more : List Out
     pub behind : after ≡ before ++ more
@@ -59,7 +59,7 @@ module _ {P : Type 0} {g : Ghosts P} where
   IsRun old inputs before after new (Err (Memory admitted)) =
       Adds old before after new × (admitted ≤ length inputs) × (inputs_of new ≡ inputs_of old ++ map read_input (take admitted inputs))
 
-  -- The same in terms of the state's fields.
+  -- The same as `IsRun`, in terms of the state's fields.
   abbrev pub Runs : RoundState P g → List Input → List Out → List Out → RoundState P g → Result (Unit {0}) RoundFault → Type 0
   Runs old inputs before after new (Ok tt) = AddsOuts old before after new × (new.inputs ≡ old.inputs ++ inputs) × IsSettled new
   Runs old inputs before after new (Err (Memory admitted)) = AddsOuts old before after new × (admitted ≤ length inputs) × (new.inputs ≡ old.inputs ++ take admitted inputs)

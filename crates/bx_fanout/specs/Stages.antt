@@ -60,7 +60,7 @@ is_collecting Idle = false
 is_collecting (Collecting n) = true
 is_collecting (Complete n) = false
 
--- Whether they are all collected, and the out is not appended yet.
+-- Whether all answers to the last input are collected, and its out is not appended yet.
 abbrev pub is_complete : Stage → Bool
 is_complete Idle = false
 is_complete (Collecting n) = false
@@ -72,7 +72,7 @@ own Idle = []
 own (Collecting n) = []
 own (Complete n) = out_of n ∷ []
 
--- A first part of the outs that were left was appended. The waiting connects are unchanged.
+-- A prefix of the outs that were left was appended. The waiting connects are unchanged.
 pub record GivesOut (rows : List Row) (stage : Stage) (before after : List Out) (rows' : List Row) (stage' : Stage) : Type 0 where
   pub more : List Out
   pub behind : after ≡ before ++ more
@@ -80,7 +80,8 @@ pub record GivesOut (rows : List Row) (stage : Stage) (before after : List Out) 
   pub others : filter waits rows' ≡ filter waits rows
   pub collecting : is_collecting stage' ≡ is_collecting stage
 
--- What each stage means: answers are left to collect, or at most outs are left to append.
+-- What each stage means: answers are left to collect, or all are collected and outs may be left to
+-- append.
 abbrev pub IsStaged : Setup → List ReadInput → WorldState → List Row → Stage → List runs.Out → Type 0
 IsStaged setup inputs w rows Idle added = IsGiving setup inputs w rows [] added
 IsStaged setup inputs w rows (Collecting n) added = IsTakenIn setup inputs w rows n added

@@ -14,7 +14,7 @@ use std::sync::Arc;
 /// Redistributes the sessions among `shards` shards, by `placing`.
 ///
 /// Every shard must be at the end of the list, and all answers to the last input collected. The
-/// inputs and outs of the runs before stay.
+/// inputs and outs of earlier runs are kept.
 ///
 /// # Errors
 ///

@@ -13,7 +13,7 @@ use std::alloc::{AllocError, Global};
 use std::sync::Arc;
 use std::thread::Threads;
 
-/// A server that answers inputs in order, as one thread would, by many workers.
+/// A server that answers inputs in order with many workers, as one thread would.
 ///
 /// Inputs come in runs. An input starts when it is admitted or rejected. It is complete once all
 /// its messages are answered; until then, its connect is held.
@@ -69,7 +69,8 @@ impl<P: Placing> Round<P> {
     /// - when the slowest shard lacks more than 1,024 entries,
     /// - at the end of a run that succeeds.
     ///
-    /// One worker does this alone if fewer than 1,024 deliveries are expected.
+    /// One worker does this alone if fewer than 1,024 deliveries are expected. Each worker calls
+    /// `gate` before and after.
     ///
     /// # Errors
     ///
@@ -114,7 +115,7 @@ impl<P: Placing> Round<P> {
     /// Redistributes the sessions among `shards` shards, by `placing`.
     ///
     /// First, the calling thread advances every shard to the end of the list, without a gate. The
-    /// inputs and outs of the runs before stay.
+    /// inputs and outs of earlier runs are kept.
     ///
     /// # Errors
     ///

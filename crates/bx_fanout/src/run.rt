@@ -11,7 +11,7 @@ use bx_workers::{Gate, WorkerCount};
 use std::alloc::Global;
 use std::thread::Threads;
 
-/// Finishes the run before, answers `inputs` in order, and then advances every shard.
+/// Finishes the previous run, answers `inputs` in order, and then advances every shard.
 ///
 /// All outs that an input makes ready are appended before the next input starts.
 ///

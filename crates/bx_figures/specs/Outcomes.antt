@@ -10,7 +10,7 @@ use Rattle.bx_hub.specs.declared.fault.PostFault.{PostFault}
 use Rattle.bx_hub.specs.declared.fault.PostFault.TheVariants as faults
 use Rattle.bx_message.specs.declared.{message_kind.MessageKind.MessageKind, reply.Reply.Reply}
 
--- The reason that counts a fault.
+-- The reason under which a fault is counted.
 abbrev pub reason_of : PostFault → Reason
 reason_of (faults.Refused (refusals.Body bodies.Forbidden)) = reasons.Forbidden
 reason_of (faults.Refused (refusals.Body fault)) = reasons.Body

@@ -19,7 +19,7 @@ with_number before number behind = before ++ decimal number ++ behind
 abbrev pub fields_text : ℕ → List ℕ
 fields_text size = with_number (codes "\r\ncontent-length: ") size (codes "\r\nconnection: close\r\n\r\n")
 
--- A response with `status`, which may contain another field, and `body`.
+-- A response. `status`: the code and reason phrase, and possibly another field. `body`: its body.
 abbrev pub message_text : List ℕ → List ℕ → List ℕ
 message_text status body = codes "HTTP/1.1 " ++ status ++ fields_text (length body) ++ body
 

@@ -30,7 +30,7 @@ pub enum Reason {
 }
 
 impl Reason {
-    /// Returns its name in a label of the page.
+    /// Returns the reason's name, as the label `reason` of the page has it.
     pub fn name(self) -> &'static str {
         match self {
             Reason::Body => "body",
@@ -163,7 +163,7 @@ pub(crate) const FIGURES: [Figure; 59] = [
 ];
 
 impl Figure {
-    /// Returns its index in [`FIGURES`].
+    /// Returns the metric's index in [`FIGURES`].
     pub(crate) fn place(self) -> usize
         ensures { slice_get FIGURES result ≡ Some self }
     {
@@ -194,7 +194,7 @@ impl Figure {
         }
     }
 
-    /// Returns its name. Metrics that differ only in a label share one.
+    /// Returns the metric's name. Metrics that differ only in a label share a name.
     pub(crate) fn name(self) -> &'static str {
         match self {
             Figure::Uptime => "bayeux_uptime_seconds_total",
@@ -223,36 +223,36 @@ impl Figure {
         }
     }
 
-    /// Returns the help text of its name.
+    /// Returns the help text of the metric's name.
     pub(crate) fn help(self) -> &'static str {
         match self {
-            Figure::Uptime => "Seconds since the program began.",
-            Figure::Connections => "Connections that are open.",
-            Figure::Accepted => "Connections that came.",
-            Figure::Requests => "Requests that have no response yet.",
-            Figure::Held => "Admitted requests that wait for an answer.",
-            Figure::Admitted => "Requests that were taken into the list.",
+            Figure::Uptime => "Seconds since the program started.",
+            Figure::Connections => "Open connections.",
+            Figure::Accepted => "Connections accepted.",
+            Figure::Requests => "Requests in progress.",
+            Figure::Held => "Admitted requests in progress.",
+            Figure::Admitted => "Requests admitted.",
             Figure::Events => "Events in responses.",
-            Figure::Unanswered => "Admitted requests whose answers could not be given.",
-            Figure::Missing => "Requests without a response for want of memory.",
-            Figure::Entries => "Entries of the list at the last tick.",
-            Figure::Ticks => "Ticks that were taken into the list.",
-            Figure::RefusedTicks => "Ticks that were refused.",
-            Figure::ShardsBehind => "Shards that stayed behind the last tick.",
-            Figure::Swept => "Answers that nobody took and that were dropped.",
-            Figure::Sessions => "Sessions that are live.",
-            Figure::Opened => "Sessions that were opened.",
+            Figure::Unanswered => "Admitted requests whose answer was unavailable.",
+            Figure::Missing => "Requests dropped for lack of memory.",
+            Figure::Entries => "Length of the list at the last tick, in entries.",
+            Figure::Ticks => "Ticks appended to the list.",
+            Figure::RefusedTicks => "Ticks not appended to the list.",
+            Figure::ShardsBehind => "Shards that had not applied the last tick.",
+            Figure::Swept => "Unclaimed answers dropped.",
+            Figure::Sessions => "Live sessions.",
+            Figure::Opened => "Sessions opened.",
             Figure::Batches => "Batches in the window.",
-            Figure::Connects => "Connects that are held.",
-            Figure::Filed => "Answers that wait to be taken.",
-            Figure::Responses(_) => "Responses by status.",
-            Figure::Refused(_) => "Requests that were not taken into the list, by reason.",
-            Figure::Replies(_) => "Replies of success by kind of message.",
-            Figure::Errors(_) => "Replies of errors by error.",
+            Figure::Connects => "Held connects.",
+            Figure::Filed => "Filed answers that nobody has taken.",
+            Figure::Responses(_) => "Responses, by status.",
+            Figure::Refused(_) => "Requests not admitted, by reason.",
+            Figure::Replies(_) => "Successful replies, by kind of message.",
+            Figure::Errors(_) => "Error replies, by error.",
         }
     }
 
-    /// Returns its type in Prometheus' format: `gauge` or `counter`.
+    /// Returns the metric's type in Prometheus' format: `gauge` or `counter`.
     pub(crate) fn type_name(self) -> &'static str {
         match self {
             Figure::Connections
@@ -267,7 +267,7 @@ impl Figure {
         }
     }
 
-    /// Returns `true` if it is the first metric with its name.
+    /// Returns `true` if this metric is the first with its name.
     pub(crate) fn is_first(self) -> bool {
         match self {
             Figure::Responses(Status::Ok)

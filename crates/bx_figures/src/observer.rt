@@ -55,7 +55,7 @@ fn count_all(counts: &Counts, items: Option<&[Item]>) {
     }
 }
 
-// Returns the reason that counts `fault`.
+// Returns the reason under which `fault` is counted.
 fn reason_of(fault: PostFault) -> Reason
     ensures { result ≡ reason_of fault }
 {

@@ -10,7 +10,7 @@ const ROOM: usize = 16384;
 // Name of the lag of each shard.
 const LAG: &str = "bayeux_shard_lag_entries";
 
-const LAG_HELP: &str = "Entries of the list that a shard has not applied.";
+const LAG_HELP: &str = "Entries of the list that the shard has not applied.";
 
 /// Formats the page: a row for each metric and for each shard's lag.
 ///
@@ -51,7 +51,8 @@ fn push_head(
     page.push_str(head.as_str())
 }
 
-// Returns the label that distinguishes `figure` from others with its name.
+// Returns the label that distinguishes `figure` from other metrics with the same name. The text is
+// empty if there are no others.
 fn label_of(alloc: Global, figure: Figure) -> Result<String, AllocError> {
     match figure {
         Figure::Responses(status) => format!(in alloc; "{{status=\"{}\"}}", status.code()),

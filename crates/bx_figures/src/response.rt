@@ -81,7 +81,8 @@ fn respond(alloc: Global, asked: Asked, listens: bool, page: &str) -> Result<Vec
     }
 }
 
-// Creates a response with `status`, which may contain another field, and `body`.
+// Creates a response with `body`. `status`: the code and reason phrase, optionally followed by a
+// line break and another field.
 fn message(alloc: Global, status: &str, body: &[u8]) -> Result<Vec<u8>, AllocError>
     ensures { IfOk result (λ text. text.items ≡ message_text status.now body.now) }
 {
@@ -93,7 +94,7 @@ fn message(alloc: Global, status: &str, body: &[u8]) -> Result<Vec<u8>, AllocErr
     Ok(text)
 }
 
-// Appends the fields that end the head of every response. `length`: that of the body in bytes.
+// Appends the fields that end the head of every response. `length`: the body's length in bytes.
 fn push_fields(text: &mut Vec<u8>, length: usize) -> Result<(), AllocError>
     ensures { OnOk result (text.new.items ≡ text.old.items ++ fields_text length) }
 {

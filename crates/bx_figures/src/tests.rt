@@ -6,64 +6,64 @@ use std::test::Fail;
 
 // The page of 57 values: 1, the greatest number, and 3 to 57. The last two values are missing.
 // There are two shards.
-const PAGE: &str = r#"# HELP bayeux_uptime_seconds_total Seconds since the program began.
+const PAGE: &str = r#"# HELP bayeux_uptime_seconds_total Seconds since the program started.
 # TYPE bayeux_uptime_seconds_total counter
 bayeux_uptime_seconds_total 1
-# HELP bayeux_connections Connections that are open.
+# HELP bayeux_connections Open connections.
 # TYPE bayeux_connections gauge
 bayeux_connections 18446744073709551615
-# HELP bayeux_connections_total Connections that came.
+# HELP bayeux_connections_total Connections accepted.
 # TYPE bayeux_connections_total counter
 bayeux_connections_total 3
-# HELP bayeux_requests Requests that have no response yet.
+# HELP bayeux_requests Requests in progress.
 # TYPE bayeux_requests gauge
 bayeux_requests 4
-# HELP bayeux_requests_held Admitted requests that wait for an answer.
+# HELP bayeux_requests_held Admitted requests in progress.
 # TYPE bayeux_requests_held gauge
 bayeux_requests_held 5
-# HELP bayeux_requests_admitted_total Requests that were taken into the list.
+# HELP bayeux_requests_admitted_total Requests admitted.
 # TYPE bayeux_requests_admitted_total counter
 bayeux_requests_admitted_total 6
 # HELP bayeux_events_total Events in responses.
 # TYPE bayeux_events_total counter
 bayeux_events_total 7
-# HELP bayeux_requests_unanswered_total Admitted requests whose answers could not be given.
+# HELP bayeux_requests_unanswered_total Admitted requests whose answer was unavailable.
 # TYPE bayeux_requests_unanswered_total counter
 bayeux_requests_unanswered_total 8
-# HELP bayeux_responses_missing_total Requests without a response for want of memory.
+# HELP bayeux_responses_missing_total Requests dropped for lack of memory.
 # TYPE bayeux_responses_missing_total counter
 bayeux_responses_missing_total 9
-# HELP bayeux_list_entries_total Entries of the list at the last tick.
+# HELP bayeux_list_entries_total Length of the list at the last tick, in entries.
 # TYPE bayeux_list_entries_total counter
 bayeux_list_entries_total 10
-# HELP bayeux_ticks_total Ticks that were taken into the list.
+# HELP bayeux_ticks_total Ticks appended to the list.
 # TYPE bayeux_ticks_total counter
 bayeux_ticks_total 11
-# HELP bayeux_ticks_refused_total Ticks that were refused.
+# HELP bayeux_ticks_refused_total Ticks not appended to the list.
 # TYPE bayeux_ticks_refused_total counter
 bayeux_ticks_refused_total 12
-# HELP bayeux_shards_behind Shards that stayed behind the last tick.
+# HELP bayeux_shards_behind Shards that had not applied the last tick.
 # TYPE bayeux_shards_behind gauge
 bayeux_shards_behind 13
-# HELP bayeux_answers_swept_total Answers that nobody took and that were dropped.
+# HELP bayeux_answers_swept_total Unclaimed answers dropped.
 # TYPE bayeux_answers_swept_total counter
 bayeux_answers_swept_total 14
-# HELP bayeux_sessions Sessions that are live.
+# HELP bayeux_sessions Live sessions.
 # TYPE bayeux_sessions gauge
 bayeux_sessions 15
-# HELP bayeux_sessions_opened_total Sessions that were opened.
+# HELP bayeux_sessions_opened_total Sessions opened.
 # TYPE bayeux_sessions_opened_total counter
 bayeux_sessions_opened_total 16
 # HELP bayeux_window_batches Batches in the window.
 # TYPE bayeux_window_batches gauge
 bayeux_window_batches 17
-# HELP bayeux_connects_held Connects that are held.
+# HELP bayeux_connects_held Held connects.
 # TYPE bayeux_connects_held gauge
 bayeux_connects_held 18
-# HELP bayeux_answers_filed Answers that wait to be taken.
+# HELP bayeux_answers_filed Filed answers that nobody has taken.
 # TYPE bayeux_answers_filed gauge
 bayeux_answers_filed 19
-# HELP bayeux_responses_total Responses by status.
+# HELP bayeux_responses_total Responses, by status.
 # TYPE bayeux_responses_total counter
 bayeux_responses_total{status="200"} 20
 bayeux_responses_total{status="400"} 21
@@ -73,7 +73,7 @@ bayeux_responses_total{status="405"} 24
 bayeux_responses_total{status="413"} 25
 bayeux_responses_total{status="501"} 26
 bayeux_responses_total{status="503"} 27
-# HELP bayeux_requests_refused_total Requests that were not taken into the list, by reason.
+# HELP bayeux_requests_refused_total Requests not admitted, by reason.
 # TYPE bayeux_requests_refused_total counter
 bayeux_requests_refused_total{reason="body"} 28
 bayeux_requests_refused_total{reason="forbidden"} 29
@@ -84,7 +84,7 @@ bayeux_requests_refused_total{reason="behind"} 33
 bayeux_requests_refused_total{reason="overrun"} 34
 bayeux_requests_refused_total{reason="misplaced"} 35
 bayeux_requests_refused_total{reason="memory"} 36
-# HELP bayeux_replies_total Replies of success by kind of message.
+# HELP bayeux_replies_total Successful replies, by kind of message.
 # TYPE bayeux_replies_total counter
 bayeux_replies_total{kind="handshake"} 37
 bayeux_replies_total{kind="connect"} 38
@@ -93,7 +93,7 @@ bayeux_replies_total{kind="unsubscribe"} 40
 bayeux_replies_total{kind="disconnect"} 41
 bayeux_replies_total{kind="publish"} 42
 bayeux_replies_total{kind="unknown_meta"} 43
-# HELP bayeux_errors_total Replies of errors by error.
+# HELP bayeux_errors_total Error replies, by error.
 # TYPE bayeux_errors_total counter
 bayeux_errors_total{error="404::Unknown meta channel"} 44
 bayeux_errors_total{error="400::Second handshake"} 45
@@ -111,7 +111,7 @@ bayeux_errors_total{error="400::Missing subscription"} 56
 bayeux_errors_total{error="400::Missing data"} 57
 bayeux_errors_total{error="408::Superseded connect"} 0
 bayeux_errors_total{error="413::Queue overflow"} 0
-# HELP bayeux_shard_lag_entries Entries of the list that a shard has not applied.
+# HELP bayeux_shard_lag_entries Entries of the list that the shard has not applied.
 # TYPE bayeux_shard_lag_entries gauge
 bayeux_shard_lag_entries{shard="0"} 0
 bayeux_shard_lag_entries{shard="1"} 12

@@ -14,14 +14,14 @@ abbrev pub HasNone : Setup → Ticket → List LogStep → Type 0
 HasNone setup ticket front = (setup.shards ≤ ticket.shard) ⊎ IsLevelWithout setup ticket front
 
 module _ {J : Type 0} where
-  -- The output, with only the fault of an error.
+  -- The output, with an error reduced to its fault.
   abbrev pub output_of : Result (Option Answer) (Stopped J) → Result (Option Answer) HubFault
   output_of (Ok answer) = Ok answer
   output_of (Err stopped) = Err stopped.fault
 
 -- What each output claims about a front of the list.
--- An answer is the one that a single thread gives over the front. `None`: the ticket names no
--- shard, or no answer is filed for it. A fault holds of the ticket's shard.
+-- An answer is the one that a single-threaded server gives over the front. `None`: the ticket names
+-- no shard, or no answer is filed for it. A fault: what `IsStopped` claims of the ticket's shard.
 abbrev pub IsGiven : Setup → Ticket → List LogStep → Result (Option Answer) HubFault → Type 0
 IsGiven setup ticket front (Ok (Some a)) = answer_over setup.config front ticket.place ≡ Some a
 IsGiven setup ticket front (Ok None) = HasNone setup ticket front

@@ -27,7 +27,7 @@ use std::sync::Wait;
 pub struct PendingAnswer<J: Naming> {
     pass: Pass<J>,
     ticket: Ticket,
-    // Identifies the answer to the task that waits for it.
+    // Identifies this answer among the things that a task may wait for.
     source: Source,
     // A waker that is not registered. It is kept because dropping a waker wakes its task.
     own: Option<Waker>,
@@ -37,7 +37,9 @@ pub struct PendingAnswer<J: Naming> {
 }
 
 impl<J: Naming> PendingAnswer<J> {
-    /// Creates a pending answer for `ticket`. `pass` must have seen its connect or rider.
+    /// Creates a pending answer for `ticket`.
+    ///
+    /// `pass` must have seen the connect or rider of `ticket`.
     pub fn new(pass: Pass<J>, ticket: Ticket) -> PendingAnswer<J>
         requires { ticket.place < length (list_of pass) }
         ensures { (result.pass ≡ pass) × (result.ticket ≡ ticket) × (result.is_done ≡ false) }
@@ -150,11 +152,11 @@ impl<J: Naming> PendingAnswer<J> {
                 return (Poll::Ready(Err(shut.stopped(&self.ticket))), None);
             }
         }
-        // It was answered in the meantime.
+        // The answer was filed after the first look.
         if let Some(output) = self.ask(rt, alloc, hub) {
             return (Poll::Ready(output), None);
         }
-        // The answer was taken or swept since then.
+        // The answer was already taken or swept.
         (cx.yield_now(), None)
     }
 }

@@ -6,13 +6,13 @@ use Rattle.bx_window.specs.declared.law.Naming as Naming
 use Rattle.bx_window.specs.declared.law.LogStep.{LogStep}
 
 module _ {J : Type 0} {g : Naming.Ghosts J} where
-  -- A step of the walk that visits shard `index`.
+  -- Evidence that `round` advanced shard `index` at some step, or tried to.
   pub record IsWalked (round : AllBrought J g) (index : ℕ) : Type 0 where
     pub step : ℕ
     pub done : step < length round.stays
     pub is : walked_at round.first round.shards step ≡ index
 
-  -- The walk to `front` visited each of `shards` shards.
+  -- `round` advanced each of `shards` shards to `front`, or tried to.
   pub record IsOfAll (shards : ℕ) (front : List LogStep) (round : AllBrought J g) : Type 0 where
     pub note : round.note.value ≡ front
     pub all : length round.stays ≡ shards

@@ -26,7 +26,8 @@ one_more (stops.Overrun shard place) l = record l { overrun = l.overrun + 1 }
 one_more stops.Memory l = record l { memory = l.memory + 1 }
 one_more (stops.Misplaced found) l = record l { misplaced = l.misplaced + 1 }
 
--- `Overrun` names this shard and a place before the window; `Misplaced` names another shard.
+-- What the fault of a shard claims, given the shard's index and a front of the window's log.
+-- `Overrun` names that shard and a place before the window. `Misplaced` names another shard.
 abbrev pub IsStopped : HubFault → ℕ → List LogStep → Type 0
 IsStopped (stops.Overrun shard place) index front = (shard ≡ index) × (place < begin_of front)
 IsStopped (stops.Misplaced found) index front = found ≢ index

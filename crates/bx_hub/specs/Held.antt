@@ -21,7 +21,7 @@ pub record Held : Type 0 where
   pub state : State
 
 -- The reader has seen the whole note, and the shard is not past the note's end. The shard's state
--- is what the definition gives at its place in the list that the reader has seen.
+-- agrees with the definitions after the entries that the shard has applied.
 pub record Stands (setup : Setup) (h : Held) : Type 0 where
   pub learnt : IsPrefix h.told h.seen
   pub within : h.state.place ≤ length (list_of h.told)
@@ -37,7 +37,7 @@ taken_by (Ok (Some a)) place taken = taken ++ place ∷ []
 taken_by (Ok None) place taken = taken
 taken_by (Err e) place taken = taken
 
--- The answer of one thread to the message at `place` in a log's list.
+-- A single-threaded server's answer to the message at `place` in the list of a log.
 abbrev pub answer_over : Config → List LogStep → ℕ → Option Answer
 answer_over config log place = option_map given_of (answer config (list_of log) place)
 

@@ -20,7 +20,7 @@ pub record IsAdmittedAt (input : ReadInput) (first : ℕ) (old new : List LogSte
   pub there : drop first (list_of new) ≡ added_by input
   pub end : length (list_of new) ≡ first + length (added_by input)
 
--- One thread gives the same slots for the input at place `first` of the front.
+-- The slots are those that a single-threaded server gives for the input at place `first`.
 abbrev pub AreSlotsAt : Setup → ReadInput → ℕ → List LogStep → List Slot → Type 0
 AreSlotsAt setup input first front slots = slots ≡ admitted_slots setup (take first (list_of front)) (added_by input)
 

@@ -30,7 +30,7 @@ IsShut (Shut given) = Unit {0}
 IsShut _ = ⊥
 
 module _ {J : Type 0} where
-  -- The evidence is of this ticket, waker and result.
+  -- The evidence names this ticket, waker and result.
   pub record IsSaid (ticket : Ticket) (waker : Waker) (said : Watch) (watching : Watching J) : Type 0 where
     pub ticket_is : watching.ticket.value ≡ ticket
     pub waker_is : watching.waker.value ≡ waker

@@ -88,14 +88,14 @@ impl<J: Naming, R: Wait + Drop> Admission<J, R> {
     /// Appends a request or a tick to the list and to the record.
     ///
     /// Also returns what is left of `wanted`, to be dropped after admission is unlocked. A request
-    /// without messages appends nothing.
+    /// without messages appends nothing. On success, `pass` has then seen the whole list.
     ///
     /// # Errors
     ///
     /// `wanted`, with the first of these that applies; nothing is appended:
     ///
     /// - `Closed`: admission is closed.
-    /// - `Refused`: the moment is too large, or the list or its log too long.
+    /// - `Refused`: the moment is too large, or the list or the window's log is too long.
     /// - `Behind`: the window is full.
     /// - `Memory`: memory ran out, at any step, or an earlier change still cannot be shown to
     ///   readers.
@@ -369,7 +369,8 @@ impl<J: Naming, R: Wait + Drop> Admission<J, R> {
 
     /// Drops the batches that all shards have applied, and returns a shard at the lowest position.
     ///
-    /// Drops nothing if the log has no room for another step.
+    /// `least` has the positions of all shards. Drops nothing if the window's log has no room for
+    /// another step.
     ///
     /// # Errors
     ///

@@ -38,8 +38,9 @@ use std::sync::Arc;
 
 /// A shard with its reader of the window and the longest note that it has learned.
 ///
-/// The shard never advances past the end of that note. Its state is what the model gives for the
-/// entries that it has applied.
+/// A note is a front that a caller has seen. When the shard learns a note, its reader has then seen
+/// that front too, and the longest note is kept. The shard never advances past the end of the
+/// longest note. Its state is what the model gives for the entries that it has applied.
 #[derive(Drop)]
 pub(crate) struct Desk<J: Naming, P: Placing> {
     shard: Shard<P>,
@@ -173,8 +174,8 @@ impl<J: Naming, P: Placing> Desk<J, P> {
 
     /// Advances the shard as [`bring_to`](Self::bring_to) does, and returns its position.
     ///
-    /// Also returns which wakers it added to `wakers`. Only an overrun is an error. After any other
-    /// fault, the returned position is where the shard stopped.
+    /// `pass` is the note to learn. Also returns which wakers were added to `wakers`. Only an
+    /// overrun is an error. After any other fault, the position is where the shard stopped.
     ///
     /// # Errors
     ///
@@ -335,8 +336,8 @@ impl<J: Naming, P: Placing> Desk<J, P> {
     /// Takes the answer filed under `ticket`, if any.
     ///
     /// If there is none, advances the shard to the end of the longest note, including `pass`, and
-    /// looks again. `pass` has then seen at least that note. Also returns which wakers it added to
-    /// `wakers`.
+    /// looks again. `pass` has then seen at least that note. Also returns which wakers were added
+    /// to `wakers`.
     ///
     /// # Errors
     ///
@@ -385,8 +386,8 @@ impl<J: Naming, P: Placing> Desk<J, P> {
 
     /// Registers `waker` with a held connect of this shard.
     ///
-    /// Returns the shard's result and evidence of it. A waker that is replaced or not stored comes
-    /// back in the result.
+    /// Returns the shard's result and evidence of that result. A waker that is replaced or not
+    /// stored is returned in the result.
     #[tactic(auto, using(crate::proofs::Watches::holds_after, crate::proofs::Watches::back_of))]
     pub(crate) fn watch(&mut self, ticket: Ticket, waker: Waker) -> (Watch, Watching<J>)
         requires own { ticket.shard ≡ self.old.shard.index }

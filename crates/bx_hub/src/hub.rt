@@ -42,7 +42,8 @@ pub type Pass<J> = Front<J>;
 /// Requests and ticks are appended to one list, under the admission lock. Each shard applies the
 /// list under its own lock, at its own pace.
 ///
-/// A caller gets what a single thread would give it for the entries that its [`Pass`] has seen.
+/// A caller gets what a single-threaded server would give for the entries that the [`Pass`] of the
+/// caller has seen.
 #[derive(Drop)]
 pub struct Hub<J: Naming, P: Placing, G: Gate + Drop, R: Wait + Drop> {
     placing: Arc<P, Global>,
@@ -70,6 +71,10 @@ impl<J: Naming, P: Placing, G: Gate + Drop, R: Wait + Drop> Hub<J, P, G, R> {
     ghost use Rattle.bx_hub.specs.declared.desk.evidence.Change.TheVariants as changes;
 
     /// Creates a hub with an empty list and `config.shards` shards.
+    ///
+    /// `rt`: the right to wait, which the window's writer keeps. `opened`: a new, empty window.
+    /// `placing`: the rule that assigns sessions to shards. `gate`: called before and after a shard
+    /// applies entries.
     ///
     /// # Errors
     ///
@@ -120,8 +125,9 @@ impl<J: Naming, P: Placing, G: Gate + Drop, R: Wait + Drop> Hub<J, P, G, R> {
 
     /// Appends a request to the list and advances every shard.
     ///
-    /// Consumes `arrival` on success and returns it on error. A request without messages appends
-    /// nothing. Trims the window when the list's length reaches or passes a multiple of 64.
+    /// Consumes `arrival` on success and returns it on error. On success, `pass` has then seen the
+    /// list up to the request. A request without messages appends nothing. Trims the window when
+    /// the list's length reaches or passes a multiple of 64.
     ///
     /// # Errors
     ///
@@ -198,7 +204,8 @@ impl<J: Naming, P: Placing, G: Gate + Drop, R: Wait + Drop> Hub<J, P, G, R> {
 
     /// Appends a tick, advances every shard and trims the window.
     ///
-    /// `moment`: milliseconds since the server started.
+    /// `moment`: milliseconds since the server started. On success, `pass` has then seen the list
+    /// up to the tick.
     ///
     /// # Errors
     ///
@@ -234,8 +241,8 @@ impl<J: Naming, P: Placing, G: Gate + Drop, R: Wait + Drop> Hub<J, P, G, R> {
         })
     }
 
-    // Appends `wanted`, making room first if the window is full. Returns it on error, and otherwise
-    // what is left of it, to be dropped after admission is unlocked.
+    // Appends `wanted`, making room first if the window is full. On success, also returns what is
+    // left of `wanted`, to be dropped after admission is unlocked. On error, returns `wanted`.
     fn admit<W: Wait>(
         &self,
         rt: &W,
@@ -480,8 +487,8 @@ impl<J: Naming, P: Placing, G: Gate + Drop, R: Wait + Drop> Hub<J, P, G, R> {
     /// Registers `waker` with a held connect, and returns the waker that it replaces.
     ///
     /// Returns `waker` itself if an answer is filed (`Ready`), no connect is held under `ticket`
-    /// (`Unknown`), or the hub is closed (`Shut`). The second value proves the shard's result, and
-    /// is `None` if `ticket` names no shard.
+    /// (`Unknown`), or the hub is closed (`Shut`). The second value is evidence of the result, or
+    /// `None` if `ticket` names no shard.
     ///
     /// # Blocking
     ///

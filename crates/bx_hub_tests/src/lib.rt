@@ -1,6 +1,6 @@
 //! Tests of `bx_window` and `bx_hub` from one thread.
 //!
-//! A separate crate, because `.ci/run` proves a crate with tests twice.
+//! They are a separate crate because `.ci/run` proves a crate with tests twice.
 #![tactic(auto)]
 
 #[cfg(test)]

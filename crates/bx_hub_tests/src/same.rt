@@ -2,8 +2,10 @@
 use std::fmt::Debug;
 use std::process::Abort;
 
-/// Aborts the test, printing `at`, unless `found` equals `wanted`.
-// Prover: proved faster than a comparison in place.
+/// Aborts the test unless `found` equals `wanted`.
+///
+/// `at`: what is compared. If the values differ, it is printed with both of them.
+// Prover: a test that calls this is proved faster than one that compares in place.
 pub fn same<T: PartialEq + Debug + Copy, A: Debug + Copy>(
     rt: &impl Abort,
     found: T,

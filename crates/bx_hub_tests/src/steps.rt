@@ -31,7 +31,7 @@ pub enum Step {
     HoldTwo,
     /// Opens the second session and publishes an event that the first one gets.
     Publish,
-    /// Does the same with another pass, then extends the caller's pass to it.
+    /// Publishes as `Publish` does, with another pass, and then extends the caller's pass to it.
     PublishApart,
     /// Posts a request, which gets this place, or would get it if it had messages. This many paused
     /// shards lag.

@@ -168,7 +168,7 @@ full_batch = replicate 256 (event (codes "/a/b") (codes "1")) ++ connected 1 ∷
 
 -- ---- Texts
 
--- The body of a response, or the empty text for a refusal.
+-- The body of a response, or the empty text for a rejected input.
 abbrev pub text_by : Result (List Item) Refusal → List ℕ
 text_by (Ok items) = body_text items
 text_by (Err refusal) = []
@@ -209,7 +209,7 @@ riding = record standard { ride = true; anonymous = true }
 abbrev pub crowded : ℕ → Config
 crowded room = record standard { limits = record standard_limits { sessions = room } }
 
--- Publishes of a subscriber, of another session and of none.
+-- Publishes of a subscriber, of another session, and without a session.
 abbrev pub ridden_publishes : List ReadInput
 ridden_publishes =
     post 0 (handshake ∷ []) ∷ post 0 (handshake ∷ []) ∷ post 0 (subscribe 1 (codes "/a/*") ∷ []) ∷ post 0 (publish 2 (codes "/a/x") (codes "1") ∷ [])
@@ -223,7 +223,8 @@ ridden_hold =
     post 0 (handshake ∷ []) ∷ post 0 (subscribe 1 (codes "/a/*") ∷ []) ∷ post 0 (connect 1 ∷ [])
     ∷ post 0 (publish 1 (codes "/a/x") (codes "1") ∷ publish 1 (codes "/a/y") (codes "2") ∷ []) ∷ []
 
--- A request with `ms` and then a publish of session 1, a subscriber, followed by its connect.
+-- A request with `ms` and then a publish of session 1, which is subscribed, and after that request
+-- a connect of session 1.
 abbrev pub ridden_behind : List Message → List ReadInput
 ridden_behind ms =
     post 0 (handshake ∷ []) ∷ post 0 (handshake ∷ []) ∷ post 0 (subscribe 1 (codes "/a/*") ∷ [])

@@ -226,7 +226,7 @@ BatchesRepeat =
     ∷ out 7 (event (codes "/a/y") (codes "2") ∷ event (codes "/a/z") (codes "3") ∷ ack_connected 1 2 ∷ [])
     ∷ out 8 (ack_connected 1 2 ∷ []) ∷ []
 
--- A number above that of the last batch acknowledges all that was sent, however often it comes.
+-- A number above that of the last batch acknowledges all that was sent, however often it is used.
 abbrev pub GreatNumber : Type 0
 GreatNumber =
     outs standard (
@@ -252,7 +252,7 @@ EventIsBatch =
     ∷ out 3 (event (codes "/a/b/c") (codes "[1, 2]") ∷ ack_connected 1 1 ∷ []) ∷ out 4 (published (codes "/a/b/c") ∷ [])
     ∷ out 5 (event (codes "/a/b/c") (codes "[1, 2]") ∷ ack_connected 1 1 ∷ []) ∷ []
 
--- The connect that acknowledges it is held.
+-- The connect that acknowledges this batch is held.
 abbrev pub EventIsBatchHeld : Type 0
 EventIsBatchHeld =
     held standard held_with_ack ≡ 6 ∷ []
@@ -448,7 +448,7 @@ abbrev pub EmptyCallback : Type 0
 EmptyCallback =
     callback_text (codes "jsonpcallback") [] ≡ codes "jsonpcallback([])"
 
--- ---- What is easily mistaken
+-- ---- Cases that are easily mistaken
 
 -- A message after the disconnect of its session, in bytes.
 abbrev pub GoneText : Type 0

@@ -1,6 +1,9 @@
 //! Laws that hold for every configuration and every list.
 //!
 //! Some suppose that a batch may have at least one event: `limits.batch` is not 0.
+//!
+//! A plain session does not acknowledge. An event is done if it is acknowledged, or sent by a plain
+//! session.
 ghost use Rattle.bx_theory.specs.Laws.{DoneNeverFalls, CountsAgree, EntriesInOrder, AnswersStay, BatchRepeats, NeverGivenAgain, NoEventTwice, GivenOnce, NoRidersUnasked, RidersArePlain};
 ghost use Rattle.bx_theory.specs.Readings.{LiveReading, InForceReading, HeldReading, EndingReading, OverflowReading, QueueBounded, DueReading, ClockReading, SameLive, AcceptedWhileLive, PublishesOfNone, ClosedIsOver};
 ghost use Rattle.bx_theory.specs.Riding.{RiderReading, NothingRidesBeside, OthersNeverRide, RiderGiven};
@@ -13,9 +16,7 @@ ghost use Rattle.bx_entry.specs.Keeping.{KeptSteps, KeptRuns, KeptInBounds};
 ghost use Rattle.bx_laws.specs.Readers.{ReadersPublishNothing};
 ghost use Rattle.bx_laws.specs.ReadBack.{RepliesReadBack, EventsReadBack, BodiesReadBack};
 
-/// Proves that a session's count of done events never falls.
-///
-/// Done: acknowledged, or sent by a plain session.
+/// Proves that the number of a session's done events never falls.
 pub fn done_never_falls()
     ensures { DoneNeverFalls }
 {}
@@ -45,16 +46,16 @@ pub fn never_given_again()
     ensures { NeverGivenAgain }
 {}
 
-/// Proves that an answer has only events at later places than those that are done before it.
+/// Proves that each event in an answer was published after all events that were done before it.
 ///
-/// Done events are never sent again.
+/// So done events are never sent again.
 pub fn no_event_twice()
     ensures { NoEventTwice }
 {}
 
-/// Proves that a plain session sends its events in order, each once.
+/// Proves that a plain session sends its done events in order, each in one answer.
 ///
-/// It sends them in answers to connects and riders.
+/// The answers are those to connects and riders.
 pub fn given_once()
     ensures { GivenOnce }
 {}
@@ -71,9 +72,10 @@ pub fn riders_are_plain()
 
 /// Proves when a message is a rider of a session.
 ///
-/// It is one exactly if `--ride` is set, the session does not acknowledge, and the message ends its
-/// request. All messages of the request must be accepted, come from the session, and be no
-/// handshake. The rider must be a subscription, an unsubscription or a publish.
+/// The message is a rider exactly if `--ride` is set, the session does not acknowledge, and the
+/// message is the last one of its request. All messages of the request must be accepted and come
+/// from the session, and none may be a handshake. The rider must be a subscription, an
+/// unsubscription or a publish.
 pub fn rider_reading()
     ensures { RiderReading }
 {}
@@ -90,7 +92,7 @@ pub fn others_never_ride()
 
 /// Proves that a rider gets the first waiting events in one answer, up to one batch.
 ///
-/// They are those that wait after the entry has taken effect. The others still wait.
+/// The events are taken after the entry has taken effect. Events beyond one batch keep waiting.
 pub fn rider_given()
     ensures { RiderGiven }
 {}
@@ -100,9 +102,10 @@ pub fn live_reading()
     ensures { LiveReading }
 {}
 
-/// Proves that a pattern is active exactly if a subscription mentioned it last.
+/// Proves that a pattern is active exactly if the last message that names it is a subscription.
 ///
-/// After an overflow, no pattern is active.
+/// Only accepted subscriptions and unsubscriptions of the session count. After an overflow, no
+/// pattern is active.
 pub fn in_force_reading()
     ensures { InForceReading }
 {}
@@ -157,9 +160,9 @@ pub fn publishes_are_events()
     ensures { PublishesAreEvents }
 {}
 
-/// Proves that the events of a session are at rising places.
+/// Proves that the events of a session are at ascending places.
 ///
-/// So a publish is at most one of them.
+/// So each publish is at most one event of the session.
 pub fn events_rise()
     ensures { EventsRise }
 {}
@@ -231,6 +234,8 @@ pub fn bodies_read_back()
 {}
 
 /// Proves that an input appends the outs of all inputs that it makes whole, in order.
+///
+/// An input is whole once all its messages are answered, and open before.
 pub fn outs_add()
     ensures { OutsAdd }
 {}
@@ -275,7 +280,7 @@ pub fn nonces_go_on()
     ensures { NoncesGoOn }
 {}
 
-/// Proves that lines without nonces stay as they are read, and that scripts have only such lines.
+/// Proves that lines are used as they are read if none gives a nonce, as in every script.
 pub fn nonces_stay()
     ensures lines { NoncesStay }
     ensures scripts { ScriptsSayNone }

@@ -1,4 +1,4 @@
--- The latencies that are counted at each place.
+-- The latencies that are counted at each place: each index of the counts.
 use Rattle.std.specs.Prelude.{◌≡◌, ℕ, ◌+◌, ◌*◌, ◌-◌, ◌<◌, ◌≤◌, List, sum_by, take, if◌then◌else◌, nat_lt}
 
 -- The greatest latency in microseconds that is counted at `place`, except at the last place.

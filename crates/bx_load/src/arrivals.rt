@@ -10,7 +10,7 @@ pub enum Reception {
     InOrder,
     /// It arrived for the first time, but after a later event of its publisher.
     OutOfOrder,
-    /// It arrived before.
+    /// It had already arrived.
     Doubled,
     /// The publisher has no event with this number.
     Unknown,

@@ -4,10 +4,10 @@ ghost use Rattle.bx_load.specs.Places.{greatest_of, IsReachedAt};
 
 use std::alloc::{AllocError, Global};
 
-// In microseconds. Each shorter latency has its own count.
+// Each latency below this number of microseconds has its own count.
 const EXACT: u64 = 65_536;
 
-// Microseconds per count for longer latencies.
+// The width of a count of longer latencies, in microseconds.
 const WIDTH: u64 = 1024;
 
 // Number of counts. They reach to 67 seconds; the last one also counts all longer latencies.

@@ -1,7 +1,7 @@
 //! The responses that a client reads.
 ghost use Rattle.std.specs.Prelude.{◌+◌, ◌≤◌, length, IfOk, IfSome};
 
-// The greatest length in bytes of an input that has no end of a head yet.
+// The greatest length of an incomplete head, in bytes.
 const MAX_HEAD: usize = 16_384;
 
 /// The status of a complete response, and the position of its body in the input.
@@ -23,8 +23,8 @@ pub struct Malformed;
 ///
 /// # Errors
 ///
-/// `Malformed` if more than 16 KiB contain no end of a head, or the head is not one of an HTTP/1.1
-/// response with a `content-length`.
+/// `Malformed` if `input` exceeds 16 KiB and has no end of a head, or if the head is not that of
+/// an HTTP/1.1 response with a `content-length`.
 pub fn read_response(input: &[u8]) -> Result<Option<Response>, Malformed>
     ensures start { IfOk result (λ found. IfSome found (λ r. r.start ≤ r.end)) }
     ensures end { IfOk result (λ found. IfSome found (λ r. r.end ≤ length input.now)) }

@@ -78,14 +78,14 @@ impl Display for SettingsFault {
     fn fmt<W: Write>(&self, f: &mut Formatter<W>) -> fmt::Result {
         f.write_str(match self {
             SettingsFault::Memory => "out of memory",
-            SettingsFault::Count => "there have to be five to seven words",
-            SettingsFault::Url => "url has to be as http://127.0.0.1:8087/cometd",
-            SettingsFault::Sessions => "sessions has to be a number from 0 to 4294967295",
-            SettingsFault::Channels => "channels has to be a number from 1 to 4294967295",
-            SettingsFault::Publishers => "publishers has to be a number from 1 to 4294967295",
-            SettingsFault::Events => "events has to be a number from 1 to 4294967295",
-            SettingsFault::Rate => "rate has to be a number from 1 to 4294967295, or ack",
-            SettingsFault::Ack => "the last of seven words has to be ack",
+            SettingsFault::Count => "expected 5 to 7 arguments",
+            SettingsFault::Url => "url: expected a URL such as http://127.0.0.1:8087/cometd",
+            SettingsFault::Sessions => "sessions: expected a number from 0 to 4294967295",
+            SettingsFault::Channels => "channels: expected a number from 1 to 4294967295",
+            SettingsFault::Publishers => "publishers: expected a number from 1 to 4294967295",
+            SettingsFault::Events => "events: expected a number from 1 to 4294967295",
+            SettingsFault::Rate => "rate: expected a number from 1 to 4294967295, or ack",
+            SettingsFault::Ack => "ack: expected ack as the seventh argument",
         })
     }
 }

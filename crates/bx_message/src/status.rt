@@ -4,8 +4,9 @@ ghost use Rattle.bx_message.specs.Statuses.{code_of};
 
 /// An HTTP status that this server responds with.
 ///
-/// Error types of requests have a method `status`. The choice of statuses is a policy of this
-/// server.
+/// The error types of requests have a method `status`, which returns one of these.
+///
+/// The choice of statuses is a policy of this server.
 #[derive(Clone, Copy, Debug, PartialEq, Eq)]
 pub enum Status {
     /// 200

@@ -4,13 +4,13 @@ use Rattle.futures.specs.Runs.{Runs}
 use Rattle.http_body.specs.declared.frame.Frame.{Frame}
 use Rattle.http_body.specs.Frame.{data_frame}
 
--- The frame has data made from the text's first piece, and `rest` holds for the text after it.
+-- The frame's data are made from the first piece of `text`, and `rest` holds for the text after it.
 abbrev pub Leads : {D : Type 0} → (List ℕ → D → Type 0) → List ℕ → Frame D → (List ℕ → Type 0) → Type 0
 Leads {D} made text frame rest =
     (piece : List ℕ) × ((left : List ℕ) × ((it : D) × ((frame ≡ data_frame it) × made piece it × (text ≡ piece ++ left) × rest left)))
 
--- The frames are the pieces of a text, in order. The end comes only after the last piece. An error
--- comes only before it, and the next frame continues the text.
+-- The frames are the pieces of a text, in order. The end comes only after the last piece. Errors
+-- come only before the end, and the frame after an error continues the text.
 abbrev pub InPieces : {D E : Type 0} → (List ℕ → D → Type 0) → List ℕ → Runs (Result (Frame D) E)
 InPieces made text [] None = text ≡ []
 InPieces made text [] (Some (Ok frame)) = Leads made text frame (λ left. Unit {0})

@@ -11,7 +11,7 @@ abbrev pub answer_text : Option (List ℕ) → List Item → List ℕ
 answer_text None items = body_text items
 answer_text (Some callback) items = callback_text callback items
 
--- The same for the elements of the items.
+-- The text of a response with these elements.
 abbrev pub whole_text : Option (List ℕ) → List Element → List ℕ
 whole_text None elements = array (map element_text elements)
 whole_text (Some callback) elements = callback ++ (40 ∷ (script_safe (array (map element_text elements)) ++ 41 ∷ []))
@@ -30,7 +30,7 @@ abbrev pub sent_as : Bool → List ℕ → List ℕ
 sent_as false text = text
 sent_as true text = script_safe text
 
--- The text after the array.
+-- The text after the array: a closing parenthesis in a script, and otherwise nothing.
 abbrev pub end_text : Bool → List ℕ
 end_text false = []
 end_text true = 41 ∷ []
@@ -39,7 +39,8 @@ end_text true = 41 ∷ []
 abbrev pub rest_text : Bool → List Element → List ℕ
 rest_text is_script elements = sent_as is_script (tail_text elements) ++ end_text is_script
 
--- The same, or the empty text if everything is written.
+-- The text of a response that is not written yet. It is empty if everything is written (`true`).
+-- Otherwise, it is the remaining elements and the end of the response.
 abbrev pub left_text : Bool → Bool → List Element → List ℕ
 left_text true is_script elements = []
 left_text false is_script elements = rest_text is_script elements

@@ -25,7 +25,8 @@ pub struct Pieces<D> {
     alloc: Global,
     // A piece that is written but not returned yet.
     made: Option<Bytes>,
-    // Those from `next` on, and the end of the response, are not written yet, unless `is_written`.
+    // The elements of the response. Unless `is_written`, those from `next` on and the end of the
+    // response are not written yet.
     elements: Vec<Element>,
     next: usize,
     is_script: bool,
@@ -85,7 +86,7 @@ impl<D> Pieces<D> {
         Pieces::begun(alloc, callback, items)
     }
 
-    // Writes the whole body.
+    // Creates the body, and writes all of it.
     fn at_once(
         alloc: Global,
         callback: Option<&str>,
@@ -113,7 +114,7 @@ impl<D> Pieces<D> {
         })
     }
 
-    // Writes the body through its first element.
+    // Creates the body, and writes it through its first element.
     fn begun(alloc: Global, callback: Option<&str>, items: &[Item]) -> Result<Pieces<D>, AllocError>
         ensures { IfOk result (λ pieces. pieces ≡ answer_text (option_map (λ name. name.now) callback.entry) items.now) }
     {

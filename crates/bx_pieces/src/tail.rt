@@ -9,10 +9,11 @@ use bx_transport::push_script_safe;
 use bytes::Bytes;
 use std::alloc::{AllocError, Global};
 
-// Elements are combined up to this length in bytes, before escapes. A larger one is sent alone.
+// The length in bytes, before escapes, up to which elements are combined. A larger element is sent
+// alone.
 const PIECE: usize = 65_536;
 
-// Converts a part of the array as the response has it, which is with escapes for a script.
+// Converts a part of the array to the text that is sent, with escapes if the response is a script.
 pub(crate) fn sent_as(alloc: Global, is_script: bool, text: Vec<u8>) -> Result<Vec<u8>, AllocError>
     ensures { IfOk result (λ out. out.items ≡ sent_as is_script text.items) }
 {

@@ -11,7 +11,7 @@ use std::io::Write;
 /// The error of a failed write, and how far the file was written.
 #[derive(Debug, Drop)]
 pub struct Torn {
-    /// Number of bytes written to the file, including the first part of the failed write.
+    /// Number of bytes written to the file, including what the failed write wrote.
     pub count: u64,
     /// Why the write failed.
     pub error: io::Error,
@@ -44,7 +44,7 @@ impl<F: Extent, W: Write + Drop> Out<F, W> {
         }
     }
 
-    /// Returns how many bytes were written to the file, those of notes included.
+    /// Returns how many bytes were written to the file, including notes.
     pub fn count(&self) -> u64
         ensures { result ≡ self.now.file.count }
     {
@@ -56,7 +56,7 @@ impl<F: Extent, W: Write + Drop> Out<F, W> {
     /// # Errors
     ///
     /// - `InvalidInput`: `chunk` does not follow the text written so far; nothing is written.
-    /// - Any error of the file, which may then have a first part of `chunk`.
+    /// - Any error of the file, which may then have a prefix of `chunk`.
     pub fn write(self, chunk: &Chunk<F>) -> Result<Out<F, W>, Torn>
         ensures written { IfOk result (λ out. out.written ≡ self.written ++ chunk.now.bytes.items) }
         ensures file { IfOk result (λ out. Appends (W.contents self.file.file) (W.contents out.file.file) chunk.now.bytes.items) }
@@ -91,7 +91,7 @@ impl<F: Extent, W: Write + Drop> Out<F, W> {
     ///
     /// # Errors
     ///
-    /// Any error of the file, which may then have a first part of `lines`.
+    /// Any error of the file, which may then have a prefix of `lines`.
     pub fn note(self, lines: &[u8]) -> Result<Out<F, W>, Torn>
         ensures written { IfOk result (λ out. (out.written ≡ self.written) × (out.upto ≡ self.upto)) }
         ensures file { IfOk result (λ out. Appends (W.contents self.file.file) (W.contents out.file.file) lines.now) }

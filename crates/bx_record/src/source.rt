@@ -12,7 +12,7 @@ pub struct Taken<F: Extent, E> {
     pub fault: Option<E>,
 }
 
-/// A text that others append to, which waits to be written, and notes that are not part of it.
+/// A growing text that waits to be written, and notes that are not part of the text.
 pub trait Source {
     /// A position in the text.
     type Extent: Extent;
@@ -25,17 +25,17 @@ pub trait Source {
 
     /// Takes all waiting text, or returns `None` if the text has ended.
     ///
-    /// Leaves the empty buffer `empty` in its place.
+    /// Leaves the empty buffer `empty` in place of the text.
     fn take(&mut self, empty: Vec<u8>) -> Option<Taken<Self::Extent, Self::Fault>>
         requires empty { empty.items ≡ [] };
 
     /// Takes all waiting notes, and leaves the empty buffer `empty` in their place.
     ///
     /// A note may refer to text that the next [`take`](Self::take) takes, but not to later text.
-    /// If the text ends, it may lack what a note refers to.
+    /// If the text ends, some notes may refer to text that is missing.
     fn take_notes(&mut self, empty: Vec<u8>) -> Vec<u8>
         requires empty { empty.items ≡ [] };
 
-    /// Ends the text and the notes, and drops all that waits.
+    /// Ends the text and the notes, and drops everything that waits to be written.
     fn stop(&mut self);
 }

@@ -12,7 +12,7 @@ use std::mem;
 /// Policy of this server.
 pub const MOST_WAITING: usize = 64 << 20;
 
-/// Why a record ended, or only its lines for answers.
+/// Why a record ended, or why it has no further lines for answers.
 #[derive(Clone, Copy, Debug, PartialEq, Eq)]
 pub enum RecordFault {
     /// More than 64 MiB would wait to be written.

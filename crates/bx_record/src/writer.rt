@@ -22,7 +22,7 @@ pub(crate) const SOON: usize = 64 << 10;
 /// Why writing ended.
 #[derive(Debug, Drop)]
 pub enum End<E> {
-    /// `is_over` was set, and all that waited is written.
+    /// `is_over` was set, and everything that waited is written.
     Told,
     /// The text ended, for this reason; its last part is written.
     Ended(E),
@@ -32,10 +32,10 @@ pub enum End<E> {
     Refused(io::Error),
 }
 
-/// How much was written, and why no more.
+/// How much was written, and why writing ended.
 #[derive(Debug, Drop)]
 pub struct Written<E> {
-    /// Number of bytes written to the file, including the first part of a failed write.
+    /// Number of bytes written to the file, including what a failed write wrote.
     pub count: u64,
     /// Why writing ended.
     pub end: End<E>,
@@ -94,8 +94,8 @@ where
 
 // Writes all that waits, and returns the buffers, which are then empty.
 //
-// Notes are taken first and written last, so that each follows what it refers to. If the text ends,
-// it may lack what they refer to. They are then dropped.
+// Notes are taken first and written last, so that each note follows the text that it refers to. If
+// the text ends, the notes are dropped, since the text that they refer to may be missing.
 fn write_once<S: Source, W: Write + Drop>(
     source: &mut S,
     out: Out<S::Extent, W>,

@@ -19,8 +19,8 @@ const MOST_INPUTS: usize = 1_000;
 // Requests, each with its moment in milliseconds.
 type Requests = &'static [(u64, &'static str)];
 
-// A run: the first requests, the new number of shards if its sessions are redistributed after them,
-// the last requests, and whether there are riders.
+// A run: the first requests, the new number of shards if the sessions are then redistributed, the
+// last requests, and whether there are riders.
 #[derive(Clone, Copy, Debug)]
 struct Worked {
     first: Requests,

@@ -67,8 +67,8 @@ const OVERFLOW: [Deed; 3] = [EVENT, Deed::ConnectAtOnce(1), EVENT];
 // After a full queue: four connects get all events.
 const GIVEN: [Deed; 4] = [Deed::ConnectAtOnce(1); 4];
 
-// What is applied to a new shard: entries, publishes that fill a queue if `is_filled`, and more
-// entries.
+// A run over a new shard: the entries `first`, then publishes that fill a queue if `is_filled`, and
+// at last the entries `then`.
 #[derive(Clone, Copy, Debug)]
 struct Worked {
     first: &'static [Deed],
@@ -102,7 +102,7 @@ const WORKED: [Worked; 4] = [
 /// Applies the entries of each run to a new shard, and returns a line for each answered connect.
 ///
 /// The runs are a held connect, batches that are acknowledged, a full queue that overflows, and a
-/// full queue that connects empty.
+/// full queue from which connects fetch all events.
 ///
 /// # Errors
 ///

@@ -1,4 +1,4 @@
--- What a request or a tick changes in a roll.
+-- What a request or a tick changes in a roll, the part of the registry that the program stores.
 use Rattle.std.specs.Prelude.{ℕ, Bool, ◌≡◌, ◌≤◌}
 use Rattle.bx_advice.specs.declared.config.Config.{Config}
 use Rattle.bx_advice.specs.Limits.{greatest_moment, greatest_length}
@@ -16,14 +16,14 @@ pub record Amendment : Type 0 where
 abbrev pub changed : Roll → Amendment → Roll
 changed roll c = record { config = roll.config; members = edited_by roll.members c.edits; clock = c.clock; length = c.length; senders = roll.senders }
 
--- The change can be made at `roll`, and its result keeps the limits.
+-- The change can be made to `roll`, and the result is within the limits.
 pub record IsPlannedAt (roll : Roll) (c : Amendment) : Type 0 where
   pub edits : CanEditBy roll.members c.edits
   pub opened : (edited_by roll.members c.edits).opened ≤ c.length
   pub clock : c.clock ≤ greatest_moment
   pub length : c.length ≤ greatest_length
 
--- The change was planned at `roll`, and a record is reserved for the session that it opens, if any.
+-- The change can be made to `roll`, and a record is reserved for the session that it opens, if any.
 pub record CanCommit (roll : Roll) (ready : Bool) (c : Amendment) : Type 0 where
   pub planned : IsPlannedAt roll c
   pub room : opens c.edits ≤ room_of ready

@@ -34,7 +34,8 @@ pub record IsVerdict (setup : Setup) (ms : Members) (place : ℕ) (o : Verdict) 
   pub rider : j.rides ≡ o.rides
   pub answer : given_by setup place o.slot ≡ j.slot ∷ []
 
--- A message with this answer has this rider, if any, and this slot at `place`.
+-- A message with the slot `answer` of the definitions and this rider, if any, has the program's
+-- `rides`, and `slot` at `place`.
 pub record IsRidden (setup : Setup) (place : ℕ) (rider : Option Rider) (answer : PlaceSlot) (rides : Option Rider) (slot : Slot) : Type 0 where
   pub same : rides ≡ rider
   pub answered : given_by setup place (slot_with rider answer) ≡ slot ∷ []

@@ -39,14 +39,15 @@ pub record Step : Type 0 where
   pub roll : Roll
   pub found : Judged
 
--- The step of a verdict, which makes the roll one place longer.
+-- The step of a verdict, which makes the list one element longer.
 abbrev pub noted : Roll → ℕ → Verdict → Step
 noted roll moment v = record {
   roll = record { config = roll.config; members = members_after roll.members v; clock = moment; length = roll.length + 1; senders = v.state.senders };
   found = found_at roll.length moment v;
 }
 
--- The next element has the greatest moment so far, and is judged by the sessions before it.
+-- The step of the next element. It is judged by the sessions before it, at the greatest moment so
+-- far, its own included.
 abbrev pub step : Roll → Listed → Step
 step roll (Post p) = noted roll (max roll.clock p.moment) (verdict roll.config (state_of roll.members roll.senders) (max roll.clock p.moment) p)
 step roll (messages.Tick moment) = noted roll (max roll.clock moment) (tick_verdict (state_of roll.members roll.senders) (max roll.clock moment))

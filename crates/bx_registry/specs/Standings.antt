@@ -27,8 +27,8 @@ pub record LeadsTo (s : Standing) (change : Amendment) (elements : List Listed) 
   pub long : change.length ≡ length (s.list ++ elements)
   pub bounded : length (s.list ++ elements) ≤ greatest_length
 
--- The batch begins at the end of the list with the entries of the elements, and the change leads
--- there.
+-- The plan's batch begins at the end of the list and has the entries of the plan's elements. Its
+-- change leads to the list with these elements.
 pub record Continues (s : Standing) (p : Plan) : Type 0 where
   pub first : p.batch.first ≡ length s.list
   pub entries : entries s.config (s.list ++ p.elements) ≡ entries s.config s.list ++ p.batch.entries

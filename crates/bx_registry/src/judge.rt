@@ -95,7 +95,7 @@ pub(crate) fn judge<P: Placing>(
     }
 }
 
-// Rejects a message with `error`. Only the list changes.
+// Rejects a message with `error`, which changes no session.
 fn refuse(
     config: &Config,
     posted: Posted<'_>,
@@ -223,8 +223,11 @@ fn senders_behind(posted: Posted<'_>, senders: Senders) -> Senders
     }
 }
 
-// Returns `true` if an accepted message is a rider. It must be the last message of a request in
-// which all messages are accepted and come from one session. That session must not acknowledge.
+// Returns `true` if an accepted message of session `sender` is a rider.
+//
+// `config.ride` must be set, and the session must not acknowledge. The message must be a
+// subscription, an unsubscription or a publish, and the last one of its request. All messages of
+// the request must be accepted and come from the session.
 fn is_rider(config: &Config, senders: Senders, posted: Posted<'_>, sender: &Sender<'_>) -> bool
     ensures { result ≡ is_rider config.now senders posted.entry.message_kind (posted_of posted.entry) (named sender.now) }
 {

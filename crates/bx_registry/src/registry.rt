@@ -178,7 +178,11 @@ impl Registry {
     ///
     /// # Errors
     ///
-    /// As [`plan`](Self::plan) for one message; nothing has changed.
+    /// The first of these that applies; nothing has changed:
+    ///
+    /// - `Refused(BadMoment)`: the moment is too large.
+    /// - `Refused(Ended)`: the list would become too long.
+    /// - `Memory`: memory ran out.
     pub fn plan_tick(&mut self, alloc: Global, moment: u64) -> Result<Plan, AdmitFault>
         ensures same { self.new ≡ self.old }
         ensures refused { IfSome (refused_beyond moment (length self.old.list + 1)) (λ refusal. result ≡ Err (Refused refusal)) }

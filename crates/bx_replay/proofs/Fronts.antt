@@ -1,4 +1,4 @@
--- Proves that the output before a fault is a first part of the whole output.
+-- Proves that the output before a fault is a prefix of the whole output.
 use Rattle.std.proofs.Common.{◌≡◌, ℕ, suc, ◌+◌, ◌<◌, Option, Some, None, List, [], ◌∷◌, ◌++◌, length, map, take, drop, drop-cons, take-append-drop, get_or, slice_get, Result, Ok, Err, refl, sym, ap, ◌∙◌, subst, append-nil, append_assoc, arith}
 use Rattle.std.proofs.lemmas.{Grind.flat_map-append, List.map-append}
 use Rattle.std.specs.Prelude.{IfErr, IfSome, IsErr, OnErr, option_map, string_bytes}

@@ -32,7 +32,7 @@ held_texts numbered is = flat_map (λ index. held_text (slice_get numbered index
 abbrev pub without : ℕ → (ℕ → Option PendingLine) → ℕ → Option PendingLine
 without i kept j = if j == i then None else kept j
 
--- All of these inputs are kept, and each is given once.
+-- All of these inputs are kept, and the list names each of them once.
 abbrev pub AllKept : (ℕ → Option PendingLine) → List ℕ → Type 0
 AllKept kept [] = ⊤
 AllKept kept (i ∷ is) = IsSome (kept i) × AllKept (without i kept) is

@@ -17,11 +17,11 @@ use Rattle.bx_script.specs.declared.line.Line.TheVariants.{Bad, Rejected, Accept
 abbrev pub read_lines : List script.Line → List Line
 read_lines ls = map said_by ls
 
--- These lines, each request with its nonce.
+-- The processed lines in the definitions' form, each request with its nonce.
 abbrev pub seen_lines : List script.Line → List Line
 seen_lines ls = with_nonces 0 (read_lines ls)
 
--- The line `l` after them, with its nonce.
+-- The line `l` after the lines `ls`, with its nonce.
 abbrev pub seen_behind : List script.Line → script.Line → Line
 seen_behind ls l = line_with (nonce_at (read_lines ls)) (said_by l)
 
@@ -36,7 +36,7 @@ pub record Prints (config : Config) (old new : List script.Line) (before after :
   pub appends : Appends before after text
   pub is : printed_so_far config (seen_lines new) ≡ printed_so_far config (seen_lines old) ++ text
 
--- A fault ended the printing of `text`, which is what the lines after `old` print: a first part was
+-- A fault ended the printing of `text`, which is what the lines after `old` print: a prefix was
 -- appended.
 pub record PrintsFront (config : Config) (old new : List script.Line) (before after : Option (List ℕ)) : Type 0 where
   pub text : List ℕ
@@ -79,7 +79,7 @@ module _ {P : Type 0} {g : Ghosts P} where
     pub held_are : AllKept keeps (held (setup_in new).config (inputs_of new))
     pub prints : (numbered : List Numbered) → length numbered ≡ length (inputs_of old) → AreKept numbered kept → PrintsOuts (numbered ++ one ∷ []) more before after keeps
 
-  -- A fault ended the printing of one more input's outs: a first part was appended.
+  -- A fault ended the printing of one more input's outs: a prefix was appended.
   pub record HandsFront (old : Round P g) (one : Numbered) (before after : Option (List ℕ)) (kept : ℕ → Option PendingLine) : Type 0 where
     pub more : List Out
     pub adds : outs (setup_in old).config (inputs_of old ++ one.input ∷ []) ≡ outs (setup_in old).config (inputs_of old) ++ more

@@ -33,7 +33,7 @@ pub struct PendingLine {
 /// - `Memory`: memory ran out.
 /// - `Write`: a write failed.
 ///
-/// On error, a first part of the output may be written.
+/// On error, a prefix of the output may be written.
 pub fn print_outs<W: Write>(
     alloc: Global,
     kept: &mut BTreeMap<usize, PendingLine>,
@@ -86,7 +86,7 @@ fn print_out<W: Write>(
 ///
 /// # Errors
 ///
-/// `Memory` or `Write` if a write fails. A first part of the output may be written.
+/// `Memory` or `Write` if a write fails. A prefix of the output may be written.
 pub fn print_held<W: Write>(
     kept: &BTreeMap<usize, PendingLine>,
     numbers: &[usize],

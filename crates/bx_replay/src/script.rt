@@ -31,7 +31,7 @@ use std::thread::Threads;
 /// - `Read`: a read failed, or there were [`MAX_READS`](bx_script::MAX_READS) reads.
 /// - `Write`: a write failed.
 ///
-/// On error, a first part of the output may be written.
+/// On error, a prefix of the output may be written.
 pub fn replay<T: Threads + Sync, P: Placing + Drop + Send + Sync, R: BufRead, W: Write>(
     rt: &T,
     alloc: Global,

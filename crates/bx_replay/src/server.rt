@@ -74,7 +74,7 @@ pub fn new_server<P: Placing + Drop>(
 /// - `Memory`: memory ran out.
 /// - `Write`: a write failed.
 ///
-/// On error `server` is dropped, and a first part of the output may be written.
+/// On error `server` is dropped, and a prefix of the output may be written.
 pub fn answer<T: Threads + Sync, P: Placing + Drop + Send + Sync, W: Write>(
     rt: &T,
     alloc: Global,

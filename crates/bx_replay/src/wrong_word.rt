@@ -10,11 +10,11 @@ pub enum WrongWord {
     Shards,
     /// The number of workers is not 1 to 16.
     Workers,
-    /// How long a connect is held is not a number of milliseconds below 2^32.
+    /// The timeout (how long a connect is held) is not a number of milliseconds below 2^32.
     Timeout,
-    /// How long clients wait between two connects is not a number of milliseconds below 2^32.
+    /// The interval (how long clients wait between two connects) is not such a number.
     Interval,
-    /// How long a message keeps its session alive is not a number of milliseconds below 2^32.
+    /// The longest interval (how long a message keeps its session alive) is not such a number.
     MaxInterval,
     /// The options are not `-`, `r`, `a` or `ra`.
     Options,
@@ -33,17 +33,17 @@ impl Display for WrongWord {
     fn fmt<W: Write>(&self, f: &mut Formatter<W>) -> fmt::Result {
         f.write_str(match self {
             WrongWord::Count =>
-                "there have to be five to seven words, with --bytes, --sessions and --patterns before them if at all",
-            WrongWord::Shards => "shards has to be a number from 1 to 64",
-            WrongWord::Workers => "workers has to be a number from 1 to 16",
-            WrongWord::Timeout => "timeout has to be a number from 0 to 4294967295",
-            WrongWord::Interval => "interval has to be a number from 0 to 4294967295",
-            WrongWord::MaxInterval => "max_interval has to be a number from 0 to 4294967295",
-            WrongWord::Options => "options has to be -, r, a or ra",
-            WrongWord::Limit => "limit has to be a number from 1 to 65536",
-            WrongWord::Bytes => "bytes has to be -, or a number from 1 to 4294967295",
-            WrongWord::Sessions => "sessions has to be a number from 1 to 65536",
-            WrongWord::Patterns => "patterns has to be a number from 1 to 1024",
+                "expected 5 to 7 arguments, after optional --bytes, --sessions and --patterns",
+            WrongWord::Shards => "shards: expected a number from 1 to 64",
+            WrongWord::Workers => "workers: expected a number from 1 to 16",
+            WrongWord::Timeout => "timeout: expected a number from 0 to 4294967295",
+            WrongWord::Interval => "interval: expected a number from 0 to 4294967295",
+            WrongWord::MaxInterval => "max_interval: expected a number from 0 to 4294967295",
+            WrongWord::Options => "options: expected -, r, a or ra",
+            WrongWord::Limit => "limit: expected a number from 1 to 65536",
+            WrongWord::Bytes => "bytes: expected - or a number from 1 to 4294967295",
+            WrongWord::Sessions => "sessions: expected a number from 1 to 65536",
+            WrongWord::Patterns => "patterns: expected a number from 1 to 1024",
         })
     }
 }

@@ -17,7 +17,8 @@ pub record Queue : Type 0 where
 abbrev pub entries : Queue → List Due
 entries q = q.late ++ q.waiting
 
--- The order of entries: one of an earlier moment is greater.
+-- The order of entries: the one with the earlier moment is greater. Between equal moments, the
+-- session's number decides.
 abbrev pub due_order : Due → Due → Ordering
 due_order x y = ordering_then (nat_cmp y.moment.0 x.moment.0) (nat_cmp x.number y.number)
 

@@ -18,9 +18,9 @@ pub(crate) struct Due {
     pub(crate) number: u64,
 }
 
-/// The entries of sessions: a heap of the waiting ones, and a list of the late ones.
+/// A queue of entries: a heap of the waiting ones, and a list of the late ones.
 ///
-/// All memory is allocated at creation.
+/// [`expire`](Self::expire) makes waiting entries late. All memory is allocated at creation.
 ///
 /// Model: the room, the late entries and the waiting ones.
 #[derive(Drop)]
@@ -86,7 +86,7 @@ impl DueQueue {
         self.late.clear();
     }
 
-    /// Moves the entries before `moment`, in milliseconds, to the late ones.
+    /// Moves the waiting entries before `moment`, in milliseconds, to the late ones.
     ///
     /// Takes logarithmic time for each moved entry.
     pub(crate) fn expire(&mut self, moment: u64)

@@ -173,7 +173,7 @@ impl Table {
     /// Returns the numbers of the live sessions due before `moment`, in ascending order.
     ///
     /// `moment`: milliseconds since the server started. Looks only at the queue's entries before
-    /// it.
+    /// `moment`.
     ///
     /// # Errors
     ///
@@ -233,8 +233,8 @@ fn is_past(due: Option<u64>, moment: u64) -> bool
     }
 }
 
-// Removes the late entries. Closes the sessions due before `moment`, and adds new entries for the
-// others.
+// Removes the late entries. Closes their sessions that are due before `moment`, and adds new
+// entries for the other live ones.
 fn settle_late(roster: &mut Roster, queue: &mut DueQueue, moment: u64)
     requires roster { IsRoster roster.old.members }
     requires filed { AllFiled (entries queue.old) roster.old.members.live }

@@ -1,6 +1,6 @@
 //! Tests of rounds: with one run or several, one worker or several, and several placings.
 //!
-//! Also with riders, and after resharding.
+//! Also with riders, and after the sessions are redistributed.
 ghost use Rattle.std.specs.Prelude.{◌≤◌};
 
 use crate::requests::request;
@@ -73,9 +73,9 @@ const OUTS: [(usize, &str); 5] = [
     (1_028, r#"[{"channel":"/a/b","successful":true}]"#),
 ];
 
-// Inputs after these in a round with riders. The second session publishes another event, which
-// waits for the first session. Then the first session publishes, and the reply comes after both
-// events.
+// Inputs after `INPUTS` in a round with riders. The second session publishes another event, which
+// waits for the first session. Then the first session publishes, and gets both events and then the
+// reply.
 const RIDING: [(u64, &str); 2] = [
     (
         30,
@@ -95,7 +95,7 @@ const RIDDEN: [(usize, &str); 2] = [
     ),
 ];
 
-// A connect after these, which is held.
+// A connect after `RIDING`, which is held.
 const ALONE: [(u64, &str); 1] = [(
     40,
     r#"{"channel":"/meta/connect","clientId":"000000000000000000000000000000000000000000000401","connectionType":"long-polling"}"#,

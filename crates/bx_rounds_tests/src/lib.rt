@@ -1,6 +1,6 @@
 //! Tests of `bx_script`, `bx_world`, `bx_fanout` and `bx_replay`.
 //!
-//! A separate crate, because `.ci/run` proves a crate with tests twice.
+//! They are a separate crate because `.ci/run` proves a crate with tests twice.
 #![tactic(auto)]
 
 #[cfg(test)]

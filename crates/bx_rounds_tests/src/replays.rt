@@ -48,7 +48,7 @@ x
 ];
 
 // In the first, an event answers two of three connects. In the second, a batch is sent again after
-// resharding.
+// the sessions are redistributed.
 const PLACED: [(&str, &str); 2] = [
     (
         r#"0 P [{"channel":"/meta/handshake","version":"1.0","supportedConnectionTypes":["long-polling"]}]
@@ -273,7 +273,7 @@ impl Write for Writer {
 }
 
 // Returns `true` if the replay succeeded, and checks that it wrote `right`. Otherwise checks that
-// it failed with `fault`, and that it wrote a first part of `right`.
+// it failed with `fault`, and that it wrote a prefix of `right`.
 fn is_whole<R: Abort>(
     rt: &R,
     ended: Result<(), ScriptFault>,
@@ -328,7 +328,7 @@ fn check_reads<R: Abort + Threads + Sync>(
     Err(Fail::from("more reads than there may be"))
 }
 
-// Checks that a first part of the output is written before a failed read.
+// Checks that a prefix of the output is written before a failed read.
 #[test]
 fn a_failed_read_leaves_a_front(rt: HostRuntime) -> Result<(), Fail> {
     for run in RUNS {
@@ -378,7 +378,7 @@ fn check_writes<R: Abort + Threads + Sync>(
     Err(Fail::from("more writes than there may be"))
 }
 
-// Checks that a first part of the output is written before a failed write.
+// Checks that a prefix of the output is written before a failed write.
 #[test]
 fn a_failed_write_leaves_a_front(rt: HostRuntime) -> Result<(), Fail> {
     for run in RUNS {

@@ -1,9 +1,11 @@
-//! Comparison of a value with the expected one.
+//! Comparison of a found value with the expected one.
 use std::fmt::Debug;
 use std::process::Abort;
 
-/// Aborts the test if `found` is not `wanted`, and prints both and `at`.
-// Prover: a test that calls this is proved faster than one that compares the values itself.
+/// Aborts the test unless `found` equals `wanted`.
+///
+/// `at`: what is compared. If the values differ, it is printed with both of them.
+// Prover: a test that calls this is proved faster than one that compares in place.
 pub fn same<T: PartialEq + Debug + Copy, A: Debug + Copy>(
     rt: &impl Abort,
     found: T,

@@ -307,7 +307,7 @@ fn check_front(rt: &impl Abort, alloc: Global, writes: usize, name: &Option<Stri
     same(rt, is_front, true, writes);
 }
 
-// Checks that a first part of the output is written before a failed write.
+// Checks that a prefix of the output is written before a failed write.
 #[test]
 fn a_failed_write_leaves_a_front(rt: HostRuntime) -> Result<(), Fail> {
     let name = Some(String::from_str(rt.alloc(), "cb")?);

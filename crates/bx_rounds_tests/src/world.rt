@@ -48,7 +48,8 @@ const OPENING: [Line; 3] = [
     ),
 ];
 
-// Then the first session connects: once for that session in shard 0, once for shard 1.
+// After `OPENING`, the connect of the first session: if that session is in shard 0, and if it is in
+// shard 1.
 const CONNECT: [Line; 2] = [
     (
         Deed::Post(
@@ -66,7 +67,7 @@ const CONNECT: [Line; 2] = [
     ),
 ];
 
-// Then the second session publishes an event, which answers the connect.
+// After the connect, the second session publishes an event, which answers the connect.
 const EVENT: Line = (
     Deed::Post(
         20,
@@ -79,8 +80,9 @@ const EVENT: Line = (
 const ANSWER: &str =
     r#"{"channel":"/a/b","data":7}{"advice":{"interval":0,"reconnect":"retry","timeout":30000},"channel":"/meta/connect","clientId":"000000000000000000000000000000000000000000000001","successful":true}"#;
 
-// Steps after these five entries, if the session that connects is in shard 1. The answer is filed
-// once shard 1 has applied all five, whatever shard 0 has applied.
+// Steps after the five entries of `OPENING`, the connect and `EVENT`, if the session that connects
+// is in shard 1. The answer is filed once shard 1 has applied all five, whatever shard 0 has
+// applied.
 const APPLICATIONS: [Line; 15] = [
     (Deed::Take(3, 1), "none"),
     (Deed::Apply(1), "applied"),
@@ -291,8 +293,9 @@ fn each_step_gives_its_output(rt: HostRuntime) -> Result<(), Fail> {
     check(&rt, alloc, &placing, &HELD)
 }
 
-// Creates ten steps that apply an entry, five for each shard. Bit k of `order` is the shard of the
-// k-th. A step after each takes the answer to the connect, which is filed by the fifth of `shard`.
+// Creates ten steps that apply an entry, five for each shard. Bit k of `order` is the shard of step
+// k, from 0. After each of them, another step takes the answer to the connect, if it is filed. The
+// fifth entry that `shard` applies files it.
 fn applications(alloc: Global, order: u32, shard: usize) -> Result<Vec<Line>, AllocError> {
     let mut lines = Vec::new(alloc);
     let mut left = 5_u32;
@@ -309,7 +312,7 @@ fn applications(alloc: Global, order: u32, shard: usize) -> Result<Vec<Line>, Al
     Ok(lines)
 }
 
-// Checks all orders of these steps. `shard`: that of the session that connects.
+// Checks all orders of the steps of `applications`. `shard`: that of the session that connects.
 fn check_orders<R: Abort, P: Placing + Drop>(
     rt: &R,
     alloc: Global,

@@ -45,13 +45,14 @@ IsFault lines fault = IsReadFault lines.reads fault
 abbrev pub read_as : {R : Type 0} → Lines R → Dialect
 read_as lines = dialect_of lines.dialect
 
--- `line` is what the first line of the script means, and the bytes after it are left.
+-- `line` is the meaning of the first line of `script`, and `rest` has the bytes after that line.
 pub record NextLine (dialect : Dialect) (line : Line) (script : List ℕ) (rest : Option (List ℕ)) : Type 0 where
   pub said : said_by line ≡ line_of dialect (first_of script)
   pub behind : lines_of script ≡ first_of script ∷ lines_of (rest_of script)
   pub left : rest ≡ Some (rest_of script)
 
--- No line is left, and none is read. Or the first line is read.
+-- The result of reading the next line: the first line of `script`, or `None` if no line is left.
+-- `rest`: the bytes that are left after that.
 abbrev pub IsNext : Dialect → Option Line → List ℕ → Option (List ℕ) → Type 0
 IsNext dialect None script rest = (script ≡ []) × (rest ≡ Some [])
 IsNext dialect (Some line) script rest = NextLine dialect line script rest

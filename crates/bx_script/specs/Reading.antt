@@ -20,7 +20,7 @@ PartRead More before after kept now = (before ≢ []) × (kept_with now (first_o
 PartRead Line before after kept now = (before ≢ []) × (now ≡ kept_with kept (first_of before)) × (after ≡ rest_of before)
 PartRead End before after kept now = (before ≡ []) × (after ≡ before) × (now ≡ kept)
 
--- The same if the reader's bytes are known.
+-- The same for bytes that are left, as far as the reader's bytes are known.
 abbrev pub ReadsPart : ReadOutcome → Option (List ℕ) → Option (List ℕ) → List ℕ → List ℕ → Type 0
 ReadsPart step None new kept now = ⊤
 ReadsPart step (Some before) None kept now = ⊥
@@ -36,7 +36,7 @@ ReadsLine found None new kept = ⊤
 ReadsLine found (Some before) None kept = ⊥
 ReadsLine found (Some before) (Some after) kept = LineRead found before after kept
 
--- A line has begun, so bytes were left (`true`), or nothing was read (`false`).
+-- Whether a line has begun. If it has, bytes were left. If not, nothing was read.
 abbrev pub IsBegun : Bool → List ℕ → List ℕ → Type 0
 IsBegun true before after = before ≢ []
 IsBegun false before after = after ≡ before
@@ -47,7 +47,7 @@ ReadingOn began None new kept = ⊤
 ReadingOn began (Some before) None kept = ⊥
 ReadingOn began (Some before) (Some after) kept = IsBegun began before after × (kept_with kept (first_of after) ≡ kept_with [] (first_of before)) × (rest_of after ≡ rest_of before)
 
--- How many of the shown bytes belong to the line, and how many are consumed with its end.
+-- The first `n` of the shown bytes belong to the line, and `used` are consumed, including its end.
 abbrev pub IsCut : List ℕ → ℕ → ℕ → ReadOutcome → Type 0
 IsCut shown n used Again = ⊥
 IsCut shown n used More = (shown ≢ []) × (n ≡ length shown) × (used ≡ length shown) × (position_or_len is_newline shown ≡ length shown)

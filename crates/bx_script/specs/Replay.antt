@@ -81,17 +81,17 @@ pub data Line : Type 0 where
   Announced : (nonce : ℕ) → Line
   Noted : Line
 
--- The request that a line has, with the nonce 0. `with_nonces` gives it its own.
+-- The line of a request at `moment`. Its nonce is 0 until `with_nonces` sets it.
 abbrev pub handed_by : ℕ → Taken → Line
 handed_by moment (Refused status) = Rejected status
 handed_by moment (Documents callback documents) = Accepted callback (read_by moment 0 (request_messages documents))
 
--- A line that changes the number of shards, if it is from 1 to 64.
+-- A line that changes the number of shards. It is bad unless the number is from 1 to 64.
 abbrev pub reshards : Option ℕ → Line
 reshards None = Bad
 reshards (Some shards) = if nat_lt 0 shards && nat_le shards 64 then Resharded shards else Bad
 
--- A line with the digits of that number. It is bad if there are more than `BODY_LIMIT` digits.
+-- The same, from the digits of the number. More than `BODY_LIMIT` bytes are bad, too.
 abbrev pub resharded_by : List ℕ → Line
 resharded_by digits = if nat_lt BODY_LIMIT (length digits) then Bad else reshards (number_of digits)
 
@@ -99,7 +99,7 @@ resharded_by digits = if nat_lt BODY_LIMIT (length digits) then Bad else reshard
 abbrev pub nonce_of : List ℕ → Option ℕ
 nonce_of digits = if length digits == 32 && list_all is_ascii_hexdigit digits then Some (digits_value 16 digits) else None
 
--- A line that announces a nonce, if there is one.
+-- A line that announces the nonce of the next request. It is bad if there is no nonce.
 abbrev pub announces : Option ℕ → Line
 announces None = Bad
 announces (Some nonce) = Announced nonce
@@ -124,12 +124,12 @@ command dialect moment rest =
     else (if starts_with nat_eq rest (codes "S ") then resharded_by (drop 2 rest)
     else recorded_command dialect moment rest)))
 
--- A line with this moment. It is bad if there is none that fits in 64 bits.
+-- A line with this moment, and `rest` after it. It is bad if no moment could be parsed.
 abbrev pub line_by : Dialect → Option ℕ → List ℕ → Line
 line_by dialect None rest = Bad
 line_by dialect (Some moment) rest = command dialect moment rest
 
--- A line of a moment, a space and a command.
+-- A line of a moment that fits in 64 bits, a space and a command.
 abbrev pub timed_line : Dialect → List ℕ → Line
 timed_line dialect text = line_by dialect (number_of (before_first is_space text)) (after_first is_space text)
 
@@ -166,25 +166,26 @@ abbrev pub line_with : ℕ → Line → Line
 line_with nonce (Accepted callback input) = Accepted callback (with_nonce nonce input)
 line_with nonce line = line
 
--- The nonce that waits after an input: 0 after a request, even an unreadable one, and unchanged
--- after a tick.
+-- The nonce for the next request, after an input: 0 after a request, even one that is rejected for
+-- its documents, and `nonce` as before after a tick.
 abbrev pub nonce_left : ℕ → ReadInput → ℕ
 nonce_left nonce (Request moment other messages) = 0
 nonce_left nonce (Unread fault) = 0
 nonce_left nonce (Tick moment) = nonce
 
--- The nonce that waits after a line. A line that announces a nonce replaces it. Other lines without
--- an input leave it as it is.
+-- The nonce for the next request, after a line. A line that announces a nonce replaces it. Other
+-- lines without an input leave it as it is.
 abbrev pub nonce_behind : ℕ → Line → ℕ
 nonce_behind nonce (Announced other) = other
 nonce_behind nonce (Accepted callback input) = nonce_left nonce input
 nonce_behind nonce line = nonce
 
--- The nonce that waits after these lines. It is 0 at first.
+-- The nonce for the next request, after these lines. It is 0 at first.
 abbrev pub nonce_at : List Line → ℕ
 nonce_at ls = fold nonce_behind 0 ls
 
--- The lines, each request with the nonce that waits for it. `nonce` waits for the first request.
+-- The lines, with the nonces set in the requests. `nonce`: the one for the first request, unless a
+-- line announces another.
 abbrev pub with_nonces : ℕ → List Line → List Line
 with_nonces nonce [] = []
 with_nonces nonce (line ∷ ls) = line_with nonce line ∷ with_nonces (nonce_behind nonce line) ls
@@ -229,8 +230,8 @@ out_by o (Some n) = result_text n n.input o.result
 abbrev pub outs_at : List Whole → List Numbered → ℕ → List ℕ
 outs_at ws numbered index = flat_map (λ (o : Out). out_by o (slice_get numbered o.input)) (whole_at index ws)
 
--- What the lines print. `number`: the number of the first of them. `index`: how many inputs come
--- before it.
+-- What the lines print. `number`: the number of the first line. `index`: how many inputs come
+-- before that line.
 abbrev pub printed_from : List Whole → List Numbered → ℕ → ℕ → List Line → List ℕ
 printed_from ws numbered number index [] = []
 printed_from ws numbered number index (Bad ∷ ls) = line_text number (codes "bad") ++ printed_from ws numbered (number + 1) index ls

@@ -26,7 +26,7 @@ pub(crate) fn keep(kept: &mut Vec<u8>, part: &[u8]) -> Result<(), AllocError>
     keep_on(kept, rest)
 }
 
-// Appends `part` to `kept` in the same way, if `kept` is not empty.
+// Appends `part` to `kept` as `keep` does, if `kept` is not empty.
 fn keep_on(kept: &mut Vec<u8>, part: &[u8]) -> Result<(), AllocError>
     requires { 0 < vec_len kept.old }
     ensures { OnOk result (kept.new.items ≡ kept_with kept.old.items part.now) }
@@ -36,7 +36,8 @@ fn keep_on(kept: &mut Vec<u8>, part: &[u8]) -> Result<(), AllocError>
     kept.extend_from_slice(&part[..room])
 }
 
-// Returns `part`, without its leading zeros if only a zero is kept, since they change no number.
+// Returns `part`. If only a zero is kept, omits the leading zeros of `part`, since they change no
+// number.
 fn told_by<'a>(kept: &[u8], part: &'a [u8]) -> &'a [u8]
     ensures { result.now ≡ (if is_lone_zero kept.now then without_zeros part.now else part.now) }
 {

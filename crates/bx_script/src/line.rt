@@ -60,7 +60,7 @@ impl Line {
     /// - `T`: a tick
     /// - `P` and a body: a POST
     /// - `G` and a query: a GET
-    /// - `S` and a number of shards
+    /// - `S` and a number of shards, from 1 to 64
     ///
     /// In a record, these can follow the moment, too:
     ///

@@ -19,7 +19,7 @@ use std::io::Write;
 ///
 /// # Errors
 ///
-/// `Memory` or `Write` if a write fails. A first part of the line may have been written.
+/// `Memory` or `Write` if a write fails. A prefix of the line may have been written.
 pub fn write_bad<W: Write>(writer: &mut Output<W>, number: u64) -> Result<(), ScriptFault>
     ensures text { Writes (written W.contents writer.old) (written W.contents writer.new) result
         (line_text number (codes "bad")) }
@@ -33,7 +33,7 @@ pub fn write_bad<W: Write>(writer: &mut Output<W>, number: u64) -> Result<(), Sc
 ///
 /// # Errors
 ///
-/// `Memory` or `Write` if a write fails. A first part of the line may have been written.
+/// `Memory` or `Write` if a write fails. A prefix of the line may have been written.
 pub fn write_held<W: Write>(writer: &mut Output<W>, number: u64) -> Result<(), ScriptFault>
     ensures text { Writes (written W.contents writer.old) (written W.contents writer.new) result
         (line_text number (codes "held")) }
@@ -47,7 +47,7 @@ pub fn write_held<W: Write>(writer: &mut Output<W>, number: u64) -> Result<(), S
 ///
 /// # Errors
 ///
-/// `Memory` or `Write` if a write fails. A first part of the line may have been written.
+/// `Memory` or `Write` if a write fails. A prefix of the line may have been written.
 pub fn write_status<W: Write>(
     writer: &mut Output<W>,
     number: u64,
@@ -72,7 +72,7 @@ pub fn write_status<W: Write>(
 ///
 /// # Errors
 ///
-/// `Memory` if memory runs out; `Memory` or `Write` if a write fails. A first part of the line may
+/// `Memory` if memory runs out; `Memory` or `Write` if a write fails. A prefix of the line may
 /// have been written.
 pub fn write_result<W: Write>(
     alloc: Global,

@@ -32,13 +32,13 @@ abbrev pub OrLate : (Error → Type 0) → Error → Type 0
 OrLate fails e = fails e ⊎ (error_kind e ≡ TimedOut)
 
 module _ {D E : Type 0} (source : Runs (Result (Frame D) E)) where
-  -- After `frames` the body ends, yields a frame or fails. It may be late at any time.
+  -- What the body yields after `frames`: its end, a frame or an error. `Late` is always allowed.
   abbrev pub Comes : List (Frame D) → Option (Result (Frame D) (PatientFault E)) → Type 0
   Comes frames None = source (map Ok frames) None
   Comes frames (Some (Ok frame)) = source (map Ok frames) (Some (Ok frame))
   Comes frames (Some (Err (Body e))) = source (map Ok frames) (Some (Err e))
   Comes frames (Some (Err Late)) = ⊤
 
-  -- What a body under a time limit yields, up to its first fault. After it, anything may follow.
+  -- What a body with a time limit yields up to its first fault. Anything may follow the fault.
   abbrev pub Outlasts : Runs (Result (Frame D) (PatientFault E))
   Outlasts xs last = (frames : List (Frame D)) → xs ≡ map Ok frames → Comes frames last

@@ -17,7 +17,7 @@ use hyper::service::Service;
 use std::time::{Clock, Duration};
 use tokio::net::TcpStream;
 
-/// A future that drops the output of another.
+/// A future that runs another future and drops its output.
 #[derive(Drop)]
 pub struct Quiet<F> {
     inner: F,

@@ -31,7 +31,8 @@ impl Clock for Told<'_> {
     }
 }
 
-// A body with a frame every `step` seconds. `left` frames remain, `next` is the next one's second.
+// A body with a frame every `step` seconds. `left`: how many frames remain. `next`: the second in
+// which the next frame is ready.
 #[derive(Drop)]
 struct Drips<'a> {
     seconds: &'a AtomicU64,
@@ -58,7 +59,7 @@ impl Body for Drips<'_> {
     }
 }
 
-// How a body ended, and in which second. `Open` is not at all.
+// How a body ended, and in which second. `Open`: it did not end.
 #[derive(Clone, Copy, Debug, PartialEq, Eq)]
 enum End {
     Whole(u64),

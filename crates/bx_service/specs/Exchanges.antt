@@ -29,7 +29,7 @@ Sent = Response (Pieces (List ℕ))
 abbrev pub Gathered : Type 0
 Gathered = Result (Vec Item Global) Unanswered
 
--- The response for that output: 200 with its items, or 503 if it is an error or memory runs out.
+-- The response for a `Gathered`: 200 with its items, or 503 if it is an error or memory runs out.
 abbrev pub ForItems : Option (List ℕ) → Gathered → Sent → Type 0
 ForItems callback (Ok items) sent = IsAnswer callback items.items sent ⊎ IsRefusal Unavailable sent
 ForItems callback (Err none) sent = IsRefusal Unavailable sent
@@ -39,7 +39,7 @@ module _ {I : Type 0} (gives : I → Gathered → Type 0) where
   abbrev pub ForFuture : Option (List ℕ) → I → Sent → Type 0
   ForFuture callback items sent = (gathered : Gathered) × (gives items gathered × ForItems callback gathered sent)
 
-  -- The response for what the backend returns: that for the future, or the status of the fault.
+  -- The response for what the backend returns: by its future, or with the status of its fault.
   abbrev pub ForOutcome : Option (List ℕ) → Result I Declined → Sent → Type 0
   ForOutcome callback (Ok items) sent = ForFuture callback items sent
   ForOutcome callback (Err declined) sent = IsRefusal (post_status declined.fault) sent
@@ -50,7 +50,7 @@ module _ {I : Type 0} (gives : I → Gathered → Type 0) where
     ForDocuments callback documents sent =
         (bodies : Bodies) × ((texts_of bodies ≡ documents) × ((outcome : Result I Declined) × (admits bodies outcome × ForOutcome callback outcome sent)))
 
-    -- The response for a body as it was read: that for its documents, or the status of the error.
+    -- The response for a body as it was read: by its documents, or with the status of the error.
     abbrev pub ForBody : Result (List (List ℕ)) TransportError → Sent → Type 0
     ForBody (Ok documents) sent = ForDocuments None documents sent
     ForBody (Err error) sent = IsRefusal (transport_status error) sent
@@ -70,8 +70,8 @@ module _ {I : Type 0} (gives : I → Gathered → Type 0) where
     ForAsked query sent = ForQuery (get_taken query) sent ⊎ IsRefusal Unavailable sent
 
     module _ {B D E : Type 0} (unread : D → List ℕ) (yields : B → Runs (Result (Frame D) E)) where
-      -- The response for a request, by its state. While its body arrives, it is that for a possible
-      -- result of collecting it.
+      -- The response for a request, by its state. While the body is collected, the response is one
+      -- for a possible result of collecting it.
       abbrev pub MayAnswer : State I B → Sent → Type 0
       MayAnswer (Collecting kind body) sent =
           (collected : Result (Vec ℕ Global) CollectError) × (Gives unread (yields body.body) body.limit body.bytes.items collected

@@ -87,7 +87,7 @@ place_of first (slot ∷ slots) = Some first
 
 module _ (tells draws : ℕ → Type 0) (door : Door) where
   -- The request was admitted at a moment of the clock and with a drawn nonce. Its first message, if
-  -- any, is at `place`, and its slots are those that one thread gives there.
+  -- any, is at `place`, and its slots are those that a single-threaded server gives there.
   pub record AreSlotsFor (setup : Setup) (documents : List (List ℕ)) (seen : List LogStep) (place : Option ℕ) (slots : List Slot) : Type 0 where
     pub moment : ℕ
     pub nonce : ℕ

@@ -141,9 +141,9 @@ where
 {
     type Items = Gathering<J, P, G, R>;
 
-    // Ghost: on success there are no items yet, and the slots and the place are those that a single
-    // thread gives. On error the documents are unchanged, and the hub rejected them or memory ran
-    // out.
+    // Ghost: on success there are no items yet, and the slots and the place are those that a
+    // single-threaded server gives. On error the documents are unchanged, and the hub rejected them
+    // or memory ran out.
     ghost admits = { λ backend bodies outcome.
         IfOk outcome (λ g. (g.items.items ≡ []) × (g.held ≡ None)
         × AreSlotsFor (C.tells backend.clock) (N.draws backend.nonces) backend.door (setup_of J.config J.placing) (texts_of bodies)

@@ -44,7 +44,7 @@ use std::sync::Arc;
 #[derive(Drop)]
 pub struct Exchange<S, I, B, O: Observer> {
     pub(crate) alloc: Global,
-    // `None` if its handle or the observer's could not be cloned, and after the output.
+    // `None` after the output, or if the handle on the backend or the observer was not cloned.
     pub(crate) backend: Option<Arc<S, Global>>,
     pub(crate) state: State<I, B>,
     pub(crate) watch: Watch<O>,
@@ -223,7 +223,7 @@ fn refused<O: Observer>(
 }
 
 // Creates the response to an admitted request, and reports its items and the response to the
-// observer. It is 503 if the items are unavailable or memory runs out.
+// observer. The status is 503 if the items are unavailable or memory runs out.
 fn answered<O: Observer>(
     alloc: Global,
     watch: &Watch<O>,

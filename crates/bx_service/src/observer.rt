@@ -4,7 +4,9 @@ use bx_message::{Item, Status};
 use std::alloc::Global;
 use std::sync::Arc;
 
-/// An event at a service.
+/// Something that happens at a service, as its observer sees it.
+///
+/// Not the event that subscribers get of a publish.
 #[derive(Clone, Copy)]
 pub enum Event<'a> {
     /// A connection was opened.

@@ -1,6 +1,6 @@
 //! Tests of `bx_held` and `bx_service`: held connects and HTTP exchanges.
 //!
-//! They are a separate crate because the gate proves a crate with tests twice.
+//! They are a separate crate because `.ci/run` proves a crate with tests twice.
 #![tactic(auto)]
 
 #[cfg(test)]

@@ -1,4 +1,4 @@
--- Filed answers: the place of the connect or rider, and the answer with the place that gives it.
+-- Filed answers: each with the place of its connect or rider, and that of the entry that gives it.
 use Rattle.std.specs.Prelude.{ℕ, ◌≡◌, map}
 use Rattle.bx_advice.specs.declared.config.Config.{Config}
 use Rattle.bx_entry.specs.declared.entry.Entry.{Entry}
@@ -10,7 +10,8 @@ use Rattle.bx_session.specs.Views.{answered_of}
 abbrev pub filed_as : Filed → ℕ × PlacedAnswer
 filed_as f = (f.connect, answer_of f)
 
--- The same for an answer as the program returns it, given at `place`.
+-- The place of the connect or rider, and its answer, from what the program returns. `place`: the
+-- place of the entry that gives the answer.
 abbrev pub filed_at : ℕ → Answered → ℕ × PlacedAnswer
 filed_at place a = (a.place, record { place = place; events = a.answer.events; reply = a.answer.reply })
 

@@ -50,7 +50,7 @@ answer_to config p given outcome ack = answered p.place given (connect_reply con
 abbrev pub answered_of : Filed → Answered
 answered_of f = answered f.connect (events_of f.publications) f.reply
 
--- The answers that a connect causes, first that to the one that it superseded.
+-- The answers that a connect causes: first to the connect that it superseded, then to itself.
 abbrev pub connection_answers : Connection → List Answered
 connection_answers c = option_to_list c.superseded ++ option_to_list c.answered
 

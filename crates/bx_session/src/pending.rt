@@ -41,10 +41,10 @@ impl Model for PendingConnect {
 }
 
 impl PendingConnect {
-    /// Creates the connect at `place` in the list, sent by client id `client`.
+    /// Creates the connect at `place` in the list, sent by the session with client id `client`.
     ///
     /// `id`: the message's `id`, which the reply repeats. `moment`: milliseconds since the server
-    /// started. `hold`: how long the connect may be held from then on, in milliseconds. If it is 0,
+    /// started. `hold`: how long the connect may be held from `moment` on, in milliseconds. With 0,
     /// the connect is answered at once.
     ///
     /// # Errors

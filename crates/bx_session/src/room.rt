@@ -38,7 +38,7 @@ impl RideRoom {
         Ok(RideRoom { events })
     }
 
-    /// Converts the room into an empty list.
+    /// Converts the room into an empty list with room for the same number of events.
     pub(crate) fn into_list(self) -> Vec<SharedEvent>
         ensures empty { result.items ≡ [] }
         ensures room { vec_capacity result ≡ self }

@@ -137,8 +137,10 @@ impl Session {
 
     /// Adds `patterns` and returns `true` if the session overflows.
     ///
-    /// It overflows if it would have more than `config.limits.patterns` active patterns. After an
-    /// overflow, changes nothing and returns `false`. `fresh`: how many active patterns this adds.
+    /// It overflows if it would have more than `config.limits.patterns` active patterns. If it has
+    /// overflowed before, changes nothing and returns `false`.
+    ///
+    /// `fresh`: by how many `patterns` would increase the number of active patterns.
     pub fn subscribe(&mut self, config: &Config, patterns: &[Pattern], fresh: usize) -> bool
         requires fresh { length self.old.kept.patterns + fresh ≡ length (fold with_pattern self.old.kept.patterns patterns.now) }
         ensures overflows { result ≡ (not self.old.kept.overflow && self.new.kept.overflow) }
@@ -158,7 +160,7 @@ impl Session {
 
     /// Removes `patterns`.
     ///
-    /// `gone`: how many active patterns this removes.
+    /// `gone`: by how many this reduces the number of active patterns.
     pub fn unsubscribe(&mut self, patterns: &[Pattern], gone: usize)
         requires gone { length (fold without_pattern self.old.kept.patterns patterns.now) + gone ≡ length self.old.kept.patterns }
         ensures kept { self.new.kept ≡ after (unsubscribed patterns.now) self.old.kept }
@@ -190,7 +192,8 @@ impl Session {
         self.has_overflowed = true;
     }
 
-    // Returns the batch number for a successful connect's reply in an acknowledging session.
+    // Returns the acknowledgement for the reply to a connect with this outcome. It is the number of
+    // the last batch if the connect succeeds and the session acknowledges.
     fn ack_for(&self, outcome: Outcome) -> AckReply
         ensures { result ≡ ack_given self.now.kept.ack self.now.kept.num outcome }
     {
@@ -371,7 +374,7 @@ impl Session {
         }
     }
 
-    // Returns `true` if `event` is within the limits.
+    // Returns `true` if the queue can take `event` within the limits.
     fn has_room(&self, config: &Config, event: &SharedEvent) -> bool
         ensures room { result ≡ has_room config.now event.now (resumed self.now.kept) }
         ensures fits { IsTrue result → bytes_of self.now.kept.queue + event_size event.now < 2 ^ 64 }

@@ -16,7 +16,7 @@ pub const VERSION: &str = "0.1.0";
 // Accepted values of the flags, for error messages.
 const SHARDS: &str = "a number from 1 to 64";
 
-const TIME: &str = "a number of milliseconds up to 4294967295, or of seconds as 30s";
+const TIME: &str = "a number of milliseconds up to 4294967295, or of seconds such as 30s";
 
 // For `--limit` and `--sessions`.
 const LIMIT: &str = "a number from 1 to 65536";
@@ -31,7 +31,8 @@ const CONNECTIONS: &str = "a number";
 
 /// Parses the flags in `words`.
 ///
-/// `processors`: the number of shards if `--shards` is not given, but at least 1 and at most 64.
+/// `processors`: the number of processors. Without `--shards`, there is one shard for each of them,
+/// but at least 1 and at most 64.
 ///
 /// # Errors
 ///
@@ -46,17 +47,10 @@ pub fn read_flags<'a>(
     let matches = command.try_get_matches_from_mut(words)?;
     let config = read_config(alloc, &mut command, &matches, processors)?;
     let Some(body) = body_of(&matches) else {
-        return Err(wrong(alloc, &mut command, &matches, "body", "N", BODY)?);
+        return Err(wrong(alloc, &mut command, &matches, "body", BODY)?);
     };
     let Some(connections) = number_of(value_of(&matches, "connections", "0").as_bytes()) else {
-        return Err(wrong(
-            alloc,
-            &mut command,
-            &matches,
-            "connections",
-            "N",
-            CONNECTIONS,
-        )?);
+        return Err(wrong(alloc, &mut command, &matches, "connections", CONNECTIONS)?);
     };
     Ok(Settings {
         listen: value_of(&matches, "listen", "127.0.0.1:8087"),
@@ -86,7 +80,7 @@ fn read_config(
     let interval = read_time(alloc, command, matches, "interval", "0")?;
     let max_interval = read_time(alloc, command, matches, "max-interval", "10s")?;
     let Some(config) = config_of(matches, processors, timeout, interval, max_interval) else {
-        return Err(wrong(alloc, command, matches, "shards", "N", SHARDS)?);
+        return Err(wrong(alloc, command, matches, "shards", SHARDS)?);
     };
     let options = Options {
         ride: matches.get_flag("ride"),
@@ -94,17 +88,17 @@ fn read_config(
     };
     let config = config.with(options);
     let Some(config) = with_number(config, matches, "limit", |it, n| it.with_limit(n)) else {
-        return Err(wrong(alloc, command, matches, "limit", "N", LIMIT)?);
+        return Err(wrong(alloc, command, matches, "limit", LIMIT)?);
     };
     let Some(config) = with_number(config, matches, "bytes", |it, n| it.with_bytes(n)) else {
-        return Err(wrong(alloc, command, matches, "bytes", "N", BYTES)?);
+        return Err(wrong(alloc, command, matches, "bytes", BYTES)?);
     };
     let Some(config) = with_number(config, matches, "patterns", |it, n| it.with_patterns(n)) else {
-        return Err(wrong(alloc, command, matches, "patterns", "N", PATTERNS)?);
+        return Err(wrong(alloc, command, matches, "patterns", PATTERNS)?);
     };
     match with_number(config, matches, "sessions", |it, n| it.with_sessions(n)) {
         Some(config) => Ok(config),
-        None => Err(wrong(alloc, command, matches, "sessions", "N", LIMIT)?),
+        None => Err(wrong(alloc, command, matches, "sessions", LIMIT)?),
     }
 }
 
@@ -164,7 +158,7 @@ fn read_time(
 ) -> Result<u32, Error> {
     match milliseconds(value_of(matches, name, standard)) {
         Some(time) => Ok(time),
-        None => Err(wrong(alloc, command, matches, name, "TIME", TIME)?),
+        None => Err(wrong(alloc, command, matches, name, TIME)?),
     }
 }
 
@@ -176,24 +170,22 @@ fn value_of<'a>(matches: &ArgMatches<'a>, name: &str, standard: &'static str) ->
     }
 }
 
-// Creates the error for a wrong value of flag `name`. `kind`: the name of the value in the help.
-// `right`: the accepted values.
+// Creates the error for a wrong value of flag `name`. `right`: the accepted values.
 fn wrong(
     alloc: Global,
     command: &mut Command<'_>,
     matches: &ArgMatches<'_>,
     name: &str,
-    kind: &str,
     right: &str,
 ) -> Result<Error, AllocError> {
     let value = matches.get_str(name).unwrap_or("");
-    let text = format!(in alloc; "invalid value '{value}' for '--{name} <{kind}>': {right}")?;
+    let text = format!(in alloc; "--{name}: expected {right}, got {value}")?;
     command.error(ErrorKind::ValueValidation, text.as_str())
 }
 
 fn command<'a>(alloc: Global) -> Result<Command<'a>, AllocError> {
     let command = Command::new(alloc, "bayeuxd")
-        .about("Serves Bayeux over HTTP")
+        .about("Serve Bayeux over HTTP")
         .version(VERSION)
         .no_binary_name(true);
     let command = with_times(alloc, with_server(alloc, command)?)?;
@@ -207,25 +199,25 @@ fn with_server<'a>(alloc: Global, command: Command<'a>) -> Result<Command<'a>, A
             alloc,
             "listen",
             "ADDRESS",
-            "Where it listens: a name or an IP address, and a port [default: 127.0.0.1:8087]",
+            "Listen at ADDRESS, a host name or IP address with a port [default: 127.0.0.1:8087]",
         ))?
         .arg(value(
             alloc,
             "readers",
             "ADDRESS",
-            "Where it listens too, for those who may not publish to a broadcast channel [default: nowhere]",
+            "Also listen at ADDRESS, read-only: no publishes to broadcast channels [default: none]",
         ))?
         .arg(value(
             alloc,
             "shards",
             "N",
-            "Into how many parts the sessions are placed, 1 to 64 [default: one for each processor]",
+            "Divide the sessions among N shards, 1 to 64 [default: one for each processor]",
         ))?
         .arg(value(
             alloc,
             "seed-file",
             "FILE",
-            "Where the 64 hexadecimal digits of the seed of client ids stand [default: the system draws it]",
+            "Read the seed of client ids, 64 hexadecimal digits, from FILE [default: a random seed]",
         ))
 }
 
@@ -236,19 +228,19 @@ fn with_times<'a>(alloc: Global, command: Command<'a>) -> Result<Command<'a>, Al
             alloc,
             "timeout",
             "TIME",
-            "How long a connect is held, in milliseconds, or as 30s [default: 30s]",
+            "Hold a connect for at most TIME, in milliseconds, or in seconds such as 30s [default: 30s]",
         ))?
         .arg(value(
             alloc,
             "interval",
             "TIME",
-            "How long clients are advised to wait between two connects [default: 0]",
+            "Advise clients to wait for TIME between two connects [default: 0]",
         ))?
         .arg(value(
             alloc,
             "max-interval",
             "TIME",
-            "How long each accepted message keeps its session [default: 10s]",
+            "Keep a session for TIME after each accepted message [default: 10s]",
         ))
 }
 
@@ -259,31 +251,31 @@ fn with_limits<'a>(alloc: Global, command: Command<'a>) -> Result<Command<'a>, A
             alloc,
             "limit",
             "N",
-            "How many events may wait for a session, 1 to 65536 [default: 1024]",
+            "Allow at most N waiting events per session, 1 to 65536 [default: 1024]",
         ))?
         .arg(value(
             alloc,
             "bytes",
             "N",
-            "How many bytes these events may have, 1 to 4294967295 [default: no limit]",
+            "Allow at most N bytes of waiting events per session, 1 to 4294967295 [default: no limit]",
         ))?
         .arg(value(
             alloc,
             "patterns",
             "N",
-            "How many patterns may be in force for a session, 1 to 1024 [default: 1024]",
+            "Allow at most N active patterns per session, 1 to 1024 [default: 1024]",
         ))?
         .arg(value(
             alloc,
             "sessions",
             "N",
-            "How many sessions may be live, 1 to 65536 [default: 65536]",
+            "Allow at most N live sessions, 1 to 65536 [default: 65536]",
         ))?
         .arg(value(
             alloc,
             "body",
             "N",
-            "How many bytes the body or the query of a request may have, 1 to 1048576 [default: 1048576]",
+            "Allow at most N bytes in the body or query of a request, 1 to 1048576 [default: 1048576]",
         ))
 }
 
@@ -293,13 +285,9 @@ fn with_options<'a>(alloc: Global, command: Command<'a>) -> Result<Command<'a>, 
         .arg(switch(
             alloc,
             "ride",
-            "A session's waiting events ride on the reply to its own request",
+            "Send a session's waiting events with the replies to its own requests",
         ))?
-        .arg(switch(
-            alloc,
-            "anonymous",
-            "Publishes without a client id are accepted",
-        ))
+        .arg(switch(alloc, "anonymous", "Accept publishes without a client id"))
 }
 
 // Adds the flags for operating the server.
@@ -307,7 +295,7 @@ fn with_running<'a>(alloc: Global, command: Command<'a>) -> Result<Command<'a>, 
     let answers = switch(
         alloc,
         "record-answers",
-        "Write the SHA-256 of each answer into the record too",
+        "Record the SHA-256 of each answer too",
     )
     .requires_arg("record")?;
     command
@@ -315,22 +303,22 @@ fn with_running<'a>(alloc: Global, command: Command<'a>) -> Result<Command<'a>, 
             alloc,
             "connections",
             "N",
-            "After how many connections it ends, 0 for never [default: 0]",
+            "Exit after N connections, 0 for never [default: 0]",
         ))?
         .arg(value(
             alloc,
             "figures",
             "ADDRESS",
-            "Where GET /metrics and GET /healthz are answered [default: nowhere]",
+            "Serve GET /metrics and GET /healthz at ADDRESS [default: none]",
         ))?
         .arg(value(
             alloc,
             "record",
             "FILE",
-            "The file that it makes, and in which it records what it takes in [default: none]",
+            "Create FILE and record every request in it [default: none]",
         ))?
         .arg(answers)?
-        .arg(switch(alloc, "until-eof", "It ends at the end of standard input"))
+        .arg(switch(alloc, "until-eof", "Exit when standard input closes"))
 }
 
 // Creates a flag with a value.

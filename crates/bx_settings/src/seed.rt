@@ -5,9 +5,9 @@ use std::io::{ErrorKind, Read};
 use std::rt::Files;
 use std::{fs, io};
 
-/// Parses 64 hexadecimal digits, or returns `None` if `digits` are not that.
+/// Parses a seed of 64 hexadecimal digits, or returns `None` if `digits` are anything else.
 ///
-/// The first two digits are the first byte, with its upper half first.
+/// The first two digits are the first byte, the more significant digit first.
 pub fn read_digits(digits: &[u8]) -> Option<[u8; 32]> {
     if digits.len() != 64 {
         return None;

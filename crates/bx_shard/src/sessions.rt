@@ -142,7 +142,7 @@ impl Sessions {
         session.further(event)
     }
 
-    /// Answers the connect held by session `number`, if its hold has ended by `moment`.
+    /// Answers the connect held by session `number`, if its deadline is at or before `moment`.
     ///
     /// `place`: that of the tick. `moment`: milliseconds since the server started. Moves the
     /// connect's waker to `wakers`.
@@ -170,7 +170,7 @@ impl Sessions {
 
     /// Closes session `number`, for a tick.
     ///
-    /// Forgets a connect that the session still holds, and moves the connect's waker to `wakers`.
+    /// If the session still holds a connect, removes it, and moves the connect's waker to `wakers`.
     pub(crate) fn close(&mut self, number: u64, wakers: &mut Wakers)
         ensures sessions { (n : ℕ) → kept_in self.new n ≡ (if nat_eq number n then None else kept_in self.old n) }
         ensures patterns { (n : ℕ) → patterns_in self.new n ≡ (if nat_eq number n then [] else patterns_in self.old n) }
@@ -290,9 +290,9 @@ impl Sessions {
         }
     }
 
-    /// Files an answer given by the entry at `place`, if its connect is known.
+    /// Files the answer in `answered`, if the connect that it answers is known.
     ///
-    /// Moves the connect's waker to `wakers`.
+    /// `place`: that of the entry that gives the answer. Moves the connect's waker to `wakers`.
     pub fn file(&mut self, place: u64, answered: Answered, wakers: &mut Wakers)
         ensures connects { (p : ℕ) → connect_at self.new.connects p
             ≡ (if nat_eq answered.place p then filed_as place answered.answer (connect_at self.old.connects p)

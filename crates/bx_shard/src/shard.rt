@@ -168,7 +168,7 @@ impl<P: Placing> Shard<P> {
     ///
     /// Returns `waker` itself if the answer is filed (`Ready`), no connect of this shard is held
     /// under `ticket` (`Unknown`), or the shard was shut (`Shut`). When
-    /// [`apply`](Self::apply) answers the connect, it moves the stored waker to its list.
+    /// [`apply`](Self::apply) answers the connect, it moves the stored waker to its `wakers`.
     pub fn watch(&mut self, ticket: Ticket, waker: Waker) -> Watch
         ensures watch { nat_eq ticket.shard self.old.index ≡ true
             → result ≡ watched self.old.is_shut waker (connect_in (state P.place_of self.old) ticket.place) }

@@ -40,7 +40,7 @@ impl Sessions {
 
     /// Closes each session of `numbers`.
     ///
-    /// Forgets the connects that they still hold, and moves the wakers of these to `wakers`.
+    /// If the sessions still hold connects, removes these, and moves their wakers to `wakers`.
     pub(crate) fn close_all(&mut self, numbers: &[u64], wakers: &mut Wakers)
         requires held { AreHeld self.old }
         ensures sessions { (n : ℕ) → kept_in self.new n

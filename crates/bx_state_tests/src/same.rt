@@ -1,8 +1,10 @@
-//! Comparison of an actual value with the expected one.
+//! Comparison of a found value with the expected one.
 use std::fmt::Debug;
 use std::process::Abort;
 
-/// Aborts the test and prints `at`, unless `found` equals `wanted`.
+/// Aborts the test unless `found` equals `wanted`.
+///
+/// `at`: what is compared. If the values differ, it is printed with both of them.
 // Prover: a test that calls this is proved faster than one that compares in place.
 pub fn same<T: PartialEq + Debug + Copy, A: Debug + Copy>(
     rt: &impl Abort,

@@ -1,4 +1,6 @@
 //! Tests of the pattern tree: patterns added, found and removed, a few and thousands of them.
+//!
+//! In these tests, a number such as 1 names a session.
 ghost use Rattle.std.specs.Prelude.{◌<◌};
 
 use crate::same::same;
@@ -33,7 +35,7 @@ fn has_texts(alloc: Global, tree: &Tree, number: u64, texts: &str) -> Result<boo
     Ok(texts_of(alloc, &patterns)?.as_str() == texts)
 }
 
-// Adds `/a/*` and `/a/**` for 1, and `/a/b` for 2.
+// Adds `/a/*` and `/a/**` for session 1, and `/a/b` for session 2.
 fn plant(alloc: Global, tree: &mut Tree) -> Result<(), Fail> {
     for (text, number) in [("/a/*", 1), ("/a/**", 1), ("/a/b", 2)] {
         tree.add(alloc, &Pattern::read(alloc, text)?, number)?;
@@ -87,8 +89,8 @@ fn remove(alloc: Global, tree: &mut Tree, text: &str, number: u64) -> Result<boo
     }
 }
 
-// Patterns to remove, and whether they are there. Then the remaining patterns of 1, and the numbers
-// found for `/a/b`.
+// Patterns to remove, each with its session and whether it is there. Then the remaining patterns of
+// session 1, and the sessions found for `/a/b`.
 const REMOVES: [(&str, u64, bool, &str, &[u64]); 4] = [
     ("/a/**", 2, false, "/a/* /a/** ", &[1, 2]),
     ("/a/*", 1, true, "/a/** ", &[1, 2]),
@@ -117,7 +119,7 @@ fn add(alloc: Global, tree: &mut Tree, pattern: &Pattern, number: u64) -> Result
     }
 }
 
-// Adds a pattern for 2, which has it, and twice for 1, which does not.
+// Adds `/a/b` for session 2, which has it already, and twice for session 1, which does not.
 fn assert_adds(rt: &impl Abort, alloc: Global, tree: &mut Tree) -> Result<(), Fail> {
     let pattern = Pattern::read(alloc, "/a/b")?;
     same(rt, add(alloc, tree, &pattern, 2)?, false, "2");
@@ -140,10 +142,10 @@ fn patterns_come_and_go_one_by_one(rt: HostRuntime) -> Result<(), Fail> {
     assert_one_by_one(&rt, rt.alloc(), &mut tree)
 }
 
-// Patterns to add: one occurs twice, and 1 has one already.
+// Patterns to add for session 1: one occurs twice, and the session has one already.
 const COMING: [&str; 4] = ["/b", "/a/*", "/b", "/c/*"];
 
-// Patterns to remove: one occurs twice, and one is not there.
+// Patterns to remove from session 1: one occurs twice, and one is not there.
 const GOING: [&str; 4] = ["/c/*", "/d", "/b", "/c/*"];
 
 // Checks that the patterns of `number` are `texts`, each followed by a space.
@@ -173,7 +175,7 @@ fn assert_several_come(
     assert_texts(rt, alloc, tree, 3, "/b /a/* /c/* ")
 }
 
-// Removes `going` from 1, and then all patterns of 3.
+// Removes `going` from session 1, and then all patterns of session 3.
 fn assert_several_go(
     rt: &impl Abort,
     alloc: Global,

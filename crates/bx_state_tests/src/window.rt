@@ -1,4 +1,6 @@
-//! Tests of a window: its batches, its limits, and what a connect would get.
+//! Tests of the window of a session: its batches, its limits, and what a connect would get.
+//!
+//! The window is the session's queue of events.
 ghost use Rattle.std.specs.Prelude.{◌≡◌};
 
 use crate::same::same;

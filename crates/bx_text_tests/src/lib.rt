@@ -1,6 +1,6 @@
 //! Tests of the crates that read and write the texts of messages.
 //!
-//! They are a separate crate, because `.ci/run` proves a crate with tests twice.
+//! They are a separate crate because `.ci/run` proves a crate with tests twice.
 #![tactic(auto)]
 
 #[cfg(test)]

@@ -46,7 +46,8 @@ pub record StandsBehind (earlier : List Publication) (p : Publication) (all : Li
   pub later : List Publication
   pub events : all ≡ earlier ++ p ∷ later
 
--- Each publish that reaches a session is its event, right after those of the earlier entries.
+-- Each publish that reaches a session becomes one of its events, right after the events of the
+-- earlier entries.
 abbrev pub PublishesAreEvents : Type 0
 PublishesAreEvents = (config : Config) (number : ℕ) (before : List Entry) (entry : Entry) (behind : List Entry) (e : Event) → entry.kind ≡ Publish e →
     IsEvent config number before e → StandsBehind (session config number before).events (record { place = entry.place; event = e }) (session config number (before ++ entry ∷ behind)).events
@@ -80,7 +81,7 @@ pub record WasPublished (config : Config) (list : List Listed) (place : ℕ) (e 
   pub event : e ≡ event_of message.message
   pub gets : GetsPublish config number (entries config list) (record { place = source; event = e })
 
--- Each event of each answer was published so.
+-- Each event of each answer was published, as `WasPublished` states.
 abbrev pub GivenWasPublished : Type 0
 GivenWasPublished = (config : Config) (list : List Listed) (place : ℕ) (a : PlacedAnswer) → 0 < config.limits.batch →
     answer config list place ≡ Some a → EachEvent (WasPublished config list place) a.events

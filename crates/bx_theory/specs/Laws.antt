@@ -130,7 +130,7 @@ Repeats num (Some n) = n < num
 abbrev pub LastAnswer : Session → Filed → Type 0
 LastAnswer s f = (rest : List Filed) × (s.answers ≡ rest ++ f ∷ [])
 
--- `answers` is one answer without events, to the rider of the entry. It is of session `number`.
+-- `answers` is one answer without events, to the entry's rider, which belongs to session `number`.
 pub record EmptyRide (place : ℕ) (rides : Option Rider) (number : ℕ) (answers : List Filed) : Type 0 where
   pub rider : Rider
   pub is : rides ≡ Some rider
@@ -144,7 +144,8 @@ pub record LastGiven (place : ℕ) (rides : Option Rider) (s : Session) (f : Fil
   pub answers : s.answers ≡ rest ++ f ∷ behind
   pub last : (behind ≡ []) ⊎ EmptyRide place rides s.number behind
 
--- The answer that first sends a batch, and the one that sends it again.
+-- The answer that first sent a batch, and the one to the connect at `now` that sends it again, with
+-- the same events and number.
 pub record SameBatch (former : Entry) (forming : Session) (now : ℕ) (after : Session) : Type 0 where
   pub first : Filed
   pub again : Filed

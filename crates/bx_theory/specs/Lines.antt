@@ -13,7 +13,7 @@ inputs_in ls = map (λ (n : Numbered). n.input) (inputs_from 1 ls)
 abbrev pub printed_so_far : Config → List Line → List ℕ
 printed_so_far config ls = printed_from (wholes config (inputs_in ls)) (inputs_from 1 ls) 1 0 ls
 
--- If the line is an input, it appends the outs `more`.
+-- If the line is an input, the input appends the outs `more`.
 abbrev pub AddsOuts : Config → List ReadInput → Line → List Out → Type 0
 AddsOuts config inputs (Accepted callback input) more = outs config (inputs ++ input ∷ []) ≡ outs config inputs ++ more
 AddsOuts config inputs _ more = ⊤
@@ -35,7 +35,7 @@ line_prints number numbered Noted more = []
 abbrev pub InputsGoOn : Type 0
 InputsGoOn = (ls : List Line) (l : Line) → inputs_from 1 (ls ++ l ∷ []) ≡ inputs_from 1 ls ++ inputs_from (length ls + 1) (l ∷ [])
 
--- What the next line prints comes after what was printed.
+-- What the next line prints comes after what the earlier lines print.
 abbrev pub LinesGoOn : Type 0
 LinesGoOn = (config : Config) (ls : List Line) (l : Line) (more : List Out) → 0 < config.limits.batch → AddsOuts config (inputs_in ls) l more →
     printed_so_far config (ls ++ l ∷ []) ≡ printed_so_far config ls ++ line_prints (length ls + 1) (inputs_from 1 (ls ++ l ∷ [])) l more
@@ -50,7 +50,7 @@ abbrev pub says_no_nonce : Line → Bool
 says_no_nonce (Announced nonce) = false
 says_no_nonce _ = true
 
--- The next line's request gets the waiting nonce. Earlier lines keep theirs.
+-- The request of the next line gets the nonce that the earlier lines leave. Their own nonces stay.
 abbrev pub NoncesGoOn : Type 0
 NoncesGoOn = (ls : List Line) (l : Line) → with_nonces 0 (ls ++ l ∷ []) ≡ with_nonces 0 ls ++ line_with (nonce_at ls) l ∷ []
 

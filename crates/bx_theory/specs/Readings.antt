@@ -59,7 +59,8 @@ abbrev pub last_of : Bool → List Bool → Bool
 last_of b [] = b
 last_of b (c ∷ cs) = last_of c cs
 
--- A pattern is active exactly if a subscription mentioned it last, without an overflow.
+-- A pattern is active exactly if a subscription mentioned it last, and the session has not
+-- overflowed.
 abbrev pub InForceReading : Type 0
 InForceReading = (config : Config) (number : ℕ) (es : List Entry) (p : Glob) →
     in_force (session config number es).patterns p ≡ (not (session config number es).overflow && last_of false (filter_map (λ (e : Entry). mention_by number p e.kind) es))
@@ -96,8 +97,8 @@ ending_outcome (Connect n client id acked hold) = Failed SupersededConnect
 ending_outcome (Disconnect n) = Disconnected
 ending_outcome _ = Connected
 
--- The entry's first answer is the held connect's, with the ending events and outcome. If the
--- session acknowledges, a success carries the last batch's number.
+-- The first answer that the entry gives is to the held connect, with the ending events and outcome.
+-- If the session acknowledges and the connect succeeds, the reply has the number of the last batch.
 pub record AnsweredAt (config : Config) (p : Pending) (e : Entry) (s t : Session) : Type 0 where
   pub answer : Filed
   pub others : List Filed
@@ -129,7 +130,8 @@ abbrev pub some_overfills : Config → Session → List Entry → Bool
 some_overfills config s [] = false
 some_overfills config s (e ∷ es) = overfills_by config s e.kind || some_overfills config (step config s e) es
 
--- A session has overflowed exactly if it had before or some entry found no room.
+-- After more entries, a session has overflowed exactly if it had before them, or if one of them
+-- found no room.
 abbrev pub OverflowReading : Type 0
 OverflowReading = (config : Config) (s : Session) (es : List Entry) → (fold (step config) s es).overflow ≡ (s.overflow || some_overfills config s es)
 

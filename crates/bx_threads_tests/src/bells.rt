@@ -25,14 +25,14 @@ use std::time::{Clock, Duration};
 // How often a thread looks at a flag before it gives up, one millisecond apart.
 const LOOKS: u32 = 10_000;
 
-// An event counter of the system. A write to a full one blocks until it is read.
+// An `eventfd` of Linux: a counter. If it is full, a write blocks until the counter is read.
 #[derive(Drop)]
 struct Counter {
     fd: i32,
 }
 
 impl Counter {
-    // Creates a counter, and the file descriptor that owns it.
+    // Creates a counter at 0, and the file descriptor that owns it.
     fn new() -> Option<(Counter, OwnedFd)> {
         let fd = eventfd(0, EFD_CLOEXEC);
         if fd < 0 {
@@ -147,11 +147,11 @@ fn sweeps<J: Naming, P: Placing, G: Gate + Drop, H: Wait + Drop, R: Wait + Clock
 // What happened to a wake that was blocked.
 #[derive(Clone, Copy, Debug, PartialEq, Eq)]
 struct Told {
-    // Every shard could be locked meanwhile.
+    // Whether every shard could be locked meanwhile.
     was_free: bool,
-    // The waking call had ended, although its wake was blocked.
+    // Whether the waking call had ended, although its wake was blocked.
     had_ended: bool,
-    // The blocked write could continue.
+    // Whether the blocked write could continue.
     let_go: bool,
 }
 

@@ -27,9 +27,9 @@ struct Flags {
     is_held: AtomicBool,
     // A caller has stopped there.
     stands: AtomicBool,
-    // It may continue.
+    // The stopped caller may continue.
     is_free: AtomicBool,
-    // It gave up waiting for that.
+    // The stopped caller gave up waiting for `is_free`.
     gave_up: AtomicBool,
 }
 
@@ -40,7 +40,7 @@ struct Told {
     is_bad_moment: bool,
     // How many entries the caller has then seen.
     seen: u64,
-    // What it finds for the connect in shard 1.
+    // What the caller finds for the connect in shard 1.
     found: Found,
 }
 

@@ -1,6 +1,6 @@
 //! Tests of `bx_hub` from several threads.
 //!
-//! A separate crate, because `.ci/run` proves a crate with tests twice.
+//! They are a separate crate because `.ci/run` proves a crate with tests twice.
 #![tactic(auto)]
 
 #[cfg(test)]

@@ -43,7 +43,7 @@ struct Flags<C: Clock + Drop> {
     // The call must stop in shard 1, and the post where it places a session.
     holds_call: AtomicBool,
     holds_post: AtomicBool,
-    // They have stopped there.
+    // The call has stopped, and so has the post.
     call_stands: AtomicBool,
     post_stands: AtomicBool,
     // The post may continue.
@@ -52,7 +52,7 @@ struct Flags<C: Clock + Drop> {
     gave_up: AtomicBool,
     // How often the placing was used.
     asked: AtomicU64,
-    // The same count before the last advance.
+    // The value of `asked` before the last advance.
     before: AtomicU64,
     // How many advances used the placing.
     between: AtomicU64,

@@ -68,10 +68,10 @@ last_of values = latest None values
 abbrev pub is_callback_byte : ℕ → Bool
 is_callback_byte byte = is_ascii_alphanumeric byte || list_any (λ other. other == byte) (codes "_$.-[]")
 
--- Whether a callback's name has 1 to 256 of these bytes.
+-- Whether a callback's name is valid: it has 1 to 256 bytes, and only such bytes.
 abbrev pub is_callback : List ℕ → Bool
 is_callback name = nat_lt 0 (length name) && nat_le (length name) 256 && list_all is_callback_byte name
 
--- The callback's name in a query: the last value of `jsonp`, or `jsonpcallback`.
+-- The callback's name in a query: the last value of `jsonp`, or `jsonpcallback` if there is none.
 abbrev pub callback_of : List ℕ → List ℕ
 callback_of query = unwrap_or (last_of (values_of (codes "jsonp") query)) (codes "jsonpcallback")

@@ -14,8 +14,8 @@ some_documents (d ∷ ds) = Ok (d ∷ ds)
 abbrev pub documents_of : List ℕ → Result (List (List ℕ)) TransportError
 documents_of form = some_documents (values_of (codes "message") form)
 
--- The documents of a body, or its error. A body must not be too large. A form has its documents in
--- its parameters. Any other body is one document.
+-- The documents of a body, or its error. A body must not be too large. The documents of a form are
+-- its parameters `message`. Any other body is one document.
 abbrev pub post_taken : Option (List ℕ) → List ℕ → Result (List (List ℕ)) TransportError
 post_taken content_type body =
     if nat_lt BODY_LIMIT (length body) then Err TooLarge

@@ -45,7 +45,7 @@ fn semicolon_in(content_type: &[u8]) -> Option<usize>
     content_type.iter().position(|byte| *byte == b';')
 }
 
-// The parameters of a form or a query that the server knows.
+// The parameters that the server knows, from a form or a query.
 #[derive(Drop)]
 pub(crate) struct Parameters {
     // The values of all parameters `message`, in order.

@@ -39,7 +39,7 @@ pub fn callback_of(alloc: Global, name: &str, items: &[Item]) -> Result<Vec<u8>,
 ///
 /// # Errors
 ///
-/// `AllocError` if memory runs out; a first part may be appended.
+/// `AllocError` if memory runs out; a prefix may be appended.
 pub fn push_script_safe(out: &mut Vec<u8>, text: &[u8]) -> Result<(), AllocError>
     ensures { OnOk result (out.new.items ≡ out.old.items ++ script_safe text.now) }
 {

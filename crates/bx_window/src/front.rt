@@ -12,7 +12,7 @@ use bx_history::History;
 use logbook::{Offer, Pen, Seen, Start, Word};
 use std::marker::{Model, PhantomData};
 
-/// A new window, with an empty log, which no call has used yet.
+/// A new window, with an empty log, for which no writer or readers exist yet.
 pub struct Opened {
     head: Word<Logged, u64, Law>,
     seen: Seen<Logged, u64, Law>,
@@ -205,7 +205,7 @@ impl<J: Naming> Book<J> {
 /// Of two fronts of one window, the shorter is a prefix of the longer, even if batches were trimmed
 /// in between.
 ///
-/// Model: its steps.
+/// Model: the steps of this prefix.
 #[derive(Drop)]
 pub struct Front<J: Naming> {
     steps: u64,
@@ -230,7 +230,7 @@ impl<J: Naming> Model for Front<J> {
 }
 
 impl<J: Naming> Front<J> {
-    /// Returns how many entries its list has.
+    /// Returns the length of the list, as far as this front shows it.
     pub fn len(&self) -> u64
         ensures end { result ≡ length (list_of self.now) }
         ensures bounded { result ≤ greatest_length }
@@ -238,7 +238,7 @@ impl<J: Naming> Front<J> {
         self.len
     }
 
-    /// Returns the place where its window begins.
+    /// Returns the place where the window begins, as far as this front shows it.
     ///
     /// This is the first place of the oldest batch, or the end of the list if there is no batch.
     pub fn begin(&self) -> u64
@@ -247,7 +247,7 @@ impl<J: Naming> Front<J> {
         self.begin
     }
 
-    /// Returns how many publishes and trims it has.
+    /// Returns the number of steps, each of them a publish or a trim.
     pub fn steps(&self) -> u64
         ensures { result ≡ length self.now }
     {
@@ -269,9 +269,9 @@ impl<J: Naming> Front<J> {
         }
     }
 
-    /// Returns a copy of the longer of two fronts.
+    /// Returns a copy of the longer of `self` and `other`.
     ///
-    /// The shorter is a prefix of it. Does not allocate.
+    /// The shorter one is a prefix of the longer one. Does not allocate.
     pub fn longer(&self, other: &Front<J>) -> Front<J>
         ensures one { (result ≡ self.now) ⊎ (result ≡ other.now) }
         ensures this { IsPrefix self.now result }
@@ -286,7 +286,9 @@ impl<J: Naming> Front<J> {
         }
     }
 
-    /// Returns `true` if `other` has no more steps than `self`. It is then a prefix of it.
+    /// Returns `true` if `other` has no more steps than `self`.
+    ///
+    /// Then `other` is a prefix of `self`.
     pub fn covers(&self, other: &Front<J>) -> bool
         ensures begins { IsTrue result → IsPrefix other.now self.now }
         ensures steps { IsTrue result ↔ length other.now ≤ length self.now }

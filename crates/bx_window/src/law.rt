@@ -26,7 +26,9 @@ pub struct Logged {
 
 /// Ghost: the rule of the log.
 ///
-/// The first cell has the number of entries. The cell of each entry's key except the last is spent.
+/// A cell is a word of the `logbook` book, and has a key. Its pen can write it until a step spends
+/// it. The first cell has the number of entries. The cell of each entry's key except the last is
+/// spent.
 pub struct Law;
 
 impl Rule<Logged, u64> for Law {
@@ -47,7 +49,7 @@ impl Rule<Logged, u64> for Law {
     ghost moves = { λ ask before after answer. Unit {0} };
 }
 
-/// Ghost: the empty gain: a caller learns only what the move itself states.
+/// Ghost: an empty gain, from which a caller learns only what the move itself states.
 pub struct NoGain;
 
 impl Gain<Logged, u64> for NoGain {
@@ -83,7 +85,7 @@ impl Play<Logged, u64> for Add {
     ghost then = { Adds };
 }
 
-/// Ghost: the move that changes nothing, and proves that no more was seen than expected.
+/// Ghost: the move that changes nothing, and proves that what was seen is not too long.
 pub struct Whole;
 
 impl Play<Logged, u64> for Whole {

@@ -198,10 +198,10 @@ impl<J: Naming, R: Wait + Drop> Writer<J, R, Ring<J>, RingChange<J>> {
         Ok(())
     }
 
-    /// Drops the batches with all their places below `n`.
+    /// Drops the batches with only places below `n`.
     ///
-    /// Readers then find `Overrun` at these places. If the change cannot be shown, it is late, as
-    /// in [`publish`](Self::publish). Does not allocate.
+    /// Readers then find `Overrun` at the places of these batches. If the change cannot be shown,
+    /// it is late, as in [`publish`](Self::publish). Does not allocate.
     ///
     /// # Errors
     ///

@@ -92,7 +92,7 @@ impl<P: Placing> World<P> {
     ///   them.
     /// - `Refused(BadMoment)`: the moment is too large.
     /// - `Refused(Ended)`: the list would become too long.
-    /// - `Memory`: memory ran out, at any step.
+    /// - `Memory`: memory ran out. This can happen before some of the other errors are tested for.
     pub fn admit(&mut self, alloc: Global, arrival: &Arrival) -> Result<Admitted, AdmitFault>
         ensures { Steps self.old (Admit (Post arrival.now)) (admission result) self.new }
     {

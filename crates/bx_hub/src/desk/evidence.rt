@@ -1,6 +1,7 @@
 //! Evidence of what calls did to a shard under its lock.
 //!
-//! It describes the shard, or reports that the lock guards another one. Ghost parts take no memory.
+//! Each value describes the shard after a call, or reports that the lock guards another shard.
+//! Ghost parts take no memory.
 ghost use Rattle.std.specs.Prelude.{◌≡◌, ◌≢◌, ◌≤◌, ◌<◌, length, drop, is_some, Some, None, IfSome, IfNone};
 ghost use mathlib.Core.List.{IsPrefix};
 ghost use Rattle.bx_hub.specs.Faults.{IsAt, IsStopped, IsStoppedIn};
@@ -238,7 +239,9 @@ impl<J: Naming> Watching<J> {
         }
     }
 
-    /// Creates evidence that another shard, `desk`, was found, to which `ticket` is unknown.
+    /// Creates evidence that `ticket` is unknown, because its lock guards another shard, `desk`.
+    ///
+    /// `said`: the result `Unknown` with the waker.
     pub(crate) fn misplaced<P: Placing>(
         desk: &Desk<J, P>,
         ticket: &Ticket,

@@ -28,8 +28,8 @@ impl Extent for Stage {
     }
 }
 
-// A source of two lines and then a third with a fault, each time with a note. It reports `waiting`
-// waiting bytes.
+// A source of two lines, and then of a third line with a fault. Each part has a note. `waiting` is
+// the number of waiting bytes that the source reports.
 #[derive(Drop)]
 struct Lines<'a> {
     turn: usize,

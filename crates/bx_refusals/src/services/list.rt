@@ -19,7 +19,7 @@ pub trait Count {
 /// The list of a hub.
 #[derive(Drop)]
 pub struct HubList<J: Naming, R: Wait + Drop> {
-    /// The handle that can wait for locks.
+    /// The right to wait for the hub's locks.
     pub rt: R,
     /// The hub.
     pub hub: Arc<Served<J, R>, Global>,
@@ -58,7 +58,7 @@ pub struct List<C: Drop> {
 }
 
 impl<C: Count + Drop> List<C> {
-    /// Creates a value for a list without entries.
+    /// Creates the expectation that `list` has no entries.
     pub fn new(list: C) -> List<C> {
         List {
             list,

@@ -5,8 +5,8 @@ use std::alloc::Global;
 
 /// Returns what `reader` finds at each place from 0 to `end`, and what it has then seen.
 ///
-/// It has seen a number of steps, and at which places the window begins and ends. A batch is given
-/// by its first place and the place after its last entry.
+/// The text begins with the number of steps that `reader` has seen, and the places at which the
+/// window begins and ends. A batch is given by its first place and the place after its last entry.
 ///
 /// # Errors
 ///
