@@ -8,7 +8,7 @@ use crate::recorder::{RecordFile, Recorder};
 use crate::ticker::tick;
 use bx_advice::Config;
 use bx_answers::{AnswerLog, NotedAnswers};
-use bx_entry::{ByRemainder, Door};
+use bx_entry::{Access, ByRemainder};
 use bx_figures::Counts;
 use bx_hub::{Hub, OpenGate};
 use bx_message::Item;
@@ -245,9 +245,9 @@ where
         counts: Arc::try_clone(counts)?,
         answers: recorder.answers()?,
     };
-    let first = doors.at(listener, Door::Publishers)?;
+    let first = doors.at(listener, Access::ReadWrite)?;
     let other = match readers {
-        Some(listener) => Some(doors.at(listener, Door::Readers)?),
+        Some(listener) => Some(doors.at(listener, Access::ReadOnly)?),
         None => None,
     };
     let ticker = thread::spawn(
@@ -316,7 +316,7 @@ impl<J: Naming, R: Wait + Clock + AllocGlobal + Copy + Drop> Doors<J, R> {
     fn at(
         &self,
         listener: TcpListener,
-        door: Door,
+        access: Access,
     ) -> io::Result<
         Doorway<
             HubBackend<J, ByRemainder, OpenGate, R, SinceStart<R>, Drawn<R>>,
@@ -335,7 +335,7 @@ impl<J: Naming, R: Wait + Clock + AllocGlobal + Copy + Drop> Doors<J, R> {
         };
         Ok(Doorway {
             listener,
-            backend: HubBackend::new(rt, alloc, hub, door, self.clock, nonces),
+            backend: HubBackend::new(rt, alloc, hub, access, self.clock, nonces),
             observer: (
                 Arc::try_clone(&self.counts)?,
                 NotedAnswers::new(rt, alloc, answers),

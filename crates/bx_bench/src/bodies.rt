@@ -1,7 +1,7 @@
 //! The requests of the workloads, and their bodies as JSON.
 use anyhow::Result;
 use bx_cut::Bodies;
-use bx_entry::{Arrival, Door};
+use bx_entry::{Access, Arrival};
 use std::alloc::Global;
 
 /// The JSON of a handshake.
@@ -13,7 +13,7 @@ pub fn arrival(body: String) -> Arrival {
     Arrival {
         moment: 0,
         nonce: 0,
-        door: Door::Publishers,
+        access: Access::ReadWrite,
         bodies: Bodies::Whole(body.into_bytes()),
     }
 }

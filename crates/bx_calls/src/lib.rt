@@ -8,7 +8,7 @@
 mod ticker;
 
 use bx_cut::Bodies;
-use bx_entry::{Arrival, ByTable, Door, Placing, Slot, Ticket};
+use bx_entry::{Access, Arrival, ByTable, Placing, Slot, Ticket};
 use bx_hub::{Gate, Hub, HubFault, Pass};
 use bx_message::{Answer, Item, body_text};
 use bx_window::Naming;
@@ -95,7 +95,7 @@ fn arrival_of(body: Vec<u8>) -> Arrival {
     Arrival {
         moment: 0,
         nonce: 0,
-        door: Door::Publishers,
+        access: Access::ReadWrite,
         bodies: Bodies::Whole(body),
     }
 }

@@ -6,11 +6,11 @@ use Rattle.bx_message.specs.declared.message.Message.{Message}
 use Rattle.bx_message.specs.Fields.{message_in}
 use Rattle.bx_message.specs.MessageKinds.{is_handshake}
 use Rattle.bx_entry.specs.Words.{IsUnread, listed_from, Cut, objects_in, objects_of, all_messages, has_broadcast, let_in}
-use Rattle.bx_entry.specs.declared.input.{AdmitFault.AdmitFault, BodyError.BodyError, Door.Door}
+use Rattle.bx_entry.specs.declared.input.{AdmitFault.AdmitFault, BodyError.BodyError, Access.Access}
 use Rattle.bx_entry.specs.declared.input.AdmitFault.TheVariants.{Refused, Memory}
 use Rattle.bx_entry.specs.declared.input.Refusal.TheVariants.{Body}
 use Rattle.bx_entry.specs.declared.input.BodyError.TheVariants.{Forbidden}
-use Rattle.bx_entry.specs.declared.input.Door.TheVariants.{Publishers, Readers}
+use Rattle.bx_entry.specs.declared.input.Access.TheVariants.{ReadWrite, ReadOnly}
 
 abbrev pub joined : List Message → Option (List Message) → Option (List Message)
 joined xs rest = option_map (λ ms. xs ++ ms) rest
@@ -85,21 +85,21 @@ ok_by : (ns ms : List Message) (b : Bool) → cond b (Err Forbidden) (Ok ns) ≡
 ok_by ns ms true e = cc
 ok_by ns ms false e = cc
 
-pub let_in-ok : (door : Door) (read : Result (List Message) BodyError) (ms : List Message) → let_in door read ≡ Ok ms → read ≡ Ok ms
-let_in-ok Publishers read ms e = e
-let_in-ok Readers (Ok ns) ms e = ap (λ xs. Ok xs) (ok_by ns ms (has_broadcast ns) e)
-let_in-ok Readers (Err f) ms e = e
+pub let_in-ok : (access : Access) (read : Result (List Message) BodyError) (ms : List Message) → let_in access read ≡ Ok ms → read ≡ Ok ms
+let_in-ok ReadWrite read ms e = e
+let_in-ok ReadOnly (Ok ns) ms e = ap (λ xs. Ok xs) (ok_by ns ms (has_broadcast ns) e)
+let_in-ok ReadOnly (Err f) ms e = e
 
-pub let_in-is_ok : (door : Door) (read : Result (List Message) BodyError) → is_ok (let_in door read) ≡ true → is_ok read ≡ true
-let_in-is_ok Publishers read e = e
-let_in-is_ok Readers (Ok ns) e = refl
-let_in-is_ok Readers (Err f) e = e
+pub let_in-is_ok : (access : Access) (read : Result (List Message) BodyError) → is_ok (let_in access read) ≡ true → is_ok read ≡ true
+let_in-is_ok ReadWrite read e = e
+let_in-is_ok ReadOnly (Ok ns) e = refl
+let_in-is_ok ReadOnly (Err f) e = e
 
-pub let_in-unread : (door : Door) (read : Result (List Message) BodyError) (fault : AdmitFault) → IsUnread read fault → IsUnread (let_in door read) fault
-let_in-unread door read Memory is = tt
-let_in-unread Publishers read (Refused refusal) is = is
-let_in-unread Readers read (Refused (Body fault)) is = ap (let_in Readers) is
-let_in-unread Readers read (Refused _) is = is
+pub let_in-unread : (access : Access) (read : Result (List Message) BodyError) (fault : AdmitFault) → IsUnread read fault → IsUnread (let_in access read) fault
+let_in-unread access read Memory is = tt
+let_in-unread ReadWrite read (Refused refusal) is = is
+let_in-unread ReadOnly read (Refused (Body fault)) is = ap (let_in ReadOnly) is
+let_in-unread ReadOnly read (Refused _) is = is
 
 -- ---- The elements of a request
 

@@ -204,8 +204,8 @@ abbrev pub is_overdue : ℕ → Registered → Bool
 is_overdue moment r = r.live && nat_lt r.due moment
 
 -- The overdue sessions are closed.
-abbrev pub swept : ℕ → List Registered → List Registered
-swept moment sessions = map (λ (r : Registered). if is_overdue moment r then record r { live = false } else r) sessions
+abbrev pub overdue_closed : ℕ → List Registered → List Registered
+overdue_closed moment sessions = map (λ (r : Registered). if is_overdue moment r then record r { live = false } else r) sessions
 
 -- The numbers of the sessions that a tick closes, in ascending order.
 abbrev pub overdue : ℕ → List Registered → List ℕ
@@ -240,8 +240,8 @@ joined (Only other) number = if other == number then Only other else Mixed
 joined Mixed number = Mixed
 
 -- The senders after a message. After the last message of a request, there are none yet.
-abbrev pub senders_behind : Posted → Senders → Senders
-senders_behind p senders = if p.last then NoneYet else senders
+abbrev pub senders_after : Posted → Senders → Senders
+senders_after p senders = if p.last then NoneYet else senders
 
 -- Whether there are messages, and all come from one session.
 abbrev pub is_one : Senders → Bool
@@ -279,7 +279,7 @@ slot_with (Some rider) slot = Waiting rider.session
 -- A rejected message changes no session and gets its error at once.
 abbrev pub refused : Config → State → Posted → Error → Option Registered → Verdict
 refused config state p error sender = record {
-  state = record state { senders = senders_behind p Mixed };
+  state = record state { senders = senders_after p Mixed };
   kind = Refused;
   rides = None;
   sender = None;
@@ -295,7 +295,7 @@ newcomer config moment p number =
 -- An accepted handshake opens session `number` and is answered at once.
 abbrev pub opened : Config → State → ℕ → Posted → ℕ → Verdict
 opened config state moment p number = record {
-  state = record { sessions = state.sessions ++ newcomer config moment p number ∷ []; opened = number; senders = senders_behind p Mixed };
+  state = record { sessions = state.sessions ++ newcomer config moment p number ∷ []; opened = number; senders = senders_after p Mixed };
   kind = Opened number (is_ack p.message.ack);
   rides = None;
   sender = Some number;
@@ -340,7 +340,7 @@ served config state moment p message_kind s hold = record {
   state = record {
     sessions = left_by message_kind s.number (extended s.number (due_of config moment hold) state.sessions);
     opened = state.opened;
-    senders = senders_behind p (joined state.senders s.number);
+    senders = senders_after p (joined state.senders s.number);
   };
   kind = kind_for message_kind p s hold;
   rides = rider_by config state.senders message_kind p s;
@@ -357,7 +357,7 @@ sessionless_kind _ m = Refused
 -- An accepted publish without a session changes no session and succeeds at once.
 abbrev pub sessionless : Config → State → Posted → MessageKind → Verdict
 sessionless config state p message_kind = record {
-  state = record state { senders = senders_behind p Mixed };
+  state = record state { senders = senders_after p Mixed };
   kind = sessionless_kind message_kind p.message;
   rides = None;
   sender = None;
@@ -394,7 +394,7 @@ verdict config state moment p =
 -- The verdict on a tick: it closes the overdue sessions and is not answered.
 abbrev pub tick_verdict : State → ℕ → Verdict
 tick_verdict state moment = record {
-  state = record state { sessions = swept moment state.sessions };
+  state = record state { sessions = overdue_closed moment state.sessions };
   kind = Tick (overdue moment state.sessions);
   rides = None;
   sender = None;

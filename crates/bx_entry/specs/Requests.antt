@@ -10,10 +10,10 @@ use Rattle.bx_cut.specs.Words.{fault, Object, pieces, texts_of}
 use Rattle.bx_message.specs.declared.message.Message.{Message}
 use Rattle.bx_message.specs.Fields.{message_in}
 use Rattle.bx_entry.specs.Inputs.{ReadInput, Request, Unread}
-use Rattle.bx_entry.specs.declared.input.{AdmitFault.AdmitFault, Arrival.Arrival, Door.Door, Input.Input, BodyError.BodyError}
+use Rattle.bx_entry.specs.declared.input.{AdmitFault.AdmitFault, Arrival.Arrival, Access.Access, Input.Input, BodyError.BodyError}
 use Rattle.bx_entry.specs.declared.input.AdmitFault.TheVariants.{Refused, Memory}
 use Rattle.bx_entry.specs.declared.input.Refusal.TheVariants.{Body, BadMoment, Ended}
-use Rattle.bx_entry.specs.declared.input.Door.TheVariants.{Publishers, Readers}
+use Rattle.bx_entry.specs.declared.input.Access.TheVariants.{ReadWrite, ReadOnly}
 use Rattle.bx_entry.specs.declared.input.Input.TheVariants.{Post}
 use Rattle.bx_entry.specs.declared.input.BodyError.TheVariants.{NotJson, NotObject, TooMany, NoChannel, Forbidden}
 
@@ -106,14 +106,14 @@ has_broadcast ms = list_any (λ m. is_broadcast m.channel) ms
 
 -- The messages that the listener allows. The read-only listener rejects a request with a message to
 -- a broadcast channel.
-abbrev pub let_in : Door → Result (List Message) BodyError → Result (List Message) BodyError
-let_in Publishers messages = messages
-let_in Readers (Ok ms) = if has_broadcast ms then Err Forbidden else Ok ms
-let_in Readers (Err f) = Err f
+abbrev pub let_in : Access → Result (List Message) BodyError → Result (List Message) BodyError
+let_in ReadWrite messages = messages
+let_in ReadOnly (Ok ms) = if has_broadcast ms then Err Forbidden else Ok ms
+let_in ReadOnly (Err f) = Err f
 
 -- The messages of a request as it arrived, or the first fault.
 abbrev pub arrival_messages : Arrival → Result (List Message) BodyError
-arrival_messages a = let_in a.door (request_messages (texts_of a.bodies))
+arrival_messages a = let_in a.access (request_messages (texts_of a.bodies))
 
 -- The fault that a program may report instead of messages: theirs, or that memory ran out.
 abbrev pub IsUnread : Result (List Message) BodyError → AdmitFault → Type 0

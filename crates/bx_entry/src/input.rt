@@ -8,15 +8,15 @@ use bx_cut::Bodies;
 use bx_message::Status;
 use std::alloc::{AllocError, AllocFailed};
 
-/// The listener that received a request.
+/// What the listener that received a request allows.
 ///
 /// Policy of this server.
 #[derive(Clone, Copy, Debug, PartialEq, Eq)]
-pub enum Door {
+pub enum Access {
     /// The main listener, which allows all messages.
-    Publishers,
+    ReadWrite,
     /// The read-only listener, which rejects requests with a message to a broadcast channel.
-    Readers,
+    ReadOnly,
 }
 
 /// A request as it arrived, with its documents still to be read.
@@ -26,8 +26,8 @@ pub struct Arrival {
     pub moment: u64,
     /// 128 bits for the client id of a session that the request opens.
     pub nonce: u128,
-    /// The listener that received it.
-    pub door: Door,
+    /// What the listener that received it allows.
+    pub access: Access,
     /// The request's documents.
     pub bodies: Bodies,
 }

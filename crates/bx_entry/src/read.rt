@@ -6,7 +6,7 @@ ghost use Rattle.bx_cut.specs.declared.document.TheConstants.{MAX_MESSAGES};
 ghost use Rattle.bx_entry.specs.Requests.{IsUnread, all_messages, arrival_messages, has_broadcast, request_messages};
 ghost use Rattle.bx_entry.specs.Requests.{cut_fault, cut_of, is_not_json, is_not_object, is_too_many, objects_in, objects_of};
 
-use crate::input::{AdmitFault, Arrival, BodyError, Door};
+use crate::input::{Access, AdmitFault, Arrival, BodyError};
 use bx_cut::{Bodies, CutError, Document, MAX_MESSAGES};
 use bx_message::{Message, MessageError};
 use bx_names::is_broadcast;
@@ -24,12 +24,12 @@ impl Arrival {
         ensures fault { IfErr result (IsUnread (arrival_messages self.now)) }
     {
         let messages = read_messages(alloc, &self.bodies)?;
-        match self.door {
-            Door::Publishers => Ok(messages),
-            Door::Readers if has_broadcast(messages.as_slice()) => {
+        match self.access {
+            Access::ReadWrite => Ok(messages),
+            Access::ReadOnly if has_broadcast(messages.as_slice()) => {
                 Err(AdmitFault::unread(BodyError::Forbidden))
             }
-            Door::Readers => Ok(messages),
+            Access::ReadOnly => Ok(messages),
         }
     }
 }

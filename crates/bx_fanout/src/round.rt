@@ -85,7 +85,7 @@ impl<P: Placing> Round<P> {
     /// let arrival = Arrival {
     ///     moment: 0,
     ///     nonce: 0,
-    ///     door: Door::Publishers,
+    ///     access: Access::ReadWrite,
     ///     bodies: Bodies::Whole(br#"{"channel":"/meta/ping"}"#.to_vec(alloc)?),
     /// };
     /// let inputs = [Input::Post(arrival), Input::Tick(100)];

@@ -3,7 +3,7 @@ use crate::host::{Host, post};
 use crate::wire::Wire;
 use anyhow::{Result, anyhow};
 use bx_cut::Bodies;
-use bx_entry::{Arrival, ByRemainder, Door};
+use bx_entry::{Access, Arrival, ByRemainder};
 use bx_hub::{Hub, OpenGate};
 use bx_pieces::Pieces;
 use bx_window::Naming;
@@ -25,7 +25,7 @@ fn nothing(alloc: Global) -> Result<Arrival, AllocError> {
     Ok(Arrival {
         moment: 0,
         nonce: 0,
-        door: Door::Publishers,
+        access: Access::ReadWrite,
         bodies: Bodies::Whole(b"[]".to_vec(alloc)?),
     })
 }

@@ -7,7 +7,7 @@ use crate::posts::Served;
 use crate::wire::Wire;
 use anyhow::{Result, anyhow};
 use bx_advice::Config;
-use bx_entry::{ByRemainder, Door};
+use bx_entry::{Access, ByRemainder};
 use bx_hub::OpenGate;
 use bx_pieces::Pieces;
 use bx_service::{BayeuxService, Clock, HubBackend, Nonces};
@@ -93,7 +93,7 @@ where
         rt,
         alloc,
         Arc::try_clone(hub)?,
-        Door::Publishers,
+        Access::ReadWrite,
         Still,
         Zeros,
     );

@@ -8,9 +8,9 @@ use Rattle.bx_cut.specs.Bodies.{texts_of}
 use Rattle.bx_advice.specs.declared.config.Config.{Config}
 use Rattle.bx_message.specs.declared.{event.Event.Event, message.Message.Message}
 use Rattle.bx_message.specs.MessageKinds.{is_handshake}
-use Rattle.bx_entry.specs.declared.input.{BodyError.BodyError, Door.Door, Input.Input, Refusal.Refusal}
+use Rattle.bx_entry.specs.declared.input.{BodyError.BodyError, Access.Access, Input.Input, Refusal.Refusal}
 use Rattle.bx_entry.specs.declared.input.BodyError.TheVariants.{Forbidden}
-use Rattle.bx_entry.specs.declared.input.Door.TheVariants.{Readers}
+use Rattle.bx_entry.specs.declared.input.Access.TheVariants.{ReadOnly}
 use Rattle.bx_entry.specs.declared.input.Input.TheVariants.{Post, Tick}
 use Rattle.bx_entry.specs.Sessions.{Publication, session}
 use Rattle.bx_entry.specs.Words.{Listed, ReadInput, Taking, added_by, entries, has_broadcast, let_in, listed_from, read_by, read_input, refusal_of, request_messages, take_in, taken_as, taken_in}
@@ -43,14 +43,14 @@ quiet_where : (moment nonce : ℕ) (ms : List Message) (b : Bool) → has_broadc
 quiet_where moment nonce ms true e = tt
 quiet_where moment nonce ms false e = listed_quiet moment nonce (length ms == 1) false ms e
 
-let_in_quiet : (moment nonce : ℕ) (read : Result (List Message) BodyError) → AreQuiet (added_by (read_by moment nonce (let_in Readers read)))
+let_in_quiet : (moment nonce : ℕ) (read : Result (List Message) BodyError) → AreQuiet (added_by (read_by moment nonce (let_in ReadOnly read)))
 let_in_quiet moment nonce (Ok ms) = quiet_where moment nonce ms (has_broadcast ms) refl
 let_in_quiet moment nonce (Err f) = tt
 
 input_quiet : (input : Input) → IsOfReaders input → AreQuiet (added_by (read_input input))
 input_quiet (Post a) h =
     let read = request_messages (texts_of a.bodies) in
-    subst (λ (door : Door). AreQuiet (added_by (read_by a.moment a.nonce (let_in door read)))) (sym h) (let_in_quiet a.moment a.nonce read)
+    subst (λ (access : Access). AreQuiet (added_by (read_by a.moment a.nonce (let_in access read)))) (sym h) (let_in_quiet a.moment a.nonce read)
 input_quiet (Tick moment) h = (tt, tt)
 
 taken_quiet : (t : Taking) (input : ReadInput) (refusal : Option Refusal) → AreQuiet t.list → AreQuiet (added_by input) → AreQuiet (taken_as t input refusal).list

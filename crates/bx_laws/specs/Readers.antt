@@ -5,14 +5,14 @@ use Rattle.bx_names.specs.Words.{is_broadcast}
 use Rattle.bx_advice.specs.declared.config.Config.{Config}
 use Rattle.bx_entry.specs.declared.input.Input.{Input}
 use Rattle.bx_entry.specs.declared.input.Input.TheVariants.{Post, Tick}
-use Rattle.bx_entry.specs.declared.input.Door.TheVariants.{Readers}
+use Rattle.bx_entry.specs.declared.input.Access.TheVariants.{ReadOnly}
 use Rattle.bx_entry.specs.Listing as lists
 use Rattle.bx_entry.specs.Sessions.{session}
 use Rattle.bx_entry.specs.Words.{Listed, entries, read_input, taken_in}
 
 -- The input is a request through the read-only listener, or a tick.
 abbrev pub IsOfReaders : Input → Type 0
-IsOfReaders (Post a) = a.door ≡ Readers
+IsOfReaders (Post a) = a.access ≡ ReadOnly
 IsOfReaders (Tick moment) = ⊤
 
 -- The element is not a message to a broadcast channel.

@@ -574,7 +574,7 @@ NoteForms =
     map (line_of Recorded) (codes "A 7 4f53cda18c2baa0c0354bb5f9a3ecbe5ed12ab4d8e11ba873c2f11161202b945" ∷ codes "A 18446744073709551615 4F53CDA18C2BAA0C0354BB5F9A3ECBE5ED12AB4D8E11BA873C2F11161202B945" ∷ codes "A 007 4f53cda18c2baa0c0354bb5f9a3ecbe5ed12ab4d8e11ba873c2f11161202b945" ∷ codes "A 18446744073709551616 4f53cda18c2baa0c0354bb5f9a3ecbe5ed12ab4d8e11ba873c2f11161202b945" ∷ codes "A 7 4f53cda18c2baa0c0354bb5f9a3ecbe5ed12ab4d8e11ba873c2f11161202b94" ∷ codes "A 7 4f53cda18c2baa0c0354bb5f9a3ecbe5ed12ab4d8e11ba873c2f11161202b9450" ∷ codes "A 7 4f53cda18c2baa0c0354bb5f9a3ecbe5ed12ab4d8e11ba873c2f11161202b94g" ∷ codes "A 7" ∷ codes "A  4f53cda18c2baa0c0354bb5f9a3ecbe5ed12ab4d8e11ba873c2f11161202b945" ∷ codes "A 4f53cda18c2baa0c0354bb5f9a3ecbe5ed12ab4d8e11ba873c2f11161202b945" ∷ codes "A 7  4f53cda18c2baa0c0354bb5f9a3ecbe5ed12ab4d8e11ba873c2f11161202b945" ∷ codes "A -7 4f53cda18c2baa0c0354bb5f9a3ecbe5ed12ab4d8e11ba873c2f11161202b945" ∷ codes "7 A 7 4f53cda18c2baa0c0354bb5f9a3ecbe5ed12ab4d8e11ba873c2f11161202b945" ∷ codes "a 7 4f53cda18c2baa0c0354bb5f9a3ecbe5ed12ab4d8e11ba873c2f11161202b945" ∷ [])
     ≡ Noted ∷ Noted ∷ Noted ∷ Bad ∷ Bad ∷ Bad ∷ Bad ∷ Bad ∷ Bad ∷ Bad ∷ Bad ∷ Bad ∷ Bad ∷ Bad ∷ []
 
--- A nonce waits for the next request, unless a later nonce replaces it.
+-- The nonce of a line is for the next request, unless a later line replaces it.
 abbrev pub NoncesWait : Type 0
 NoncesWait =
     with_nonces 0 (Accepted None (post 0 []) ∷ Announced 5 ∷ Announced 6 ∷ Accepted None (Tick 0) ∷ Bad ∷ Rejected 400 ∷ Resharded 2 ∷ Accepted None (post 7 []) ∷ Accepted None (post 8 []) ∷ Announced 9 ∷ Accepted None (Unread NotJson) ∷ Accepted None (post 10 []) ∷ [])

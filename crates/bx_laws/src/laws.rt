@@ -275,7 +275,7 @@ pub fn held_come_last()
     ensures { HeldComeLast }
 {}
 
-/// Proves that the next line of a script gets the waiting nonce, and earlier lines keep theirs.
+/// Proves that the next line of a script gets the nonce that earlier lines leave, and they keep theirs.
 pub fn nonces_go_on()
     ensures { NoncesGoOn }
 {}

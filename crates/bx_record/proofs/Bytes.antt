@@ -83,4 +83,4 @@ readable_utf8 : (ds : List (List ℕ)) → is_ok (request_messages ds) ≡ true 
 readable_utf8 ds h = each_utf8 ds (json_by (map cut_of ds) (first_case (tail_cases (map cut_of ds))) (list_any is_not_json (map cut_of ds)) h)
 
 pub arrival_utf8 : (a : Arrival) → is_ok (arrival_messages a) ≡ true → AllByRecursion IsUtf8 (texts_of a.bodies)
-arrival_utf8 a h = readable_utf8 (texts_of a.bodies) (let_in-is_ok a.door (request_messages (texts_of a.bodies)) h)
+arrival_utf8 a h = readable_utf8 (texts_of a.bodies) (let_in-is_ok a.access (request_messages (texts_of a.bodies)) h)

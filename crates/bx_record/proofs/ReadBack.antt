@@ -132,7 +132,7 @@ input_lines (Post a) rest can = by_result (arrival_messages a) refl can.readable
     by_result : (r : Result (List Message) BodyError) → arrival_messages a ≡ r → is_ok r ≡ true → SameLines (arrival_messages a)
     by_result (Err fault) e h = cc
     by_result (Ok ms) e h =
-        let read = let_in-ok a.door (request_messages (texts_of a.bodies)) ms e in
+        let read = let_in-ok a.access (request_messages (texts_of a.bodies)) ms e in
         let says_all = documents_say a.moment (texts_of a.bodies) (arrival_utf8 a can.readable) can.sayable in
         subst SameLines (sym e) (request_lines a.moment a.nonce (texts_of a.bodies) ms rest can.moment can.nonce read says_all (list_any is_handshake ms))
 

@@ -2,7 +2,7 @@
 use crate::unlike::Unlike;
 use bx_advice::Config;
 use bx_cut::Bodies;
-use bx_entry::{Arrival, Door};
+use bx_entry::{Access, Arrival};
 use bx_message::{Answer, Item, Reply, body_text, reply_text};
 use std::alloc::Global;
 
@@ -61,7 +61,7 @@ pub fn arrival_at(alloc: Global, moment: u64, body: &str) -> Result<Arrival, Unl
     Ok(Arrival {
         moment,
         nonce: 0,
-        door: Door::Publishers,
+        access: Access::ReadWrite,
         bodies: Bodies::Whole(body.as_bytes().to_vec(alloc)?),
     })
 }

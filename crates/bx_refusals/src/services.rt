@@ -11,7 +11,7 @@ use crate::hubs::Served;
 use crate::requests::config;
 use crate::unlike::Unlike;
 use bx_advice::Config;
-use bx_entry::{ByRemainder, Door};
+use bx_entry::{Access, ByRemainder};
 use bx_hub::OpenGate;
 use bx_service::{BayeuxService, Clock, HubBackend, Nonces};
 use bx_window::{Naming, Opened};
@@ -82,7 +82,7 @@ where
         rt,
         alloc,
         Arc::try_clone(&hub)?,
-        Door::Publishers,
+        Access::ReadWrite,
         Still,
         Zeros,
     );

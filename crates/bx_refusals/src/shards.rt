@@ -41,7 +41,7 @@ const ANSWERED: [Deed; 5] = [
     Deed::Publish("/a/b", "7"),
 ];
 
-// Batches are sent again until they are acknowledged, even after new events and an unsubscribe.
+// Batches are sent again until they are acknowledged, even after new events and an unsubscription.
 const BATCHES: [Deed; 11] = [
     Deed::OpenAck(1),
     Deed::Subscribe(1, "/a/*"),

@@ -1,11 +1,11 @@
--- The judgement of a message has the edit, the entry and the slot of its verdict.
+-- The outcome of a message has the edit, the entry and the slot of its verdict.
 use Rattle.std.proofs.Common.{◌≡◌, ℕ, ◌+◌, ◌<◌, ◌^◌, Bool, true, false, List, [], ◌∷◌, ◌++◌, length, refl, sym, ap, subst, arith, Result, Ok, Err, not, get_or}
 use Rattle.std.specs.Prelude.{nat_le, Option, Some, None, IsSome, IfOk, MatchOption, is_some, option_map, if◌then◌else◌}
 use Rattle.std.proofs.lemmas.{Bool.cond-true, Bool.leb-false, Grind.common_steps, List.Folds.list_any_at}
 use Rattle.bx_names.specs.Faults.{first_case, pattern_fault}
 use Rattle.bx_advice.specs.declared.{config.Config.Config, error.Error.Error}
-use Rattle.bx_registry.specs.declared.{draft.Sender.Sender, judge.Judgement.Judgement}
-use Rattle.bx_registry.specs.Judgements.{has_fault}
+use Rattle.bx_registry.specs.declared.{session_overlay.Sender.Sender, judge.MessageOutcome.MessageOutcome}
+use Rattle.bx_registry.specs.MessageOutcomes.{has_fault}
 use Rattle.bx_registry.specs.Words.{named, state_of, IsSender, edit_for, IsRidden, IsVerdict}
 use Rattle.bx_advice.specs.declared.advice.Outcome.TheVariants.{Failed}
 use Rattle.bx_advice.specs.declared.advice.Outcome.TheVariants as advice
@@ -14,7 +14,7 @@ use Rattle.bx_message.specs.declared.message_kind.MessageKind.TheVariants.{Hands
 use Rattle.bx_message.specs.declared.reply.AckReply.TheVariants as replies
 use Rattle.bx_message.specs.MessageKinds.{message_kind_of, is_handshake}
 use Rattle.bx_message.specs.Replies.{reply_to}
-use Rattle.bx_entry.specs.Words.{Posted, due_of, newcomer, rider_by, sessionless_kind, verdict, judged_by, unnamed, Registered, cases_of, client_id, closed, count_live, extended, hold_of, is_ack, joined, kind_for, left_by, live_with_id, named_by, refusal, sender_of, senders_behind, slot_for}
+use Rattle.bx_entry.specs.Words.{Posted, due_of, newcomer, rider_by, sessionless_kind, verdict, judged_by, unnamed, Registered, cases_of, client_id, closed, count_live, extended, hold_of, is_ack, joined, kind_for, left_by, live_with_id, named_by, refusal, sender_of, senders_after, slot_for}
 use Rattle.bx_entry.specs.declared.{senders.Senders.Senders}
 use Rattle.bx_entry.specs.declared.senders.Senders.TheVariants.{Mixed}
 use Rattle.bx_entry.specs.declared.entry.EntryKind.TheVariants as entries
@@ -43,9 +43,9 @@ found-client o r e = grind (arith, common_steps)
 same-members : (ms : Members) → AllLive ms.live → ms ≡ record ms { live = live_in ms.live }
 same-members ms all = ap (λ (live : List Registered). record ms { live = live }) (sym (live_in-all ms.live all))
 
-pub refused-verdict : (setup : Setup) (ms : Members) (senders : Senders) (moment place : ℕ) (p : Posted) (message_kind : MessageKind) (error : Error) (o : Option Sender) (j : Judgement) →
+pub refused-verdict : (setup : Setup) (ms : Members) (senders : Senders) (moment place : ℕ) (p : Posted) (message_kind : MessageKind) (error : Error) (o : Option Sender) (j : MessageOutcome) →
     message_kind ≡ message_kind_of p.message.channel → AllLive ms.live → refusal setup.config ms.live p ≡ Some error → IsFound o (named_by ms.live message_kind p.message) →
-    j.edit ≡ None → (j.kind ≡ entries.Refused) × (j.rides ≡ None) → j.senders ≡ senders_behind p Mixed →
+    j.edit ≡ None → (j.kind ≡ entries.Refused) × (j.rides ≡ None) → j.senders ≡ senders_after p Mixed →
     j.slot ≡ Ready (reply_to setup.config message_kind p.message (option_map (λ (s : Sender). s.client.now) o) (Failed error) replies.NoAck) →
     IsVerdict setup ms place (verdict setup.config (state_of ms senders) moment p) j
 refused-verdict setup ms senders moment place p message_kind error o j k all is found e f behind g =
@@ -59,10 +59,10 @@ room config live p h = grind (arith, common_steps)
 pub handshake-kind : (m : Message) → is_handshake m ≡ true → message_kind_of m.channel ≡ Handshake
 handshake-kind m h = cond-true (is_handshake m) Handshake _ h
 
-pub opened-verdict : (setup : Setup) (ms : Members) (senders : Senders) (moment place n : ℕ) (p : Posted) (message_kind : MessageKind) (j : Judgement) →
+pub opened-verdict : (setup : Setup) (ms : Members) (senders : Senders) (moment place n : ℕ) (p : Posted) (message_kind : MessageKind) (j : MessageOutcome) →
     message_kind ≡ message_kind_of p.message.channel → AllLive ms.live → ms.limit ≡ setup.config.limits.sessions → n ≡ ms.opened + 1 → n < 2 ^ 64 → is_handshake p.message ≡ true →
     refusal setup.config ms.live p ≡ None → named_by ms.live message_kind p.message ≡ None →
-    j.edit ≡ Some (Open (newcomer setup.config moment p n)) → (j.kind ≡ entries.Opened n (is_ack p.message.ack)) × (j.rides ≡ None) → j.senders ≡ senders_behind p Mixed →
+    j.edit ≡ Some (Open (newcomer setup.config moment p n)) → (j.kind ≡ entries.Opened n (is_ack p.message.ack)) × (j.rides ≡ None) → j.senders ≡ senders_after p Mixed →
     j.slot ≡ Ready (reply_to setup.config Handshake p.message (Some (client_id p.nonce n)) advice.Opened (if is_ack p.message.ack then replies.AckTrue else replies.NoAck)) →
     IsVerdict setup ms place (verdict setup.config (state_of ms senders) moment p) j
 opened-verdict setup ms senders moment place n p message_kind j k all limit number small opens is who e f behind g =
@@ -80,9 +80,9 @@ opened-verdict setup ms senders moment place n p message_kind j k all limit numb
 
 -- ---- A message without a session
 
-pub sessionless-verdict : (setup : Setup) (ms : Members) (senders : Senders) (moment place : ℕ) (p : Posted) (message_kind : MessageKind) (j : Judgement) →
+pub sessionless-verdict : (setup : Setup) (ms : Members) (senders : Senders) (moment place : ℕ) (p : Posted) (message_kind : MessageKind) (j : MessageOutcome) →
     message_kind ≡ message_kind_of p.message.channel → AllLive ms.live → is_handshake p.message ≡ false → refusal setup.config ms.live p ≡ None → named_by ms.live message_kind p.message ≡ None →
-    j.edit ≡ None → (j.kind ≡ sessionless_kind message_kind p.message) × (j.rides ≡ None) → j.senders ≡ senders_behind p Mixed →
+    j.edit ≡ None → (j.kind ≡ sessionless_kind message_kind p.message) × (j.rides ≡ None) → j.senders ≡ senders_after p Mixed →
     j.slot ≡ Ready (reply_to setup.config message_kind p.message None advice.Done replies.NoAck) →
     IsVerdict setup ms place (verdict setup.config (state_of ms senders) moment p) j
 sessionless-verdict setup ms senders moment place p message_kind j k all other is who e f behind g = grind (arith, common_steps, same-members)
@@ -121,18 +121,18 @@ ridden-for : (config : Config) (senders : Senders) (message_kind : MessageKind) 
     rider_by config senders message_kind p (named s) ≡ rider_by config senders message_kind p r
 ridden-for config senders message_kind p s r e f a = grind (arith, common_steps, slot-for)
 
-served-by : (setup : Setup) (ms : Members) (senders : Senders) (moment place due : ℕ) (p : Posted) (message_kind : MessageKind) (s : Sender) (o : Option Registered) (j : Judgement) →
+served-by : (setup : Setup) (ms : Members) (senders : Senders) (moment place due : ℕ) (p : Posted) (message_kind : MessageKind) (s : Sender) (o : Option Registered) (j : MessageOutcome) →
     message_kind ≡ message_kind_of p.message.channel → o ≡ named_by ms.live message_kind p.message → IsSender o s.number s.client.now s.ack → due ≡ due_of setup.config moment (hold_of setup.config p) →
-    j.edit ≡ Some (edit_for message_kind s.number due) → j.kind ≡ kind_for message_kind p (named s) (hold_of setup.config p) → j.senders ≡ senders_behind p (joined senders s.number) →
+    j.edit ≡ Some (edit_for message_kind s.number due) → j.kind ≡ kind_for message_kind p (named s) (hold_of setup.config p) → j.senders ≡ senders_after p (joined senders s.number) →
     IsRidden setup place (rider_by setup.config senders message_kind p (named s)) (slot_for setup.config message_kind p (named s)) j.rides j.slot →
     IsVerdict setup ms place (judged_by setup.config (state_of ms senders) moment p o None) j
 served-by setup ms senders moment place due p message_kind s o j h1 h2 h3 h4 h5 h6 h7 h8 =
     grind (arith, common_steps, named-at, ridden-for, slot-for, edited-for, can-for, kind-for)
 
-pub served-verdict : (setup : Setup) (ms : Members) (senders : Senders) (moment place : ℕ) (p : Posted) (message_kind : MessageKind) (s : Sender) (j : Judgement) →
+pub served-verdict : (setup : Setup) (ms : Members) (senders : Senders) (moment place : ℕ) (p : Posted) (message_kind : MessageKind) (s : Sender) (j : MessageOutcome) →
     message_kind ≡ message_kind_of p.message.channel → refusal setup.config ms.live p ≡ None → IsSender (named_by ms.live message_kind p.message) s.number s.client.now s.ack →
     j.edit ≡ Some (edit_for message_kind s.number (due_of setup.config moment (hold_of setup.config p))) → j.kind ≡ kind_for message_kind p (named s) (hold_of setup.config p) →
-    j.senders ≡ senders_behind p (joined senders s.number) →
+    j.senders ≡ senders_after p (joined senders s.number) →
     IsRidden setup place (rider_by setup.config senders message_kind p (named s)) (slot_for setup.config message_kind p (named s)) j.rides j.slot →
     IsVerdict setup ms place (verdict setup.config (state_of ms senders) moment p) j
 served-verdict setup ms senders moment place p message_kind s j k is who e f behind g =

@@ -11,10 +11,10 @@ use Rattle.bx_entry.specs.declared.{entry.Entry.Entry, entry.Slot.Slot, senders.
 use Rattle.bx_entry.specs.declared.senders.Senders.TheVariants.{NoneYet}
 use Rattle.bx_entry.specs.Inputs.{refused_beyond}
 use Rattle.bx_roster.specs.Words.{Members, CanEditEach, edited, edited_by}
-use Rattle.bx_registry.specs.Words.{Roll, after, found, next, state_of, step, Drafted, members_of, Amendment, IsPlannedAt, IsWithin, changed, checked, entries_in, slots_in, IsFoundAt, IsPlannedBy, roll_between, roll_with}
+use Rattle.bx_registry.specs.Words.{Roll, after, found, next, state_of, step, Overlay, members_of, Amendment, IsPlannedAt, IsWithin, changed, checked, entries_in, slots_in, IsFoundAt, IsPlannedBy, roll_between, roll_with}
 use Rattle.bx_roster.specs.declared.edit.{Edit.Edit, Edits.Edits}
 use Rattle.bx_roster.specs.declared.edit.Edits.TheVariants.{Each}
-use Rattle.bx_registry.proofs.Drafting.{limit-same}
+use Rattle.bx_registry.proofs.Overlays.{limit-same}
 use Rattle.bx_entry.specs.Placings.{Setup}
 
 judged-opened : (config : Config) (state : State) (moment : ℕ) (p : Posted) (sender : Option Registered) (fault : Option Error) → (judged_by config state moment p sender fault).state.opened ≤ state.opened + 1
@@ -33,7 +33,7 @@ pub after-request : (roll : Roll) (moment nonce : ℕ) (ms : List Message) → r
 after-request roll moment nonce [] none = none
 after-request roll moment nonce (m ∷ ms) none = after-last roll moment nonce (length (m ∷ ms) == 1) false m ms
 
-pub record SoFar (setup : Setup) (before base : Members) (clock first : ℕ) (list rest : List Listed) (d : Drafted) (senders : Senders) (now place : ℕ) (es : List Entry) (ss : List Slot) : Type 0 where
+pub record SoFar (setup : Setup) (before base : Members) (clock first : ℕ) (list rest : List Listed) (d : Overlay) (senders : Senders) (now place : ℕ) (es : List Entry) (ss : List Slot) : Type 0 where
   pub roll : after (roll_with setup.config (members_of d) senders now place) rest ≡ after (roll_between setup.config before clock first) list
   pub entries : es ++ entries_in (found (roll_with setup.config (members_of d) senders now place) rest) ≡ entries_in (found (roll_between setup.config before clock first) list)
   pub slots : ss ++ slots_in setup (found (roll_with setup.config (members_of d) senders now place) rest) ≡ slots_in setup (found (roll_between setup.config before clock first) list)
@@ -43,7 +43,7 @@ pub record SoFar (setup : Setup) (before base : Members) (clock first : ℕ) (li
   pub moment : now ≤ greatest_moment
   pub end : place + length rest ≡ first + length list
 
-pub one_next : {setup : Setup} {before base : Members} {clock first : ℕ} {list rest : List Listed} {d e : Drafted} {senders behind : Senders} {now place : ℕ} {es : List Entry} {ss : List Slot} {entry : Entry} {slot : Slot} (p : Posted) →
+pub one_next : {setup : Setup} {before base : Members} {clock first : ℕ} {list rest : List Listed} {d e : Overlay} {senders behind : Senders} {now place : ℕ} {es : List Entry} {ss : List Slot} {entry : Entry} {slot : Slot} (p : Posted) →
     SoFar setup before base clock first list (Post p ∷ rest) d senders now place es ss → max now p.moment ≤ greatest_moment → e.base ≡ d.base →
     IsFoundAt setup place (max now p.moment) (members_of d) (verdict setup.config (state_of (members_of d) senders) (max now p.moment) p) (members_of e) behind entry slot →
     SoFar setup before base clock first list rest e behind (max now p.moment) (place + 1) (es ++ entry ∷ []) (ss ++ slot ∷ [])
@@ -75,7 +75,7 @@ one_next {setup} {before} {base} {clock} {first} {list} {rest} {d} {e} {senders}
       end = omega (arith, so.end);
     }
 
-pub all_planned : {setup : Setup} {before base : Members} {clock first : ℕ} {list : List Listed} {d : Drafted} {senders : Senders} {now place : ℕ} {es : List Entry} {ss : List Slot} →
+pub all_planned : {setup : Setup} {before base : Members} {clock first : ℕ} {list : List Listed} {d : Overlay} {senders : Senders} {now place : ℕ} {es : List Entry} {ss : List Slot} →
     SoFar setup before base clock first list [] d senders now place es ss → (after (roll_between setup.config before clock first) list).senders ≡ NoneYet →
     IsPlannedBy setup before (members_of d) clock first list es ss now
 all_planned {setup} {before} {base} {clock} {first} {list} {d} {senders} {now} {place} {es} {ss} so none =
@@ -100,26 +100,26 @@ planned_limit ms edits = grind (arith, common_steps, limit-same)
 pub planned-within : (roll : Roll) (c : Amendment) → IsWithin roll.config roll.members roll.clock roll.length → IsPlannedAt roll c → IsWithin roll.config (edited_by roll.members c.edits) c.clock c.length
 planned-within roll c w p = record { limit = planned_limit roll.members c.edits ∙ w.limit; opened = p.opened; moment = p.clock; end = p.length }
 
-behind-is : (roll : Roll) (d e : Drafted) (es : List Edit) → d ≡ record { base = roll.members; edits = [] } → e.base ≡ d.base → es ≡ e.edits → members_of e ≡ fold edited roll.members es
+behind-is : (roll : Roll) (d e : Overlay) (es : List Edit) → d ≡ record { base = roll.members; edits = [] } → e.base ≡ d.base → es ≡ e.edits → members_of e ≡ fold edited roll.members es
 behind-is roll d e es start same is = grind (arith, common_steps)
 
-pub planned-at : (setup : Setup) (roll : Roll) (d e : Drafted) (es : List Edit) (list : List Listed) (entries : List Entry) (slots : List Slot) (now end : ℕ) → d ≡ record { base = roll.members; edits = [] } → e.base ≡ d.base → es ≡ e.edits →
+pub planned-at : (setup : Setup) (roll : Roll) (d e : Overlay) (es : List Edit) (list : List Listed) (entries : List Entry) (slots : List Slot) (now end : ℕ) → d ≡ record { base = roll.members; edits = [] } → e.base ≡ d.base → es ≡ e.edits →
     CanEditEach e.base e.edits → IsPlannedBy setup (members_of d) (members_of e) roll.clock roll.length list entries slots now → end ≡ roll.length + length list → end ≤ greatest_length →
     IsPlannedAt roll (record { edits = Each es; clock = now; length = end })
 planned-at setup roll d e es list entries slots now end start same is can p long room =
     let behind = behind-is roll d e es start same is in record {
-      edits = rw is (subst (λ (b : Members). CanEditEach b e.edits) (same ∙ ap (λ (x : Drafted). x.base) start) can);
+      edits = rw is (subst (λ (b : Members). CanEditEach b e.edits) (same ∙ ap (λ (x : Overlay). x.base) start) can);
       opened = omega (arith, ap (λ (x : Members). x.opened) behind, p.opened, long);
       clock = p.moment;
       length = room;
     }
 
-pub planned-after : (setup : Setup) (ms : Members) (clock first : ℕ) (d e : Drafted) (es : List Edit) (list : List Listed) (entries : List Entry) (slots : List Slot) (now end : ℕ) → d ≡ record { base = ms; edits = [] } → e.base ≡ d.base → es ≡ e.edits →
+pub planned-after : (setup : Setup) (ms : Members) (clock first : ℕ) (d e : Overlay) (es : List Edit) (list : List Listed) (entries : List Entry) (slots : List Slot) (now end : ℕ) → d ≡ record { base = ms; edits = [] } → e.base ≡ d.base → es ≡ e.edits →
     IsPlannedBy setup (members_of d) (members_of e) clock first list entries slots now → end ≡ first + length list →
     changed (roll_between setup.config ms clock first) (record { edits = Each es; clock = now; length = end }) ≡ after (roll_between setup.config ms clock first) list
 planned-after setup ms clock first d e es list entries slots now end start same is p long =
     let behind = behind-is (roll_between setup.config ms clock first) d e es start same is in
     ap (λ (x : Members). roll_between setup.config x now end) (sym behind) ∙ ap (λ (k : ℕ). roll_between setup.config (members_of e) now k) long
-    ∙ sym p.roll ∙ ap (λ (x : Drafted). after (roll_between setup.config (members_of x) clock first) list) start
+    ∙ sym p.roll ∙ ap (λ (x : Overlay). after (roll_between setup.config (members_of x) clock first) list) start
 
 pub ruleset committing = (planned-within, common_steps)

@@ -7,14 +7,14 @@ use Rattle.bx_advice.specs.declared.{config.Config.Config, error.Error.Error}
 use Rattle.bx_message.specs.declared.{message_kind.MessageKind.MessageKind, message.Message.Message, message.TextMember.TextMember}
 use Rattle.bx_message.specs.declared.message.TextMember.TheVariants.{Text}
 use Rattle.bx_message.specs.MessageKinds.{message_kind_of, is_handshake}
-use Rattle.bx_entry.specs.Words.{Posted, Listed, Post, State, due_of, Registered, Registry, Judged, judge, judged_by, refusal, cases_of, sender_of, named_by, count_live, extended, left_by, overdue, hold_of, joined, senders_behind, unnamed, noted, state_of, Verdict, verdict}
+use Rattle.bx_entry.specs.Words.{Posted, Listed, Post, State, due_of, Registered, Registry, Judged, judge, judged_by, refusal, cases_of, sender_of, named_by, count_live, extended, left_by, overdue, hold_of, joined, senders_after, unnamed, noted, state_of, Verdict, verdict}
 use Rattle.bx_entry.specs.Listing as messages
 use Rattle.bx_entry.specs.declared.senders.Senders.{Senders}
 use Rattle.bx_entry.specs.declared.senders.Senders.TheVariants.{Mixed}
 use Rattle.bx_roster.specs.Live.{live_in}
 use Rattle.bx_registry.specs.Words.{Roll, roll_of, step, after, found, GoesOn, StepsAgree, RunsAgree}
 use Rattle.bx_registry.specs.Rolls as rolls
-use Rattle.bx_roster.proofs.Live.{live_in-live, live_in-extended, live_in-closed, live_in-swept}
+use Rattle.bx_roster.proofs.Live.{live_in-live, live_in-extended, live_in-closed, live_in-overdue_closed}
 use Rattle.bx_registry.proofs.Lists.{filter-more, find-more}
 use Rattle.std.proofs.lemmas.Grind.{common_steps}
 use Rattle.std.proofs.Common.{arith}
@@ -70,17 +70,17 @@ live_in-push sessions r = grind (arith, common_steps, filter-append, live_in-liv
 
 goes-unnamed : (config : Config) (r : Registry) (moment : ℕ) (p : Posted) (b : Bool) → Went config r moment (unnamed config (asked config r) moment p b) (noted r moment (unnamed config (state_of r) moment p b))
 goes-unnamed config r moment p true = record {
-  roll = same_roll config config.limits.sessions moment (senders_behind p Mixed) (sym (length-append r.sessions (_ ∷ []))) (live_in-push r.sessions _) (sym (one_more r.judged _));
+  roll = same_roll config config.limits.sessions moment (senders_after p Mixed) (sym (length-append r.sessions (_ ∷ []))) (live_in-push r.sessions _) (sym (one_more r.judged _));
   judged = refl;
 }
-goes-unnamed config r moment p false = record { roll = same_roll config config.limits.sessions moment (senders_behind p Mixed) refl (live_in-live r.sessions) (sym (one_more r.judged _)); judged = refl }
+goes-unnamed config r moment p false = record { roll = same_roll config config.limits.sessions moment (senders_after p Mixed) refl (live_in-live r.sessions) (sym (one_more r.judged _)); judged = refl }
 
 goes-by : (config : Config) (r : Registry) (moment : ℕ) (p : Posted) (sender : Option Registered) (fault : Option Error) →
     Went config r moment (judged_by config (asked config r) moment p sender fault) (noted r moment (judged_by config (state_of r) moment p sender fault))
-goes-by config r moment p sender (Some error) = record { roll = same_roll config config.limits.sessions moment (senders_behind p Mixed) refl (live_in-live r.sessions) (sym (one_more r.judged _)); judged = refl }
+goes-by config r moment p sender (Some error) = record { roll = same_roll config config.limits.sessions moment (senders_after p Mixed) refl (live_in-live r.sessions) (sym (one_more r.judged _)); judged = refl }
 goes-by config r moment p None None = goes-unnamed config r moment p (is_handshake p.message)
 goes-by config r moment p (Some s) None = record {
-  roll = same_roll config config.limits.sessions moment (senders_behind p (joined r.senders s.number))
+  roll = same_roll config config.limits.sessions moment (senders_after p (joined r.senders s.number))
       (sym (length-left_by (message_kind_of p.message.channel) s.number (due_of config moment (hold_of config p)) r.sessions))
       (left_by-live (message_kind_of p.message.channel) s.number (due_of config moment (hold_of config p)) r.sessions)
       (sym (one_more r.judged _));
@@ -96,7 +96,7 @@ goes config r (Post p) =
     rw (refusal-live config r.sessions p, named_by-live r.sessions message_kind p.message) (goes-by config r moment p named (refusal config r.sessions p)) in
     record { roll = went.roll; judged = went.judged }
 goes config r (messages.Tick moment) = record {
-  roll = same_roll config config.limits.sessions (max r.clock moment) r.senders (sym (length-map r.sessions _)) (live_in-swept (max r.clock moment) r.sessions) (sym (one_more r.judged _));
+  roll = same_roll config config.limits.sessions (max r.clock moment) r.senders (sym (length-map r.sessions _)) (live_in-overdue_closed (max r.clock moment) r.sessions) (sym (one_more r.judged _));
   judged = rw (overdue-live (max r.clock moment) r.sessions) refl;
 }
 

@@ -2,12 +2,12 @@ pub mod Rolls
 pub mod Laws
 pub mod Ids
 pub mod Changes
-pub mod Drafts
+pub mod SessionOverlays
 pub mod Postings
 pub mod Setups
 pub mod Slots
 pub mod Plans
-pub mod Judgements
+pub mod MessageOutcomes
 pub mod Planners
 pub mod Standings
 pub mod Words

@@ -1,8 +1,8 @@
 -- Names of this crate's definitions, for files that import several.
 pub use Rattle.bx_registry.specs.Changes.{Amendment, CanCommit, IsPlannedAt, IsWithin, changed}
-pub use Rattle.bx_registry.specs.Drafts.{Drafted, IsDrafted, IsSender, members_of, named}
+pub use Rattle.bx_registry.specs.SessionOverlays.{Overlay, IsOverlay, IsSender, members_of, named}
 pub use Rattle.bx_registry.specs.Ids.{digit_value, hex_value, number_in, with_digit}
-pub use Rattle.bx_registry.specs.Judgements.{IsRidden, IsVerdict, edit_for}
+pub use Rattle.bx_registry.specs.MessageOutcomes.{IsRidden, IsVerdict, edit_for}
 pub use Rattle.bx_registry.specs.Laws.{GoesOn, RunsAgree, StepsAgree}
 pub use Rattle.bx_registry.specs.Planners.{IsFoundAt, IsPlannedBy, roll_between, roll_with}
 pub use Rattle.bx_registry.specs.Plans.{checked, entries_in, slots_in}

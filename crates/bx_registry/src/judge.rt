@@ -1,4 +1,4 @@
-//! The judgement of one message: what it changes, its entry and its reply.
+//! The outcome of one message: what it changes, its entry and its reply.
 ghost use Rattle.std.specs.Prelude.{◌≡◌, ◌+◌, ◌<◌, ◌≤◌, ◌^◌, ◌∷◌, [], ℕ, Some, None, List, false, length, min, unwrap_or, map, filter, not, if◌then◌else◌, is_some, IfOk, Option, option_map};
 ghost use Rattle.std.specs.Option.{option_copied};
 ghost use Rattle.bx_names.specs.Faults.{name_fault, pattern_fault};
@@ -12,21 +12,21 @@ ghost use Rattle.bx_message.specs.declared.message_kind.MessageKind.TheVariants 
 ghost use Rattle.bx_message.specs.Replies.{reply_to};
 ghost use Rattle.bx_entry.specs.declared.entry.EntryKind.TheVariants as entries;
 ghost use Rattle.bx_entry.specs.declared.entry.Slot.TheVariants as slots;
-ghost use Rattle.bx_entry.specs.Registry.{acked_by, client_id, due_of, event_of, newcomer, PlaceSlot, hold_of, is_ack, is_rider, joined, kind_for, may_ride, patterns_of, rider_by, rider_for, senders_behind, sessionless_kind, slot_for, verdict};
+ghost use Rattle.bx_entry.specs.Registry.{acked_by, client_id, due_of, event_of, newcomer, PlaceSlot, hold_of, is_ack, is_rider, joined, kind_for, may_ride, patterns_of, rider_by, rider_for, senders_after, sessionless_kind, slot_for, verdict};
 ghost use Rattle.bx_entry.specs.declared.senders.Senders.TheVariants.{Mixed};
 ghost use Rattle.bx_roster.specs.declared.edit.Edit.TheVariants as edits;
 ghost use Rattle.bx_registry.specs.Postings.{posted_of};
 ghost use Rattle.bx_registry.specs.Setups.{setup_of};
 ghost use Rattle.bx_registry.specs.Rolls.{state_of};
 ghost use Rattle.bx_entry.specs.Listing as messages;
-ghost use Rattle.bx_registry.specs.Drafts.{members_of, named};
+ghost use Rattle.bx_registry.specs.SessionOverlays.{members_of, named};
 ghost use Rattle.bx_registry.specs.Slots.{given_by};
-ghost use Rattle.bx_registry.specs.Judgements.{AreReadable, IsRidden, IsVerdict, edit_for, has_fault};
+ghost use Rattle.bx_registry.specs.MessageOutcomes.{AreReadable, IsRidden, IsVerdict, edit_for, has_fault};
 
-use crate::draft::{Draft, Sender};
 use crate::id::client_id;
 use crate::posted::{Posted, is_handshake};
 use crate::refusal::refusal;
+use crate::session_overlay::{Sender, SessionOverlay};
 use crate::setup::Setup;
 use bx_advice::{Config, Error, Outcome};
 use bx_entry::{EntryKind, Placing, Rider, Senders, Slot};
@@ -40,7 +40,7 @@ use std::alloc::{AllocError, AllocFailed, Global};
 
 /// The result of judging a message.
 #[derive(Drop)]
-pub(crate) struct Judgement {
+pub(crate) struct MessageOutcome {
     /// The change to the sessions.
     pub(crate) edit: Option<Edit>,
     /// The kind of the message's entry.
@@ -64,21 +64,21 @@ pub(crate) struct Judgement {
 pub(crate) fn judge<P: Placing>(
     alloc: Global,
     setup: &Setup<'_, P>,
-    draft: &Draft<'_>,
+    overlay: &SessionOverlay<'_>,
     senders: Senders,
     moment: u64,
     place: u64,
     posted: Posted<'_>,
-) -> Result<Judgement, AllocError>
+) -> Result<MessageOutcome, AllocError>
     requires moment { moment ≤ greatest_moment }
-    requires limit { (members_of draft.now).limit ≡ setup.now.config.now.limits.sessions }
-    requires number { (members_of draft.now).opened + 1 < 2 ^ 64 }
-    ensures { IfOk result (λ j. IsVerdict (setup_of P.place_of setup.now) (members_of draft.now) place
-        (verdict setup.now.config.now (state_of (members_of draft.now) senders) moment (posted_of posted.entry)) j) }
+    requires limit { (members_of overlay.now).limit ≡ setup.now.config.now.limits.sessions }
+    requires number { (members_of overlay.now).opened + 1 < 2 ^ 64 }
+    ensures { IfOk result (λ j. IsVerdict (setup_of P.place_of setup.now) (members_of overlay.now) place
+        (verdict setup.now.config.now (state_of (members_of overlay.now) senders) moment (posted_of posted.entry)) j) }
 {
     let config = setup.config;
-    let sender = draft.named_by(posted.message_kind, posted.message);
-    let (live, opened) = draft.counts();
+    let sender = overlay.named_by(posted.message_kind, posted.message);
+    let (live, opened) = overlay.counts();
     match refusal(config, live, sender.is_some(), posted) {
         Some(error) => refuse(config, posted, &sender, error),
         None => match &sender {
@@ -89,7 +89,7 @@ pub(crate) fn judge<P: Placing>(
                 opened + 1,
                 posted,
             ),
-            None => note(alloc, config, posted),
+            None => accept_sessionless(alloc, config, posted),
             Some(sender) => serve(alloc, setup, senders, moment, place, posted, sender),
         },
     }
@@ -101,10 +101,10 @@ fn refuse(
     posted: Posted<'_>,
     sender: &Option<Sender<'_>>,
     error: Error,
-) -> Result<Judgement, AllocError>
+) -> Result<MessageOutcome, AllocError>
     ensures edit { IfOk result (λ j. j.edit ≡ None) }
     ensures kind { IfOk result (λ j. (j.kind ≡ entries.Refused) × (j.rides ≡ None)) }
-    ensures senders { IfOk result (λ j. j.senders ≡ senders_behind (posted_of posted.entry) Mixed) }
+    ensures senders { IfOk result (λ j. j.senders ≡ senders_after (posted_of posted.entry) Mixed) }
     ensures slot { IfOk result (λ j. j.slot ≡ slots.Ready (reply_to config.now posted.entry.message_kind
         posted.entry.message.now (option_map (λ s. s.client.now) sender.now) (Failed error) replies.NoAck)) }
 {
@@ -120,22 +120,26 @@ fn refuse(
         Outcome::Failed(error),
         AckReply::NoAck,
     )?;
-    Ok(Judgement {
+    Ok(MessageOutcome {
         edit: None,
         kind: EntryKind::Refused,
         rides: None,
         slot: Slot::Ready(reply),
-        senders: senders_behind(posted, Senders::Mixed),
+        senders: senders_after(posted, Senders::Mixed),
     })
 }
 
 // Accepts a publish without a session. It changes no session and succeeds at once.
-fn note(alloc: Global, config: &Config, posted: Posted<'_>) -> Result<Judgement, AllocError>
+fn accept_sessionless(
+    alloc: Global,
+    config: &Config,
+    posted: Posted<'_>,
+) -> Result<MessageOutcome, AllocError>
     requires { AreReadable posted.message_kind posted.message.now }
     ensures edit { IfOk result (λ j. j.edit ≡ None) }
     ensures kind { IfOk result (λ j.
         (j.kind ≡ sessionless_kind posted.entry.message_kind posted.entry.message.now) × (j.rides ≡ None)) }
-    ensures senders { IfOk result (λ j. j.senders ≡ senders_behind (posted_of posted.entry) Mixed) }
+    ensures senders { IfOk result (λ j. j.senders ≡ senders_after (posted_of posted.entry) Mixed) }
     ensures slot { IfOk result (λ j. j.slot ≡ slots.Ready (reply_to config.now posted.entry.message_kind
         posted.entry.message.now None advice.Done replies.NoAck)) }
 {
@@ -149,12 +153,12 @@ fn note(alloc: Global, config: &Config, posted: Posted<'_>) -> Result<Judgement,
         Outcome::Done,
         AckReply::NoAck,
     )?;
-    Ok(Judgement {
+    Ok(MessageOutcome {
         edit,
         kind,
         rides: None,
         slot: Slot::Ready(reply),
-        senders: senders_behind(posted, Senders::Mixed),
+        senders: senders_after(posted, Senders::Mixed),
     })
 }
 
@@ -182,7 +186,7 @@ fn serve<P: Placing>(
     place: u64,
     posted: Posted<'_>,
     sender: &Sender<'_>,
-) -> Result<Judgement, AllocError>
+) -> Result<MessageOutcome, AllocError>
     requires readable { AreReadable posted.message_kind posted.message.now }
     requires moment { moment ≤ greatest_moment }
     ensures edit { IfOk result (λ j. j.edit ≡ Some (edit_for posted.entry.message_kind sender.now.number
@@ -190,7 +194,7 @@ fn serve<P: Placing>(
     ensures kind { IfOk result (λ j. j.kind
         ≡ kind_for posted.entry.message_kind (posted_of posted.entry) (named sender.now) (hold_of setup.now.config.now (posted_of posted.entry))) }
     ensures senders { IfOk result (λ j.
-        j.senders ≡ senders_behind (posted_of posted.entry) (joined senders sender.now.number)) }
+        j.senders ≡ senders_after (posted_of posted.entry) (joined senders sender.now.number)) }
     ensures slot { IfOk result (λ j. IsRidden (setup_of P.place_of setup.now) place
         (rider_by setup.now.config.now senders posted.entry.message_kind (posted_of posted.entry) (named sender.now))
         (slot_for setup.now.config.now posted.entry.message_kind (posted_of posted.entry) (named sender.now)) j.rides j.slot) }
@@ -203,18 +207,18 @@ fn serve<P: Placing>(
     let slot = slot_for(setup, message_kind, place, posted.message, sender)?;
     let is_rider = is_rider(config, senders, posted, sender);
     let (rides, slot) = ridden(setup, is_rider, place, sender.number, slot);
-    Ok(Judgement {
+    Ok(MessageOutcome {
         edit: Some(edit_for(message_kind, sender.number, due)),
         kind,
         rides,
         slot,
-        senders: senders_behind(posted, senders.joined(sender.number)),
+        senders: senders_after(posted, senders.joined(sender.number)),
     })
 }
 
 // Returns the senders before the next message: `NoneYet` if that begins another request.
-fn senders_behind(posted: Posted<'_>, senders: Senders) -> Senders
-    ensures { result ≡ senders_behind (posted_of posted.entry) senders }
+fn senders_after(posted: Posted<'_>, senders: Senders) -> Senders
+    ensures { result ≡ senders_after (posted_of posted.entry) senders }
 {
     if posted.last {
         Senders::NoneYet
@@ -349,13 +353,13 @@ fn open(
     moment: u64,
     number: u64,
     posted: Posted<'_>,
-) -> Result<Judgement, AllocError>
+) -> Result<MessageOutcome, AllocError>
     requires { moment ≤ greatest_moment }
     ensures edit { IfOk result (λ j.
         j.edit ≡ Some (edits.Open (newcomer config.now moment (posted_of posted.entry) number))) }
     ensures kind { IfOk result (λ j.
         (j.kind ≡ entries.Opened number (is_ack posted.entry.message.now.ack)) × (j.rides ≡ None)) }
-    ensures senders { IfOk result (λ j. j.senders ≡ senders_behind (posted_of posted.entry) Mixed) }
+    ensures senders { IfOk result (λ j. j.senders ≡ senders_after (posted_of posted.entry) Mixed) }
     ensures slot { IfOk result (λ j. j.slot ≡ slots.Ready (reply_to config.now message_kinds.Handshake
         posted.entry.message.now (Some (client_id posted.entry.nonce number)) advice.Opened
         (if is_ack posted.entry.message.now.ack then replies.AckTrue else replies.NoAck))) }
@@ -370,7 +374,7 @@ fn open(
         due: due_after(config, moment, 0),
         live: true,
     };
-    Ok(Judgement {
+    Ok(MessageOutcome {
         edit: Some(Edit::Open(session)),
         kind: EntryKind::Opened {
             session: number,
@@ -378,7 +382,7 @@ fn open(
         },
         rides: None,
         slot: Slot::Ready(reply),
-        senders: senders_behind(posted, Senders::Mixed),
+        senders: senders_after(posted, Senders::Mixed),
     })
 }
 

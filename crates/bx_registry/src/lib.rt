@@ -2,7 +2,6 @@
 #![tactic(auto)]
 
 mod change;
-mod draft;
 mod id;
 mod judge;
 mod laws;
@@ -11,6 +10,7 @@ mod planner;
 mod posted;
 mod refusal;
 mod registry;
+mod session_overlay;
 mod setup;
 
 pub use change::Change;

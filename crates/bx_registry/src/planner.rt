@@ -7,14 +7,14 @@ ghost use Rattle.bx_entry.specs.declared.entry.Entry.{Entry};
 ghost use Rattle.bx_entry.specs.Registry.{verdict};
 ghost use Rattle.bx_registry.specs.Setups.{setup_of};
 ghost use Rattle.bx_registry.specs.Rolls.{Roll, after, found, state_of};
-ghost use Rattle.bx_registry.specs.Drafts.{members_of};
+ghost use Rattle.bx_registry.specs.SessionOverlays.{members_of};
 ghost use Rattle.bx_registry.specs.Postings.{posted_of};
 ghost use Rattle.bx_registry.specs.Plans.{entries_in, slots_in};
 ghost use Rattle.bx_registry.specs.Planners.{IsFoundAt, IsPlannedBy};
 
-use crate::draft::Draft;
-use crate::judge::{Judgement, judge};
+use crate::judge::{MessageOutcome, judge};
 use crate::posted::{Posted, is_handshake};
+use crate::session_overlay::SessionOverlay;
 use crate::setup::Setup;
 use bx_entry::{Entry, Placing, Senders, Slot};
 use bx_message::{Message, MessageKind, Sequence};
@@ -40,25 +40,25 @@ pub(crate) struct Start {
     pub(crate) clock: u64,
 }
 
-/// Judges the messages of a request in order, and appends their edits to `draft`.
+/// Judges the messages of a request in order, and appends their edits to `overlay`.
 ///
 /// # Errors
 ///
-/// `AllocError` if memory runs out. `draft` may then have some of the edits.
+/// `AllocError` if memory runs out. `overlay` may then have some of the edits.
 pub(crate) fn plan_all<P: Placing>(
     alloc: Global,
     setup: &Setup<'_, P>,
-    draft: &mut Draft<'_>,
+    overlay: &mut SessionOverlay<'_>,
     start: Start,
     messages: &[Message],
 ) -> Result<Planning, AllocError>
     requires clock { start.clock ≤ greatest_moment }
     requires moment { start.moment ≤ greatest_moment }
     requires room { start.place + length messages.now ≤ greatest_length }
-    requires limit { (members_of draft.old).limit ≡ setup.now.config.now.limits.sessions }
-    requires opened { (members_of draft.old).opened ≤ start.place }
-    ensures base { draft.new.base ≡ draft.old.base }
-    ensures planned { IfOk result (λ p. IsPlannedBy (setup_of P.place_of setup.now) (members_of draft.old) (members_of draft.new)
+    requires limit { (members_of overlay.old).limit ≡ setup.now.config.now.limits.sessions }
+    requires opened { (members_of overlay.old).opened ≤ start.place }
+    ensures base { overlay.new.base ≡ overlay.old.base }
+    ensures planned { IfOk result (λ p. IsPlannedBy (setup_of P.place_of setup.now) (members_of overlay.old) (members_of overlay.new)
         start.clock start.place (request start.moment start.nonce messages.now) p.entries p.slots p.clock) }
 {
     let mut now = start.clock;
@@ -73,7 +73,7 @@ pub(crate) fn plan_all<P: Placing>(
         left -= 1;
         now = now.max(start.moment);
         let posted = posted_at(start, message, sole, left == 0, seen);
-        let (entry, slot, behind) = plan_next(alloc, setup, draft, senders, now, place, posted)?;
+        let (entry, slot, behind) = plan_next(alloc, setup, overlay, senders, now, place, posted)?;
         entries.push(entry)?;
         slots.push(slot)?;
         senders = behind;
@@ -113,33 +113,33 @@ fn posted_at(start: Start, message: &Message, sole: bool, last: bool, seen: bool
     }
 }
 
-// Judges the message at `place`, and appends its edit to `draft`. `senders`: who sent the earlier
+// Judges the message at `place`, and appends its edit to `overlay`. `senders`: who sent the earlier
 // messages.
 fn plan_next<P: Placing>(
     alloc: Global,
     setup: &Setup<'_, P>,
-    draft: &mut Draft<'_>,
+    overlay: &mut SessionOverlay<'_>,
     senders: Senders,
     clock: u64,
     place: u64,
     posted: Posted<'_>,
 ) -> Result<(Entry, Slot, Senders), AllocError>
     requires clock { clock ≤ greatest_moment }
-    requires limit { (members_of draft.old).limit ≡ setup.now.config.now.limits.sessions }
-    requires opened { (members_of draft.old).opened ≤ greatest_length }
-    ensures base { draft.new.base ≡ draft.old.base }
-    ensures found { IfOk result (λ r. IsFoundAt (setup_of P.place_of setup.now) place clock (members_of draft.old)
-        (verdict setup.now.config.now (state_of (members_of draft.old) senders) clock (posted_of posted.entry)) (members_of draft.new) r.2 r.0 r.1) }
+    requires limit { (members_of overlay.old).limit ≡ setup.now.config.now.limits.sessions }
+    requires opened { (members_of overlay.old).opened ≤ greatest_length }
+    ensures base { overlay.new.base ≡ overlay.old.base }
+    ensures found { IfOk result (λ r. IsFoundAt (setup_of P.place_of setup.now) place clock (members_of overlay.old)
+        (verdict setup.now.config.now (state_of (members_of overlay.old) senders) clock (posted_of posted.entry)) (members_of overlay.new) r.2 r.0 r.1) }
 {
-    let Judgement {
+    let MessageOutcome {
         edit,
         kind,
         rides,
         slot,
         senders,
-    } = judge(alloc, setup, draft, senders, clock, place, posted)?;
+    } = judge(alloc, setup, overlay, senders, clock, place, posted)?;
     if let Some(edit) = edit {
-        draft.push(edit)?;
+        overlay.push(edit)?;
     }
     let entry = Entry {
         place,

@@ -4,7 +4,7 @@ ghost use Rattle.std.specs.List.{list_any};
 ghost use Rattle.bx_names.specs.Faults.{name_fault, pattern_fault};
 ghost use Rattle.bx_names.specs.Kinds.{is_meta};
 ghost use Rattle.bx_entry.specs.Registry.{Registered, count_live, is_connection, is_polling, is_text, is_version, named_by, refusal};
-ghost use Rattle.bx_registry.specs.Judgements.{AreReadable, is_needed};
+ghost use Rattle.bx_registry.specs.MessageOutcomes.{AreReadable, is_needed};
 ghost use Rattle.bx_registry.specs.Postings.{posted_of};
 
 use crate::posted::Posted;

@@ -13,9 +13,9 @@ ghost use Rattle.bx_registry.specs.Slots.{admitted_slots};
 ghost use Rattle.bx_registry.specs.Standings.{Continues, LeadsTo, roll_at};
 
 use crate::change::Change;
-use crate::draft::Draft;
 use crate::plan::Plan;
 use crate::planner::{Start, plan_all};
+use crate::session_overlay::SessionOverlay;
 use crate::setup::Setup;
 use bx_advice::{Config, MAX_LENGTH, MAX_MOMENT, ShardCount};
 use bx_entry::{AdmitFault, Batch, Entry, EntryKind, Listing, Placing, Refusal};
@@ -139,7 +139,7 @@ impl Registry {
             ≡ admitted_slots (placed_by self.old.config self.old.shards (P.place_of placing.now)) self.old.list p.elements) }
     {
         self.check(moment, messages.len())?;
-        let mut draft = Draft::new(alloc, &self.table);
+        let mut overlay = SessionOverlay::new(alloc, &self.table);
         let setup = Setup {
             config: &self.config,
             shards: self.shards,
@@ -151,8 +151,8 @@ impl Registry {
             place: self.entries,
             clock: self.clock,
         };
-        let planning = plan_all(alloc, &setup, &mut draft, start, messages)?;
-        let edits = draft.into_edits();
+        let planning = plan_all(alloc, &setup, &mut overlay, start, messages)?;
+        let edits = overlay.into_edits();
         self.table.prepare(edits.as_slice())?;
         let mut elements = Listing::new();
         elements.post(moment, nonce, messages);
@@ -210,7 +210,7 @@ impl Registry {
             slots: Sequence::new(alloc),
             elements,
             change: Change {
-                edits: Edits::Sweep(clock),
+                edits: Edits::Expire(clock),
                 clock,
                 length: self.entries + 1,
             },

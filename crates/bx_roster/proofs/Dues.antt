@@ -6,10 +6,10 @@ use Rattle.std.proofs.Math.Bool.{and-false, or-true}
 use Rattle.std.proofs.lemmas.{Grind.common_steps, Bool.Decides.nat_tests, Bool.leb-true, Bool.le-leb, Bool.and_parts}
 use Rattle.std.proofs.lemmas.List.Elements.{All-head, All-tail}
 use Rattle.std.proofs.lemmas.List.Sorted.{length_permutation, IsPermutation-sym, IsPermutation-trans, IsPermutation-middle, IsPermutation-append_right, list_any-IsPermutation}
-use Rattle.bx_entry.specs.Registry.{Registered, extended, closed, swept, is_overdue}
+use Rattle.bx_entry.specs.Registry.{Registered, extended, closed, overdue_closed, is_overdue}
 use Rattle.bx_roster.specs.Words.{Members, live_in, with_live, IsTable, IsAbsent, AllLive, due_at, AllFiled, IsFrom, files}
 use Rattle.bx_roster.specs.declared.due_queue.Due.{Due}
-use Rattle.bx_roster.proofs.Live.{live_in-swept}
+use Rattle.bx_roster.proofs.Live.{live_in-overdue_closed}
 use Rattle.bx_roster.proofs.Tables.{IsTable-absent, map-absent, live_in-all, changed-due, changed-number, closing-due, closing-number}
 
 -- ---- Tests
@@ -117,9 +117,9 @@ stays moment r = r.live && nat_le moment r.due
 less-or-not : (a b : ℕ) (c : Bool) → nat_lt a b ≡ c → nat_le b a ≡ not c
 less-or-not a b c h1 = grind (arith, common_steps, nat_tests)
 
-pub stays-swept : (moment : ℕ) (rs : List Registered) → filter (stays moment) rs ≡ live_in (swept moment rs)
-stays-swept moment [] = refl
-stays-swept moment (r ∷ rs) = grind (arith, common_steps, stays-swept moment rs)
+pub stays-overdue_closed : (moment : ℕ) (rs : List Registered) → filter (stays moment) rs ≡ live_in (overdue_closed moment rs)
+stays-overdue_closed moment [] = refl
+stays-overdue_closed moment (r ∷ rs) = grind (arith, common_steps, stays-overdue_closed moment rs)
 
 lt-test : (a b : ℕ) → a < b → nat_lt a b ≡ true
 lt-test a b less = grind (arith, nat_tests)
@@ -128,17 +128,17 @@ pub due-from : (m : ℕ) (r : Registered) (es : List Due) → IsFrom m es → li
 due-from m r [] from any = cc
 due-from m r (d ∷ es) from any = grind (arith, common_steps, due-from m r es (All-tail (λ (x : Due). m ≤ x.moment.0) d es from), All-head (λ (x : Due). m ≤ x.moment.0) d es from, files-due r d)
 
-pub none-swept : (m : ℕ) (es : List Due) (rs : List Registered) → IsFrom m es → AllFiled es rs → swept m rs ≡ rs
-none-swept m es [] from all = refl
-none-swept m es (r ∷ rs) from all =
+pub none-overdue_closed : (m : ℕ) (es : List Due) (rs : List Registered) → IsFrom m es → AllFiled es rs → overdue_closed m rs ≡ rs
+none-overdue_closed m es [] from all = refl
+none-overdue_closed m es (r ∷ rs) from all =
     let no : is_overdue m r ≡ false = ap (λ (b : Bool). r.live && b) (not-less r.due m (due-from m r es from all.0)) ∙ and-false r.live in
-    ap (λ (b : Bool). (if b then record r { live = false } else r) ∷ swept m rs) no ∙ ap (λ (ys : List Registered). r ∷ ys) (none-swept m es rs from all.1)
+    ap (λ (b : Bool). (if b then record r { live = false } else r) ∷ overdue_closed m rs) no ∙ ap (λ (ys : List Registered). r ∷ ys) (none-overdue_closed m es rs from all.1)
 
 pub settled : (m : ℕ) (late waiting : List Due) (ms : Members) → late ≡ [] → IsFrom m waiting → AllFiled (late ++ waiting) ms.live → AllLive ms.live →
-    with_live ms (live_in (swept m ms.live)) ≡ ms
+    with_live ms (live_in (overdue_closed m ms.live)) ≡ ms
 settled m late waiting ms none from filed all =
     let es : AllFiled waiting ms.live = subst (λ (l : List Due). AllFiled (l ++ waiting) ms.live) none filed in
-    ap (with_live ms) (ap live_in (none-swept m waiting ms.live from es) ∙ live_in-all ms.live all)
+    ap (with_live ms) (ap live_in (none-overdue_closed m waiting ms.live from es) ∙ live_in-all ms.live all)
 
 goes : (m : ℕ) (r : Registered) → r.due < m → stays m r ≡ false
 goes m r late = ap (λ (b : Bool). r.live && b) (less-or-not r.due m true (lt-test r.due m late)) ∙ and-false r.live
@@ -147,6 +147,6 @@ closed-stays : (n m due low high : ℕ) (rs : List Registered) → due < m → I
 closed-stays n m due low high [] late t is = refl
 closed-stays n m due low high (r ∷ rs) late t is = grind (arith, common_steps, closed-stays n m due r.number high rs late t.2, map-absent n (λ s. record s { live = false }) rs, IsTable-absent r.number high n rs, goes m r)
 
-pub closed-swept : (n m due low high : ℕ) (rs : List Registered) → due < m → IsTable low high rs → due_at n rs ≡ Some due → live_in (swept m (live_in (closed n rs))) ≡ live_in (swept m rs)
-closed-swept n m due low high rs late t is =
-    live_in-swept m (closed n rs) ∙ sym (stays-swept m (closed n rs)) ∙ closed-stays n m due low high rs late t is ∙ stays-swept m rs
+pub closed-overdue_closed : (n m due low high : ℕ) (rs : List Registered) → due < m → IsTable low high rs → due_at n rs ≡ Some due → live_in (overdue_closed m (live_in (closed n rs))) ≡ live_in (overdue_closed m rs)
+closed-overdue_closed n m due low high rs late t is =
+    live_in-overdue_closed m (closed n rs) ∙ sym (stays-overdue_closed m (closed n rs)) ∙ closed-stays n m due low high rs late t is ∙ stays-overdue_closed m rs

@@ -2,7 +2,7 @@
 use Rattle.std.proofs.Common.{◌≡◌, ℕ, Bool, false, List, arith}
 use Rattle.std.specs.Prelude.{max, if◌then◌else◌}
 use Rattle.std.proofs.lemmas.Grind.{common_steps}
-use Rattle.bx_entry.specs.Registry.{Registered, extended, closed, swept}
+use Rattle.bx_entry.specs.Registry.{Registered, extended, closed, overdue_closed}
 use Rattle.bx_roster.specs.Live.{live_in}
 use Rattle.bx_roster.proofs.Lists.{filter-map-filter, filter-map, filter-filter}
 
@@ -24,5 +24,5 @@ closed-stays-by r b e = grind (arith, common_steps)
 pub live_in-closed : (number : ℕ) (sessions : List Registered) → live_in (closed number (live_in sessions)) ≡ live_in (closed number sessions)
 live_in-closed number sessions = filter-map-filter is_live _ (λ r e. closed-stays-by r _ e) sessions
 
-pub live_in-swept : (moment : ℕ) (sessions : List Registered) → live_in (swept moment (live_in sessions)) ≡ live_in (swept moment sessions)
-live_in-swept moment sessions = filter-map-filter is_live _ (λ r e. closed-stays-by r _ e) sessions
+pub live_in-overdue_closed : (moment : ℕ) (sessions : List Registered) → live_in (overdue_closed moment (live_in sessions)) ≡ live_in (overdue_closed moment sessions)
+live_in-overdue_closed moment sessions = filter-map-filter is_live _ (λ r e. closed-stays-by r _ e) sessions

@@ -1,11 +1,11 @@
 -- How edits change the live sessions.
 use Rattle.std.specs.Prelude.{ℕ, ◌≡◌, ◌+◌, ◌<◌, ◌^◌, Bool, true, false, if◌then◌else◌, List, [], ◌∷◌, ◌++◌, length, fold, IsSome}
-use Rattle.bx_entry.specs.Registry.{Registered, extended, closed, swept}
+use Rattle.bx_entry.specs.Registry.{Registered, extended, closed, overdue_closed}
 use Rattle.bx_roster.specs.Live.{Members, with_live, live_in}
 use Rattle.bx_roster.specs.Tables.{IsNamed, known_at}
 use Rattle.bx_roster.specs.declared.edit.{Edit.Edit, Edits.Edits}
 use Rattle.bx_roster.specs.declared.edit.Edit.TheVariants.{Open, Extend, Close}
-use Rattle.bx_roster.specs.declared.edit.Edits.TheVariants.{Each, Sweep}
+use Rattle.bx_roster.specs.declared.edit.Edits.TheVariants.{Each, Expire}
 
 -- The sessions after one edit: one is opened, has its due moment extended, or is closed.
 abbrev pub edited : Members → Edit → Members
@@ -13,10 +13,10 @@ edited ms (Open s) = record ms { opened = s.number; live = ms.live ++ s ∷ [] }
 edited ms (Extend number due) = with_live ms (live_in (extended number due ms.live))
 edited ms (Close number) = with_live ms (live_in (closed number ms.live))
 
--- The sessions after all edits of a change, or after a sweep that closes the overdue ones.
+-- The sessions after all edits of a change, or after an expiry that closes the overdue ones.
 abbrev pub edited_by : Members → Edits → Members
 edited_by ms (Each edits) = fold edited ms edits
-edited_by ms (Sweep moment) = with_live ms (live_in (swept moment ms.live))
+edited_by ms (Expire moment) = with_live ms (live_in (overdue_closed moment ms.live))
 
 -- The session can be opened: it has the next number, and there is room for it.
 pub record IsNext (ms : Members) (s : Registered) : Type 0 where
@@ -40,7 +40,7 @@ CanEditEach ms (e ∷ es) = CanEdit ms e × CanEditEach (edited ms e) es
 -- All edits of a change can be made.
 abbrev pub CanEditBy : Members → Edits → Type 0
 CanEditBy ms (Each edits) = CanEditEach ms edits
-CanEditBy ms (Sweep moment) = Unit {0}
+CanEditBy ms (Expire moment) = Unit {0}
 
 -- Whether an edit opens a session.
 abbrev pub is_open : Edit → Bool
@@ -62,7 +62,7 @@ opened_by_each (e ∷ es) = opened_by e + opened_by_each es
 -- How many sessions a change opens.
 abbrev pub opens : Edits → ℕ
 opens (Each edits) = opened_by_each edits
-opens (Sweep moment) = 0
+opens (Expire moment) = 0
 
 -- How many sessions can be opened before another record must be reserved.
 abbrev pub room_of : Bool → ℕ

@@ -19,5 +19,5 @@ pub enum Edits {
     /// The changes of a request, in order.
     Each(Sequence<Edit>),
     /// Closes every session that is due before this moment, in milliseconds.
-    Sweep(u64),
+    Expire(u64),
 }

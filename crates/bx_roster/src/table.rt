@@ -1,7 +1,7 @@
-//! The table of live sessions: its edits, and the sweep that closes silent ones.
+//! The table of live sessions: its edits, and the expiry that closes silent ones.
 ghost use Rattle.std.specs.Prelude.{◌≡◌, ◌+◌, ◌<◌, ◌≤◌, ◌^◌, ◌++◌, ◌∷◌, [], length, fold, nat_lt, option_map, true, false, IfOk, OnOk, OnErr};
 ghost use Rattle.std.specs.List.{list_any};
-ghost use Rattle.bx_entry.specs.Registry.{closed, extended, overdue, swept};
+ghost use Rattle.bx_entry.specs.Registry.{closed, extended, overdue, overdue_closed};
 ghost use Rattle.bx_roster.specs.Live.{live_in, with_live};
 ghost use Rattle.bx_roster.specs.Tables.{AllLive, IsTable, known_at};
 ghost use Rattle.bx_roster.specs.Queues.{AllFiled, IsFrom, IsRoster, Queue, entries, is_past, past_numbers};
@@ -142,7 +142,7 @@ impl Table {
     {
         match edits {
             Edits::Each(edits) => self.edit(edits),
-            Edits::Sweep(moment) => self.sweep(moment),
+            Edits::Expire(moment) => self.expire(moment),
         }
     }
 
@@ -191,8 +191,8 @@ impl Table {
     }
 
     // Closes the sessions due before `moment`.
-    fn sweep(&mut self, moment: u64)
-        ensures { self.new.members ≡ with_live self.old.members (live_in (swept moment self.old.members.live)) }
+    fn expire(&mut self, moment: u64)
+        ensures { self.new.members ≡ with_live self.old.members (live_in (overdue_closed moment self.old.members.live)) }
     {
         self.queue.expire(moment);
         settle_late(&mut self.roster, &mut self.queue, moment);
@@ -241,7 +241,7 @@ fn settle_late(roster: &mut Roster, queue: &mut DueQueue, moment: u64)
     requires from { IsFrom moment queue.old.waiting }
     ensures roster { IsRoster roster.new.members }
     ensures filed { AllFiled (entries queue.new) roster.new.members.live }
-    ensures swept { roster.new.members ≡ with_live roster.old.members (live_in (swept moment roster.old.members.live)) }
+    ensures overdue_closed { roster.new.members ≡ with_live roster.old.members (live_in (overdue_closed moment roster.old.members.live)) }
     ensures room { queue.new.room ≡ queue.old.room }
 {
     while let Some(due) = queue.take_late() {
@@ -257,7 +257,7 @@ fn settle(roster: &mut Roster, queue: &mut DueQueue, due: Due, moment: u64)
     requires free { length (entries queue.old) < queue.old.room }
     ensures roster { IsRoster roster.new.members }
     ensures filed { AllFiled (entries queue.new) roster.new.members.live }
-    ensures swept { with_live roster.new.members (live_in (swept moment roster.new.members.live)) ≡ with_live roster.old.members (live_in (swept moment roster.old.members.live)) }
+    ensures overdue_closed { with_live roster.new.members (live_in (overdue_closed moment roster.new.members.live)) ≡ with_live roster.old.members (live_in (overdue_closed moment roster.old.members.live)) }
     ensures from { IsFrom moment queue.old.waiting → IsFrom moment queue.new.waiting }
     ensures late { queue.new.late ≡ queue.old.late }
     ensures room { queue.new.room ≡ queue.old.room }

@@ -3,7 +3,7 @@
 //! `tests/documents/run` checks that each example is here.
 use bx_advice::Config;
 use bx_cut::Bodies;
-use bx_entry::{Arrival, ByRemainder, Door, Input};
+use bx_entry::{Access, Arrival, ByRemainder, Input};
 use bx_fanout::Round;
 use bx_workers::{OpenGate, WorkerCount};
 use bx_world::{Step, StepOut, World};
@@ -41,7 +41,7 @@ fn round_run(rt: HostRuntime) -> Result<(), Fail> {
     let arrival = Arrival {
         moment: 0,
         nonce: 0,
-        door: Door::Publishers,
+        access: Access::ReadWrite,
         bodies: Bodies::Whole(br#"{"channel":"/meta/ping"}"#.to_vec(alloc)?),
     };
     let inputs = [Input::Post(arrival), Input::Tick(100)];

@@ -1,6 +1,6 @@
 //! The requests that the tests send.
 use bx_cut::Bodies;
-use bx_entry::{Arrival, Door, Input};
+use bx_entry::{Access, Arrival, Input};
 use std::alloc::{AllocError, Global};
 
 /// Creates a request with the JSON `body` at `moment`, from the publishers' listener.
@@ -12,7 +12,7 @@ pub fn request(alloc: Global, moment: u64, body: &str) -> Result<Input, AllocErr
     Ok(Input::Post(Arrival {
         moment,
         nonce: 0,
-        door: Door::Publishers,
+        access: Access::ReadWrite,
         bodies: Bodies::Whole(body.as_bytes().to_vec(alloc)?),
     }))
 }

@@ -13,7 +13,7 @@ use crate::digest::is_digest;
 use crate::nonce::nonce_of;
 use bx_advice::{BODY_LIMIT, ShardCount};
 use bx_cut::Bodies;
-use bx_entry::{Arrival, Door, Input};
+use bx_entry::{Access, Arrival, Input};
 use bx_message::{Status, number_of};
 use bx_transport::{TransportError, read_get, read_post};
 use std::alloc::{AllocError, Global};
@@ -206,7 +206,7 @@ fn request(moment: u64, callback: Option<String>, bodies: Bodies) -> Line
         input: Input::Post(Arrival {
             moment,
             nonce: 0,
-            door: Door::Publishers,
+            access: Access::ReadWrite,
             bodies,
         }),
     }

@@ -3,7 +3,7 @@ use Rattle.std.specs.Prelude.{ℕ, ◌≡◌, ◌<◌, List, [], ◌∷◌, ◌+
 use Rattle.std.specs.{List.AllByRecursion, List.AllByRecursion-prop, Coded.Unit-prop}
 use Rattle.std.proofs.Props.{props}
 use Rattle.bx_entry.specs.Words.{ReadInput, let_in, read_by, request_messages}
-use Rattle.bx_entry.specs.declared.input.Door.{Door}
+use Rattle.bx_entry.specs.declared.input.Access.{Access}
 use Rattle.bx_entry.specs.declared.entry.{Slot.Slot, Ticket.Ticket}
 use Rattle.bx_entry.specs.declared.entry.Slot.TheVariants.{Ready, Waiting}
 use Rattle.bx_held.specs.Outputs.{MayGive}
@@ -76,16 +76,16 @@ module _ (setup : Setup) where
     abbrev pub AreAll : List Item → Option Awaited → List Slot → List Item → Type 0
     AreAll there awaited slots items = (rest : List Item) × (AreLeft awaited slots rest × (items ≡ there ++ rest))
 
--- A request with `documents` to the listener `door`, as it is read.
-abbrev pub request_of : Door → ℕ → ℕ → List (List ℕ) → ReadInput
-request_of door moment nonce documents = read_by moment nonce (let_in door (request_messages documents))
+-- A request with `documents` and `access`, as it is read.
+abbrev pub request_of : Access → ℕ → ℕ → List (List ℕ) → ReadInput
+request_of access moment nonce documents = read_by moment nonce (let_in access (request_messages documents))
 
 -- The place of a request's first message, `first`. A request without messages has none.
 abbrev pub place_of : ℕ → List Slot → Option ℕ
 place_of first [] = None
 place_of first (slot ∷ slots) = Some first
 
-module _ (tells draws : ℕ → Type 0) (door : Door) where
+module _ (tells draws : ℕ → Type 0) (access : Access) where
   -- The request was admitted at a moment of the clock and with a drawn nonce. Its first message, if
   -- any, is at `place`, and its slots are those that a single-threaded server gives there.
   pub record AreSlotsFor (setup : Setup) (documents : List (List ℕ)) (seen : List LogStep) (place : Option ℕ) (slots : List Slot) : Type 0 where
@@ -94,8 +94,8 @@ module _ (tells draws : ℕ → Type 0) (door : Door) where
     pub first : ℕ
     pub told : tells moment
     pub drawn : draws nonce
-    pub admitted : IsAdmittedAt (request_of door moment nonce documents) first [] seen
-    pub slots_at : AreSlotsAt setup (request_of door moment nonce documents) first seen slots
+    pub admitted : IsAdmittedAt (request_of access moment nonce documents) first [] seen
+    pub slots_at : AreSlotsAt setup (request_of access moment nonce documents) first seen slots
     pub placed : place ≡ place_of first slots
 
   -- The hub rejects the request with `fault`, at a moment of the clock and with a drawn nonce.
@@ -105,4 +105,4 @@ module _ (tells draws : ℕ → Type 0) (door : Door) where
     pub front : List LogStep
     pub told : tells moment
     pub drawn : draws nonce
-    pub refused : IsRefused (request_of door moment nonce documents) fault front
+    pub refused : IsRefused (request_of access moment nonce documents) fault front

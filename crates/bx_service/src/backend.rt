@@ -11,7 +11,7 @@ ghost use Rattle.bx_service.specs.declared.backend.Declined.{Declined};
 
 use crate::gathering::Gathering;
 use bx_cut::Bodies;
-use bx_entry::{Arrival, Door, Placing};
+use bx_entry::{Access, Arrival, Placing};
 use bx_hub::{Gate, Hub, PostFault, Stopped};
 use bx_message::Item;
 use bx_window::Naming;
@@ -98,7 +98,7 @@ pub struct HubBackend<J: Naming, P: Placing, G: Gate + Drop, R: Wait + Drop, C, 
     rt: R,
     alloc: Global,
     hub: Arc<Hub<J, P, G, R>, Global>,
-    door: Door,
+    access: Access,
     clock: C,
     nonces: N,
 }
@@ -106,24 +106,24 @@ pub struct HubBackend<J: Naming, P: Placing, G: Gate + Drop, R: Wait + Drop, C, 
 impl<J: Naming, P: Placing, G: Gate + Drop, R: Wait + Drop, C, N> HubBackend<J, P, G, R, C, N> {
     /// Creates a backend that posts to `hub`.
     ///
-    /// `door`: the listener of the requests. `clock` and `nonces`: the sources of each request's
+    /// `access`: what the requests' listener allows. `clock` and `nonces`: the sources of each request's
     /// moment and nonce.
     pub fn new(
         rt: R,
         alloc: Global,
         hub: Arc<Hub<J, P, G, R>, Global>,
-        door: Door,
+        access: Access,
         clock: C,
         nonces: N,
     ) -> HubBackend<J, P, G, R, C, N>
         ensures hub { arc_value result.hub ≡ arc_value hub }
-        ensures others { (result.door ≡ door) × (result.clock ≡ clock) × (result.nonces ≡ nonces) }
+        ensures others { (result.access ≡ access) × (result.clock ≡ clock) × (result.nonces ≡ nonces) }
     {
         HubBackend {
             rt,
             alloc,
             hub,
-            door,
+            access,
             clock,
             nonces,
         }
@@ -146,10 +146,10 @@ where
     // or memory ran out.
     ghost admits = { λ backend bodies outcome.
         IfOk outcome (λ g. (g.items.items ≡ []) × (g.held ≡ None)
-        × AreSlotsFor (C.tells backend.clock) (N.draws backend.nonces) backend.door (setup_of J.config J.placing) (texts_of bodies)
+        × AreSlotsFor (C.tells backend.clock) (N.draws backend.nonces) backend.access (setup_of J.config J.placing) (texts_of bodies)
         g.pass g.first (into_iter_items g.slots))
         × IfErr outcome (λ d. (d.bodies ≡ bodies)
-        × ((d.fault ≡ faults.Memory) ⊎ IsRefusedWith (C.tells backend.clock) (N.draws backend.nonces) backend.door
+        × ((d.fault ≡ faults.Memory) ⊎ IsRefusedWith (C.tells backend.clock) (N.draws backend.nonces) backend.access
         (texts_of bodies) d.fault)) };
 
     ghost stands = { λ items place. place ≡ items.first };
@@ -166,7 +166,7 @@ where
         let arrival = Arrival {
             moment: self.clock.now(),
             nonce: self.nonces.next(),
-            door: self.door,
+            access: self.access,
             bodies,
         };
         let mut pass = self.hub.pass();

@@ -58,7 +58,7 @@ impl<S: Drop> BayeuxService<S, ()> {
     /// # Examples
     ///
     /// ```
-    /// let backend = HubBackend::new(rt, alloc, hub, Door::Publishers, clock, nonces);
+    /// let backend = HubBackend::new(rt, alloc, hub, Access::ReadWrite, clock, nonces);
     /// let service = BayeuxService::new(alloc, backend)?;
     /// let mut exchange = service.call(request);
     /// let Poll::Ready(Ok(response)) = task.poll(&mut exchange) else {

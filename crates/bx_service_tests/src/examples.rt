@@ -7,7 +7,7 @@ ghost use Rattle.bx_entry.specs.Placings.{by_remainder};
 use crate::bench::{Still, TestHub, Zeros};
 use crate::requests::{Ask, Content};
 use bx_advice::Config;
-use bx_entry::{ByRemainder, Door};
+use bx_entry::{Access, ByRemainder};
 use bx_hub::{Hub, OpenGate};
 use bx_service::{BayeuxService, HubBackend};
 use bx_window::{Naming, Opened};
@@ -29,7 +29,7 @@ fn serves<'a, J: Naming, R: Wait + Abort>(
     let hub = Arc::new(alloc, hub)?;
     let request = Ask::post(Content::Whole("[]")).request(alloc)?;
     let (clock, nonces) = (Still(0), Zeros);
-    let backend = HubBackend::new(rt, alloc, hub, Door::Publishers, clock, nonces);
+    let backend = HubBackend::new(rt, alloc, hub, Access::ReadWrite, clock, nonces);
     let service = BayeuxService::new(alloc, backend)?;
     let mut exchange = service.call(request);
     let Poll::Ready(Ok(response)) = task.poll(&mut exchange) else {

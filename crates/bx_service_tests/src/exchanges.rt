@@ -6,7 +6,7 @@ use crate::bench::{Bench, Still, TestHub, Zeros};
 use crate::requests::{Ask, Content, Given, POST, Want, check_given, check_pending};
 use crate::runs::{Held, RUNS, SMALL, Step};
 use bx_advice::{Config, Options};
-use bx_entry::{ByRemainder, Door};
+use bx_entry::{Access, ByRemainder};
 use bx_hub::{Hub, OpenGate};
 use bx_message::Item;
 use bx_service::{Backend, BayeuxService, BodyLimit, HubBackend, Unanswered};
@@ -217,16 +217,16 @@ where
     take_all(rt, bench, run.last)
 }
 
-// Creates a backend for `door` with a clock fixed at `moment`, in milliseconds.
+// Creates a backend with `access` and a clock fixed at `moment`, in milliseconds.
 fn backend_of<'a, J: Naming, R: Wait>(
     rt: &'a R,
     alloc: Global,
     hub: &Arc<TestHub<J, &'a R>, Global>,
-    door: Door,
+    access: Access,
     moment: u64,
 ) -> Result<HubBackend<J, ByRemainder, OpenGate, &'a R, Still, Zeros>, Fail> {
     let hub = Arc::try_clone(hub)?;
-    Ok(HubBackend::new(rt, alloc, hub, door, Still(moment), Zeros))
+    Ok(HubBackend::new(rt, alloc, hub, access, Still(moment), Zeros))
 }
 
 fn run_in_hub<J: Naming, R: Wait + Abort>(
@@ -247,10 +247,10 @@ fn run_in_hub<J: Naming, R: Wait + Abort>(
     )?;
     let pass = hub.pass();
     let hub = Arc::new(alloc, hub)?;
-    let backend = backend_of(rt, alloc, &hub, Door::Publishers, 0)?;
-    let readers = backend_of(rt, alloc, &hub, Door::Readers, 0)?;
-    let too_late = backend_of(rt, alloc, &hub, Door::Publishers, (1 << 62) + 1)?;
-    let small = backend_of(rt, alloc, &hub, Door::Publishers, 0)?;
+    let backend = backend_of(rt, alloc, &hub, Access::ReadWrite, 0)?;
+    let readers = backend_of(rt, alloc, &hub, Access::ReadOnly, 0)?;
+    let too_late = backend_of(rt, alloc, &hub, Access::ReadWrite, (1 << 62) + 1)?;
+    let small = backend_of(rt, alloc, &hub, Access::ReadWrite, 0)?;
     let limit = BodyLimit::new(SMALL).ok_or("no such limit")?;
     let (first, second) = tasks;
     let mut bench = Bench {

@@ -2,7 +2,7 @@
 use crate::same::same;
 use bx_cut::Bodies;
 use bx_entry::{
-    AdmitFault, AllFirst, Arrival, BodyError, ByRemainder, ByTable, Door, Placing, Refusal,
+    Access, AdmitFault, AllFirst, Arrival, BodyError, ByRemainder, ByTable, Placing, Refusal,
     read_messages,
 };
 use bx_message::Message;
@@ -50,12 +50,12 @@ fn read(alloc: Global, documents: &[&str]) -> Result<Found, Fail> {
     found_in(&read_messages(alloc, &bodies(alloc, documents)?))
 }
 
-// Reads a request that arrived at `door`.
-fn read_at(alloc: Global, door: Door, documents: &[&str]) -> Result<Found, Fail> {
+// Reads a request that arrived with `access`.
+fn read_at(alloc: Global, access: Access, documents: &[&str]) -> Result<Found, Fail> {
     let arrival = Arrival {
         moment: 0,
         nonce: 0,
-        door,
+        access,
         bodies: bodies(alloc, documents)?,
     };
     found_in(&arrival.read(alloc))
@@ -172,9 +172,9 @@ fn readers_are_let_in_by_channels(rt: HostRuntime) -> Result<(), Fail> {
     let alloc = rt.alloc();
     for (channel, wanted) in &CHANNELS {
         let text = format!(in alloc; "[{{\"channel\":\"{channel}\"}}]")?;
-        let found = read_at(alloc, Door::Readers, &[text.as_str()])?;
+        let found = read_at(alloc, Access::ReadOnly, &[text.as_str()])?;
         same(&rt, found, *wanted, *channel);
-        let found = read_at(alloc, Door::Publishers, &[text.as_str()])?;
+        let found = read_at(alloc, Access::ReadWrite, &[text.as_str()])?;
         same(&rt, found, Found::Messages(1), *channel);
     }
     Ok(())
@@ -233,9 +233,9 @@ const LAST: &str =
 #[test]
 fn readers_publish_nothing(rt: HostRuntime) -> Result<(), Fail> {
     for (first, second, at_publishers, at_readers) in &REQUESTS {
-        let found = read_at(rt.alloc(), Door::Publishers, &[*first, *second])?;
+        let found = read_at(rt.alloc(), Access::ReadWrite, &[*first, *second])?;
         same(&rt, found, *at_publishers, *first);
-        let found = read_at(rt.alloc(), Door::Readers, &[*first, *second])?;
+        let found = read_at(rt.alloc(), Access::ReadOnly, &[*first, *second])?;
         same(&rt, found, *at_readers, *first);
     }
     Ok(())
@@ -246,10 +246,10 @@ const PUBLISHES: [(usize, Found); 2] = [(256, FORBIDDEN), (257, Found::Fault(Bod
 
 // Checks that the limit of messages is tested before the listener.
 #[test]
-fn too_many_come_before_the_door(rt: HostRuntime) -> Result<(), Fail> {
+fn too_many_comes_before_forbidden(rt: HostRuntime) -> Result<(), Fail> {
     for (count, wanted) in &PUBLISHES {
         let text = array_of(rt.alloc(), *count)?;
-        let found = read_at(rt.alloc(), Door::Readers, &[text.as_str()])?;
+        let found = read_at(rt.alloc(), Access::ReadOnly, &[text.as_str()])?;
         same(&rt, found, *wanted, *count);
     }
     Ok(())

@@ -5,7 +5,7 @@ use Rattle.std.specs.List.{list_any}
 use Rattle.bx_advice.specs.declared.{config.Config.Config, error.Error.Error}
 use Rattle.bx_message.specs.declared.{message_kind.MessageKind.MessageKind, message.Message.Message}
 use Rattle.bx_message.specs.MessageKinds.{message_kind_of}
-use Rattle.bx_entry.specs.Words.{Listed, Post, Posted, refused, sessionless, served, due_of, Registry, Registered, PlaceSlot, slot_for, rider_for, is_rider, judge, judged_by, kind_for, left_by, extended, swept, overdue, is_overdue, named_by, refusal, hold_of, is_ack, acked_by, opened, registry, empty_registry, entries_of, sessionless_kind, noted, state_of, Session, Pending, Stage, Live, Closed, is_live, connected, expired, closed_by, begun, step_by, step, unopened, session, ridden_by, rider_of}
+use Rattle.bx_entry.specs.Words.{Listed, Post, Posted, refused, sessionless, served, due_of, Registry, Registered, PlaceSlot, slot_for, rider_for, is_rider, judge, judged_by, kind_for, left_by, extended, overdue_closed, overdue, is_overdue, named_by, refusal, hold_of, is_ack, acked_by, opened, registry, empty_registry, entries_of, sessionless_kind, noted, state_of, Session, Pending, Stage, Live, Closed, is_live, connected, expired, closed_by, begun, step_by, step, unopened, session, ridden_by, rider_of}
 use Rattle.bx_entry.specs.Listing as messages
 use Rattle.bx_entry.specs.declared.entry.{Entry.Entry, Rider.Rider, EntryKind.EntryKind}
 use Rattle.bx_entry.specs.declared.entry.EntryKind.TheVariants.{Connect, Subscribe, Unsubscribe, Disconnect}
@@ -34,8 +34,8 @@ extended_here number due b (r ∷ rs) h = ((λ k. grind (arith, common_steps)), 
 left_rises : (c : MessageKind) (number n : ℕ) (rs : List Registered) → Rises number rs (left_by c n rs)
 left_rises c number n rs b d = left_each (λ q. q.number ≡ number → b ≤ q.due) c n rs (λ q h. h) d
 
-swept_rises : (number now : ℕ) (rs : List Registered) → Rises number rs (swept now rs)
-swept_rises number now rs b d =
+overdue_closed_rises : (number now : ℕ) (rs : List Registered) → Rises number rs (overdue_closed now rs)
+overdue_closed_rises number now rs b d =
     each_session_through (λ q. q.number ≡ number → b ≤ q.due) (λ q. q.number ≡ number → b ≤ q.due) (λ q. cond (is_overdue now q) (record q { live = false }) q) rs
     (λ q h k. grind (arith, common_steps)) d
 
@@ -235,8 +235,8 @@ judge_goes config number ys (messages.Tick moment) h =
     record {
       entry = _;
       more = entries_push r (judge config r (messages.Tick moment)) _ refl;
-      holding = still number s (closed_by (overdue now r.sessions) (expired config (length r.judged) now s)) r.sessions (swept now r.sessions)
-          (tick_still config (length r.judged) now s r.sessions (subst (λ (n : ℕ). Holding n (at config number ys) (registry config ys).sessions) (sym same) h)) (swept_rises number now r.sessions) h;
+      holding = still number s (closed_by (overdue now r.sessions) (expired config (length r.judged) now s)) r.sessions (overdue_closed now r.sessions)
+          (tick_still config (length r.judged) now s r.sessions (subst (λ (n : ℕ). Holding n (at config number ys) (registry config ys).sessions) (sym same) h)) (overdue_closed_rises number now r.sessions) h;
       own = λ e. cc;
       rides = λ rider e. cc;
     }

@@ -6,7 +6,7 @@ use Rattle.std.specs.List.{AllByRecursion}
 use Rattle.bx_advice.specs.declared.config.Config.{Config}
 use Rattle.bx_message.specs.declared.{message.Message.Message, message.TextMember.TextMember, message_kind.MessageKind.MessageKind}
 use Rattle.bx_message.specs.declared.message.TextMember.TheVariants.{Text}
-use Rattle.bx_entry.specs.Words.{Listed, Post, Posted, due_of, extended, found_at, hold_of, newcomer, opened, Registry, Registered, Judged, Verdict, judge, left_by, is_overdue, named_by, refused, registry, sender_of, served, sessionless, state_of, swept, tick_verdict}
+use Rattle.bx_entry.specs.Words.{Listed, Post, Posted, due_of, extended, found_at, hold_of, newcomer, opened, Registry, Registered, Judged, Verdict, judge, left_by, is_overdue, named_by, refused, registry, sender_of, served, sessionless, state_of, overdue_closed, tick_verdict}
 use Rattle.bx_message.specs.MessageKinds.{message_kind_of}
 use Rattle.bx_entry.specs.Listing as messages
 use Rattle.bx_theory.proofs.Verdicts.{each_judge, each_registry, judge_is, next_noted}
@@ -98,8 +98,8 @@ shut_same test s = record { number = grind (arith, common_steps); ack = grind (a
 shut_due : (test : Registered → Bool) (s : Registered) → (shut test s).due ≡ s.due
 shut_due test s = grind (arith, common_steps)
 
-pub swept_sessions : (now : ℕ) (rs : List Registered) → Mapped (shut (is_overdue now)) rs (swept now rs)
-swept_sessions now rs = record { same = shut_same (is_overdue now); is = refl }
+pub overdue_closed_sessions : (now : ℕ) (rs : List Registered) → Mapped (shut (is_overdue now)) rs (overdue_closed now rs)
+overdue_closed_sessions now rs = record { same = shut_same (is_overdue now); is = refl }
 
 abbrev pub moved : ℕ → ℕ → Registered → Registered
 moved number due s = let t : Registered = record s { due = max s.due due } in cond (s.number == number) t s
@@ -143,7 +143,7 @@ numbered config list =
       opens = λ p. numbered_push 1 (registry config ys).sessions _ (omega arith) d;
       none = λ p. d;
       serves = λ p s e. through _ _ _ (served_sessions _ s.number _ (registry config ys).sessions) d;
-      ticks = λ moment. through _ _ _ (swept_sessions _ (registry config ys).sessions) d;
+      ticks = λ moment. through _ _ _ (overdue_closed_sessions _ (registry config ys).sessions) d;
     }) x) list
   where
     through : (change : Registered → Registered) (rs ts : List Registered) → Mapped change rs ts → NumberedFrom 1 rs → NumberedFrom 1 ts
@@ -246,5 +246,5 @@ due_reading config list =
           let due : ℕ = due_of config (max r.clock p.moment) (hold_of config p) in
           due_next config r (Post p) (served config (state_of r) (max r.clock p.moment) p c s (hold_of config p)) _ (served_sessions c s.number due r.sessions) (let l = named_session (λ q. q.number < 1 + length r.sessions) r.sessions c p.message s e (numbered_below 1 r.sessions (numbered config ys)) in let k : s.number < length r.sessions + 1 = omega arith in k)
           (λ q. left_due c s.number (moved s.number due q) ∙ moved_due s.number due q) d;
-      ticks = λ moment. due_next config r (messages.Tick moment) (tick_verdict (state_of r) (max r.clock moment)) _ (swept_sessions (max r.clock moment) r.sessions) tt (shut_due (is_overdue (max r.clock moment))) d;
+      ticks = λ moment. due_next config r (messages.Tick moment) (tick_verdict (state_of r) (max r.clock moment)) _ (overdue_closed_sessions (max r.clock moment) r.sessions) tt (shut_due (is_overdue (max r.clock moment))) d;
     }) x) list).due

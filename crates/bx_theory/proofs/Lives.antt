@@ -11,7 +11,7 @@ use Rattle.bx_entry.specs.declared.entry.{Entry.Entry, EntryKind.EntryKind}
 use Rattle.bx_entry.specs.declared.entry.EntryKind.TheVariants.{Opened, Refused}
 use Rattle.bx_theory.specs.Readings.{moment_of, opens_by, closes, closes_by, since_opening, unclosed, EachSession, SameLive}
 use Rattle.bx_theory.proofs.Verdicts.{each_judge, each_registry, next_noted}
-use Rattle.bx_theory.proofs.Dues.{NumberedFrom, Mapped, each_session_all, each_session_both, each_session_map, each_session_push, each_session_through, left, moved, numbered, numbered_below, served_sessions, shut, swept_sessions, unchanged}
+use Rattle.bx_theory.proofs.Dues.{NumberedFrom, Mapped, each_session_all, each_session_both, each_session_map, each_session_push, each_session_through, left, moved, numbered, numbered_below, served_sessions, shut, overdue_closed_sessions, unchanged}
 
 reading : ℕ → List Entry → Bool
 reading number es = unclosed number (since_opening number es)
@@ -168,7 +168,7 @@ run_agrees config list =
           (each_session_all _ r.sessions (served_live c p s (hold_of config p) due)) a;
       ticks = λ moment.
           let now : ℕ = max r.clock moment in
-          agrees_next r (messages.Tick moment) (tick_verdict (state_of r) now) _ (swept_sessions now r.sessions) (λ n. refl)
+          agrees_next r (messages.Tick moment) (tick_verdict (state_of r) now) _ (overdue_closed_sessions now r.sessions) (λ n. refl)
           (each_session_map (λ s. list_any (λ m. m == s.number) (overdue now r.sessions) ≡ is_overdue now s) (λ s. (shut (is_overdue now) s).live ≡ (s.live && not (list_any (λ m. m == s.number) (overdue now r.sessions)))) r.sessions
           (λ s h. shut_live (is_overdue now) s ∙ ap (λ b. s.live && not b) (sym h)) (named_overdue now 1 r.sessions (numbered config ys))) a;
     }) x) list

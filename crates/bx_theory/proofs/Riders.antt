@@ -16,7 +16,7 @@ use Rattle.bx_theory.specs.Readings.{closes_by, moment_of, opens_by, since_openi
 use Rattle.bx_theory.proofs.Verdicts.{each_found, each_judge, each_registry, each_verdict, verdict_of, entries_behind, found_from, next_noted}
 use Rattle.bx_theory.proofs.{Counts.ride_both, Counts.rider_of_both, Counts.all_in_step, Counts.unopened_in_step, Batches.acks_with_batch, Closings.run_number, Lives.opened_later, Lives.entries_push}
 use Rattle.bx_theory.proofs.Stages.{step_number, step_next, next_opened, next_unopened}
-use Rattle.bx_theory.proofs.Dues.{Mapped, each_session_map, each_session_push, each_session_through, named_session, served_sessions, swept_sessions, unchanged}
+use Rattle.bx_theory.proofs.Dues.{Mapped, each_session_map, each_session_push, each_session_through, named_session, served_sessions, overdue_closed_sessions, unchanged}
 
 -- ---- Without `--ride`, there are no riders
 
@@ -124,7 +124,7 @@ known config list =
       serves = λ p s e.
           let c : MessageKind = message_kind_of p.message.channel in
           known_next config r (Post p) (served config (state_of r) (max r.clock p.moment) p c s (hold_of config p)) _ (served_sessions c s.number (due_of config (max r.clock p.moment) (hold_of config p)) r.sessions) k;
-      ticks = λ moment. known_next config r (messages.Tick moment) (tick_verdict (state_of r) (max r.clock moment)) _ (swept_sessions (max r.clock moment) r.sessions) k;
+      ticks = λ moment. known_next config r (messages.Tick moment) (tick_verdict (state_of r) (max r.clock moment)) _ (overdue_closed_sessions (max r.clock moment) r.sessions) k;
     }) x) list
 
 acks_more : (config : Config) (es fs : List Entry) (number : ℕ) (ack : Bool) → Acks config es number ack → Acks config (es ++ fs) number ack

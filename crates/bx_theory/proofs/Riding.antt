@@ -9,7 +9,7 @@ use Rattle.bx_advice.specs.declared.{config.Config.Config, error.Error.Error}
 use Rattle.bx_message.specs.declared.{message.Message.Message, message_kind.MessageKind.MessageKind}
 use Rattle.bx_message.specs.MessageKinds.{message_kind_of, is_handshake}
 use Rattle.bx_entry.specs.Inputs.{ReadInput, Request, Unread, Tick, added_by}
-use Rattle.bx_entry.specs.Words.{Listed, Post, Posted, listed_from, State, judged_by, Registry, Registered, Judged, PlaceSlot, is_one, joined, senders_behind, may_ride, is_rider, rider_for, kind_for, slot_for, judge, judged_by, named_by, refusal, hold_of, registry, empty_registry, entries_of, entries, noted, state_of, Session, Stage, Unopened, Live, is_live, session, step, step_by, rider_of, is_riding, ridden, ridden_by, ride_portion}
+use Rattle.bx_entry.specs.Words.{Listed, Post, Posted, listed_from, State, judged_by, Registry, Registered, Judged, PlaceSlot, is_one, joined, senders_after, may_ride, is_rider, rider_for, kind_for, slot_for, judge, judged_by, named_by, refusal, hold_of, registry, empty_registry, entries_of, entries, noted, state_of, Session, Stage, Unopened, Live, is_live, session, step, step_by, rider_of, is_riding, ridden, ridden_by, ride_portion}
 use Rattle.bx_entry.specs.Listing as messages
 use Rattle.bx_entry.specs.declared.{entry.Entry.Entry, entry.Rider.Rider, entry.EntryKind.EntryKind, senders.Senders.Senders}
 use Rattle.bx_entry.specs.declared.senders.Senders.TheVariants.{NoneYet, Only, Mixed}
@@ -158,14 +158,14 @@ record Judging (config : Config) (es : List Entry) (js : List Judged) (p : Poste
   found : Judged
   judged : t.judged ≡ r.judged ++ found ∷ []
   now : Senders
-  senders : t.senders ≡ senders_behind p now
+  senders : t.senders ≡ senders_after p now
   says : Says now (js ++ found ∷ [])
   reads : Reads config es p.last js found
 
 opened_own : (n m : ℕ) → ((n == m) && not (m == n)) ≡ true → ⊥
 opened_own n m h = let a = and_parts (n == m) (not (m == n)) h in both_ways (m == n) (not-true (m == n) a.1) (eq-eqb m n (sym (eqb-true n m a.0)))
 
-unowned_judging : (config : Config) (es : List Entry) (js : List Judged) (p : Posted) (r t : Registry) (j : Judged) → t.judged ≡ r.judged ++ j ∷ [] → t.senders ≡ senders_behind p Mixed → ((n : ℕ) → is_own n j ≡ true → ⊥) → j.entry.rides ≡ None → Judging config es js p r t
+unowned_judging : (config : Config) (es : List Entry) (js : List Judged) (p : Posted) (r t : Registry) (j : Judged) → t.judged ≡ r.judged ++ j ∷ [] → t.senders ≡ senders_after p Mixed → ((n : ℕ) → is_own n j ≡ true → ⊥) → j.entry.rides ≡ None → Judging config es js p r t
 unowned_judging config es js p r t j judged senders h none = record { found = j; judged = judged; now = Mixed; senders = senders; says = mixed_says js j h; reads = unowned_reads config es p.last js j h none }
 
 judged_by_judging : (config : Config) (es : List Entry) (js : List Judged) (r : Registry) (moment : ℕ) (p : Posted) (sender : Option Registered) (error : Option Error) → Says r.senders js →
@@ -196,7 +196,7 @@ judging config ys zs js p says =
 
 last_ends : (config : Config) (r : Registry) (p : Posted) → p.last ≡ true → (judge config r (Post p)).senders ≡ NoneYet
 last_ends config r p h =
-    let none : (x : Senders) → senders_behind p x ≡ NoneYet = λ x. ap (λ (last : Bool). cond last NoneYet x) h in
+    let none : (x : Senders) → senders_after p x ≡ NoneYet = λ x. ap (λ (last : Bool). cond last NoneYet x) h in
     by_verdict (λ v. v.state.senders ≡ NoneYet) config (state_of r) (max r.clock p.moment) p (named_by r.sessions (message_kind_of p.message.channel) p.message) (refusal config r.sessions p)
     (λ e. none _) (none _) (none _) (λ s e. none _)
 

@@ -4,7 +4,7 @@ use Rattle.std.proofs.lemmas.{Bool.cond-true, Bool.lt-ltb, List.map-append, List
 use Rattle.std.specs.{Option.option_or, List.list_any}
 use Rattle.bx_advice.specs.declared.config.Config.{Config}
 use Rattle.bx_message.specs.declared.{reply.Answer.Answer, message_kind.MessageKind.MessageKind}
-use Rattle.bx_entry.specs.Words.{Listed, Posted, due_of, Registry, Registered, Judged, PlaceSlot, Waiting, slot_for, slot_with, rider_for, is_rider, left_by, extended, swept, hold_of, registry, entries_of, Session, Filed, session, PlacedAnswer, answer_of, answer_by, answer_at}
+use Rattle.bx_entry.specs.Words.{Listed, Posted, due_of, Registry, Registered, Judged, PlaceSlot, Waiting, slot_for, slot_with, rider_for, is_rider, left_by, extended, overdue_closed, hold_of, registry, entries_of, Session, Filed, session, PlacedAnswer, answer_of, answer_by, answer_at}
 use Rattle.bx_message.specs.MessageKinds.{message_kind_of}
 use Rattle.bx_entry.specs.declared.{input.Input.Input, entry.Ticket.Ticket}
 use Rattle.bx_theory.proofs.{Verdicts.each_judge, Verdicts.each_registry, Lists.judged_more, Lists.answer_within}
@@ -14,7 +14,7 @@ use Rattle.bx_world.specs.Words.{WorldState, IsOutput, Runs, after, filed_under,
 use Rattle.bx_world.specs.declared.step.{Step.Step, StepOut.StepOut}
 use Rattle.bx_world.specs.declared.step.Step.TheVariants.{Admit, Apply, Take}
 use Rattle.bx_world.specs.declared.step.StepOut.TheVariants.{Taken}
-use Rattle.bx_theory.proofs.Dues.{EachJudged, Mapped, each_judged_push, each_judged_map, each_session_map, named_session, served_sessions, swept_sessions}
+use Rattle.bx_theory.proofs.Dues.{EachJudged, Mapped, each_judged_push, each_judged_map, each_session_map, named_session, served_sessions, overdue_closed_sessions}
 use Rattle.bx_shard.proofs.{Elements.numbers, Elements.same_numbers, Waits.WaitsAt, Waits.waits_over, Untaken.found_kept, Untaken.find_untaken}
 
 or_true : (a b : Bool) → b ≡ true → (a || b) ≡ true
@@ -65,7 +65,7 @@ all_waiters config list = each_registry config Waiters tt (λ ys x w.
           let ts : List Registered = left_by c s.number (extended s.number (due_of config (max r.clock p.moment) (hold_of config p)) r.sessions) in
           let same = has_same _ r.sessions ts (served_sessions c s.number (due_of config (max r.clock p.moment) (hold_of config p)) r.sessions) in
           waiters_push r ts _ same (slot_served config (is_rider config r.senders c p s) c p s ts (same s.number (named_session (λ q. has q.number r.sessions ≡ true) r.sessions c p.message s e (each_has r.sessions)))) w;
-      ticks = λ moment. waiters_push r (swept (max r.clock moment) r.sessions) _ (has_same _ r.sessions _ (swept_sessions (max r.clock moment) r.sessions)) tt w;
+      ticks = λ moment. waiters_push r (overdue_closed (max r.clock moment) r.sessions) _ (has_same _ r.sessions _ (overdue_closed_sessions (max r.clock moment) r.sessions)) tt w;
     }) x) list
 
 judged_at : (P : Judged → Type 0) (js : List Judged) (k : ℕ) (j : Judged) → slice_get js k ≡ Some j → EachJudged P js → P j

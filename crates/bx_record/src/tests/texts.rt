@@ -2,7 +2,7 @@
 use crate::{answer_text, config_text, request_text, tick_text};
 use bx_advice::{BODY_LIMIT, Config, Options};
 use bx_cut::Bodies;
-use bx_entry::{Arrival, Door};
+use bx_entry::{Access, Arrival};
 use std::alloc::Global;
 use std::test::Fail;
 
@@ -11,7 +11,7 @@ fn text_of(alloc: Global, bodies: Bodies) -> Result<Option<Vec<u8>>, Fail> {
     let arrival = Arrival {
         moment: 5,
         nonce: 2748,
-        door: Door::Publishers,
+        access: Access::ReadWrite,
         bodies,
     };
     let messages = arrival.read(alloc)?;

@@ -2,7 +2,7 @@
 use crate::bench::TestHub;
 use crate::texts::{CONNECT, HANDSHAKE, SUBSCRIBE};
 use bx_cut::Bodies;
-use bx_entry::{Arrival, Door, Ticket};
+use bx_entry::{Access, Arrival, Ticket};
 use bx_held::PendingAnswer;
 use bx_hub::{HubFault, Pass};
 use bx_message::{Answer, event_text, reply_text};
@@ -107,7 +107,7 @@ impl<J: Naming, H: Wait + Drop, R: Wait + Copy + Drop> Bench<J, H, R> {
         let arrival = Arrival {
             moment: 0,
             nonce: 0,
-            door: Door::Publishers,
+            access: Access::ReadWrite,
             bodies: Bodies::Whole(body.as_bytes().to_vec(self.alloc)?),
         };
         self.hub

@@ -8,12 +8,12 @@ use Rattle.bx_registry.proofs.judge.judge.Goals.{After-is_some}
 use Rattle.bx_registry.proofs.judge.judge.Given.{Over}
 
 known : (g : Over) (c : After-is_some g) →
-    c.is_some.result ≡ is_some (named_by (members_of c.args.draft.now).live c.args.posted.message_kind c.args.posted.message.now)
+    c.is_some.result ≡ is_some (named_by (members_of c.args.overlay.now).live c.args.posted.message_kind c.args.posted.message.now)
 known g c = c.is_some.ensures ∙ found-known _ _ c.named_by-sender.ensures
 
 pub returns-in-Some : goal.returns-in-Some
 returns-in-Some g c =
-    let fault = sym (c.in-Some.ensures.table (members_of c.args.draft.now).live c.counts-live.ensures.live
+    let fault = sym (c.in-Some.ensures.table (members_of c.args.overlay.now).live c.counts-live.ensures.live
     (known g (goal.at.returns-in-Some g c).After-is_some)) in
     all_four c.refuse.result _ _ _ _ _
     (λ j. refused-verdict (setup_of g.P.Placing.place_of c.args.setup.now) _ c.args.senders c.args.moment c.args.place (posted_of c.args.posted) _ _ _ j c.args.posted.by_channel
@@ -22,7 +22,7 @@ returns-in-Some g c =
 
 pub returns-in-None-sender : goal.returns-in-None-sender
 returns-in-None-sender g c =
-    let fault = sym (c.in-None.ensures.table (members_of c.args.draft.now).live c.counts-live.ensures.live
+    let fault = sym (c.in-None.ensures.table (members_of c.args.overlay.now).live c.counts-live.ensures.live
     (known g (goal.at.returns-in-None-sender g c).After-is_some)) in
     let none = rw c.in-None-sender.is at c.named_by-sender.ensures in
     let opens = sym (c.is_handshake.ensures c.args.posted.message.now c.args.posted.by_channel) ∙ c.if-is_handshake.true in
@@ -34,18 +34,18 @@ returns-in-None-sender g c =
 
 pub returns-in-None-2 : goal.returns-in-None-2
 returns-in-None-2 g c =
-    let fault = sym (c.in-None.ensures.table (members_of c.args.draft.now).live c.counts-live.ensures.live
+    let fault = sym (c.in-None.ensures.table (members_of c.args.overlay.now).live c.counts-live.ensures.live
     (known g (goal.at.returns-in-None-2 g c).After-is_some)) in
     let none = rw c.in-None-sender.is at c.named_by-sender.ensures in
     let other = sym (c.is_handshake.ensures c.args.posted.message.now c.args.posted.by_channel) ∙ c.if-is_handshake.false in
-    all_four c.note.result _ _ _ _ _
+    all_four c.accept_sessionless.result _ _ _ _ _
     (λ j. sessionless-verdict (setup_of g.P.Placing.place_of c.args.setup.now) _ c.args.senders c.args.moment c.args.place (posted_of c.args.posted) _ j c.args.posted.by_channel
     c.counts-live.ensures.all other fault none)
-    c.note.ensures.edit c.note.ensures.kind c.note.ensures.senders c.note.ensures.slot
+    c.accept_sessionless.ensures.edit c.accept_sessionless.ensures.kind c.accept_sessionless.ensures.senders c.accept_sessionless.ensures.slot
 
 pub returns-in-Some-sender : goal.returns-in-Some-sender
 returns-in-Some-sender g c =
-    let fault = sym (c.in-None.ensures.table (members_of c.args.draft.now).live c.counts-live.ensures.live
+    let fault = sym (c.in-None.ensures.table (members_of c.args.overlay.now).live c.counts-live.ensures.live
     (known g (goal.at.returns-in-Some-sender g c).After-is_some)) in
     let who = rw c.in-Some-sender.is at c.named_by-sender.ensures in
     all_four c.serve.result _ _ _ _ _

@@ -38,14 +38,14 @@ loop-message-preserved g c =
     c.is_handshake-seen.ensures x (c.posted_at-posted.result.by_channel ∙ ap (λ (q : Posted). message_kind_of q.message.channel)
     c.posted_at-posted.ensures) in
     let so = rw rest at c.loop-message.invariant.1 in
-    let d = c.loop-message.draft in
+    let d = c.loop-message.overlay in
     let here : ℕ → Posted → Type 0 = λ k q. IsFoundAt (setup_of g.P.Placing.place_of c.args.setup.now) c.loop-message.place k (members_of d)
-    (verdict c.args.setup.now.config.now (state_of (members_of d) c.loop-message.senders) k q) (members_of c.plan_next.new.draft) c.in_ok-entry.behind
+    (verdict c.args.setup.now.config.now (state_of (members_of d) c.loop-message.senders) k q) (members_of c.plan_next.new.overlay) c.in_ok-entry.behind
     c.in_ok-entry.entry c.in_ok-entry.slot in
     let found = subst (λ (k : ℕ). here k p) c.max-now.ensures (subst (here c.max-now.result) posted c.in_ok-entry.ensures.found) in (
       left,
       rw (c.in_ok-push.ensures.ok, c.in_ok-push-2.ensures.ok, handshake, c.max-now.ensures)
-          (one_next {e = c.plan_next.new.draft} p so (omega (arith, c.loop-message.invariant.1.moment, c.requires.moment)) c.in_ok-entry.ensures.base
+          (one_next {e = c.plan_next.new.overlay} p so (omega (arith, c.loop-message.invariant.1.moment, c.requires.moment)) c.in_ok-entry.ensures.base
           found),
     )
 

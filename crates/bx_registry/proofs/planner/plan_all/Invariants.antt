@@ -6,5 +6,5 @@ use Rattle.bx_registry.proofs.planner.plan_all.Given as goal
 
 abbrev pub invariant-loop-message : goal.invariant-loop-message
 invariant-loop-message g l = (l.left ≡ length (drop l.message-index l.messages))
-    × SoFar (setup_of g.P.Placing.place_of l.setup) (members_of l.fn.draft) l.fn.draft.base l.start.clock l.start.place (request l.start.moment l.start.nonce l.messages)
-    (listed_from l.start.moment l.start.nonce l.sole l.seen (drop l.message-index l.messages)) l.draft l.senders l.now l.place l.entries l.slots
+    × SoFar (setup_of g.P.Placing.place_of l.setup) (members_of l.fn.overlay) l.fn.overlay.base l.start.clock l.start.place (request l.start.moment l.start.nonce l.messages)
+    (listed_from l.start.moment l.start.nonce l.sole l.seen (drop l.message-index l.messages)) l.overlay l.senders l.now l.place l.entries l.slots

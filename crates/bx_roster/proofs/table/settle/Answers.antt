@@ -2,7 +2,7 @@ use Rattle.std.proofs.Common.{◌≤◌, ◌∷◌, refl, sym}
 use Rattle.std.proofs.lemmas.{List.Elements.All-cons, List.Sorted.All-permutation}
 use Rattle.bx_roster.specs.Words.{entries}
 use Rattle.bx_roster.specs.declared.due_queue.Due.{Due}
-use Rattle.bx_roster.proofs.Dues.{filed-permuted, filed-moved, filed-gone, filed-absent, entries-filed, closed-swept, none-absent}
+use Rattle.bx_roster.proofs.Dues.{filed-permuted, filed-moved, filed-gone, filed-absent, entries-filed, closed-overdue_closed, none-absent}
 use Rattle.bx_roster.proofs.table.settle.Goals as goal
 use Rattle.std.proofs.lemmas.Grind.{common_steps}
 use Rattle.std.proofs.Common.{arith}
@@ -26,8 +26,8 @@ returns-in-Some-clause-from c =
 pub returns-in-Some-2-clause-filed : goal.returns-in-Some-2-clause-filed
 returns-in-Some-2-clause-filed c = rw c.close.ensures.closed (filed-gone c.args.due (entries c.args.queue.now) c.args.roster.now.members.live c.requires.filed)
 
-pub returns-in-Some-2-clause-swept : goal.returns-in-Some-2-clause-swept
-returns-in-Some-2-clause-swept c = grind (arith, common_steps, closed-swept)
+pub returns-in-Some-2-clause-overdue_closed : goal.returns-in-Some-2-clause-overdue_closed
+returns-in-Some-2-clause-overdue_closed c = grind (arith, common_steps, closed-overdue_closed)
 
 pub returns-in-None-clause-filed : goal.returns-in-None-clause-filed
 returns-in-None-clause-filed c = grind (arith, common_steps, filed-absent, none-absent)

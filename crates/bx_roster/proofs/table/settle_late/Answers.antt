@@ -15,8 +15,8 @@ settle-requires-clause-filed c =
 pub returns-clause-filed : goal.returns-clause-filed
 returns-clause-filed c = grind (arith, common_steps)
 
-pub returns-clause-swept : goal.returns-clause-swept
-returns-clause-swept c =
+pub returns-clause-overdue_closed : goal.returns-clause-overdue_closed
+returns-clause-overdue_closed c =
     let i = c.loop-due.invariant in
     let q = c.loop-due.queue in
     sym (settled c.args.moment q.late q.waiting c.loop-due.roster.members c.in_default.ensures.late.0 i.2 i.1 i.0.all) ∙ i.4

@@ -9,7 +9,7 @@ use Rattle.bx_roster.specs.Words.{Members, live_in, IsTable, AllLive, known_of, 
 use Rattle.bx_roster.specs.declared.edit.Edit.{Edit}
 use Rattle.bx_roster.specs.declared.edit.Edit.TheVariants.{Open, Extend, Close}
 use Rattle.bx_roster.proofs.Tables.{IsTable-filter, IsTable-map, IsTable-push, IsTable-absent, map-absent, live_in-all, AllLive-live, changed-number, changed-client, closing-number, closing-client}
-use Rattle.bx_registry.specs.Drafts.{IsDrafted, known_after}
+use Rattle.bx_registry.specs.SessionOverlays.{IsOverlay, known_after}
 
 -- ---- Each edit
 
@@ -25,8 +25,8 @@ closed-count n low high [] t all some = cc
 closed-count n low high (r ∷ rs) t all some =
     grind (arith, common_steps, closed-count n r.number high rs t.2 all.1, map-absent n (λ s. record s { live = false }) rs, IsTable-absent r.number high n rs, live_in-all rs all.1)
 
-pub opened-drafted : (base : Members) (es : List Edit) (s : Registered) {count opened : ℕ} → IsDrafted base es count opened → IsNext (fold edited base es) s → IsDrafted base (es ++ Open s ∷ []) (count + 1) s.number
-opened-drafted base es s {count} {opened} d next =
+pub opened-overlay : (base : Members) (es : List Edit) (s : Registered) {count opened : ℕ} → IsOverlay base es count opened → IsNext (fold edited base es) s → IsOverlay base (es ++ Open s ∷ []) (count + 1) s.number
+opened-overlay base es s {count} {opened} d next =
     let ms = fold edited base es in
     let now : fold edited base (es ++ Open s ∷ []) ≡ edited ms (Open s) = fold-append edited base es (Open s ∷ []) in record {
       limit = d.limit;
@@ -39,8 +39,8 @@ opened-drafted base es s {count} {opened} d next =
       all = rw now (AllLive-push ms.live s d.all next.live);
     }
 
-pub extended-drafted : (base : Members) (es : List Edit) (n due : ℕ) {count opened : ℕ} → IsDrafted base es count opened → IsDrafted base (es ++ Extend n due ∷ []) count opened
-extended-drafted base es n due {count} {opened} d =
+pub extended-overlay : (base : Members) (es : List Edit) (n due : ℕ) {count opened : ℕ} → IsOverlay base es count opened → IsOverlay base (es ++ Extend n due ∷ []) count opened
+extended-overlay base es n due {count} {opened} d =
     let ms = fold edited base es in
     let now : fold edited base (es ++ Extend n due ∷ []) ≡ edited ms (Extend n due) = fold-append edited base es (Extend n due ∷ []) in record {
       limit = d.limit;
@@ -53,8 +53,8 @@ extended-drafted base es n due {count} {opened} d =
       all = rw now (AllLive-live (extended n due ms.live));
     }
 
-pub closed-drafted : (base : Members) (es : List Edit) (n : ℕ) {count opened : ℕ} → IsDrafted base es count opened → IsSome (known_at n (fold edited base es).live) → IsDrafted base (es ++ Close n ∷ []) (count - 1) opened
-closed-drafted base es n {count} {opened} d some =
+pub closed-overlay : (base : Members) (es : List Edit) (n : ℕ) {count opened : ℕ} → IsOverlay base es count opened → IsSome (known_at n (fold edited base es).live) → IsOverlay base (es ++ Close n ∷ []) (count - 1) opened
+closed-overlay base es n {count} {opened} d some =
     let ms = fold edited base es in
     let now : fold edited base (es ++ Close n ∷ []) ≡ edited ms (Close n) = fold-append edited base es (Close n ∷ []) in record {
       limit = d.limit;
@@ -67,21 +67,21 @@ closed-drafted base es n {count} {opened} d some =
       all = rw now (AllLive-live (closed n ms.live));
     }
 
-pub pushed-open : (base : Members) (es new : List Edit) (e : Edit) (s : Registered) (k n : ℕ) {count opened : ℕ} → IsDrafted base es count opened → new ≡ es ++ e ∷ [] → e ≡ Open s →
-    CanEdit (fold edited base es) e → k ≡ count + 1 → n ≡ s.number → IsDrafted base new k n
+pub pushed-open : (base : Members) (es new : List Edit) (e : Edit) (s : Registered) (k n : ℕ) {count opened : ℕ} → IsOverlay base es count opened → new ≡ es ++ e ∷ [] → e ≡ Open s →
+    CanEdit (fold edited base es) e → k ≡ count + 1 → n ≡ s.number → IsOverlay base new k n
 pushed-open base es new e s k n {count} {opened} d is what can f g =
     let P : Edit → Type 0 = λ x. CanEdit (fold edited base es) x in
-    rw (is, what, f, g) (opened-drafted base es s d (subst P what can))
+    rw (is, what, f, g) (opened-overlay base es s d (subst P what can))
 
-pub pushed-extend : (base : Members) (es new : List Edit) (e : Edit) (m due k n : ℕ) {count opened : ℕ} → IsDrafted base es count opened → new ≡ es ++ e ∷ [] → e ≡ Extend m due →
-    k ≡ count → n ≡ opened → IsDrafted base new k n
-pushed-extend base es new e m due k n {count} {opened} d is what f g = rw (is, what, f, g) (extended-drafted base es m due d)
+pub pushed-extend : (base : Members) (es new : List Edit) (e : Edit) (m due k n : ℕ) {count opened : ℕ} → IsOverlay base es count opened → new ≡ es ++ e ∷ [] → e ≡ Extend m due →
+    k ≡ count → n ≡ opened → IsOverlay base new k n
+pushed-extend base es new e m due k n {count} {opened} d is what f g = rw (is, what, f, g) (extended-overlay base es m due d)
 
-pub pushed-close : (base : Members) (es new : List Edit) (e : Edit) (m k n : ℕ) {count opened : ℕ} → IsDrafted base es count opened → new ≡ es ++ e ∷ [] → e ≡ Close m →
-    CanEdit (fold edited base es) e → k ≡ count - 1 → n ≡ opened → IsDrafted base new k n
+pub pushed-close : (base : Members) (es new : List Edit) (e : Edit) (m k n : ℕ) {count opened : ℕ} → IsOverlay base es count opened → new ≡ es ++ e ∷ [] → e ≡ Close m →
+    CanEdit (fold edited base es) e → k ≡ count - 1 → n ≡ opened → IsOverlay base new k n
 pushed-close base es new e m k n {count} {opened} d is what can f g =
     let P : Edit → Type 0 = λ x. CanEdit (fold edited base es) x in
-    rw (is, what, f, g) (closed-drafted base es m d (subst P what can))
+    rw (is, what, f, g) (closed-overlay base es m d (subst P what can))
 
 limit-edited : (ms : Members) (e : Edit) → (edited ms e).limit ≡ ms.limit
 limit-edited ms e = grind (arith, common_steps)
@@ -123,7 +123,7 @@ known_at-all n ms [] all can = refl
 known_at-all n ms (e ∷ es) all can =
     known_at-all n (edited ms e) es (AllLive-edited ms e all can.0) can.1 ∙ ap (λ (o : Option (List ℕ × Bool)). fold (known_after n) o es) (known_at-edited n ms e all)
 
--- ---- Lemmas for the functions of a draft
+-- ---- Lemmas for the functions of an overlay
 
 pub ruleset counting = (live_in-all, common_steps)
 

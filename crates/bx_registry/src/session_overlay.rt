@@ -3,7 +3,7 @@ ghost use Rattle.std.specs.Prelude.{◌≡◌, ◌+◌, ◌<◌, ◌≤◌, ◌+
 ghost use Rattle.bx_entry.specs.Registry.{count_live, live_with_id, named_by};
 ghost use Rattle.bx_roster.specs.Tables.{AllLive, IsTable, known_at};
 ghost use Rattle.bx_roster.specs.Edits.{CanEdit, CanEditEach};
-ghost use Rattle.bx_registry.specs.Drafts.{Drafted, IsSender, known_after, members_of};
+ghost use Rattle.bx_registry.specs.SessionOverlays.{Overlay, IsSender, known_after, members_of};
 
 use crate::id::number_in;
 use bx_message::{Message, MessageKind, Sequence, Text, TextMember};
@@ -24,30 +24,30 @@ pub(crate) struct Sender<'m> {
 ///
 /// The table is unchanged until the edits are committed.
 #[derive(Drop)]
-pub(crate) struct Draft<'a> {
+pub(crate) struct SessionOverlay<'a> {
     table: &'a Table,
     edits: Sequence<Edit>,
     count: usize,
     opened: u64,
 }
 
-impl<'a> Model for Draft<'a> {
-    ghost use Rattle.bx_registry.specs.Drafts.{Drafted, IsDrafted};
+impl<'a> Model for SessionOverlay<'a> {
+    ghost use Rattle.bx_registry.specs.SessionOverlays.{Overlay, IsOverlay};
 
-    ghost Value = { Drafted };
+    ghost Value = { Overlay };
 
     ghost view = { λ d. record { base = d.table.now.members; edits = d.edits } };
 
-    ghost invariant = { λ d. IsDrafted d.table.now.members d.edits d.count d.opened };
+    ghost invariant = { λ d. IsOverlay d.table.now.members d.edits d.count d.opened };
 }
 
-impl<'a> Draft<'a> {
-    /// Creates a draft without edits.
-    pub(crate) fn new(alloc: Global, table: &'a Table) -> Draft<'a>
+impl<'a> SessionOverlay<'a> {
+    /// Creates an overlay without edits.
+    pub(crate) fn new(alloc: Global, table: &'a Table) -> SessionOverlay<'a>
         ensures { result ≡ record { base = table.now.members; edits = [] } }
     {
         let (count, opened) = table.counts();
-        Draft {
+        SessionOverlay {
             table,
             edits: Sequence::new(alloc),
             count,
@@ -56,7 +56,7 @@ impl<'a> Draft<'a> {
     }
 
     /// Returns how many sessions are live, and how many were ever opened.
-    #[tactic(auto, using(crate::proofs::Drafting::counting))]
+    #[tactic(auto, using(crate::proofs::Overlays::counting))]
     pub(crate) fn counts(&self) -> (usize, u64)
         ensures live { result.0 ≡ count_live (members_of self.now).live }
         ensures all { AllLive (members_of self.now).live }
@@ -105,7 +105,7 @@ impl<'a> Draft<'a> {
     }
 
     // Returns the data of live session `number`, if any.
-    #[tactic(auto, using(crate::proofs::Drafting::knowing))]
+    #[tactic(auto, using(crate::proofs::Overlays::knowing))]
     fn known_at(&self, number: u64) -> Option<Known<'_>>
         ensures { option_map (λ k. (k.client.now, k.ack)) result ≡ known_at number (members_of self.now).live }
     {
@@ -137,12 +137,12 @@ impl<'a> Draft<'a> {
         Ok(())
     }
 
-    /// Converts the draft into its edits, in order.
+    /// Converts the overlay into its edits, in order.
     pub(crate) fn into_edits(self) -> Sequence<Edit>
         ensures edits { result ≡ self.entry.edits }
         ensures can { CanEditEach self.entry.base self.entry.edits }
     {
-        let Draft { edits, .. } = self;
+        let SessionOverlay { edits, .. } = self;
         edits
     }
 }

@@ -5,15 +5,15 @@ use Rattle.bx_entry.specs.Registry.{Registered}
 use Rattle.bx_roster.specs.Words.{Members, AllLive, IsTable, known_of, edited, CanEditEach}
 use Rattle.bx_roster.specs.declared.edit.Edit.{Edit}
 use Rattle.bx_roster.specs.declared.edit.Edit.TheVariants.{Open, Extend, Close}
-use Rattle.bx_registry.specs.declared.draft.Sender.{Sender}
+use Rattle.bx_registry.specs.declared.session_overlay.Sender.{Sender}
 
 -- The sessions before the request, and the edits of its messages so far.
-pub record Drafted : Type 0 where
+pub record Overlay : Type 0 where
   pub base : Members
   pub edits : List Edit
 
 -- The sessions after those edits.
-abbrev pub members_of : Drafted → Members
+abbrev pub members_of : Overlay → Members
 members_of d = fold edited d.base d.edits
 
 -- The data of live session `number` after one more edit, if any.
@@ -23,7 +23,7 @@ known_after number known (Extend n due) = known
 known_after number known (Close n) = if n == number then None else known
 
 -- The edits can be made at `base`, and the counts are those of the sessions after them.
-pub record IsDrafted (base : Members) (edits : List Edit) (count opened : ℕ) : Type 0 where
+pub record IsOverlay (base : Members) (edits : List Edit) (count opened : ℕ) : Type 0 where
   pub limit : base.limit < 2 ^ 64
   pub small : opened < 2 ^ 64
   pub start : AllLive base.live

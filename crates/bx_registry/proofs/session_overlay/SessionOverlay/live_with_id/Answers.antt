@@ -3,13 +3,13 @@ use Rattle.std.specs.Prelude.{Option, Some, None}
 use Rattle.std.proofs.lemmas.Slice.Eq.{bytes_eq-Decides}
 use Rattle.bx_entry.specs.Registry.{live_with_id}
 use Rattle.bx_roster.specs.Tables.{known_at}
-use Rattle.bx_registry.specs.Words.{number_in, Drafted, IsDrafted, IsSender, members_of}
+use Rattle.bx_registry.specs.Words.{number_in, Overlay, IsOverlay, IsSender, members_of}
 use Rattle.bx_registry.proofs.Digits.{Finds, finds}
-use Rattle.bx_registry.proofs.draft.Draft.live_with_id.Goals as goal
+use Rattle.bx_registry.proofs.session_overlay.SessionOverlay.live_with_id.Goals as goal
 use Rattle.std.proofs.lemmas.Grind.{common_steps}
 use Rattle.std.proofs.Common.{arith}
 
-found : (d seen : Drafted) (text : List ℕ) (number : ℕ) {count opened : ℕ} → IsDrafted d.base d.edits count opened → d ≡ seen → number ≡ number_in text → Finds (members_of seen).live text (known_at number (members_of seen).live)
+found : (d seen : Overlay) (text : List ℕ) (number : ℕ) {count opened : ℕ} → IsOverlay d.base d.edits count opened → d ≡ seen → number ≡ number_in text → Finds (members_of seen).live text (known_at number (members_of seen).live)
 found d seen text number i same e = grind (arith, common_steps, finds)
 
 none-some : (o : Option (List ℕ × Bool)) (k : List ℕ × Bool) → None ≡ o → o ≡ Some k → ⊥

@@ -13,7 +13,7 @@ use Rattle.bx_roster.specs.declared.edit.Edit.{Edit}
 use Rattle.bx_roster.specs.declared.edit.Edit.TheVariants.{Extend, Close}
 use Rattle.bx_registry.specs.Rolls.{members_after}
 use Rattle.bx_registry.specs.Slots.{given_by}
-use Rattle.bx_registry.specs.declared.judge.Judgement.{Judgement}
+use Rattle.bx_registry.specs.declared.judge.MessageOutcome.{MessageOutcome}
 
 -- An accepted message extends its session's due moment; a disconnect closes the session.
 abbrev pub edit_for : MessageKind → ℕ → ℕ → Edit
@@ -25,8 +25,8 @@ abbrev pub is_needed : Config → MessageKind → TextMember → Bool
 is_needed config message_kinds.Publish client = needs_session config client
 is_needed config _ client = true
 
--- The judgement has the edit, senders, entry kind, rider and slot of the verdict at `place`.
-pub record IsVerdict (setup : Setup) (ms : Members) (place : ℕ) (o : Verdict) (j : Judgement) : Type 0 where
+-- The outcome has the edit, senders, entry kind, rider and slot of the verdict at `place`.
+pub record IsVerdict (setup : Setup) (ms : Members) (place : ℕ) (o : Verdict) (j : MessageOutcome) : Type 0 where
   pub members : fold edited ms (option_to_list j.edit) ≡ members_after ms o
   pub can : CanEditEach ms (option_to_list j.edit)
   pub behind : j.senders ≡ o.state.senders
