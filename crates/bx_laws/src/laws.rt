@@ -275,7 +275,7 @@ pub fn held_come_last()
     ensures { HeldComeLast }
 {}
 
-/// Proves that the next line of a script gets the nonce that earlier lines leave, and they keep theirs.
+/// Proves that each line of a script gets the nonce that the lines before it leave.
 pub fn nonces_go_on()
     ensures { NoncesGoOn }
 {}

@@ -106,8 +106,8 @@ pub struct HubBackend<J: Naming, P: Placing, G: Gate + Drop, R: Wait + Drop, C, 
 impl<J: Naming, P: Placing, G: Gate + Drop, R: Wait + Drop, C, N> HubBackend<J, P, G, R, C, N> {
     /// Creates a backend that posts to `hub`.
     ///
-    /// `access`: what the requests' listener allows. `clock` and `nonces`: the sources of each request's
-    /// moment and nonce.
+    /// `access`: what the requests' listener allows. `clock` and `nonces`: the sources of each
+    /// request's moment and nonce.
     pub fn new(
         rt: R,
         alloc: Global,
