@@ -12,8 +12,8 @@ use std::{env, io};
 const USAGE: &str = "usage: bare_hyper address connections";
 
 fn main(rt: HostRuntime) -> ExitCode {
-    let served = match words(&rt) {
-        Ok(words) => serve(rt, words.as_slice(), &mut io::writer(&rt)),
+    let served = match args(&rt) {
+        Ok(args) => serve(rt, args.as_slice(), &mut io::writer(&rt)),
         Err(error) => Err(error),
     };
     match served {
@@ -30,10 +30,10 @@ fn main(rt: HostRuntime) -> ExitCode {
 }
 
 // Returns the command-line arguments, without the program's name.
-fn words(rt: &HostRuntime) -> io::Result<Vec<String>> {
-    let mut words = Vec::new(rt.alloc());
-    for word in env::args(rt)?.skip(1) {
-        words.push(word)?;
+fn args(rt: &HostRuntime) -> io::Result<Vec<String>> {
+    let mut args = Vec::new(rt.alloc());
+    for arg in env::args(rt)?.skip(1) {
+        args.push(arg)?;
     }
-    Ok(words)
+    Ok(args)
 }

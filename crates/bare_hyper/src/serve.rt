@@ -60,9 +60,9 @@ impl Maker for BareServer {
     }
 }
 
-/// Serves with the arguments `words`: an address and a number of connections, or 0 for no limit.
+/// Serves with the arguments `args`: an address and a number of connections, or 0 for no limit.
 ///
-/// Prints the address once it listens. Returns `false` if `words` are not valid.
+/// Prints the address once it listens. Returns `false` if `args` are not valid.
 ///
 /// # Errors
 ///
@@ -71,12 +71,12 @@ impl Maker for BareServer {
 /// # Blocking
 ///
 /// Blocks until all connections have ended.
-pub fn serve<R, W>(rt: R, words: &[String], writer: &mut W) -> io::Result<bool>
+pub fn serve<R, W>(rt: R, args: &[String], writer: &mut W) -> io::Result<bool>
 where
     R: Wait + Threads + Clock + RandomSource + AllocGlobal + Net + Sync + Send + Copy + Drop,
     W: Write,
 {
-    let [address, connections] = words else {
+    let [address, connections] = args else {
         return Ok(false);
     };
     let (Ok(address), Ok(count)) = (address.as_str().parse(), connections.as_str().parse()) else {

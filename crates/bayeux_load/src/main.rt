@@ -40,14 +40,14 @@ fn main(rt: HostRuntime) -> ExitCode {
 
 // Parses the command-line arguments.
 fn settings(rt: &HostRuntime) -> Result<LoadSettings, SettingsFault> {
-    let mut words = Vec::new(rt.alloc());
-    for word in env::args(rt)
+    let mut args = Vec::new(rt.alloc());
+    for arg in env::args(rt)
         .map_err(|_error| SettingsFault::Memory)?
         .skip(1)
     {
-        words.push(word).map_err(|_word| SettingsFault::Memory)?;
+        args.push(arg).map_err(|_arg| SettingsFault::Memory)?;
     }
-    LoadSettings::read(rt.alloc(), words.as_slice())
+    LoadSettings::read(rt.alloc(), args.as_slice())
 }
 
 // Prints the report. Returns success if every event arrived once and in order.

@@ -2,7 +2,7 @@
 #![tactic(auto)]
 
 use bx_entry::ByRemainder;
-use bx_replay::{Arguments, WrongWord, read_settings, replay};
+use bx_replay::{ArgumentError, Arguments, read_settings, replay};
 use bx_script::{Dialect, Lines, Output, ScriptFault};
 use std::fs::File;
 use std::io::{BufRead, BufReader, BufWriter, Read};
@@ -28,8 +28,8 @@ fn main(rt: HostRuntime) -> ExitCode {
 // Replays the record in the file after `--record`, or on standard input if that is `-`. Without
 // `--record`, replays the script on standard input.
 fn run<T: Threads + Sync>(rt: &HostRuntime, threads: &T) -> Result<ExitCode, ScriptFault> {
-    let words = words(rt).map_err(|error| ScriptFault::of_read(&error))?;
-    match words.as_slice() {
+    let args = args(rt).map_err(|error| ScriptFault::of_read(&error))?;
+    match args.as_slice() {
         [flag, path] if flag.as_str() == "--record" && path.as_str() == "-" => {
             replay_record(rt, threads, rt.reader())
         }
@@ -40,29 +40,29 @@ fn run<T: Threads + Sync>(rt: &HostRuntime, threads: &T) -> Result<ExitCode, Scr
                 Ok(ExitCode::FAILURE)
             }
         },
-        words => replay_script(rt, threads, words),
+        args => replay_script(rt, threads, args),
     }
 }
 
 // Returns the command-line arguments, without the name of the program.
-fn words(rt: &HostRuntime) -> io::Result<Vec<String>> {
-    let mut words = Vec::new(rt.alloc());
-    for word in env::args(rt)?.skip(1) {
-        words.push(word)?;
+fn args(rt: &HostRuntime) -> io::Result<Vec<String>> {
+    let mut args = Vec::new(rt.alloc());
+    for arg in env::args(rt)?.skip(1) {
+        args.push(arg)?;
     }
-    Ok(words)
+    Ok(args)
 }
 
 // Replays the script on standard input, or prints what is wrong with the arguments.
 fn replay_script<T: Threads + Sync>(
     rt: &HostRuntime,
     threads: &T,
-    words: &[String],
+    args: &[String],
 ) -> Result<ExitCode, ScriptFault> {
     let alloc = rt.alloc();
     let mut bytes = Vec::new(alloc);
-    for word in words {
-        bytes.push(word.as_bytes())?;
+    for arg in args {
+        bytes.push(arg.as_bytes())?;
     }
     match Arguments::read(&bytes) {
         Ok(arguments) => {

@@ -12,7 +12,7 @@ mod ticker;
 use bx_advice::STANDARD_BYTES;
 use bx_figures::Counts;
 use bx_service::BodyLimit;
-use bx_settings::{Seed, Settings, read_flags, read_seed, read_words};
+use bx_settings::{Seed, Settings, parse_args, read_flags, read_seed};
 use end::tell_at_end;
 use figures::show_figures;
 use futures::channel::oneshot;
@@ -55,11 +55,11 @@ const SECOND: u32 = 1000;
 const OUT_OF_MEMORY: &str = "bayeuxd: out of memory";
 
 fn main(rt: HostRuntime) -> ExitCode {
-    let Ok(words) = words(&rt) else {
+    let Ok(args) = args(&rt) else {
         return failed(&rt, OUT_OF_MEMORY);
     };
     let processors = thread::available_parallelism(&rt).map_or(1, |it| it.get());
-    let settings = match settings_of(&rt, words.as_slice(), processors) {
+    let settings = match settings_of(&rt, args.as_slice(), processors) {
         Ok(settings) => settings,
         Err(status) => return status,
     };
@@ -259,32 +259,32 @@ fn settings_text(alloc: Global, settings: &Settings<'_>) -> Result<String, Alloc
 }
 
 // Returns the command-line arguments, without the program's name.
-fn words(rt: &HostRuntime) -> io::Result<Vec<String>> {
-    let mut words = Vec::new(rt.alloc());
-    for word in env::args(rt)?.skip(1) {
-        words.push(word)?;
+fn args(rt: &HostRuntime) -> io::Result<Vec<String>> {
+    let mut args = Vec::new(rt.alloc());
+    for arg in env::args(rt)?.skip(1) {
+        args.push(arg)?;
     }
-    Ok(words)
+    Ok(args)
 }
 
 // Parses the arguments, as flags or by position. For `--help`, `--version` and errors it prints the
 // text and returns the exit status.
 fn settings_of<'a>(
     rt: &HostRuntime,
-    words: &'a [String],
+    args: &'a [String],
     processors: usize,
 ) -> Result<Settings<'a>, ExitCode> {
-    if !are_flags(words) {
-        let Some(settings) = read_words(words) else {
+    if !are_flags(args) {
+        let Some(settings) = parse_args(args) else {
             let _ = rt.eprintln(USAGE);
-            if words.is_empty() {
+            if args.is_empty() {
                 let _ = rt.eprintln(FLAGS);
             }
             return Err(ExitCode::from(2));
         };
         return Ok(settings);
     }
-    match read_flags(rt.alloc(), words, processors) {
+    match read_flags(rt.alloc(), args, processors) {
         Ok(settings) => Ok(settings),
         Err(error) => {
             let _ = error.print(rt);
@@ -294,9 +294,8 @@ fn settings_of<'a>(
 }
 
 // Returns `true` if the first argument begins with `-`.
-fn are_flags(words: &[String]) -> bool {
-    words
-        .first()
+fn are_flags(args: &[String]) -> bool {
+    args.first()
         .is_some_and(|it| it.as_bytes().starts_with(b"-"))
 }
 

@@ -181,7 +181,7 @@ impl<J: Naming, R: Wait + Log + Drop> Source for HubRecord<J, R> {
     }
 
     // Takes the lines of answers. Each request was in the list before its answer was logged.
-    fn take_notes(&mut self, empty: Vec<u8>) -> Vec<u8> {
+    fn take_answers(&mut self, empty: Vec<u8>) -> Vec<u8> {
         let TakenAnswers { bytes, fault, .. } = self.log.take(&self.rt, empty);
         if let Some(fault) = fault {
             let why = why_of(fault);

@@ -7,7 +7,7 @@ use crate::end::Closing;
 use crate::recorder::{RecordFile, Recorder};
 use crate::ticker::tick;
 use bx_advice::Config;
-use bx_answers::{AnswerLog, NotedAnswers};
+use bx_answers::{AnswerLog, AnswerLogger};
 use bx_entry::{Access, ByRemainder};
 use bx_figures::Counts;
 use bx_hub::{Hub, OpenGate};
@@ -320,7 +320,7 @@ impl<J: Naming, R: Wait + Clock + AllocGlobal + Copy + Drop> Doors<J, R> {
     ) -> io::Result<
         Doorway<
             HubBackend<J, ByRemainder, OpenGate, R, SinceStart<R>, Drawn<R>>,
-            (Arc<Counts, Global>, NotedAnswers<R>),
+            (Arc<Counts, Global>, AnswerLogger<R>),
         >,
     > {
         let (rt, alloc) = (self.rt, self.rt.alloc());
@@ -338,7 +338,7 @@ impl<J: Naming, R: Wait + Clock + AllocGlobal + Copy + Drop> Doors<J, R> {
             backend: HubBackend::new(rt, alloc, hub, access, self.clock, nonces),
             observer: (
                 Arc::try_clone(&self.counts)?,
-                NotedAnswers::new(rt, alloc, answers),
+                AnswerLogger::new(rt, alloc, answers),
             ),
         })
     }

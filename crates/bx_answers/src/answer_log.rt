@@ -33,7 +33,7 @@ impl AnswerLog {
     /// # Blocking
     ///
     /// Locks the log, but not while it computes the digest.
-    pub fn note<R: Wait>(&self, rt: &R, alloc: Global, place: u64, items: &[Item]) {
+    pub fn log_answer<R: Wait>(&self, rt: &R, alloc: Global, place: u64, items: &[Item]) {
         if !self.lines.lock(rt).is_open() {
             return;
         }

@@ -11,4 +11,4 @@ mod tests;
 pub use answer_log::AnswerLog;
 pub use line::answer_line;
 pub use lines::TakenAnswers;
-pub use observer::NotedAnswers;
+pub use observer::AnswerLogger;

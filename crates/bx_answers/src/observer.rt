@@ -10,22 +10,22 @@ use std::sync::{Arc, Wait};
 ///
 /// Without a log it does nothing.
 #[derive(Drop)]
-pub struct NotedAnswers<R> {
+pub struct AnswerLogger<R> {
     rt: R,
     alloc: Global,
     log: Option<Arc<AnswerLog, Global>>,
 }
 
-impl<R> NotedAnswers<R> {
+impl<R> AnswerLogger<R> {
     /// Creates an observer that appends to `log`.
-    pub fn new(rt: R, alloc: Global, log: Option<Arc<AnswerLog, Global>>) -> NotedAnswers<R>
+    pub fn new(rt: R, alloc: Global, log: Option<Arc<AnswerLog, Global>>) -> AnswerLogger<R>
         ensures { result.log ≡ log }
     {
-        NotedAnswers { rt, alloc, log }
+        AnswerLogger { rt, alloc, log }
     }
 }
 
-impl<R: Wait + Drop> Observer for NotedAnswers<R> {
+impl<R: Wait + Drop> Observer for AnswerLogger<R> {
     fn see(&self, event: Event<'_>) {
         if let (
             Some(log),
@@ -35,7 +35,7 @@ impl<R: Wait + Drop> Observer for NotedAnswers<R> {
             },
         ) = (&self.log, event)
         {
-            log.note(&self.rt, self.alloc, place, items);
+            log.log_answer(&self.rt, self.alloc, place, items);
         }
     }
 }

@@ -1,5 +1,5 @@
 //! Tests with digests that `sha256sum` computed.
-use crate::{AnswerLog, NotedAnswers, TakenAnswers, answer_line};
+use crate::{AnswerLog, AnswerLogger, TakenAnswers, answer_line};
 use bx_advice::{Config, Outcome};
 use bx_entry::Refusal;
 use bx_hub::PostFault;
@@ -119,14 +119,14 @@ fn shared<T: Send + Sync>(value: T) -> T {
 }
 
 #[test]
-fn what_is_answered_is_noted(rt: HostRuntime) -> Result<(), Fail> {
+fn answers_are_logged(rt: HostRuntime) -> Result<(), Fail> {
     let alloc = rt.alloc();
     let items = connected(alloc, &config()?)?;
     let items = Some(items.as_slice());
     let log = Arc::new(alloc, AnswerLog::new(alloc))?;
-    let nobody = shared(NotedAnswers::new(rt, alloc, None));
-    let noted = shared(NotedAnswers::new(rt, alloc, Some(Arc::try_clone(&log)?)));
-    for (place, items, is_noted) in [
+    let nobody = shared(AnswerLogger::new(rt, alloc, None));
+    let logger = shared(AnswerLogger::new(rt, alloc, Some(Arc::try_clone(&log)?)));
+    for (place, items, is_logged) in [
         (Some(7), items, true),
         (None, items, false),
         (Some(7), None, false),
@@ -138,12 +138,12 @@ fn what_is_answered_is_noted(rt: HostRuntime) -> Result<(), Fail> {
             Event::Responded(Some(Status::Ok)),
             Event::Left { was_admitted: true },
         ] {
-            noted.see(event);
+            logger.see(event);
         }
         nobody.see(Event::Answered { place, items });
         check_taken(&rt, alloc, &*log, "", None);
-        noted.see(Event::Answered { place, items });
-        let wanted = if is_noted {
+        logger.see(Event::Answered { place, items });
+        let wanted = if is_logged {
             format!(in alloc; "A 7 {CONNECTED}\n")?
         } else {
             String::new(alloc)

@@ -7,7 +7,7 @@ use Rattle.bx_entry.specs.declared.entry.Slot.TheVariants.{Ready}
 use Rattle.bx_message.specs.declared.reply.Answer.{Answer}
 use Rattle.bx_shard.specs.Words.{Setup, given_of}
 use Rattle.bx_world.specs.Words.{EachSlot, setup_of, world_of, WorldState}
-use Rattle.bx_fanout.specs.Words.{Row, Stands, IsCollecting, IsTakenIn, IsGiving, seen_out}
+use Rattle.bx_fanout.specs.Words.{Row, IsConsistent, IsCollecting, IsTakenIn, IsGiving, seen_out}
 use Rattle.bx_fanout.specs.CurrentInputs.{Collects, IsCollected, NextBy, NextReady, NoneTakenFrom, next_place, out_of}
 use Rattle.bx_fanout.specs.declared.stage.Stage.TheVariants.{Collecting, Complete}
 use Rattle.bx_fanout.specs.declared.{current_input.CurrentInput.CurrentInput, round_state.RoundState.RoundState}
@@ -45,8 +45,8 @@ giving-at-once setup inputs w rows n added batch bare d none =
     subst (λ (is : List ReadInput). IsGiving setup is w rows (seen_out (out_of n) ∷ []) added) (sym d.are) (giving-alone setup d.earlier d.last w rows n added batch bare d.collecting none)
 
 module _ {P : Type 0} {g : Ghosts P} where
-  pub stands-ready : (p : RoundState P g) (n m : CurrentInput) → p.stage ≡ Collecting n → ((setup : Setup) (w : WorldState) → IsCollected setup w n → IsCollected setup w m) → Collects n m → Stands p → Stands (record p { stage = Collecting m })
-  stands-ready p n m is so_far collects i =
+  pub consistent-ready : (p : RoundState P g) (n m : CurrentInput) → p.stage ≡ Collecting n → ((setup : Setup) (w : WorldState) → IsCollected setup w n → IsCollected setup w m) → Collects n m → IsConsistent p → IsConsistent (record p { stage = Collecting m })
+  consistent-ready p n m is so_far collects i =
       let inputs : List ReadInput = map read_input p.inputs in
       let intake : IsTakenIn (setup_of p.world) inputs (world_of p.world) p.held n (map seen_out p.added) = intake-at (setup_of p.world) inputs (world_of p.world) p.held p.stage n (map seen_out p.added) is i.staged in
       record {
@@ -54,10 +54,10 @@ module _ {P : Type 0} {g : Ghosts P} where
         staged = intake-ready (setup_of p.world) inputs (world_of p.world) p.held n m (map seen_out p.added) p.world.admission.config.limits.some_batch intake (so_far (setup_of p.world) (world_of p.world)) collects;
       }
 
-  pub stands-whole : (p : RoundState P g) (n m : CurrentInput) → p.stage ≡ Collecting n → p.held ≡ [] → ((setup : Setup) (w : WorldState) → IsCollected setup w n → IsCollected setup w m) → Collects n m →
-      m.slots.items ≡ [] → Stands p → Stands (record p { stage = Complete m })
-  stands-whole p n m is bare so_far collects none i =
-      let more = stands-ready p n m is so_far collects i in
+  pub consistent-whole : (p : RoundState P g) (n m : CurrentInput) → p.stage ≡ Collecting n → p.held ≡ [] → ((setup : Setup) (w : WorldState) → IsCollected setup w n → IsCollected setup w m) → Collects n m →
+      m.slots.items ≡ [] → IsConsistent p → IsConsistent (record p { stage = Complete m })
+  consistent-whole p n m is bare so_far collects none i =
+      let more = consistent-ready p n m is so_far collects i in
       record {
         counted = i.counted;
         staged = giving-at-once (setup_of p.world) (map read_input p.inputs) (world_of p.world) p.held m (map seen_out p.added) p.world.admission.config.limits.some_batch bare more.staged none;

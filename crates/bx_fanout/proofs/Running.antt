@@ -6,7 +6,7 @@ use Rattle.bx_entry.specs.Runs as runs
 use Rattle.bx_entry.specs.declared.{Placing.Ghosts, input.Input.Input}
 use Rattle.bx_entry.specs.Placings.{Setup}
 use Rattle.bx_world.specs.Words.{setup_of, world_of, WorldState}
-use Rattle.bx_fanout.specs.Words.{Row, outs_of, AddsOuts, IsSettled, Stands, IsGiving, IsStaged, seen_out}
+use Rattle.bx_fanout.specs.Words.{Row, outs_of, AddsOuts, IsSettled, IsConsistent, IsGiving, IsStaged, seen_out}
 use Rattle.bx_theory.specs.Opens.{is_whole, out_of, registry_after, waiting_at}
 use Rattle.bx_fanout.specs.Runs.{Adds, IsLevel, IsRun, Runs, added_by, inputs_of}
 use Rattle.bx_fanout.specs.CurrentInputs as current
@@ -41,7 +41,7 @@ at-end : (m n : ℕ) → m ≤ n → n ≤ m → n ≡ m
 at-end m n low high = omega arith
 
 module _ {P : Type 0} {g : Ghosts P} where
-  adds-of : (old new : RoundState P g) (before after : List Out) → 0 < (setup_of new.world).config.limits.batch → Stands new → AddsOuts old before after new → Adds old before after new
+  adds-of : (old new : RoundState P g) (before after : List Out) → 0 < (setup_of new.world).config.limits.batch → IsConsistent new → AddsOuts old before after new → Adds old before after new
   adds-of old new before after batch s a =
       let f = front-by (setup_of new.world) (inputs_of new) (world_of new.world) new.held new.stage (added_by new) batch s.staged in
       record {
@@ -53,17 +53,17 @@ module _ {P : Type 0} {g : Ghosts P} where
         setup = a.setup;
       }
 
-  giving-settled : (new : RoundState P g) → Stands new → IsSettled new → IsGiving (setup_of new.world) (inputs_of new) (world_of new.world) new.held [] (added_by new)
+  giving-settled : (new : RoundState P g) → IsConsistent new → IsSettled new → IsGiving (setup_of new.world) (inputs_of new) (world_of new.world) new.held [] (added_by new)
   giving-settled new s settled = subst (λ (stage : Stage). IsStaged (setup_of new.world) (inputs_of new) (world_of new.world) new.held stage (added_by new)) settled.calm.idle s.staged
 
-  level-of : (new : RoundState P g) → Stands new → IsSettled new → IsLevel new
+  level-of : (new : RoundState P g) → IsConsistent new → IsSettled new → IsLevel new
   level-of new s settled = record {
     list = (giving-settled new s settled).list;
     level = λ k n found. at-end (length (world_of new.world).list) n (settled.level k n found) (settled.within k n found);
     holds = λ k s found. (new.world.holding k s found).holds;
   }
 
-  pub run-is : (old new : RoundState P g) (inputs : List Input) (before after : List Out) (r : Result (Unit {0}) RoundFault) → 0 < (setup_of new.world).config.limits.batch → Stands new → Runs old inputs before after new r → IsRun old inputs before after new r
+  pub run-is : (old new : RoundState P g) (inputs : List Input) (before after : List Out) (r : Result (Unit {0}) RoundFault) → 0 < (setup_of new.world).config.limits.batch → IsConsistent new → Runs old inputs before after new r → IsRun old inputs before after new r
   run-is old new inputs before after (Ok tt) batch s runs = (
     adds-of old new before after batch s runs.0,
     ap (map read_input) runs.1 ∙ map-append read_input old.inputs inputs,

@@ -7,7 +7,7 @@ use Rattle.bx_entry.specs.declared.Placing.{Ghosts}
 use Rattle.bx_entry.specs.Placings.{Setup}
 use Rattle.bx_world.specs.Words.{setup_of, world_of, WorldState}
 use Rattle.bx_world.specs.declared.world.World.{World}
-use Rattle.bx_fanout.specs.Words.{Row, IsDone, Stands, IsGiving, own, seen_out}
+use Rattle.bx_fanout.specs.Words.{Row, IsDone, IsConsistent, IsGiving, own, seen_out}
 use Rattle.bx_fanout.specs.Runs as state
 use Rattle.bx_fanout.specs.declared.round_state.RoundState.{RoundState}
 use Rattle.bx_fanout.proofs.Finishing.{giving-at, giving-same, staged-at, staged-same}
@@ -22,18 +22,18 @@ each-same (suc n) m zero i found = sym (same_Some m i found)
 each-same (suc n) m (suc k) i found = each-same n m k i found
 
 module _ {P : Type 0} {g : Ghosts P} where
-  pub stands-over : (p : RoundState P g) (v : World P g) → setup_of v ≡ setup_of p.world → (world_of v).list ≡ (world_of p.world).list → (world_of v).taken ≡ (world_of p.world).taken → Stands p → Stands (record p { world = v })
-  stands-over p v setup list taken i = record {
+  pub consistent-over : (p : RoundState P g) (v : World P g) → setup_of v ≡ setup_of p.world → (world_of v).list ≡ (world_of p.world).list → (world_of v).taken ≡ (world_of p.world).taken → IsConsistent p → IsConsistent (record p { world = v })
+  consistent-over p v setup list taken i = record {
     counted = i.counted;
     staged = staged-same (setup_of v) (setup_of p.world) (map read_input p.inputs) (world_of p.world) (world_of v) p.held p.stage (map seen_out p.added) setup list taken i.staged;
   }
 
-  giving-done : (p : RoundState P g) → IsDone p → Stands p → IsGiving (setup_of p.world) (map read_input p.inputs) (world_of p.world) p.held (map seen_out (own p.stage)) (map seen_out p.added)
+  giving-done : (p : RoundState P g) → IsDone p → IsConsistent p → IsGiving (setup_of p.world) (map read_input p.inputs) (world_of p.world) p.held (map seen_out (own p.stage)) (map seen_out p.added)
   giving-done p done i = giving-at (setup_of p.world) (map read_input p.inputs) (world_of p.world) p.held p.stage (map seen_out p.added) done.none i.staged
 
-  pub stands-intake : (p : RoundState P g) (v : World P g) (shards : ℕ) (placing : ℕ → ℕ → ℕ) → setup_of v ≡ record (setup_of p.world) { shards = shards; placing = placing } →
-      (world_of v).list ≡ (world_of p.world).list → (world_of v).taken ≡ (world_of p.world).taken → IsDone p → Stands p → Stands (record p { world = v })
-  stands-intake p v shards placing setup list taken done i =
+  pub consistent-intake : (p : RoundState P g) (v : World P g) (shards : ℕ) (placing : ℕ → ℕ → ℕ) → setup_of v ≡ record (setup_of p.world) { shards = shards; placing = placing } →
+      (world_of v).list ≡ (world_of p.world).list → (world_of v).taken ≡ (world_of p.world).taken → IsDone p → IsConsistent p → IsConsistent (record p { world = v })
+  consistent-intake p v shards placing setup list taken done i =
       let inputs : List ReadInput = map read_input p.inputs in
       let left : List runs.Out = map seen_out (own p.stage) in
       record {
@@ -43,7 +43,7 @@ module _ {P : Type 0} {g : Ghosts P} where
             (giving-intake (setup_of p.world) shards placing inputs (world_of p.world) p.held left (map seen_out p.added) (giving-done p done i)));
       }
 
-  pub level-intake : (p : RoundState P g) (v : World P g) (shards : ℕ) → (world_of v).list ≡ (world_of p.world).list → (world_of v).applied ≡ replicate shards (length (world_of p.world).list) → IsDone p → Stands p →
+  pub level-intake : (p : RoundState P g) (v : World P g) (shards : ℕ) → (world_of v).list ≡ (world_of p.world).list → (world_of v).applied ≡ replicate shards (length (world_of p.world).list) → IsDone p → IsConsistent p →
       state.IsLevel (record p { world = v })
   level-intake p v shards list applied done i = record {
     list = list ∙ (giving-done p done i).list;

@@ -15,7 +15,7 @@ use Rattle.bx_entry.specs.Placings.{Setup}
 use Rattle.bx_world.specs.Words.{EachSlot, IsSlot, IsTicket, slot_at, WorldState}
 use Rattle.bx_fanout.specs.HeldInputs.{Row}
 use Rattle.bx_fanout.specs.CurrentInputs.{AreAnswers}
-use Rattle.bx_fanout.specs.RoundStates.{Stands}
+use Rattle.bx_fanout.specs.RoundStates.{IsConsistent}
 use Rattle.bx_fanout.specs.Stages.{IsCollecting, IsTakenIn, IsStaged}
 use Rattle.bx_fanout.specs.declared.{current_input.CurrentInput.CurrentInput, stage.Stage.Stage, round_state.RoundState.RoundState}
 use Rattle.bx_fanout.specs.declared.stage.Stage.TheVariants.{Collecting, Complete, Idle}
@@ -86,5 +86,5 @@ staged-prop setup inputs w rows Idle added = hlevel props
 staged-prop setup inputs w rows (Collecting n) added = intake-prop setup inputs w rows n added
 staged-prop setup inputs w rows (Complete n) added = hlevel props
 
-pub stands-prop : {P : Type 0} {g : Ghosts P} (p : RoundState P g) → IsProp (Stands p)
-stands-prop p = hlevel (staged-prop, props)
+pub consistent-prop : {P : Type 0} {g : Ghosts P} (p : RoundState P g) → IsProp (IsConsistent p)
+consistent-prop p = hlevel (staged-prop, props)

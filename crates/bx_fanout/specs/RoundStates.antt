@@ -11,7 +11,7 @@ use Rattle.bx_fanout.specs.declared.stage.Stage.TheVariants.{Idle}
 
 module _ {P : Type 0} {g : Ghosts P} where
   -- The invariant: `intake` counts the inputs, and the stage is that of the last one.
-  pub record Stands (p : RoundState P g) : Type 0 where
+  pub record IsConsistent (p : RoundState P g) : Type 0 where
     pub counted : p.intake ≡ length p.inputs
     pub staged : IsStaged (setup_of p.world) (map read_input p.inputs) (world_of p.world) p.held p.stage (map seen_out p.added)
 

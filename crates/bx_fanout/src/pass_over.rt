@@ -1,6 +1,6 @@
 //! Completing an input without the shards, which apply its entries later.
 ghost use Rattle.std.specs.Prelude.{◌≡◌, IsTrue, false, IfOk};
-ghost use Rattle.bx_fanout.specs.RoundStates.{IsCalm, IsSettled, Stands};
+ghost use Rattle.bx_fanout.specs.RoundStates.{IsCalm, IsSettled, IsConsistent};
 ghost use Rattle.bx_fanout.specs.Stages.{is_collecting};
 ghost use Rattle.bx_world.specs.Seen.{setup_of};
 
@@ -31,8 +31,8 @@ pub(crate) fn pass_over<P: Placing>(
     alloc: Global,
     state: &mut RoundState<P>,
 ) -> Result<bool, AllocError>
-    requires stands { Stands state.old }
-    ensures stands { Stands state.new }
+    requires consistent { IsConsistent state.old }
+    ensures consistent { IsConsistent state.new }
     ensures done { IfOk result (λ done. IsTrue done → is_collecting state.new.stage ≡ false) }
     ensures inputs { state.new.inputs ≡ state.old.inputs }
     ensures added { state.new.added ≡ state.old.added }
@@ -75,9 +75,9 @@ pub(crate) fn catch_up<R: Threads + Sync, G: Gate + Sync, P: Placing + Send + Sy
     workers: WorkerCount,
     state: &mut RoundState<P>,
 ) -> Result<(), AllocError>
-    requires stands { Stands state.old }
+    requires consistent { IsConsistent state.old }
     requires calm { IsCalm state.old }
-    ensures stands { Stands state.new }
+    ensures consistent { IsConsistent state.new }
     ensures settled { IfOk result (λ _. IsSettled state.new) }
     ensures inputs { state.new.inputs ≡ state.old.inputs }
     ensures added { state.new.added ≡ state.old.added }

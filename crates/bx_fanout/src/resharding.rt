@@ -1,7 +1,7 @@
 //! Changing the number of shards.
 ghost use Rattle.std.specs.Prelude.{◌≡◌, MatchResult, IfOk};
 ghost use Rattle.std.specs.Arc.{arc_value};
-ghost use Rattle.bx_fanout.specs.RoundStates.{IsDone, Stands};
+ghost use Rattle.bx_fanout.specs.RoundStates.{IsDone, IsConsistent};
 ghost use Rattle.bx_fanout.specs.Runs as runs;
 ghost use Rattle.bx_world.specs.Seen.{setup_of};
 
@@ -25,9 +25,9 @@ pub(crate) fn redistribute<P: Placing + Drop>(
     shards: ShardCount,
     placing: Arc<P>,
 ) -> Result<RoundState<P>, (RoundState<P>, AllocError)>
-    requires stands { Stands state }
+    requires consistent { IsConsistent state }
     requires done { IsDone state }
-    ensures stands { MatchResult result (λ p. Stands p) (λ e. Stands e.0) }
+    ensures consistent { MatchResult result (λ p. IsConsistent p) (λ e. IsConsistent e.0) }
     ensures inputs { MatchResult result (λ p. p.inputs ≡ state.inputs) (λ e. e.0.inputs ≡ state.inputs) }
     ensures added { MatchResult result (λ p. p.added ≡ state.added) (λ e. e.0.added ≡ state.added) }
     ensures setup { MatchResult result

@@ -1,6 +1,6 @@
 //! A round: inputs answered in order, over several runs.
-ghost use Rattle.bx_fanout.specs.RoundStates.{Stands};
-ghost use Rattle.bx_fanout.specs.Props.{stands-prop};
+ghost use Rattle.bx_fanout.specs.RoundStates.{IsConsistent};
+ghost use Rattle.bx_fanout.specs.Props.{consistent-prop};
 
 use crate::out::{Out, RoundFault};
 use crate::resharding::redistribute;
@@ -24,7 +24,7 @@ use std::thread::Threads;
 pub struct Round<P: Placing> {
     state: RoundState<P>,
     workers: WorkerCount,
-    ghost stands: { Stands state } by { stands-prop state },
+    ghost consistent: { IsConsistent state } by { consistent-prop state },
 }
 
 impl<P: Placing> Round<P> {

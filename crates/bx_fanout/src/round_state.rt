@@ -1,7 +1,7 @@
 //! The state of a round, and the steps of a run.
 ghost use Rattle.std.specs.Prelude.{ℕ, ◌≡◌, ◌+◌, ◌++◌, ◌≤◌, ◌<◌, ◌^◌, ◌⊎◌, [], ◌∷◌, false, length, slice_get, Some, IfOk, OnErr, OnOk};
 ghost use Rattle.bx_fanout.specs.CurrentInputs.{IsLevel};
-ghost use Rattle.bx_fanout.specs.RoundStates.{AddsOuts, IsCalm, IsDone, Stands};
+ghost use Rattle.bx_fanout.specs.RoundStates.{AddsOuts, IsCalm, IsDone, IsConsistent};
 ghost use Rattle.bx_fanout.specs.Stages.{is_collecting};
 ghost use Rattle.std.specs.Arc.{arc_value};
 ghost use Rattle.bx_entry.specs.Placings.{placed_by};
@@ -50,7 +50,7 @@ pub(crate) fn new_state<P: Placing + Drop>(
     config: Config,
     placing: Arc<P>,
 ) -> Result<RoundState<P>, AllocError>
-    ensures stands { IfOk result (λ p. Stands p) }
+    ensures consistent { IfOk result (λ p. IsConsistent p) }
     ensures inputs { IfOk result (λ p. p.inputs ≡ []) }
     ensures added { IfOk result (λ p. p.added ≡ []) }
     ensures setup { IfOk result (λ p. setup_of p.world ≡ placed_by config config.shards (P.place_of (arc_value placing))) }
@@ -79,8 +79,8 @@ pub(crate) fn finish<R: Threads + Sync, G: Gate + Sync, P: Placing + Send + Sync
     workers: WorkerCount,
     state: &mut RoundState<P>,
 ) -> Result<(), AllocError>
-    requires stands { Stands state.old }
-    ensures stands { Stands state.new }
+    requires consistent { IsConsistent state.old }
+    ensures consistent { IsConsistent state.new }
     ensures done { IfOk result (λ _. IsDone state.new) }
     ensures inputs { state.new.inputs ≡ state.old.inputs }
     ensures added { state.new.added ≡ state.old.added }
@@ -136,10 +136,10 @@ pub(crate) fn collect_last<P: Placing>(
     alloc: Global,
     state: &mut RoundState<P>,
 ) -> Result<(), AllocError>
-    requires stands { Stands state.old }
+    requires consistent { IsConsistent state.old }
     requires level { IsLevel (world_of state.old.world) }
     requires within { (k n : ℕ) → slice_get (world_of state.old.world).applied k ≡ Some n → n ≤ length (world_of state.old.world).list }
-    ensures stands { Stands state.new }
+    ensures consistent { IsConsistent state.new }
     ensures done { IfOk result (λ _. IsDone state.new) }
     ensures inputs { state.new.inputs ≡ state.old.inputs }
     ensures added { state.new.added ≡ state.old.added }
@@ -180,9 +180,9 @@ pub(crate) fn add_outs<P: Placing>(
     state: &mut RoundState<P>,
     outs: &mut Vec<Out>,
 ) -> Result<(), AllocError>
-    requires stands { Stands state.old }
+    requires consistent { IsConsistent state.old }
     requires done { is_collecting state.old.stage ≡ false }
-    ensures stands { Stands state.new }
+    ensures consistent { IsConsistent state.new }
     ensures calm { IfOk result (λ _. IsCalm state.new) }
     ensures adds { AddsOuts state.old outs.old.items outs.new.items state.new }
     ensures inputs { state.new.inputs ≡ state.old.inputs }
@@ -208,8 +208,8 @@ pub(crate) fn settle<R: Threads + Sync, G: Gate + Sync, P: Placing + Send + Sync
     state: &mut RoundState<P>,
     outs: &mut Vec<Out>,
 ) -> Result<(), AllocError>
-    requires stands { Stands state.old }
-    ensures stands { Stands state.new }
+    requires consistent { IsConsistent state.old }
+    ensures consistent { IsConsistent state.new }
     ensures calm { IfOk result (λ _. IsCalm state.new) }
     ensures adds { AddsOuts state.old outs.old.items outs.new.items state.new }
     ensures inputs { state.new.inputs ≡ state.old.inputs }
@@ -232,10 +232,10 @@ pub(crate) fn take_in_next<P: Placing>(
     state: &mut RoundState<P>,
     input: &Input,
 ) -> Result<(), AllocError>
-    requires stands { Stands state.old }
+    requires consistent { IsConsistent state.old }
     requires calm { IsCalm state.old }
     requires few { length state.old.inputs < 2 ^ 62 }
-    ensures stands { Stands state.new }
+    ensures consistent { IsConsistent state.new }
     ensures inputs { OnOk result (state.new.inputs ≡ state.old.inputs ++ input.now ∷ []) }
     ensures same { OnErr result (state.new.inputs ≡ state.old.inputs) }
     ensures added { state.new.added ≡ state.old.added }

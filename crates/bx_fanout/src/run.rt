@@ -1,5 +1,5 @@
 //! One run of a round.
-ghost use Rattle.bx_fanout.specs.RoundStates.{Stands};
+ghost use Rattle.bx_fanout.specs.RoundStates.{IsConsistent};
 ghost use Rattle.bx_fanout.specs.Runs.{Runs};
 ghost use Rattle.std.specs.Prelude.{◌+◌, ◌≤◌, ◌^◌, length};
 
@@ -27,9 +27,9 @@ pub(crate) fn run<R: Threads + Sync, G: Gate + Sync, P: Placing + Send + Sync>(
     inputs: &[Input],
     outs: &mut Vec<Out>,
 ) -> Result<(), RoundFault>
-    requires stands { Stands state.old }
+    requires consistent { IsConsistent state.old }
     requires few { length state.old.inputs + length inputs.now ≤ 2 ^ 62 }
-    ensures stands { Stands state.new }
+    ensures consistent { IsConsistent state.new }
     ensures runs { Runs state.old inputs.now outs.old.items outs.new.items state.new result }
 {
     if settle(rt, alloc, gate, workers, state, outs).is_err() {

@@ -4,7 +4,7 @@ use Rattle.std.specs.Fmt.{digits}
 use Rattle.json.specs.Print.{escape_byte}
 use Rattle.bx_message.specs.Events.{event_size}
 use Rattle.bx_entry.specs.Windows.{bytes_of, has_room}
-use Rattle.bx_laws.specs.Worked.{EventsRide, RideBehindHold, NothingRides, NothingRidesBehindRefused, NothingRidesBehindSessionless, NothingRidesBehindHandshake, NothingRidesBehindTwo, SessionlessPublish, SessionlessRefused, NamesRead, PatternsRead, StarsMatch, DoubleStarsMatch, AllMatch, PlainMatch, RefusedHandshake, HeldThenGiven, HandshakeWithId, NothingPosted, NoNumber, BatchesRepeat, GreatNumber, MatchedTwice, HoldRunsOut, SessionExpires, GoneWithinARequest, NotSole, Superseded, SupersededHeld, MomentsRise, TwoHandshakes, HoldEndsWithSession, EventIsBatch, EventIsBatchHeld, FullQueue, QueueWithRoom, FullWithBatch, HeldThroughOverflow, LengthsRead, EachRefusal, ServicePublish, HoldExtends, OverflowAt1025, FourFullBatches, HandshakeText, RefusedText, BatchText, CallbackExample, EmptyCallback, Unreadable, SenderBytes, UnknownType, ManyPatterns, DeliveryText, GoneText, SupersededText, OverflowText, SecondText, EndedText, RefusalsText, RefusedMovesClock, EmptyKeepsClock, RefusedKeepsDue, HoldBeforeEnd, EndedWithNumber, SupersededWithoutNumber, MixedArrays, FullServer, OverflowOutlivesPatterns, ServicePatternsAside, ScriptLines, LineForms, NonceForms, NoteForms, NoncesWait, ScriptPrinted, NoncePrinted, NotePrinted}
+use Rattle.bx_laws.specs.Worked.{EventsRide, RideAfterHold, NothingRides, NothingRidesAfterRefused, NothingRidesAfterSessionless, NothingRidesAfterHandshake, NothingRidesAfterTwo, SessionlessPublish, SessionlessRefused, NamesRead, PatternsRead, StarsMatch, DoubleStarsMatch, AllMatch, PlainMatch, RefusedHandshake, HeldThenGiven, HandshakeWithId, NothingPosted, NoNumber, BatchesRepeat, GreatNumber, MatchedTwice, HoldRunsOut, SessionExpires, GoneWithinARequest, NotSole, Superseded, SupersededHeld, MomentsRise, TwoHandshakes, HoldEndsWithSession, EventIsBatch, EventIsBatchHeld, FullQueue, QueueWithRoom, FullWithBatch, HeldThroughOverflow, LengthsRead, EachRefusal, ServicePublish, HoldExtends, OverflowAt1025, FourFullBatches, HandshakeText, RefusedText, BatchText, CallbackExample, EmptyCallback, Unreadable, SenderBytes, UnknownType, ManyPatterns, DeliveryText, GoneText, SupersededText, OverflowText, SecondText, EndedText, RefusalsText, RefusedMovesClock, EmptyKeepsClock, RefusedKeepsDue, HoldBeforeEnd, EndedWithNumber, SupersededWithoutNumber, MixedArrays, FullServer, OverflowOutlivesPatterns, ServicePatternsAside, ScriptLines, LineForms, NonceForms, NoteForms, NoncesWait, ScriptPrinted, NoncePrinted, NotePrinted}
 
 pub names_read : NamesRead
 names_read = refl
@@ -252,26 +252,26 @@ pub events_ride : EventsRide
 unfolding has_room bytes_of event_size escape_byte
 events_ride = refl
 
-pub ride_behind_hold : RideBehindHold
+pub ride_after_hold : RideAfterHold
 unfolding has_room bytes_of event_size escape_byte
-ride_behind_hold = refl
+ride_after_hold = refl
 
 pub nothing_rides : NothingRides
 unfolding has_room bytes_of event_size escape_byte
 nothing_rides = refl
 
-pub nothing_rides_behind_refused : NothingRidesBehindRefused
+pub nothing_rides_after_refused : NothingRidesAfterRefused
 unfolding has_room bytes_of event_size escape_byte
-nothing_rides_behind_refused = refl
+nothing_rides_after_refused = refl
 
-pub nothing_rides_behind_sessionless : NothingRidesBehindSessionless
+pub nothing_rides_after_sessionless : NothingRidesAfterSessionless
 unfolding has_room bytes_of event_size escape_byte
-nothing_rides_behind_sessionless = refl
+nothing_rides_after_sessionless = refl
 
-pub nothing_rides_behind_handshake : NothingRidesBehindHandshake
+pub nothing_rides_after_handshake : NothingRidesAfterHandshake
 unfolding has_room bytes_of event_size escape_byte
-nothing_rides_behind_handshake = refl
+nothing_rides_after_handshake = refl
 
-pub nothing_rides_behind_two : NothingRidesBehindTwo
+pub nothing_rides_after_two : NothingRidesAfterTwo
 unfolding has_room bytes_of event_size escape_byte
-nothing_rides_behind_two = refl
+nothing_rides_after_two = refl

@@ -225,13 +225,13 @@ ridden_hold =
 
 -- A request with `ms` and then a publish of session 1, which is subscribed, and after that request
 -- a connect of session 1.
-abbrev pub ridden_behind : List Message → List ReadInput
-ridden_behind ms =
+abbrev pub ridden_after : List Message → List ReadInput
+ridden_after ms =
     post 0 (handshake ∷ []) ∷ post 0 (handshake ∷ []) ∷ post 0 (subscribe 1 (codes "/a/*") ∷ [])
     ∷ post 0 (ms ++ publish 1 (codes "/a/x") (codes "1") ∷ []) ∷ post 0 (connect_now 1 ∷ []) ∷ []
 
 -- The outs if the event of that publish waits for the connect.
-abbrev pub waits_behind : List Item → List Out
-waits_behind items =
+abbrev pub waits_after : List Item → List Out
+waits_after items =
     out 0 (handshaken 1 ∷ []) ∷ out 1 (handshaken 2 ∷ []) ∷ out 2 (subscribed 1 (codes "/a/*") ∷ [])
     ∷ out 3 (items ++ published (codes "/a/x") ∷ []) ∷ out 4 (event (codes "/a/x") (codes "1") ∷ connected 1 ∷ []) ∷ []

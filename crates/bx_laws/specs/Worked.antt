@@ -15,7 +15,7 @@ use Rattle.bx_entry.specs.declared.input.Refusal.TheVariants.{Body}
 use Rattle.bx_entry.specs.declared.input.BodyError.TheVariants.{NotJson}
 use Rattle.bx_advice.specs.declared.error.Error.TheVariants.{UnknownConnectionType, InvalidPattern, TooManyPatterns}
 use Rattle.bx_message.specs.Texts.{callback_text}
-use Rattle.bx_laws.specs.Samples.{ack_connect, blank, id_of, versioned, handshake, ack_handshake, connect, connect_now, ack_connect_now, in_quotes, subscribe, unsubscribe, disconnect, publish, post, standard, reply, handshaken, ack_handshaken, connected_as, connected, ack_connected, subscribed, unsubscribed, disconnected, published, unknown_client, event, out, subscribe_all, subscribed_all, match_all, two_connects, held_with_ack, small, failed, four_batches, full_batch, texts, refused_messages, mixed, mixed_failed, crowded, anonymous, open_to_all, ridden_publishes, ridden_hold, ridden_behind, waits_behind, riding}
+use Rattle.bx_laws.specs.Samples.{ack_connect, blank, id_of, versioned, handshake, ack_handshake, connect, connect_now, ack_connect_now, in_quotes, subscribe, unsubscribe, disconnect, publish, post, standard, reply, handshaken, ack_handshaken, connected_as, connected, ack_connected, subscribed, unsubscribed, disconnected, published, unknown_client, event, out, subscribe_all, subscribed_all, match_all, two_connects, held_with_ack, small, failed, four_batches, full_batch, texts, refused_messages, mixed, mixed_failed, crowded, anonymous, open_to_all, ridden_publishes, ridden_hold, ridden_after, waits_after, riding}
 use Rattle.bx_advice.specs.declared.error.Error.TheVariants.{TooManySessions}
 use Rattle.std.specs.Prelude.{◌++◌, map}
 use Rattle.bx_script.specs.Replay.{lines_of, line_of, Bad, Recorded, Rejected, Accepted, Resharded, Announced, Noted, Script, inputs_from, printed, with_nonces}
@@ -156,8 +156,8 @@ EventsRide =
     ∷ out 9 (disconnected 1 ∷ []) ∷ []
 
 -- The first event answers the held connect. The next one is sent with the rider's reply.
-abbrev pub RideBehindHold : Type 0
-RideBehindHold =
+abbrev pub RideAfterHold : Type 0
+RideAfterHold =
     outs riding ridden_hold
     ≡ out 0 (handshaken 1 ∷ []) ∷ out 1 (subscribed 1 (codes "/a/*") ∷ [])
     ∷ out 2 (event (codes "/a/x") (codes "1") ∷ connected 1 ∷ [])
@@ -176,24 +176,24 @@ NothingRides =
     ∷ out 9 (disconnected 1 ∷ []) ∷ []
 
 -- A request with a rejected message has no rider.
-abbrev pub NothingRidesBehindRefused : Type 0
-NothingRidesBehindRefused =
-    outs riding (ridden_behind (publish 1 (codes "/a/*") (codes "0") ∷ [])) ≡ waits_behind (failed MessageKind.Publish (codes "/a/*") None InvalidChannel ∷ [])
+abbrev pub NothingRidesAfterRefused : Type 0
+NothingRidesAfterRefused =
+    outs riding (ridden_after (publish 1 (codes "/a/*") (codes "0") ∷ [])) ≡ waits_after (failed MessageKind.Publish (codes "/a/*") None InvalidChannel ∷ [])
 
 -- A request with a sessionless publish has no rider.
-abbrev pub NothingRidesBehindSessionless : Type 0
-NothingRidesBehindSessionless =
-    outs riding (ridden_behind (anonymous (codes "/b") (codes "0") ∷ [])) ≡ waits_behind (published (codes "/b") ∷ [])
+abbrev pub NothingRidesAfterSessionless : Type 0
+NothingRidesAfterSessionless =
+    outs riding (ridden_after (anonymous (codes "/b") (codes "0") ∷ [])) ≡ waits_after (published (codes "/b") ∷ [])
 
 -- A request with a handshake has no rider.
-abbrev pub NothingRidesBehindHandshake : Type 0
-NothingRidesBehindHandshake =
-    outs riding (ridden_behind (handshake ∷ [])) ≡ waits_behind (handshaken 3 ∷ [])
+abbrev pub NothingRidesAfterHandshake : Type 0
+NothingRidesAfterHandshake =
+    outs riding (ridden_after (handshake ∷ [])) ≡ waits_after (handshaken 3 ∷ [])
 
 -- A request has no rider if another session's message is between two of one session.
-abbrev pub NothingRidesBehindTwo : Type 0
-NothingRidesBehindTwo =
-    outs riding (ridden_behind (publish 1 (codes "/b") (codes "0") ∷ publish 2 (codes "/b") (codes "0") ∷ [])) ≡ waits_behind (published (codes "/b") ∷ published (codes "/b") ∷ [])
+abbrev pub NothingRidesAfterTwo : Type 0
+NothingRidesAfterTwo =
+    outs riding (ridden_after (publish 1 (codes "/b") (codes "0") ∷ publish 2 (codes "/b") (codes "0") ∷ [])) ≡ waits_after (published (codes "/b") ∷ published (codes "/b") ∷ [])
 
 -- ---- Batches
 

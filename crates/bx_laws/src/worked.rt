@@ -1,5 +1,5 @@
 //! Worked runs of the definitions, each computed by the prover.
-ghost use Rattle.bx_laws.specs.Worked.{EventsRide, RideBehindHold, NothingRides, NothingRidesBehindRefused, NothingRidesBehindSessionless, NothingRidesBehindHandshake, NothingRidesBehindTwo, SessionlessPublish, SessionlessRefused, NamesRead, LengthsRead, PatternsRead, StarsMatch, DoubleStarsMatch, AllMatch, PlainMatch, HandshakeWithId, RefusedHandshake, TwoHandshakes, NothingPosted, Unreadable, HeldThenGiven, MatchedTwice, ServicePublish, SenderBytes, NoNumber, BatchesRepeat, GreatNumber, EventIsBatch, EventIsBatchHeld, HoldRunsOut, NotSole, Superseded, SupersededHeld, HoldEndsWithSession, HoldExtends, MomentsRise, SessionExpires, GoneWithinARequest, EachRefusal, UnknownType, ManyPatterns, FullQueue, QueueWithRoom, FullWithBatch, HeldThroughOverflow, OverflowAt1025, FourFullBatches, HandshakeText, RefusedText, BatchText, DeliveryText, CallbackExample, EmptyCallback, GoneText, SupersededText, OverflowText, SecondText, EndedText, RefusalsText, RefusedMovesClock, EmptyKeepsClock, RefusedKeepsDue, HoldBeforeEnd, EndedWithNumber, SupersededWithoutNumber, MixedArrays, FullServer, OverflowOutlivesPatterns, ServicePatternsAside, ScriptLines, LineForms, NonceForms, NoteForms, NoncesWait, ScriptPrinted, NoncePrinted, NotePrinted};
+ghost use Rattle.bx_laws.specs.Worked.{EventsRide, RideAfterHold, NothingRides, NothingRidesAfterRefused, NothingRidesAfterSessionless, NothingRidesAfterHandshake, NothingRidesAfterTwo, SessionlessPublish, SessionlessRefused, NamesRead, LengthsRead, PatternsRead, StarsMatch, DoubleStarsMatch, AllMatch, PlainMatch, HandshakeWithId, RefusedHandshake, TwoHandshakes, NothingPosted, Unreadable, HeldThenGiven, MatchedTwice, ServicePublish, SenderBytes, NoNumber, BatchesRepeat, GreatNumber, EventIsBatch, EventIsBatchHeld, HoldRunsOut, NotSole, Superseded, SupersededHeld, HoldEndsWithSession, HoldExtends, MomentsRise, SessionExpires, GoneWithinARequest, EachRefusal, UnknownType, ManyPatterns, FullQueue, QueueWithRoom, FullWithBatch, HeldThroughOverflow, OverflowAt1025, FourFullBatches, HandshakeText, RefusedText, BatchText, DeliveryText, CallbackExample, EmptyCallback, GoneText, SupersededText, OverflowText, SecondText, EndedText, RefusalsText, RefusedMovesClock, EmptyKeepsClock, RefusedKeepsDue, HoldBeforeEnd, EndedWithNumber, SupersededWithoutNumber, MixedArrays, FullServer, OverflowOutlivesPatterns, ServicePatternsAside, ScriptLines, LineForms, NonceForms, NoteForms, NoncesWait, ScriptPrinted, NoncePrinted, NotePrinted};
 
 /// Shows which texts are names and patterns, and what patterns match.
 pub fn channels()
@@ -34,12 +34,12 @@ pub fn deliveries()
 /// Shows riders, which are messages with replies that carry waiting events.
 pub fn riders()
     ensures events_ride { EventsRide }
-    ensures ride_behind_hold { RideBehindHold }
+    ensures ride_after_hold { RideAfterHold }
     ensures nothing_rides { NothingRides }
-    ensures nothing_rides_behind_refused { NothingRidesBehindRefused }
-    ensures nothing_rides_behind_sessionless { NothingRidesBehindSessionless }
-    ensures nothing_rides_behind_handshake { NothingRidesBehindHandshake }
-    ensures nothing_rides_behind_two { NothingRidesBehindTwo }
+    ensures nothing_rides_after_refused { NothingRidesAfterRefused }
+    ensures nothing_rides_after_sessionless { NothingRidesAfterSessionless }
+    ensures nothing_rides_after_handshake { NothingRidesAfterHandshake }
+    ensures nothing_rides_after_two { NothingRidesAfterTwo }
 {}
 
 /// Shows batches and acknowledgements.

@@ -102,8 +102,8 @@ impl LoadSettings {
     /// - `Ack`, `Rate`: an optional argument is wrong.
     /// - `Count`: there are more than seven arguments.
     /// - `Memory`: memory ran out.
-    pub fn read(alloc: Global, words: &[String]) -> Result<LoadSettings, SettingsFault> {
-        let [url, sessions, channels, publishers, events, options @ ..] = words else {
+    pub fn read(alloc: Global, args: &[String]) -> Result<LoadSettings, SettingsFault> {
+        let [url, sessions, channels, publishers, events, options @ ..] = args else {
             return Err(SettingsFault::Count);
         };
         let (host, path) = place_of(url.as_str()).ok_or(SettingsFault::Url)?;
@@ -129,10 +129,10 @@ impl LoadSettings {
 }
 
 // Parses the optional arguments: the rate, or 0 without one, and whether the sessions acknowledge.
-fn options_of(words: &[String]) -> Result<(u32, bool), SettingsFault> {
-    match words {
+fn options_of(args: &[String]) -> Result<(u32, bool), SettingsFault> {
+    match args {
         [] => Ok((0, false)),
-        [word] if word.as_str() == "ack" => Ok((0, true)),
+        [arg] if arg.as_str() == "ack" => Ok((0, true)),
         [rate] => Ok((rate_of(rate)?, false)),
         [rate, ack] if ack.as_str() == "ack" => Ok((rate_of(rate)?, true)),
         [_, _] => Err(SettingsFault::Ack),
@@ -140,8 +140,8 @@ fn options_of(words: &[String]) -> Result<(u32, bool), SettingsFault> {
     }
 }
 
-fn rate_of(word: &String) -> Result<u32, SettingsFault> {
-    count_of(word.as_str()).ok_or(SettingsFault::Rate)
+fn rate_of(arg: &String) -> Result<u32, SettingsFault> {
+    count_of(arg.as_str()).ok_or(SettingsFault::Rate)
 }
 
 // Parses a positive number.

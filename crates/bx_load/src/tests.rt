@@ -6,16 +6,16 @@ use std::test::Fail;
 
 const RESPONSE: &[u8] = b"HTTP/1.1 200 OK\r\nContent-Length: 2\r\n\r\n[]";
 
-fn settings(alloc: Global, words: &str) -> Result<Result<LoadSettings, SettingsFault>, Fail> {
+fn settings(alloc: Global, args: &str) -> Result<Result<LoadSettings, SettingsFault>, Fail> {
     let mut all = Vec::new(alloc);
-    for word in words.split_whitespace() {
-        all.push(String::from_str(alloc, word)?)?;
+    for arg in args.split_whitespace() {
+        all.push(String::from_str(alloc, arg)?)?;
     }
     Ok(LoadSettings::read(alloc, all.as_slice()))
 }
 
 #[test]
-fn words_are_settings(rt: HostRuntime) -> Result<(), Fail> {
+fn arguments_are_settings(rt: HostRuntime) -> Result<(), Fail> {
     let read = settings(
         rt.alloc(),
         "http://127.0.0.1:8087/cometd 100 10 4 5000 250 ack",
@@ -34,7 +34,7 @@ fn words_are_settings(rt: HostRuntime) -> Result<(), Fail> {
 }
 
 #[test]
-fn the_first_wrong_word_is_named(rt: HostRuntime) -> Result<(), Fail> {
+fn the_first_wrong_argument_is_named(rt: HostRuntime) -> Result<(), Fail> {
     let named = [
         ("http://h/x 1 1 1", SettingsFault::Count),
         ("http://h/x 1 1 1 1 1 ack 1", SettingsFault::Count),
@@ -49,8 +49,8 @@ fn the_first_wrong_word_is_named(rt: HostRuntime) -> Result<(), Fail> {
         ("http://h/x 1 1 1 1 5 5", SettingsFault::Ack),
         ("http://h/x 1 1 1 1 ack 5", SettingsFault::Ack),
     ];
-    for (words, fault) in named {
-        assert_eq!(rt; settings(rt.alloc(), words)?.err(), Some(fault));
+    for (args, fault) in named {
+        assert_eq!(rt; settings(rt.alloc(), args)?.err(), Some(fault));
     }
     Ok(())
 }

@@ -17,7 +17,7 @@ use Rattle.bx_script.proofs.Cuts.{Lacks, after_it, before_it}
 use Rattle.bx_theory.specs.Lines.{inputs_in}
 use Rattle.bx_record.specs.Answers.{Given, IsSha256, Part, Taken, answer_text, part_text, record_with, taken_inputs}
 use Rattle.bx_record.specs.Laws.{AnswersAreSkipped, AnswersChangeNothing, CanStand, is_of_either, record_lines}
-use Rattle.bx_record.specs.Record.{asks_for_session, said_of}
+use Rattle.bx_record.specs.Record.{asks_for_session, as_recorded}
 use Rattle.bx_record.proofs.Digits.{lacks-append, moment_lacks, moment_reads}
 use Rattle.bx_record.proofs.ReadBack.{first_line, input_lines, inputs_at, inputs_by, said_all, said_by, said_lines}
 use Rattle.bx_record.proofs.Unused.{said_after, same_held, same_outs}
@@ -123,7 +123,7 @@ its_inputs number (Given place digest ∷ parts) = its_inputs (number + 1) parts
 its_inputs number (Taken (inputs.Tick moment) ∷ parts) = ap (λ (js : List ReadInput). Tick moment ∷ js) (its_inputs (number + 1) parts)
 its_inputs number (Taken (Post a) ∷ parts) =
     let input : ReadInput = read_input (Post a) in
-    inputs_by number a.nonce (said_of input) (flat_map said_part parts) (said_all (taken_inputs parts)) (λ k. its_inputs k parts) (asks_for_session input)
+    inputs_by number a.nonce (as_recorded input) (flat_map said_part parts) (said_all (taken_inputs parts)) (λ k. its_inputs k parts) (asks_for_session input)
 
 others_by : (nonce : ℕ) (input : ReadInput) (ls : List Line) → list_all is_of_either ls ≡ true → (b : Bool) → list_all is_of_either (said_by b nonce input ++ ls) ≡ true
 others_by nonce input ls rest true = rest
@@ -135,14 +135,14 @@ no_others (Given place digest ∷ parts) = no_others parts
 no_others (Taken (inputs.Tick moment) ∷ parts) = no_others parts
 no_others (Taken (Post a) ∷ parts) =
     let input : ReadInput = read_input (Post a) in
-    others_by a.nonce (said_of input) (flat_map said_part parts) (no_others parts) (asks_for_session input)
+    others_by a.nonce (as_recorded input) (flat_map said_part parts) (no_others parts) (asks_for_session input)
 
 pub nothing_changes : AnswersChangeNothing
 nothing_changes parts h =
     let same = all_parts parts h in
     let are : inputs_in (record_lines (record_with parts)) ≡ said_all (taken_inputs parts) = ap inputs_in same ∙ its_inputs 1 parts in
     let taken : List ReadInput = map read_input (taken_inputs parts) in
-    let said : inputs_in (record_lines (record_with parts)) ≡ map said_of taken = are ∙ said_after (taken_inputs parts) in
+    let said : inputs_in (record_lines (record_with parts)) ≡ map as_recorded taken = are ∙ said_after (taken_inputs parts) in
     record {
       inputs_are = are;
       nothing_else = ap (list_all is_of_either) same ∙ no_others parts;

@@ -11,7 +11,7 @@ use Rattle.bx_script.specs.Words.{Announced, Line, line_text, with_nonces}
 use Rattle.bx_script.proofs.Cuts.{Lacks}
 use Rattle.bx_theory.specs.Lines.{inputs_in}
 use Rattle.bx_record.specs.Answers.{Given, Part, Taken, part_text, record_with, taken_inputs}
-use Rattle.bx_record.specs.Record.{asks_for_session, command_of, nonce_digits, nonce_text, record_of, said_of}
+use Rattle.bx_record.specs.Record.{asks_for_session, command_of, nonce_digits, nonce_text, record_of, as_recorded}
 use Rattle.bx_record.specs.Laws.{AnswersBreakOff, CanRecord, CanStand, IsRecordable, RecordsBreakOff, ended_by, ended_lines, is_of_either, is_of_record, record_lines}
 use Rattle.bx_record.proofs.Answered.{part_lines, said_part, text_is}
 use Rattle.bx_record.proofs.Answered as answers
@@ -175,7 +175,7 @@ its_first number [] last (inr (nonce, e)) = ap (inputs_at number) e
 its_first number (Given place digest ∷ parts) last at_most = its_first (number + 1) parts last at_most
 its_first number (Taken (Tick moment) ∷ parts) last at_most = ap (λ (js : List ReadInput). read_input (Tick moment) ∷ js) (its_first (number + 1) parts last at_most)
 its_first number (Taken (Post a) ∷ parts) last at_most =
-    let input : ReadInput = said_of (read_input (Post a)) in
+    let input : ReadInput = as_recorded (read_input (Post a)) in
     ap (inputs_at number) (append_assoc (said_lines (Post a)) (flat_map said_part parts) last)
     ∙ inputs_by number a.nonce input (flat_map said_part parts ++ last) (said_all (taken_inputs parts)) (λ k. its_first k parts last at_most) (asks_for_session (read_input (Post a)))
 

@@ -22,7 +22,7 @@ use Rattle.bx_script.specs.Replay.{Documents, announces, body_by}
 use Rattle.bx_script.proofs.Cuts.{Lacks, after_it, before_it}
 use Rattle.bx_script.proofs.Script.{lines_are}
 use Rattle.bx_theory.specs.Lines.{inputs_in}
-use Rattle.bx_record.specs.Record.{asks_for_session, can_say, carrier_by, command_by, command_of, form_of, input_text, nonce_digits, nonce_text, record_of, said_of}
+use Rattle.bx_record.specs.Record.{asks_for_session, can_say, carrier_by, command_by, command_of, form_of, input_text, nonce_digits, nonce_text, record_of, as_recorded}
 use Rattle.bx_record.specs.Laws.{CanRecord, RecordsReadBack, is_of_record, recorded_lines}
 use Rattle.bx_record.proofs.Bytes.{arrival_utf8}
 use Rattle.bx_record.proofs.Carried.{carried, form_lacks}
@@ -99,7 +99,7 @@ said_by true nonce input = Announced nonce ∷ Accepted None input ∷ []
 said_by false nonce input = Accepted None input ∷ []
 
 abbrev pub said_lines : Input → List Line
-said_lines (Post a) = said_by (asks_for_session (read_input (Post a))) a.nonce (said_of (read_input (Post a)))
+said_lines (Post a) = said_by (asks_for_session (read_input (Post a))) a.nonce (as_recorded (read_input (Post a)))
 said_lines (inputs.Tick moment) = Accepted None (Tick moment) ∷ []
 
 documents_line : (m : ℕ) (ds : List (List ℕ)) (ms : List Message) (rest : List ℕ) → m < 2 ^ 64 → request_messages ds ≡ Ok ms → Says m (command_of ds) ds
@@ -127,7 +127,7 @@ input_lines (Post a) rest can = by_result (arrival_messages a) refl can.readable
     SameLines r =
         let input : ReadInput = read_by a.moment a.nonce r in
         with_nonces 0 (lines_in Recorded ((nonce_text (asks_for_session input) a.moment a.nonce ++ line_text a.moment (command_of (texts_of a.bodies))) ++ rest))
-        ≡ said_by (asks_for_session input) a.nonce (said_of input) ++ with_nonces 0 (lines_in Recorded rest)
+        ≡ said_by (asks_for_session input) a.nonce (as_recorded input) ++ with_nonces 0 (lines_in Recorded rest)
 
     by_result : (r : Result (List Message) BodyError) → arrival_messages a ≡ r → is_ok r ≡ true → SameLines (arrival_messages a)
     by_result (Err fault) e h = cc
@@ -143,7 +143,7 @@ all_lines [] h = refl
 all_lines (input ∷ inputs) h = input_lines input (record_of inputs) h.0 ∙ ap (λ ls. said_lines input ++ ls) (all_lines inputs h.1)
 
 abbrev pub said_all : List Input → List ReadInput
-said_all inputs = map (λ input. said_of (read_input input)) inputs
+said_all inputs = map (λ input. as_recorded (read_input input)) inputs
 
 abbrev pub inputs_at : ℕ → List Line → List ReadInput
 inputs_at number ls = map (λ (n : Numbered). n.input) (inputs_from number ls)
@@ -157,7 +157,7 @@ its_inputs number [] = refl
 its_inputs number (inputs.Tick moment ∷ inputs) = ap (λ (js : List ReadInput). Tick moment ∷ js) (its_inputs (number + 1) inputs)
 its_inputs number (Post a ∷ inputs) =
     let input : ReadInput = read_input (Post a) in
-    inputs_by number a.nonce (said_of input) (flat_map said_lines inputs) (said_all inputs) (λ k. its_inputs k inputs) (asks_for_session input)
+    inputs_by number a.nonce (as_recorded input) (flat_map said_lines inputs) (said_all inputs) (λ k. its_inputs k inputs) (asks_for_session input)
 
 others_by : (nonce : ℕ) (input : ReadInput) (ls : List Line) → list_all is_of_record ls ≡ true → (b : Bool) → list_all is_of_record (said_by b nonce input ++ ls) ≡ true
 others_by nonce input ls rest true = rest
@@ -168,7 +168,7 @@ no_others [] = refl
 no_others (inputs.Tick moment ∷ inputs) = no_others inputs
 no_others (Post a ∷ inputs) =
     let input : ReadInput = read_input (Post a) in
-    others_by a.nonce (said_of input) (flat_map said_lines inputs) (no_others inputs) (asks_for_session input)
+    others_by a.nonce (as_recorded input) (flat_map said_lines inputs) (no_others inputs) (asks_for_session input)
 
 pub records : RecordsReadBack
 records inputs h =

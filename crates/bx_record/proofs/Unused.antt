@@ -18,7 +18,7 @@ use Rattle.bx_entry.specs.Runs.{Intake, Taking, Whole, has_place, held, latest, 
 use Rattle.bx_entry.proofs.RequestLemmas.{length-listed}
 use Rattle.bx_script.specs.Words.{with_nonce}
 use Rattle.bx_record.specs.Laws.{RecordsAnswerAlike}
-use Rattle.bx_record.specs.Record.{asks_for_session, said_of}
+use Rattle.bx_record.specs.Record.{asks_for_session, as_recorded}
 use Rattle.bx_record.proofs.ReadBack.{records}
 
 -- ---- One message
@@ -75,10 +75,10 @@ same_request config moment nonce other sole seen (m ∷ ms) r h =
 
 -- ---- One input
 
-said_as : (P : ReadInput → Type 0) (input : ReadInput) → P input → P (with_nonce 0 input) → P (said_of input)
+said_as : (P : ReadInput → Type 0) (input : ReadInput) → P input → P (with_nonce 0 input) → P (as_recorded input)
 said_as P input here there = cond_both (asks_for_session input) input (with_nonce 0 input) P (λ _. here) (λ _. there)
 
-same_added : (config : Config) (r : Registry) (input : ReadInput) → fold (judge config) r (added_by (said_of input)) ≡ fold (judge config) r (added_by input)
+same_added : (config : Config) (r : Registry) (input : ReadInput) → fold (judge config) r (added_by (as_recorded input)) ≡ fold (judge config) r (added_by input)
 same_added config r (Unread fault) = refl
 same_added config r (Tick moment) = refl
 same_added config r (Request moment nonce ms) = by_test (list_any is_handshake ms) refl
@@ -92,7 +92,7 @@ length_without (Request moment nonce ms) = length-listed moment 0 (length ms == 
 length_without (Unread fault) = refl
 length_without (Tick moment) = refl
 
-same_length : (input : ReadInput) → length (added_by (said_of input)) ≡ length (added_by input)
+same_length : (input : ReadInput) → length (added_by (as_recorded input)) ≡ length (added_by input)
 same_length input = said_as (λ x. length (added_by x) ≡ length (added_by input)) input refl (length_without input)
 
 refusal_without : (len : ℕ) (input : ReadInput) → refusal_of len (with_nonce 0 input) ≡ refusal_of len input
@@ -100,7 +100,7 @@ refusal_without len (Request moment nonce ms) = refl
 refusal_without len (Unread fault) = refl
 refusal_without len (Tick moment) = refl
 
-same_refusal : (len : ℕ) (input : ReadInput) → refusal_of len (said_of input) ≡ refusal_of len input
+same_refusal : (len : ℕ) (input : ReadInput) → refusal_of len (as_recorded input) ≡ refusal_of len input
 same_refusal len input = said_as (λ x. refusal_of len x ≡ refusal_of len input) input refl (refusal_without len input)
 
 places_without : (d : Intake) (input : ReadInput) → places_of d (with_nonce 0 input) ≡ places_of d input
@@ -108,13 +108,13 @@ places_without d (Request moment nonce ms) = refl
 places_without d (Unread fault) = refl
 places_without d (Tick moment) = refl
 
-same_places : (d : Intake) (input : ReadInput) → places_of d (said_of input) ≡ places_of d input
+same_places : (d : Intake) (input : ReadInput) → places_of d (as_recorded input) ≡ places_of d input
 same_places d input = said_as (λ x. places_of d x ≡ places_of d input) input refl (places_without d input)
 
 -- ---- All inputs
 
 abbrev said_intake : Intake → Intake
-said_intake d = record d { input = said_of d.input }
+said_intake d = record d { input = as_recorded d.input }
 
 record Alike (config : Config) (t u : Taking) : Type 0 where
   list : registry config t.list ≡ registry config u.list
@@ -127,27 +127,27 @@ same_intake ds es d e same one = ap (λ xs. xs ++ d ∷ []) same ∙ ap (λ x. m
 abbrev intake_as : ReadInput → Option Refusal → ℕ → ℕ → Intake
 intake_as input refusal first count = record { input = input; first = first; count = count; refusal = refusal }
 
-one_taken : (config : Config) (t u : Taking) (input : ReadInput) (refusal : Option Refusal) → Alike config t u → Alike config (taken_as t (said_of input) refusal) (taken_as u input refusal)
+one_taken : (config : Config) (t u : Taking) (input : ReadInput) (refusal : Option Refusal) → Alike config t u → Alike config (taken_as t (as_recorded input) refusal) (taken_as u input refusal)
 one_taken config t u input (Some refusal) a = record {
   list = a.list;
   count = a.count;
-  intake = same_intake t.intake u.intake (intake_as (said_of input) (Some refusal) (length t.list) 0) (intake_as input (Some refusal) (length u.list) 0) a.intake
-      (ap (λ n. intake_as (said_of input) (Some refusal) n 0) a.count);
+  intake = same_intake t.intake u.intake (intake_as (as_recorded input) (Some refusal) (length t.list) 0) (intake_as input (Some refusal) (length u.list) 0) a.intake
+      (ap (λ n. intake_as (as_recorded input) (Some refusal) n 0) a.count);
 }
 one_taken config t u input None a = record {
-  list = fold-append (judge config) empty_registry t.list (added_by (said_of input)) ∙ ap (λ (r : Registry). fold (judge config) r (added_by (said_of input))) a.list
+  list = fold-append (judge config) empty_registry t.list (added_by (as_recorded input)) ∙ ap (λ (r : Registry). fold (judge config) r (added_by (as_recorded input))) a.list
       ∙ same_added config (registry config u.list) input ∙ sym (fold-append (judge config) empty_registry u.list (added_by input));
-  count = omega (arith, length-append t.list (added_by (said_of input)), length-append u.list (added_by input), same_length input, a.count);
-  intake = same_intake t.intake u.intake (intake_as (said_of input) None (length t.list) (length (added_by (said_of input)))) (intake_as input None (length u.list) (length (added_by input))) a.intake
-      (ap (λ n. intake_as (said_of input) None n (length (added_by (said_of input)))) a.count ∙ ap (λ n. intake_as (said_of input) None (length u.list) n) (same_length input));
+  count = omega (arith, length-append t.list (added_by (as_recorded input)), length-append u.list (added_by input), same_length input, a.count);
+  intake = same_intake t.intake u.intake (intake_as (as_recorded input) None (length t.list) (length (added_by (as_recorded input)))) (intake_as input None (length u.list) (length (added_by input))) a.intake
+      (ap (λ n. intake_as (as_recorded input) None n (length (added_by (as_recorded input)))) a.count ∙ ap (λ n. intake_as (as_recorded input) None (length u.list) n) (same_length input));
 }
 
-all_taken : (config : Config) (inputs : List ReadInput) (t u : Taking) → Alike config t u → Alike config (fold take_in t (map said_of inputs)) (fold take_in u inputs)
+all_taken : (config : Config) (inputs : List ReadInput) (t u : Taking) → Alike config t u → Alike config (fold take_in t (map as_recorded inputs)) (fold take_in u inputs)
 all_taken config [] t u a = a
 all_taken config (input ∷ inputs) t u a =
-    let same : refusal_of (length t.list) (said_of input) ≡ refusal_of (length u.list) input = same_refusal (length t.list) input ∙ ap (λ n. refusal_of n input) a.count in
+    let same : refusal_of (length t.list) (as_recorded input) ≡ refusal_of (length u.list) input = same_refusal (length t.list) input ∙ ap (λ n. refusal_of n input) a.count in
     let one = one_taken config t u input (refusal_of (length u.list) input) a in
-    all_taken config inputs (take_in t (said_of input)) (take_in u input) (subst (λ (o : Option Refusal). Alike config (taken_as t (said_of input) o) (take_in u input)) (sym same) one)
+    all_taken config inputs (take_in t (as_recorded input)) (take_in u input) (subst (λ (o : Option Refusal). Alike config (taken_as t (as_recorded input) o) (take_in u input)) (sym same) one)
 
 -- ---- Outs and held inputs
 
@@ -180,11 +180,11 @@ same_wholes config r all i (d ∷ ds) =
     ap (λ w. w ∷ wholes_from config r (map said_intake all) (i + 1) (map said_intake ds)) (same_whole config r all i d)
     ∙ ap (λ ws. whole_of config r all i d ∷ ws) (same_wholes config r all (i + 1) ds)
 
-unused : (config : Config) (inputs : List ReadInput) → wholes config (map said_of inputs) ≡ wholes config inputs
+unused : (config : Config) (inputs : List ReadInput) → wholes config (map as_recorded inputs) ≡ wholes config inputs
 unused config inputs =
     let none : Taking = record { list = []; intake = [] } in
     let start : Alike config none none = record { list = refl; count = refl; intake = refl } in
-    let t : Taking = fold take_in none (map said_of inputs) in
+    let t : Taking = fold take_in none (map as_recorded inputs) in
     let u : Taking = fold take_in none inputs in
     let a : Alike config t u = all_taken config inputs none none start in
     ap (λ (r : Registry). wholes_from config r t.intake 0 t.intake) a.list
@@ -193,15 +193,15 @@ unused config inputs =
 
 -- ---- A record
 
-pub same_outs : (config : Config) (inputs : List ReadInput) → outs config (map said_of inputs) ≡ outs config inputs
-same_outs config inputs = ap (λ n. outs_in n (wholes config (map said_of inputs))) (length-map inputs said_of) ∙ ap (λ ws. outs_in (length inputs) ws) (unused config inputs)
+pub same_outs : (config : Config) (inputs : List ReadInput) → outs config (map as_recorded inputs) ≡ outs config inputs
+same_outs config inputs = ap (λ n. outs_in n (wholes config (map as_recorded inputs))) (length-map inputs as_recorded) ∙ ap (λ ws. outs_in (length inputs) ws) (unused config inputs)
 
-pub same_held : (config : Config) (inputs : List ReadInput) → held config (map said_of inputs) ≡ held config inputs
+pub same_held : (config : Config) (inputs : List ReadInput) → held config (map as_recorded inputs) ≡ held config inputs
 same_held config inputs = ap (λ (ws : List Whole). map (λ (w : Whole). w.out.input) (filter (λ (w : Whole). is_none w.at) ws)) (unused config inputs)
 
-pub said_after : (inputs : List Input) → map (λ input. said_of (read_input input)) inputs ≡ map said_of (map read_input inputs)
+pub said_after : (inputs : List Input) → map (λ input. as_recorded (read_input input)) inputs ≡ map as_recorded (map read_input inputs)
 said_after [] = refl
-said_after (input ∷ inputs) = ap (λ (is : List ReadInput). said_of (read_input input) ∷ is) (said_after inputs)
+said_after (input ∷ inputs) = ap (λ (is : List ReadInput). as_recorded (read_input input) ∷ is) (said_after inputs)
 
 pub answered_alike : RecordsAnswerAlike
 answered_alike config inputs h =

@@ -12,7 +12,7 @@ use Rattle.bx_entry.specs.Words.{arrival_messages, held, outs, read_input}
 use Rattle.bx_script.specs.Words.{Accepted, Announced, Line, Noted, Recorded, first_of, is_newline, is_space, line_of, lines_in, rest_of, with_nonces}
 use Rattle.bx_theory.specs.Lines.{inputs_in}
 use Rattle.bx_record.specs.Answers.{Given, IsSha256, Part, Taken, answer_text, record_with, taken_inputs}
-use Rattle.bx_record.specs.Record.{can_say, config_text, config_words, options_word, record_of, said_of}
+use Rattle.bx_record.specs.Record.{can_say, config_text, config_words, options_word, record_of, as_recorded}
 
 -- ---- Inputs
 
@@ -45,7 +45,7 @@ recorded_lines inputs = record_lines (record_of inputs)
 
 -- The record's lines have exactly these inputs, in order, and otherwise only nonces.
 pub record ReadsBack (inputs : List Input) : Type 0 where
-  pub inputs_are : inputs_in (recorded_lines inputs) ≡ map (λ input. said_of (read_input input)) inputs
+  pub inputs_are : inputs_in (recorded_lines inputs) ≡ map (λ input. as_recorded (read_input input)) inputs
   pub nothing_else : list_all is_of_record (recorded_lines inputs) ≡ true
 
 -- Reading any record gives its inputs.
@@ -85,7 +85,7 @@ is_of_either line = is_of_record line
 -- A record with answers has the same inputs as without them, and its other lines are nonces and
 -- answers. The outs and the held inputs are also the same.
 pub record ReadsWith (parts : List Part) : Type 0 where
-  pub inputs_are : inputs_in (record_lines (record_with parts)) ≡ map (λ input. said_of (read_input input)) (taken_inputs parts)
+  pub inputs_are : inputs_in (record_lines (record_with parts)) ≡ map (λ input. as_recorded (read_input input)) (taken_inputs parts)
   pub nothing_else : list_all is_of_either (record_lines (record_with parts)) ≡ true
   pub outs_are : (config : Config) → outs config (inputs_in (record_lines (record_with parts))) ≡ outs config (map read_input (taken_inputs parts))
   pub held_are : (config : Config) → held config (inputs_in (record_lines (record_with parts))) ≡ held config (map read_input (taken_inputs parts))
@@ -110,7 +110,7 @@ ended_lines (x ∷ xs) = ended_by x (ended_lines xs)
 -- nonces.
 pub record ReadsUpTo (inputs : List Input) (front : List ℕ) : Type 0 where
   pub count : ℕ
-  pub inputs_are : inputs_in (record_lines (ended_lines front)) ≡ map (λ input. said_of (read_input input)) (take count inputs)
+  pub inputs_are : inputs_in (record_lines (ended_lines front)) ≡ map (λ input. as_recorded (read_input input)) (take count inputs)
   pub nothing_else : list_all is_of_record (record_lines (ended_lines front)) ≡ true
 
 -- A record may be truncated anywhere.
@@ -120,7 +120,7 @@ RecordsBreakOff = (inputs : List Input) (front behind : List ℕ) → AllByRecur
 -- The same for a record with answers: the inputs are those of its first `count` parts.
 pub record ReadsWithUpTo (parts : List Part) (front : List ℕ) : Type 0 where
   pub count : ℕ
-  pub inputs_are : inputs_in (record_lines (ended_lines front)) ≡ map (λ input. said_of (read_input input)) (taken_inputs (take count parts))
+  pub inputs_are : inputs_in (record_lines (ended_lines front)) ≡ map (λ input. as_recorded (read_input input)) (taken_inputs (take count parts))
   pub nothing_else : list_all is_of_either (record_lines (ended_lines front)) ≡ true
 
 -- A record with answers may be truncated anywhere too.

@@ -93,5 +93,5 @@ abbrev pub record_of : List Input → List ℕ
 record_of inputs = flat_map input_text inputs
 
 -- An input as it is read from a record: a nonce that it does not use is 0.
-abbrev pub said_of : ReadInput → ReadInput
-said_of input = if asks_for_session input then input else with_nonce 0 input
+abbrev pub as_recorded : ReadInput → ReadInput
+as_recorded input = if asks_for_session input then input else with_nonce 0 input

@@ -25,7 +25,7 @@ pub(crate) fn form_len(bodies: &Bodies) -> Option<usize>
     // The first parameter has no `&`.
     let mut room = BODY_LIMIT + 1;
     for i in 0..bodies.len() {
-        room = room_behind(room, bodies.get(i))?;
+        room = room_after(room, bodies.get(i))?;
     }
     Some(BODY_LIMIT - room)
 }
@@ -34,7 +34,7 @@ pub(crate) fn form_len(bodies: &Bodies) -> Option<usize>
 //
 // Returns `None` if they do not fit.
 #[tactic(auto, using(crate::proofs::Forms::encoded_none, crate::proofs::Forms::encoded_more, crate::proofs::Forms::no_room))]
-fn room_behind(room: usize, document: &[u8]) -> Option<usize>
+fn room_after(room: usize, document: &[u8]) -> Option<usize>
     ensures { MatchOption result (room < 1 + length (parameter_of document.now))
         (λ left. left + (1 + length (parameter_of document.now)) ≡ room) }
 {

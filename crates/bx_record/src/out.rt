@@ -17,7 +17,7 @@ pub struct Torn {
     pub error: io::Error,
 }
 
-/// A file with the text up to a position, and notes between its lines.
+/// A file with the text up to a position, and other lines between its lines.
 ///
 /// A write that fails consumes the `Out`, so nothing can be written after a gap.
 #[derive(Drop)]
@@ -92,7 +92,7 @@ impl<F: Extent, W: Write + Drop> Out<F, W> {
     /// # Errors
     ///
     /// Any error of the file, which may then have a prefix of `lines`.
-    pub fn note(self, lines: &[u8]) -> Result<Out<F, W>, Torn>
+    pub fn write_aside(self, lines: &[u8]) -> Result<Out<F, W>, Torn>
         ensures written { IfOk result (λ out. (out.written ≡ self.written) × (out.upto ≡ self.upto)) }
         ensures file { IfOk result (λ out. Appends (W.contents self.file.file) (W.contents out.file.file) lines.now) }
     {

@@ -1,4 +1,4 @@
-//! The source of a growing text and of notes, to be written to a file.
+//! The source of a growing text and of answers, to be written to a file.
 ghost use Rattle.std.specs.Prelude.{◌≡◌, []};
 
 use crate::chunk::{Chunk, Extent};
@@ -29,13 +29,13 @@ pub trait Source {
     fn take(&mut self, empty: Vec<u8>) -> Option<Taken<Self::Extent, Self::Fault>>
         requires empty { empty.items ≡ [] };
 
-    /// Takes all waiting notes, and leaves the empty buffer `empty` in their place.
+    /// Takes all waiting answers, and leaves the empty buffer `empty` in their place.
     ///
-    /// A note may refer to text that the next [`take`](Self::take) takes, but not to later text.
-    /// If the text ends, some notes may refer to text that is missing.
-    fn take_notes(&mut self, empty: Vec<u8>) -> Vec<u8>
+    /// The request of an answer may be in text that the next [`take`](Self::take) takes, but not in
+    /// later text. If the text ends, some notes may refer to text that is missing.
+    fn take_answers(&mut self, empty: Vec<u8>) -> Vec<u8>
         requires empty { empty.items ≡ [] };
 
-    /// Ends the text and the notes, and drops everything that waits to be written.
+    /// Ends the text and the answers, and drops everything that waits to be written.
     fn stop(&mut self);
 }

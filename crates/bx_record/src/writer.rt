@@ -1,4 +1,4 @@
-//! The loop that writes a growing text and its notes to a file.
+//! The loop that writes a growing text and its answers to a file.
 ghost use Rattle.std.specs.Prelude.{◌≡◌, [], IfOk};
 
 use crate::out::{Out, Torn};
@@ -64,18 +64,18 @@ where
     W: Write + Drop,
 {
     let mut out = out;
-    let (mut text, mut notes) = (Vec::new(alloc), Vec::new(alloc));
+    let (mut text, mut answers) = (Vec::new(alloc), Vec::new(alloc));
     let mut looks = 0;
     for _ in rt.forever() {
         // Read first, so that all that was appended before `is_over` was set is written.
         let is_last = is_over.load(Ordering::SeqCst);
         if is_last || looks == 0 || source.waiting() >= SOON {
             looks = LOOKS;
-            match write_once(&mut source, out, text, notes) {
+            match write_once(&mut source, out, text, answers) {
                 Ok(next) => {
                     out = next.0;
                     text = next.1;
-                    notes = next.2;
+                    answers = next.2;
                 }
                 Err(written) => return written,
             }
@@ -94,18 +94,18 @@ where
 
 // Writes all that waits, and returns the buffers, which are then empty.
 //
-// Notes are taken first and written last, so that each note follows the text that it refers to. If
-// the text ends, the notes are dropped, since the text that they refer to may be missing.
+// Answers are taken first and written last, so that each note follows the text that it refers to.
+// If the text ends, the answers are dropped, since the text that they refer to may be missing.
 fn write_once<S: Source, W: Write + Drop>(
     source: &mut S,
     out: Out<S::Extent, W>,
     text: Vec<u8>,
-    notes: Vec<u8>,
+    answers: Vec<u8>,
 ) -> Result<(Out<S::Extent, W>, Vec<u8>, Vec<u8>), Written<S::Fault>>
-    requires { (text.items ≡ []) × (notes.items ≡ []) }
+    requires { (text.items ≡ []) × (answers.items ≡ []) }
     ensures { IfOk result (λ next. (next.1.items ≡ []) × (next.2.items ≡ [])) }
 {
-    let mut notes = source.take_notes(notes);
+    let mut answers = source.take_answers(answers);
     let count = out.count();
     let Some(Taken { chunk, fault }) = source.take(text) else {
         source.stop();
@@ -115,9 +115,12 @@ fn write_once<S: Source, W: Write + Drop>(
         });
     };
     if fault.is_some() {
-        notes.clear();
+        answers.clear();
     }
-    let out = match out.write(&chunk).and_then(|out| out.note(notes.as_slice())) {
+    let out = match out
+        .write(&chunk)
+        .and_then(|out| out.write_aside(answers.as_slice()))
+    {
         Ok(out) => out,
         Err(Torn { count, error }) => {
             source.stop();
@@ -134,6 +137,6 @@ fn write_once<S: Source, W: Write + Drop>(
             end: End::Ended(fault),
         });
     }
-    notes.clear();
-    Ok((out, chunk.into_empty(), notes))
+    answers.clear();
+    Ok((out, chunk.into_empty(), answers))
 }

@@ -9,9 +9,9 @@ use Rattle.bx_script.specs.declared.{error.ScriptFault.ScriptFault, lines.Lines.
 use Rattle.bx_script.specs.declared.error.ScriptFault.TheVariants.{Memory, Read, Write}
 use Rattle.bx_replay.specs.Faults.{IsReplayFault}
 use Rattle.bx_replay.specs.Kept.{AreKept, IsKept, held_texts}
-use Rattle.bx_replay.specs.Serving.{Served, HandsFront, Prints, PrintsFront, Reads, read_lines, seen_behind, seen_lines}
+use Rattle.bx_replay.specs.Serving.{Served, HandsFront, Prints, PrintsFront, Reads, read_lines, seen_after, seen_lines}
 use Rattle.bx_replay.specs.declared.kept.PendingLine.{PendingLine}
-use Rattle.bx_replay.proofs.{Keeping.TicksAs, Keeping.out_same, Steps.many_of, Steps.read_behind, Steps.seen_more, Steps.texts_handed}
+use Rattle.bx_replay.proofs.{Keeping.TicksAs, Keeping.out_same, Steps.many_of, Steps.read_after, Steps.seen_more, Steps.texts_handed}
 use Rattle.bx_advice.specs.declared.config.Config.{Config}
 use Rattle.bx_entry.specs.Words.{ReadInput, read_input, Out, held, outs, whole_at, wholes}
 use Rattle.bx_entry.specs.declared.{Placing.Ghosts, input.Input.Input}
@@ -61,13 +61,13 @@ held_front ns all is i js a b c text e same h f =
 
 -- ---- One more line
 
-pub front_line : (config : Config) (ls : List script.Line) (l k : script.Line) (more : List Out) (text : List ℕ) (before after : Option (List ℕ)) → 0 < config.limits.batch → l ≡ k → AddsOuts config (inputs_in (seen_lines ls)) (seen_behind ls k) more →
-    text ≡ line_prints (length (seen_lines ls) + 1) (inputs_from 1 (seen_lines ls ++ seen_behind ls k ∷ [])) (seen_behind ls k) more → AppendsFront before after text → PrintsFront config ls (ls ++ l ∷ []) before after
+pub front_line : (config : Config) (ls : List script.Line) (l k : script.Line) (more : List Out) (text : List ℕ) (before after : Option (List ℕ)) → 0 < config.limits.batch → l ≡ k → AddsOuts config (inputs_in (seen_lines ls)) (seen_after ls k) more →
+    text ≡ line_prints (length (seen_lines ls) + 1) (inputs_from 1 (seen_lines ls ++ seen_after ls k ∷ [])) (seen_after ls k) more → AppendsFront before after text → PrintsFront config ls (ls ++ l ∷ []) before after
 front_line config ls l k more text before after room is adds e front = record {
   text = text;
   front = front;
   is = ap (λ (x : script.Line). printed_so_far config (seen_lines (ls ++ x ∷ []))) is
-      ∙ ap (printed_so_far config) (seen_more ls k) ∙ lines_go_on config (seen_lines ls) (seen_behind ls k) more room adds ∙ ap (λ (t : List ℕ). printed_so_far config (seen_lines ls) ++ t) (sym e);
+      ∙ ap (printed_so_far config) (seen_more ls k) ∙ lines_go_on config (seen_lines ls) (seen_after ls k) more room adds ∙ ap (λ (t : List ℕ). printed_so_far config (seen_lines ls) ++ t) (sym e);
 }
 
 module _ {P : Type 0} {g : Ghosts P} where
@@ -84,12 +84,12 @@ module _ {P : Type 0} {g : Ghosts P} where
 
   pub handed_front : (old : Round P g) (ls : List script.Line) (l : script.Line) (callback : Option (String Global)) (input : Input) (before after : Option (List ℕ)) (kept : ℕ → Option PendingLine) (number : ℕ) → 0 < (setup_in old).config.limits.batch →
       Served (setup_in old).config (seen_lines ls) (inputs_of old) (added_by old) kept number →
-      HandsFront old (numbered (number + 1) (option_map string_bytes callback) (read_behind ls input)) before after kept → l ≡ script.Line.Accepted callback input →
+      HandsFront old (numbered (number + 1) (option_map string_bytes callback) (read_after ls input)) before after kept → l ≡ script.Line.Accepted callback input →
       PrintsFront (setup_in old).config ls (ls ++ l ∷ []) before after
   handed_front old ls l callback input before after kept number room d h is =
       let config : Config = (setup_in old).config in
       let name : Option (List ℕ) = option_map string_bytes callback in
-      let read : ReadInput = read_behind ls input in
+      let read : ReadInput = read_after ls input in
       front_line config ls l (script.Line.Accepted callback input) h.more (outs_text (inputs_from 1 (seen_lines ls) ++ numbered (number + 1) name read ∷ []) h.more) before after room is
       (subst (λ (is : List ReadInput). outs config (is ++ read ∷ []) ≡ outs config is ++ h.more) d.inputs_are h.adds)
       (texts_handed config (seen_lines ls) name read (inputs_of old) (added_by old) h.more kept number d)

@@ -3,6 +3,6 @@ pub mod Nonces
 pub mod Steps
 pub mod Ready
 pub mod Fronts
-mod Words
+mod ArgumentCounts
 pub mod Records
 mod FirstLines

@@ -5,12 +5,12 @@ use Rattle.std.specs.Prelude.{IfSome, option_map, string_bytes}
 use Rattle.std.specs.Io.KnownBytes.{Appends}
 use Rattle.std.proofs.Common.{Global, String}
 use Rattle.bx_replay.specs.Kept.{AllKept, AreKept, Keeps}
-use Rattle.bx_replay.specs.Serving.{Served, Hands, IsAll, Prints, Reads, held_lines, read_lines, seen_behind, seen_lines}
+use Rattle.bx_replay.specs.Serving.{Served, Hands, IsAll, Prints, Reads, held_lines, read_lines, seen_after, seen_lines}
 use Rattle.bx_replay.specs.declared.kept.PendingLine.{PendingLine}
 use Rattle.bx_replay.proofs.{Keeping.appends_more, Keeping.appends_none, Ready.none_last}
 use Rattle.bx_advice.specs.declared.config.Config.{Config}
 use Rattle.bx_entry.specs.Words.{ReadInput, read_input, Out, held, outs}
-use Rattle.bx_script.specs.Words.{Dialect, Line, Bad, Rejected, Accepted, Resharded, Announced, Noted, Numbered, inputs_from, line_of, lines_in, printed, replay_text, IsNext, NextLine, said_by, Writes, nonce_at, numbered, rest_of, with_nonce, with_nonces}
+use Rattle.bx_script.specs.Words.{Dialect, Line, Bad, Rejected, Accepted, Resharded, Announced, Noted, Numbered, inputs_from, line_of, lines_in, printed, replay_text, IsNext, NextLine, meaning_of, Writes, nonce_at, numbered, rest_of, with_nonce, with_nonces}
 use Rattle.bx_entry.specs.declared.{Placing.Ghosts, input.Input.Input}
 use Rattle.bx_fanout.specs.Rounds.{IsRun, added_by, inputs_of, setup_in}
 use Rattle.bx_fanout.specs.Stages.{seen_out}
@@ -40,22 +40,22 @@ served_bare config ls l inputs added kept number e d =
       number_is = omega (arith, d.number_is, length-append ls (l ∷ []));
     }
 
-read_more : (ls : List script.Line) (l : script.Line) → read_lines (ls ++ l ∷ []) ≡ read_lines ls ++ said_by l ∷ []
-read_more ls l = map-append said_by ls (l ∷ [])
+read_more : (ls : List script.Line) (l : script.Line) → read_lines (ls ++ l ∷ []) ≡ read_lines ls ++ meaning_of l ∷ []
+read_more ls l = map-append meaning_of ls (l ∷ [])
 
-pub seen_more : (ls : List script.Line) (l : script.Line) → seen_lines (ls ++ l ∷ []) ≡ seen_lines ls ++ seen_behind ls l ∷ []
-seen_more ls l = ap (with_nonces 0) (read_more ls l) ∙ nonces_go_on (read_lines ls) (said_by l)
+pub seen_more : (ls : List script.Line) (l : script.Line) → seen_lines (ls ++ l ∷ []) ≡ seen_lines ls ++ seen_after ls l ∷ []
+seen_more ls l = ap (with_nonces 0) (read_more ls l) ∙ nonces_go_on (read_lines ls) (meaning_of l)
 
 pub served_seen : (config : Config) (ls : List script.Line) (l : script.Line) (inputs : List ReadInput) (added : List Out) (kept : ℕ → Option PendingLine) (number : ℕ) →
-    Served config (seen_lines ls ++ seen_behind ls l ∷ []) inputs added kept number → Served config (seen_lines (ls ++ l ∷ [])) inputs added kept number
+    Served config (seen_lines ls ++ seen_after ls l ∷ []) inputs added kept number → Served config (seen_lines (ls ++ l ∷ [])) inputs added kept number
 served_seen config ls l inputs added kept number d = subst (λ (us : List Line). Served config us inputs added kept number) (sym (seen_more ls l)) d
 
-pub prints_line : (config : Config) (ls : List script.Line) (l : script.Line) (more : List Out) (text : List ℕ) (before after : Option (List ℕ)) → 0 < config.limits.batch → AddsOuts config (inputs_in (seen_lines ls)) (seen_behind ls l) more →
-    text ≡ line_prints (length (seen_lines ls) + 1) (inputs_from 1 (seen_lines ls ++ seen_behind ls l ∷ [])) (seen_behind ls l) more → Appends before after text → Prints config ls (ls ++ l ∷ []) before after
+pub prints_line : (config : Config) (ls : List script.Line) (l : script.Line) (more : List Out) (text : List ℕ) (before after : Option (List ℕ)) → 0 < config.limits.batch → AddsOuts config (inputs_in (seen_lines ls)) (seen_after ls l) more →
+    text ≡ line_prints (length (seen_lines ls) + 1) (inputs_from 1 (seen_lines ls ++ seen_after ls l ∷ [])) (seen_after ls l) more → Appends before after text → Prints config ls (ls ++ l ∷ []) before after
 prints_line config ls l more text before after room adds e appends = record {
   text = text;
   appends = appends;
-  is = ap (printed_so_far config) (seen_more ls l) ∙ lines_go_on config (seen_lines ls) (seen_behind ls l) more room adds ∙ ap (λ (t : List ℕ). printed_so_far config (seen_lines ls) ++ t) (sym e);
+  is = ap (printed_so_far config) (seen_more ls l) ∙ lines_go_on config (seen_lines ls) (seen_after ls l) more room adds ∙ ap (λ (t : List ℕ). printed_so_far config (seen_lines ls) ++ t) (sym e);
 }
 
 -- ---- Inputs
@@ -105,14 +105,14 @@ few_served config ls inputs added kept number d = omega (arith, few_from 1 ls, m
 -- ---- One line of a server
 
 pub served_line : (config : Config) (ls ms : List script.Line) (l k : script.Line) (inputs : List ReadInput) (added : List Out) (kept : ℕ → Option PendingLine) (number : ℕ) →
-    ms ≡ ls ++ l ∷ [] → l ≡ k → ((n : ℕ) → inputs_from n (seen_behind ls k ∷ []) ≡ []) → Served config (seen_lines ls) inputs added kept number → Served config (seen_lines ms) inputs added kept (number + 1)
+    ms ≡ ls ++ l ∷ [] → l ≡ k → ((n : ℕ) → inputs_from n (seen_after ls k ∷ []) ≡ []) → Served config (seen_lines ls) inputs added kept number → Served config (seen_lines ms) inputs added kept (number + 1)
 served_line config ls ms l k inputs added kept number e is none d =
     let same : ms ≡ ls ++ k ∷ [] = e ∙ ap (λ (x : script.Line). ls ++ x ∷ []) is in
     subst (λ (us : List script.Line). Served config (seen_lines us) inputs added kept (number + 1)) (sym same)
-    (served_seen config ls k inputs added kept (number + 1) (served_bare config (seen_lines ls) (seen_behind ls k) inputs added kept number (none (length (seen_lines ls) + 1)) d))
+    (served_seen config ls k inputs added kept (number + 1) (served_bare config (seen_lines ls) (seen_after ls k) inputs added kept number (none (length (seen_lines ls) + 1)) d))
 
 pub prints_bare : (config : Config) (ls ms : List script.Line) (l k : script.Line) (more : List Out) (text : List ℕ) (before after : Option (List ℕ)) → 0 < config.limits.batch → ms ≡ ls ++ l ∷ [] → l ≡ k →
-    AddsOuts config (inputs_in (seen_lines ls)) (seen_behind ls k) more → text ≡ line_prints (length (seen_lines ls) + 1) (inputs_from 1 (seen_lines ls ++ seen_behind ls k ∷ [])) (seen_behind ls k) more → Appends before after text → Prints config ls ms before after
+    AddsOuts config (inputs_in (seen_lines ls)) (seen_after ls k) more → text ≡ line_prints (length (seen_lines ls) + 1) (inputs_from 1 (seen_lines ls ++ seen_after ls k ∷ [])) (seen_after ls k) more → Appends before after text → Prints config ls ms before after
 prints_bare config ls ms l k more text before after room e is adds t appends =
     let same : ms ≡ ls ++ k ∷ [] = e ∙ ap (λ (x : script.Line). ls ++ x ∷ []) is in
     subst (λ (us : List script.Line). Prints config ls us before after) (sym same) (prints_line config ls k more text before after room adds t appends)
@@ -127,8 +127,8 @@ served_same config other ls inputs those added these kept number e f h d = recor
   number_is = d.number_is;
 }
 
-abbrev pub read_behind : List script.Line → Input → ReadInput
-read_behind ls input = with_nonce (nonce_at (read_lines ls)) (read_input input)
+abbrev pub read_after : List script.Line → Input → ReadInput
+read_after ls input = with_nonce (nonce_at (read_lines ls)) (read_input input)
 
 module _ {P : Type 0} {g : Ghosts P} where
   pub record Ran (old : Round P g) (inputs : List Input) (before after : List fanout.Out) (new : Round P g) : Type 0 where
@@ -158,7 +158,7 @@ module _ {P : Type 0} {g : Ghosts P} where
 
   pub handed_served : (old new : Round P g) (ls ms : List script.Line) (l : script.Line) (callback : Option (String Global)) (input : Input) (before after : Option (List ℕ)) (kept keeps : ℕ → Option PendingLine) (number : ℕ) →
       Served (setup_in old).config (seen_lines ls) (inputs_of old) (added_by old) kept number →
-      Hands old (numbered (number + 1) (option_map string_bytes callback) (read_behind ls input)) new before after kept keeps → ms ≡ ls ++ l ∷ [] → l ≡ script.Line.Accepted callback input →
+      Hands old (numbered (number + 1) (option_map string_bytes callback) (read_after ls input)) new before after kept keeps → ms ≡ ls ++ l ∷ [] → l ≡ script.Line.Accepted callback input →
       Served (setup_in new).config (seen_lines ms) (inputs_of new) (added_by new) keeps (number + 1)
   handed_served old new ls ms l callback input before after kept keeps number d h e is =
       let config : Config = (setup_in new).config in
@@ -167,17 +167,17 @@ module _ {P : Type 0} {g : Ghosts P} where
       let was : Served config (seen_lines ls) (inputs_of old) (added_by old) kept number = served_same (setup_in old).config config (seen_lines ls) (inputs_of old) (inputs_of old) (added_by old) (added_by old) kept number h.setup refl refl d in
       subst (λ (us : List script.Line). Served config (seen_lines us) (inputs_of new) (added_by new) keeps (number + 1)) (sym same)
       (served_seen config ls k (inputs_of new) (added_by new) keeps (number + 1)
-      (served_handed config (seen_lines ls) (option_map string_bytes callback) (read_behind ls input) (inputs_of old) (inputs_of new) (added_by old) (added_by new) kept keeps number was h.inputs h.all
+      (served_handed config (seen_lines ls) (option_map string_bytes callback) (read_after ls input) (inputs_of old) (inputs_of new) (added_by old) (added_by new) kept keeps number was h.inputs h.all
       (h.prints (inputs_from 1 (seen_lines ls)) (many_of config (seen_lines ls) (inputs_of old) (added_by old) kept number was) d.kept_are).kept h.held_are))
 
   pub handed_prints : (old new : Round P g) (ls ms : List script.Line) (l : script.Line) (callback : Option (String Global)) (input : Input) (before after : Option (List ℕ)) (kept keeps : ℕ → Option PendingLine) (number : ℕ) → 0 < (setup_in new).config.limits.batch →
       Served (setup_in old).config (seen_lines ls) (inputs_of old) (added_by old) kept number →
-      Hands old (numbered (number + 1) (option_map string_bytes callback) (read_behind ls input)) new before after kept keeps → ms ≡ ls ++ l ∷ [] → l ≡ script.Line.Accepted callback input →
+      Hands old (numbered (number + 1) (option_map string_bytes callback) (read_after ls input)) new before after kept keeps → ms ≡ ls ++ l ∷ [] → l ≡ script.Line.Accepted callback input →
       Prints (setup_in new).config ls ms before after
   handed_prints old new ls ms l callback input before after kept keeps number room d h e is =
       let config : Config = (setup_in new).config in
       let name : Option (List ℕ) = option_map string_bytes callback in
-      let read : ReadInput = read_behind ls input in
+      let read : ReadInput = read_after ls input in
       let was : Served config (seen_lines ls) (inputs_of old) (added_by old) kept number = served_same (setup_in old).config config (seen_lines ls) (inputs_of old) (inputs_of old) (added_by old) (added_by old) kept number h.setup refl refl d in
       prints_bare config ls ms l (script.Line.Accepted callback input) h.more (outs_text (inputs_from 1 (seen_lines ls) ++ numbered (number + 1) name read ∷ []) h.more) before after room e is
       (adds_handed config (seen_lines ls) read (inputs_of old) (inputs_of new) (added_by old) (added_by new) h.more kept number was h.inputs h.all h.added)
@@ -208,9 +208,9 @@ reads_line d xs ys zs ls ms line e r n =
     let left : zs ≡ rest_of ys = let some : Some zs ≡ Some (rest_of ys) = n.left in cc in
     let others : List Line = lines_in d (rest_of ys) in
     r
-    ∙ ap (λ (us : List (List ℕ)). read_lines ls ++ map (line_of d) us) n.behind
-    ∙ ap (λ (k : Line). read_lines ls ++ k ∷ others) (sym n.said)
-    ∙ sym (append_assoc (read_lines ls) (said_by line ∷ []) others)
+    ∙ ap (λ (us : List (List ℕ)). read_lines ls ++ map (line_of d) us) n.lines
+    ∙ ap (λ (k : Line). read_lines ls ++ k ∷ others) (sym n.meaning)
+    ∙ sym (append_assoc (read_lines ls) (meaning_of line ∷ []) others)
     ∙ ap (λ (us : List Line). us ++ others) (sym (ap read_lines e ∙ read_more ls line))
     ∙ ap (λ (bs : List ℕ). read_lines ms ++ lines_in d bs) (sym left)
 
@@ -237,7 +237,7 @@ reads_end d now (Some xs) (Some ys) c ls next same is r n =
     reads_last d xs ys c ls r (subst (λ (o : Option script.Line). IsNext d o ys c) is (subst (λ now. IsNext now next ys c) same n))
 
 pub number_more : (n m : ℕ) (ls ms : List script.Line) (l : script.Line) → ms ≡ ls ++ l ∷ [] → n ≡ length (seen_lines ls) → m ≡ length (seen_lines ms) → m ≡ n + 1
-number_more n m ls ms l e f h = omega (arith, f, h, ap (λ (us : List script.Line). length (seen_lines us)) e, ap length (seen_more ls l), length-append (seen_lines ls) (seen_behind ls l ∷ []))
+number_more n m ls ms l e f h = omega (arith, f, h, ap (λ (us : List script.Line). length (seen_lines us)) e, ap length (seen_more ls l), length-append (seen_lines ls) (seen_after ls l ∷ []))
 
 printed_all : {A E : Type 0} (d : Dialect) (config : Config) (bytes : List ℕ) (ls : List script.Line) (a b w : Option (List ℕ)) (r : Result A E) → read_lines ls ≡ lines_in d bytes → Prints config [] ls a b →
     Writes b w r (held_lines config ls) → Writes a w r (replay_text d config bytes)

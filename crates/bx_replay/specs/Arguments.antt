@@ -2,7 +2,7 @@
 use Rattle.std.specs.Prelude.{Option, Some, None, Result, Ok, Err}
 use Rattle.bx_advice.specs.Limits.{standard_limits, IsStandard}
 use Rattle.bx_replay.specs.Settings.{Settings}
-use Rattle.bx_replay.specs.declared.wrong_word.WrongWord.{WrongWord}
+use Rattle.bx_replay.specs.declared.argument_error.ArgumentError.{ArgumentError}
 use Rattle.bx_replay.specs.declared.arguments.Arguments.{Arguments}
 
 -- The settings of parsed arguments.
@@ -27,6 +27,6 @@ HasStandardLimits arguments =
     IsStandard (record arguments.config.limits { events = standard_limits.events; bytes = standard_limits.bytes; sessions = standard_limits.sessions; patterns = standard_limits.patterns })
 
 -- The settings of arguments, if they are valid.
-abbrev pub said_by : Result Arguments WrongWord → Option Settings
-said_by (Ok arguments) = Some (run_by arguments)
-said_by (Err wrong) = None
+abbrev pub valid_settings : Result Arguments ArgumentError → Option Settings
+valid_settings (Ok arguments) = Some (run_by arguments)
+valid_settings (Err wrong) = None

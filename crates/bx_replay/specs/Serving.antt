@@ -5,7 +5,7 @@ use Rattle.bx_replay.specs.Kept.{AllKept, AreKept, PrintsOuts, held_texts}
 use Rattle.bx_replay.specs.declared.{kept.PendingLine.PendingLine, server.ReplayServer.ReplayServer}
 use Rattle.bx_advice.specs.declared.config.Config.{Config}
 use Rattle.bx_entry.specs.Words.{ReadInput, Out, held, outs}
-use Rattle.bx_script.specs.Words.{Dialect, Line, Numbered, inputs_from, line_with, lines_in, nonce_at, said_by, with_nonces, AppendsFront}
+use Rattle.bx_script.specs.Words.{Dialect, Line, Numbered, inputs_from, line_with, lines_in, nonce_at, meaning_of, with_nonces, AppendsFront}
 use Rattle.bx_entry.specs.declared.Placing.{Ghosts}
 use Rattle.bx_fanout.specs.Rounds.{added_by, inputs_of, setup_in}
 use Rattle.bx_fanout.specs.declared.round.Round.{Round}
@@ -15,15 +15,15 @@ use Rattle.bx_script.specs.declared.line.Line.TheVariants.{Bad, Rejected, Accept
 
 -- The processed lines, in the definitions' form.
 abbrev pub read_lines : List script.Line → List Line
-read_lines ls = map said_by ls
+read_lines ls = map meaning_of ls
 
 -- The processed lines in the definitions' form, each request with its nonce.
 abbrev pub seen_lines : List script.Line → List Line
 seen_lines ls = with_nonces 0 (read_lines ls)
 
 -- The line `l` after the lines `ls`, with its nonce.
-abbrev pub seen_behind : List script.Line → script.Line → Line
-seen_behind ls l = line_with (nonce_at (read_lines ls)) (said_by l)
+abbrev pub seen_after : List script.Line → script.Line → Line
+seen_after ls l = line_with (nonce_at (read_lines ls)) (meaning_of l)
 
 -- The number of shards after a line, given the number before it.
 abbrev pub shards_after : script.Line → ℕ → ℕ

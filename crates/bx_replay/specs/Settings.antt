@@ -46,38 +46,38 @@ settings_of shards workers timeout interval max_interval options limit = do
   Some (record { shards = s; workers = w; timeout = t; interval = i; max_interval = m; ride = o.ride; anonymous = o.anonymous; limit = l; bytes = STANDARD_BYTES; sessions = STANDARD_SESSIONS; patterns = STANDARD_PATTERNS })
 
 -- The settings of five to seven arguments; options default to `-`, the limit to 1024.
-abbrev pub words_in : List (List ℕ) → Option Settings
-words_in (shards ∷ workers ∷ timeout ∷ interval ∷ max_interval ∷ []) = settings_of shards workers timeout interval max_interval (codes "-") (codes "1024")
-words_in (shards ∷ workers ∷ timeout ∷ interval ∷ max_interval ∷ options ∷ []) = settings_of shards workers timeout interval max_interval options (codes "1024")
-words_in (shards ∷ workers ∷ timeout ∷ interval ∷ max_interval ∷ options ∷ limit ∷ []) = settings_of shards workers timeout interval max_interval options limit
-words_in words = None
+abbrev pub positional_settings : List (List ℕ) → Option Settings
+positional_settings (shards ∷ workers ∷ timeout ∷ interval ∷ max_interval ∷ []) = settings_of shards workers timeout interval max_interval (codes "-") (codes "1024")
+positional_settings (shards ∷ workers ∷ timeout ∷ interval ∷ max_interval ∷ options ∷ []) = settings_of shards workers timeout interval max_interval options (codes "1024")
+positional_settings (shards ∷ workers ∷ timeout ∷ interval ∷ max_interval ∷ options ∷ limit ∷ []) = settings_of shards workers timeout interval max_interval options limit
+positional_settings args = None
 
 -- The value after a leading `name`, if it is there, and the other arguments.
 abbrev pub named_in : List ℕ → List (List ℕ) → Option (List ℕ) × List (List ℕ)
 named_in name [] = (None, [])
-named_in name (word ∷ []) = (None, word ∷ [])
-named_in name (word ∷ next ∷ words) = if bytes_eq word name then (Some next, words) else (None, word ∷ next ∷ words)
+named_in name (arg ∷ []) = (None, arg ∷ [])
+named_in name (arg ∷ next ∷ args) = if bytes_eq arg name then (Some next, args) else (None, arg ∷ next ∷ args)
 
 -- The settings with this limit of bytes, if given; `-` leaves them unchanged.
 abbrev pub with_bytes : Option (List ℕ) → Settings → Option Settings
 with_bytes None s = Some s
-with_bytes (Some word) s = if bytes_eq word (codes "-") then Some s else option_map (λ n. record s { bytes = n }) (count_in MAX_BYTES word)
+with_bytes (Some arg) s = if bytes_eq arg (codes "-") then Some s else option_map (λ n. record s { bytes = n }) (count_in MAX_BYTES arg)
 
 -- The settings with this limit of sessions, if given.
 abbrev pub with_sessions : Option (List ℕ) → Settings → Option Settings
 with_sessions None s = Some s
-with_sessions (Some word) s = option_map (λ n. record s { sessions = n }) (count_in STANDARD_SESSIONS word)
+with_sessions (Some arg) s = option_map (λ n. record s { sessions = n }) (count_in STANDARD_SESSIONS arg)
 
 -- The settings with this limit of patterns, if given.
 abbrev pub with_patterns : Option (List ℕ) → Settings → Option Settings
 with_patterns None s = Some s
-with_patterns (Some word) s = option_map (λ n. record s { patterns = n }) (count_in STANDARD_PATTERNS word)
+with_patterns (Some arg) s = option_map (λ n. record s { patterns = n }) (count_in STANDARD_PATTERNS arg)
 
 -- The settings of all arguments: `--bytes`, `--sessions` and `--patterns` in this order, each
 -- optional, and then five to seven others.
 abbrev pub settings_in : List (List ℕ) → Option Settings
-settings_in words =
-    let bytes = named_in (codes "--bytes") words in
+settings_in args =
+    let bytes = named_in (codes "--bytes") args in
     let sessions = named_in (codes "--sessions") bytes.1 in
     let patterns = named_in (codes "--patterns") sessions.1 in
-    words_in patterns.1 >>= with_bytes bytes.0 >>= with_sessions sessions.0 >>= with_patterns patterns.0
+    positional_settings patterns.1 >>= with_bytes bytes.0 >>= with_sessions sessions.0 >>= with_patterns patterns.0

@@ -3,9 +3,9 @@ ghost use Rattle.std.specs.Prelude.{◌≡◌, IfOk, IfSome, option_map, map};
 ghost use Rattle.bx_advice.specs.Limits.{IsStandard};
 ghost use Rattle.bx_advice.specs.Options.{options_in};
 ghost use Rattle.bx_message.specs.Fields.{number_of};
-ghost use Rattle.bx_replay.specs.Settings.{count_in, named_in, settings_in, settings_of, time_in, with_bytes, with_patterns, with_sessions, words_in};
+ghost use Rattle.bx_replay.specs.Settings.{count_in, named_in, settings_in, settings_of, time_in, with_bytes, with_patterns, with_sessions, positional_settings};
 
-use crate::wrong_word::WrongWord;
+use crate::argument_error::ArgumentError;
 use bx_advice::{Config, MAX_SHARDS, Options};
 use bx_message::number_of;
 use bx_workers::WorkerCount;
@@ -20,11 +20,11 @@ pub struct Arguments {
 }
 
 impl Arguments {
-    ghost use Rattle.bx_replay.specs.Arguments.{HasStandardLimits, run_by, said_by};
+    ghost use Rattle.bx_replay.specs.Arguments.{HasStandardLimits, run_by, valid_settings};
 
     /// Parses the arguments of a replay.
     ///
-    /// `words`: the arguments. Limits come first, in this order; each may be missing:
+    /// `args`: the arguments. Limits come first, in this order; each may be missing:
     ///
     /// - `--bytes N`: bytes of a session's waiting events, 1 to
     ///   [`MAX_BYTES`](bx_advice::MAX_BYTES), or `-` for the standard limit
@@ -45,29 +45,29 @@ impl Arguments {
     ///
     /// `Count` if there are fewer than five or more than seven positional arguments. Otherwise the
     /// first wrong positional argument or, if all of these are valid, the first wrong limit.
-    pub fn read(words: &[&[u8]]) -> Result<Arguments, WrongWord>
-        ensures said { said_by result ≡ settings_in (map (λ word. word.now) words.now) }
+    pub fn read(args: &[&[u8]]) -> Result<Arguments, ArgumentError>
+        ensures settings { valid_settings result ≡ settings_in (map (λ arg. arg.now) args.now) }
         ensures limits { IfOk result (λ arguments. HasStandardLimits arguments) }
     {
-        let (bytes, words) = named_in(b"--bytes", words);
-        let (sessions, words) = named_in(b"--sessions", words);
-        let (patterns, words) = named_in(b"--patterns", words);
-        Arguments::read_words(words)?
+        let (bytes, args) = named_in(b"--bytes", args);
+        let (sessions, args) = named_in(b"--sessions", args);
+        let (patterns, args) = named_in(b"--patterns", args);
+        Arguments::parse_positional(args)?
             .with_bytes(bytes)
-            .ok_or(WrongWord::Bytes)?
+            .ok_or(ArgumentError::Bytes)?
             .with_sessions(sessions)
-            .ok_or(WrongWord::Sessions)?
+            .ok_or(ArgumentError::Sessions)?
             .with_patterns(patterns)
-            .ok_or(WrongWord::Patterns)
+            .ok_or(ArgumentError::Patterns)
     }
 
     // Parses the positional arguments, with the standard limits of bytes, sessions and patterns.
-    fn read_words(words: &[&[u8]]) -> Result<Arguments, WrongWord>
-        ensures said { said_by result ≡ words_in (map (λ word. word.now) words.now) }
+    fn parse_positional(args: &[&[u8]]) -> Result<Arguments, ArgumentError>
+        ensures settings { valid_settings result ≡ positional_settings (map (λ arg. arg.now) args.now) }
         ensures limits { IfOk result (λ arguments. HasStandardLimits arguments) }
     {
-        match words {
-            [shards, workers, timeout, interval, max_interval] => Arguments::of_words(
+        match args {
+            [shards, workers, timeout, interval, max_interval] => Arguments::parse_seven(
                 shards,
                 workers,
                 timeout,
@@ -76,7 +76,7 @@ impl Arguments {
                 b"-",
                 b"1024",
             ),
-            [shards, workers, timeout, interval, max_interval, options] => Arguments::of_words(
+            [shards, workers, timeout, interval, max_interval, options] => Arguments::parse_seven(
                 shards,
                 workers,
                 timeout,
@@ -93,7 +93,7 @@ impl Arguments {
                 max_interval,
                 options,
                 limit,
-            ] => Arguments::of_words(
+            ] => Arguments::parse_seven(
                 shards,
                 workers,
                 timeout,
@@ -102,55 +102,55 @@ impl Arguments {
                 options,
                 limit,
             ),
-            _ => Err(WrongWord::Count),
+            _ => Err(ArgumentError::Count),
         }
     }
 
-    // Sets the limit of waiting bytes to `word`, if given. Returns `None` if it is invalid.
-    fn with_bytes(self, word: Option<&[u8]>) -> Option<Arguments>
+    // Sets the limit of waiting bytes to `arg`, if given. Returns `None` if it is invalid.
+    fn with_bytes(self, arg: Option<&[u8]>) -> Option<Arguments>
         requires { HasStandardLimits self }
-        ensures said { option_map run_by result ≡ with_bytes (option_map (λ word. word.now) word.entry) (run_by self) }
+        ensures settings { option_map run_by result ≡ with_bytes (option_map (λ arg. arg.now) arg.entry) (run_by self) }
         ensures limits { IfSome result (λ arguments. HasStandardLimits arguments) }
     {
-        let Some(word) = word else {
+        let Some(arg) = arg else {
             return Some(self);
         };
-        if word == b"-".as_slice() {
+        if arg == b"-".as_slice() {
             return Some(self);
         }
-        let config = self.config.with_bytes(time_in(word)?)?;
+        let config = self.config.with_bytes(time_in(arg)?)?;
         Some(Arguments {
             config,
             workers: self.workers,
         })
     }
 
-    // Sets the limit of live sessions to `word`, if given. Returns `None` if it is invalid.
-    fn with_sessions(self, word: Option<&[u8]>) -> Option<Arguments>
+    // Sets the limit of live sessions to `arg`, if given. Returns `None` if it is invalid.
+    fn with_sessions(self, arg: Option<&[u8]>) -> Option<Arguments>
         requires { HasStandardLimits self }
-        ensures said { option_map run_by result ≡ with_sessions (option_map (λ word. word.now) word.entry) (run_by self) }
+        ensures settings { option_map run_by result ≡ with_sessions (option_map (λ arg. arg.now) arg.entry) (run_by self) }
         ensures limits { IfSome result (λ arguments. HasStandardLimits arguments) }
     {
-        let Some(word) = word else {
+        let Some(arg) = arg else {
             return Some(self);
         };
-        let config = self.config.with_sessions(time_in(word)?)?;
+        let config = self.config.with_sessions(time_in(arg)?)?;
         Some(Arguments {
             config,
             workers: self.workers,
         })
     }
 
-    // Sets the limit of a session's patterns to `word`, if given. Returns `None` if it is invalid.
-    fn with_patterns(self, word: Option<&[u8]>) -> Option<Arguments>
+    // Sets the limit of a session's patterns to `arg`, if given. Returns `None` if it is invalid.
+    fn with_patterns(self, arg: Option<&[u8]>) -> Option<Arguments>
         requires { HasStandardLimits self }
-        ensures said { option_map run_by result ≡ with_patterns (option_map (λ word. word.now) word.entry) (run_by self) }
+        ensures settings { option_map run_by result ≡ with_patterns (option_map (λ arg. arg.now) arg.entry) (run_by self) }
         ensures limits { IfSome result (λ arguments. HasStandardLimits arguments) }
     {
-        let Some(word) = word else {
+        let Some(arg) = arg else {
             return Some(self);
         };
-        let config = self.config.with_patterns(time_in(word)?)?;
+        let config = self.config.with_patterns(time_in(arg)?)?;
         Some(Arguments {
             config,
             workers: self.workers,
@@ -158,7 +158,7 @@ impl Arguments {
     }
 
     // Parses seven positional arguments.
-    fn of_words(
+    fn parse_seven(
         shards: &[u8],
         workers: &[u8],
         timeout: &[u8],
@@ -166,29 +166,31 @@ impl Arguments {
         max_interval: &[u8],
         options: &[u8],
         limit: &[u8],
-    ) -> Result<Arguments, WrongWord>
-        ensures said { said_by result ≡ settings_of shards.now workers.now timeout.now interval.now max_interval.now options.now limit.now }
+    ) -> Result<Arguments, ArgumentError>
+        ensures settings { valid_settings result ≡ settings_of shards.now workers.now timeout.now interval.now max_interval.now options.now limit.now }
         ensures limits { IfOk result (λ arguments. HasStandardLimits arguments) }
     {
-        let shards = shards_in(shards).ok_or(WrongWord::Shards)?;
-        let workers = workers_in(workers).ok_or(WrongWord::Workers)?;
-        let timeout = time_in(timeout).ok_or(WrongWord::Timeout)?;
-        let interval = time_in(interval).ok_or(WrongWord::Interval)?;
-        let max_interval = time_in(max_interval).ok_or(WrongWord::MaxInterval)?;
-        let config = Config::new(shards, timeout, interval, max_interval).ok_or(WrongWord::Shards)?;
-        let config = with_options(config, options).ok_or(WrongWord::Options)?;
-        let config = with_limit(config, limit).ok_or(WrongWord::Limit)?;
+        let shards = shards_in(shards).ok_or(ArgumentError::Shards)?;
+        let workers = workers_in(workers).ok_or(ArgumentError::Workers)?;
+        let timeout = time_in(timeout).ok_or(ArgumentError::Timeout)?;
+        let interval = time_in(interval).ok_or(ArgumentError::Interval)?;
+        let max_interval = time_in(max_interval).ok_or(ArgumentError::MaxInterval)?;
+        let config = Config::new(shards, timeout, interval, max_interval).ok_or(
+            ArgumentError::Shards,
+        )?;
+        let config = with_options(config, options).ok_or(ArgumentError::Options)?;
+        let config = with_limit(config, limit).ok_or(ArgumentError::Limit)?;
         Ok(Arguments { config, workers })
     }
 }
 
-// Returns the argument after `name` if `words` begin with `name`, and the remaining arguments.
-fn named_in<'a, 'b>(name: &[u8], words: &'a [&'b [u8]]) -> (Option<&'b [u8]>, &'a [&'b [u8]])
-    ensures { (option_map (λ word. word.now) result.0, map (λ word. word.now) result.1.now) ≡ named_in name.now (map (λ word. word.now) words.now) }
+// Returns the argument after `name` if `args` begin with `name`, and the remaining arguments.
+fn named_in<'a, 'b>(name: &[u8], args: &'a [&'b [u8]]) -> (Option<&'b [u8]>, &'a [&'b [u8]])
+    ensures { (option_map (λ arg. arg.now) result.0, map (λ arg. arg.now) result.1.now) ≡ named_in name.now (map (λ arg. arg.now) args.now) }
 {
-    match words {
-        [word, next, words @ ..] if *word == name => (Some(*next), words),
-        _ => (None, words),
+    match args {
+        [arg, next, args @ ..] if *arg == name => (Some(*next), args),
+        _ => (None, args),
     }
 }
 
@@ -204,18 +206,18 @@ fn shards_in(digits: &[u8]) -> Option<usize>
     }
 }
 
-// Sets the options to those of `word`. Returns `None` if it is invalid.
-fn with_options(config: Config, word: &[u8]) -> Option<Config>
-    ensures said { result
-        ≡ option_map (λ (o : Options). record config { ride = o.ride; anonymous = o.anonymous }) (options_in word.now) }
+// Sets the options to those of `arg`. Returns `None` if it is invalid.
+fn with_options(config: Config, arg: &[u8]) -> Option<Config>
+    ensures settings { result
+        ≡ option_map (λ (o : Options). record config { ride = o.ride; anonymous = o.anonymous }) (options_in arg.now) }
     ensures limits { IfSome result (λ c. c.limits ≡ config.limits) }
 {
-    Some(config.with(Options::read(word)?))
+    Some(config.with(Options::read(arg)?))
 }
 
 // Sets the limit of a session's waiting events. Returns `None` if it is invalid.
 fn with_limit(config: Config, limit: &[u8]) -> Option<Config>
-    ensures said { result
+    ensures settings { result
         ≡ option_map (λ n. record config { limits = record config.limits { events = n } }) (count_in 65536 limit.now) }
     ensures limits { IfSome result (λ c.
         (c.limits.patterns ≡ config.limits.patterns) × (c.limits.batch ≡ config.limits.batch)

@@ -1,12 +1,12 @@
 //! The first line of a record, which has the arguments for its replay.
 ghost use Rattle.std.specs.List.{slice_split};
 ghost use Rattle.std.specs.Prelude.{◌≡◌, IfOk, IfSome, OnOk, Some, map, position};
-ghost use Rattle.bx_replay.specs.Arguments.{said_by};
+ghost use Rattle.bx_replay.specs.Arguments.{valid_settings};
 ghost use Rattle.bx_replay.specs.Records.{recorded_settings};
 ghost use Rattle.bx_script.specs.Words.{first_of, is_newline, is_space, rest_of};
 
+use crate::argument_error::ArgumentError;
 use crate::arguments::Arguments;
-use crate::wrong_word::WrongWord;
 use bx_script::ScriptFault;
 use std::alloc::{AllocError, Global};
 use std::io::BufRead;
@@ -22,8 +22,8 @@ use std::io::BufRead;
 pub fn read_settings<R: BufRead>(
     alloc: Global,
     reader: &mut R,
-) -> Result<Result<Arguments, WrongWord>, ScriptFault>
-    ensures said { IfOk result (λ read. IfSome (R.remaining reader.old) (λ text. said_by read ≡ recorded_settings text)) }
+) -> Result<Result<Arguments, ArgumentError>, ScriptFault>
+    ensures settings { IfOk result (λ read. IfSome (R.remaining reader.old) (λ text. valid_settings read ≡ recorded_settings text)) }
     ensures left { OnOk result (IfSome (R.remaining reader.old) (λ text. R.remaining reader.new ≡ Some (rest_of text))) }
 {
     let line = read_line(alloc, reader)?;

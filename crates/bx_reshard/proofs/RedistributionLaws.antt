@@ -11,7 +11,7 @@ use Rattle.bx_connects.specs.declared.connects.ConnectState.TheVariants as state
 use Rattle.bx_connects.specs.Connects.{session_at}
 use Rattle.bx_reshard.specs.Redistribution.{AreAlike, AreApart, HoldersAreApart, RefinesRedistributed, IsRedistributed, among, connect_among, redistributed_connect, session_among}
 use Rattle.bx_shard.specs.Refining.{Refines, IsConnectOf, IsOwn, filed_with_place}
-use Rattle.bx_shard.specs.Words.{Setup, is_taken, live_among, sessions_in, shard_at, stands_in, State, connect_in, session_in}
+use Rattle.bx_shard.specs.Words.{Setup, is_taken, live_among, sessions_in, shard_at, is_placed_in, State, connect_in, session_in}
 use Rattle.bx_shard.proofs.{Cases.by_option, Finding.find_kept, Taking.connect_of_filed, Taking.none_taken, Taking.waits_later, Waits.WaitsAt, Waits.waits_over}
 use Rattle.bx_shard.proofs.Untaken.{find_of, find_untaken, untaken}
 use Rattle.bx_theory.proofs.Closings.{run_number}
@@ -62,9 +62,9 @@ abbrev kept_of : ℕ → List Session → Option Kept
 kept_of m us = find_kept m (map kept (live_among us))
 
 found_standing : (setup : Setup) (shard m : ℕ) (es : List Entry) (rs : List Registered) →
-    kept_of m (map (λ (s : Registered). session setup.config s.number es) (filter (λ (s : Registered). stands_in setup shard s.number) rs))
-    ≡ cond (stands_in setup shard m) (kept_of m (map (λ (s : Registered). session setup.config s.number es) rs)) None
-found_standing setup shard m es [] = nobody (stands_in setup shard m)
+    kept_of m (map (λ (s : Registered). session setup.config s.number es) (filter (λ (s : Registered). is_placed_in setup shard s.number) rs))
+    ≡ cond (is_placed_in setup shard m) (kept_of m (map (λ (s : Registered). session setup.config s.number es) rs)) None
+found_standing setup shard m es [] = nobody (is_placed_in setup shard m)
 found_standing setup shard m es (r ∷ rs) = grind (arith, found_standing setup shard m es rs, run_number setup.config (unopened r.number) es)
 
 abbrev everyone : Config → List Listed → ℕ → List Session
@@ -73,7 +73,7 @@ everyone config list n =
     map (λ (s : Registered). session config s.number (entries_of r)) r.sessions
 
 session_found : (setup : Setup) (list : List Listed) (taken : List ℕ) (shard n m : ℕ) →
-    find_kept m (shard_at setup list taken shard n).sessions ≡ cond (stands_in setup shard m) (kept_of m (everyone setup.config list n)) None
+    find_kept m (shard_at setup list taken shard n).sessions ≡ cond (is_placed_in setup shard m) (kept_of m (everyone setup.config list n)) None
 session_found setup list taken shard n m = found_standing setup shard m (entries_of (registry setup.config (take n list))) (registry setup.config (take n list)).sessions
 
 -- ---- its answers
@@ -85,12 +85,12 @@ abbrev OnlyOf : Config → List Entry → ℕ → ℕ → Type 0
 OnlyOf config es p m = (q : ℕ) → is_some (find_of p (session config q es).answers) ≡ true → q ≡ m
 
 answers_standing : (setup : Setup) (shard p m : ℕ) (es : List Entry) (rs : List Registered) → OnlyOf setup.config es p m →
-    find_of p (answers_of (map (λ (s : Registered). session setup.config s.number es) (filter (λ (s : Registered). stands_in setup shard s.number) rs)))
-    ≡ cond (stands_in setup shard m) (find_of p (answers_of (map (λ (s : Registered). session setup.config s.number es) rs))) None
-answers_standing setup shard p m es [] only = nobody (stands_in setup shard m)
+    find_of p (answers_of (map (λ (s : Registered). session setup.config s.number es) (filter (λ (s : Registered). is_placed_in setup shard s.number) rs)))
+    ≡ cond (is_placed_in setup shard m) (find_of p (answers_of (map (λ (s : Registered). session setup.config s.number es) rs))) None
+answers_standing setup shard p m es [] only = nobody (is_placed_in setup shard m)
 answers_standing setup shard p m es (r ∷ rs) only =
     let S : Registered → Session = λ s. session setup.config s.number es in
-    let here : List Registered = filter (λ (s : Registered). stands_in setup shard s.number) rs in
+    let here : List Registered = filter (λ (s : Registered). is_placed_in setup shard s.number) rs in
     let each = find-append (λ (f : Filed). f.connect == p) (S r).answers (answers_of (map S rs)) in
     let standing = find-append (λ (f : Filed). f.connect == p) (S r).answers (answers_of (map S here)) in
     grind (arith, answers_standing setup shard p m es rs only, only r.number, each, standing)
@@ -107,16 +107,16 @@ only_waits config list n p m waits q here =
     slot_once (registry config list).judged p q m late waits) here
 
 untaken_standing : (setup : Setup) (list : List Listed) (taken : List ℕ) (n p m : ℕ) → OnlyOf setup.config (entries_of (registry setup.config (take n list))) p m → (shard : ℕ) →
-    find_of p (shard_at setup list taken shard n).filed ≡ cond (stands_in setup shard m) (find_of p (untaken taken (answers_of (everyone setup.config list n)))) None
+    find_of p (shard_at setup list taken shard n).filed ≡ cond (is_placed_in setup shard m) (find_of p (untaken taken (answers_of (everyone setup.config list n)))) None
 untaken_standing setup list taken n p m only shard =
     let theirs : List Filed = answers_of (sessions_in setup list shard n) in
     let all : List Filed = answers_of (everyone setup.config list n) in
-    either (is_taken taken p) (find_of p (untaken taken theirs) ≡ cond (stands_in setup shard m) (find_of p (untaken taken all)) None)
+    either (is_taken taken p) (find_of p (untaken taken theirs) ≡ cond (is_placed_in setup shard m) (find_of p (untaken taken all)) None)
     (λ t. none_taken taken p theirs t
-    ∙ sym (ap (λ o. cond (stands_in setup shard m) o None) (none_taken taken p all t) ∙ cond_both (stands_in setup shard m) None None (λ (o : Option Filed). o ≡ None) (λ h. refl) (λ h. refl)))
+    ∙ sym (ap (λ o. cond (is_placed_in setup shard m) o None) (none_taken taken p all t) ∙ cond_both (is_placed_in setup shard m) None None (λ (o : Option Filed). o ≡ None) (λ h. refl) (λ h. refl)))
     (λ u. find_untaken taken p theirs u
     ∙ answers_standing setup shard p m (entries_of (registry setup.config (take n list))) (registry setup.config (take n list)).sessions only
-    ∙ sym (ap (λ o. cond (stands_in setup shard m) o None) (find_untaken taken p all u)))
+    ∙ sym (ap (λ o. cond (is_placed_in setup shard m) o None) (find_untaken taken p all u)))
 
 -- ---- the shards before redistribution
 
@@ -126,7 +126,7 @@ standing placed k o kept is here = grind arith
 module _ (setup : Setup) (list : List Listed) (taken : List ℕ) (n : ℕ) (old : List State) (each : (k : ℕ) (s : State) → slice_get old k ≡ Some s → Refines setup list taken k n s) where
   stands : (k : ℕ) (s : State) (m : ℕ) → slice_get old k ≡ Some s → is_some (session_in s m) ≡ true → setup.placing m setup.shards ≡ k
   stands k s m at here =
-      let found : session_in s m ≡ cond (stands_in setup k m) (kept_of m (everyone setup.config list n)) None = (each k s at).sessions m ∙ session_found setup list taken k n m in
+      let found : session_in s m ≡ cond (is_placed_in setup k m) (kept_of m (everyone setup.config list n)) None = (each k s at).sessions m ∙ session_found setup list taken k n m in
       standing (setup.placing m setup.shards) k (session_in s m) (kept_of m (everyone setup.config list n)) found here
 
   knows : (k : ℕ) (s : State) (p : ℕ) → slice_get old k ≡ Some s → is_some (connect_in s p) ≡ true → (m : ℕ) × IsOwn setup list k p m
@@ -194,7 +194,7 @@ module _ (setup : Setup) (list : List Listed) (taken : List ℕ) (n count : ℕ)
       let g : Option Kept = kept_of m (everyone setup.config list n) in
       let own : session_in (home m).shard m ≡ g =
       (each (setup.placing m setup.shards) (home m).shard (home m).at).sessions m
-      ∙ session_found setup list taken (setup.placing m setup.shards) n m ∙ cond-true (stands_in setup (setup.placing m setup.shards) m) g None (eq-eqb j j refl) in
+      ∙ session_found setup list taken (setup.placing m setup.shards) n m ∙ cond-true (is_placed_in setup (setup.placing m setup.shards) m) g None (eq-eqb j j refl) in
       let whole : session_among old m ≡ session_in (home m).shard m = among_one (λ s. session_in s m) old (setup.placing m setup.shards) (home m).shard (home m).at
       (λ i s other at. none_of setup list taken n old each (session_in s m) (λ h. other (sym (stands setup list taken n old each i s m at h)))) in
       d.sessions m
@@ -213,7 +213,7 @@ module _ (setup : Setup) (list : List Listed) (taken : List ℕ) (n count : ℕ)
       let only : OnlyOf setup.config (entries_of (registry setup.config (take n list))) p m = only_waits setup.config list n p m waits in
       let own : filed_with_place (connect_in s p) ≡ option_map answer_of g =
       (each (setup.placing m setup.shards) (home m).shard (home m).at).filed p
-      ∙ ap (option_map answer_of) (untaken_standing setup list taken n p m only (setup.placing m setup.shards) ∙ cond-true (stands_in setup (setup.placing m setup.shards) m) g None (eq-eqb j j refl)) in
+      ∙ ap (option_map answer_of) (untaken_standing setup list taken n p m only (setup.placing m setup.shards) ∙ cond-true (is_placed_in setup (setup.placing m setup.shards) m) g None (eq-eqb j j refl)) in
       ap filed_with_place (d.connects p ∙ ap (redistributed_connect placing count k) (at_home p m waits))
       ∙ redistributed_filed placing count k m (connect_in s p) (λ q h. slot_once (registry setup.config list).judged p q m ((each (setup.placing m setup.shards) (home m).shard (home m).at).owned p q h).waits waits)
       ∙ ap (λ o. cond (placing m count == k) o None) own

@@ -1,7 +1,7 @@
 -- The first line of a script, and the lines after it.
 use Rattle.std.proofs.Common.{◌≡◌, ◌≢◌, ℕ, ◌⊎◌, inl, inr, true, false, List, [], ◌∷◌, ◌++◌, refl, sym, ap, ◌∙◌, Option, Some, None, IfSome}
 use Rattle.std.specs.List.{slice_split}
-use Rattle.bx_script.specs.Words.{Dialect, is_newline, lines_of, without_empty_end, line_of, first_of, rest_of, ReadsLine, IsNext, said_by}
+use Rattle.bx_script.specs.Words.{Dialect, is_newline, lines_of, without_empty_end, line_of, first_of, rest_of, ReadsLine, IsNext, meaning_of}
 use Rattle.bx_script.specs.declared.line.Line.{Line}
 use Rattle.bx_script.proofs.Cuts.{Lacks, before_all, after_all, split_all, split_behind, before_it, after_it, Parted, parted, split_some}
 use Rattle.bx_script.proofs.Says.{kept_says}
@@ -29,12 +29,12 @@ lines_are (x ∷ xs) some = by_newline (parted 10 (x ∷ xs))
     by_newline (inr p) =
         ap lines_of p.whole ∙ line_and_rest p.front p.back p.lacks ∙ sym (ap (λ l. first_of l ∷ lines_of (rest_of l)) p.whole)
 
-pub is_next : (d : Dialect) (line : Line) (old new : Option (List ℕ)) (kept : List ℕ) → ReadsLine true old new kept → said_by line ≡ line_of d kept → IfSome old (λ script. IsNext d (Some line) script new)
-is_next d line None new kept read said = tt
-is_next d line (Some script) None kept read said = absurd read
-is_next d line (Some script) (Some rest) kept read said = record {
-  said = said ∙ ap (line_of d) read.1 ∙ kept_says d (first_of script);
-  behind = lines_are script read.0;
+pub is_next : (d : Dialect) (line : Line) (old new : Option (List ℕ)) (kept : List ℕ) → ReadsLine true old new kept → meaning_of line ≡ line_of d kept → IfSome old (λ script. IsNext d (Some line) script new)
+is_next d line None new kept read meaning = tt
+is_next d line (Some script) None kept read meaning = absurd read
+is_next d line (Some script) (Some rest) kept read meaning = record {
+  meaning = meaning ∙ ap (line_of d) read.1 ∙ kept_says d (first_of script);
+  lines = lines_are script read.0;
   left = ap Some read.2;
 }
 

@@ -17,13 +17,13 @@ dialect_of Script = replay.Script
 dialect_of Recorded = replay.Recorded
 
 -- A line in the definitions' form.
-abbrev pub said_by : Line → replay.Line
-said_by Bad = replay.Bad
-said_by (Rejected status) = replay.Rejected (code_of status)
-said_by (Accepted callback input) = replay.Accepted (option_map string_bytes callback) (read_input input)
-said_by (Resharded shards) = replay.Resharded shards
-said_by (Announced nonce) = replay.Announced nonce
-said_by Noted = replay.Noted
+abbrev pub meaning_of : Line → replay.Line
+meaning_of Bad = replay.Bad
+meaning_of (Rejected status) = replay.Rejected (code_of status)
+meaning_of (Accepted callback input) = replay.Accepted (option_map string_bytes callback) (read_input input)
+meaning_of (Resharded shards) = replay.Resharded shards
+meaning_of (Announced nonce) = replay.Announced nonce
+meaning_of Noted = replay.Noted
 
 -- The bytes of the script that are left.
 abbrev pub unread : {R : Type 0} → (R → Option (List ℕ)) → Lines R → Option (List ℕ)
@@ -47,8 +47,8 @@ read_as lines = dialect_of lines.dialect
 
 -- `line` is the meaning of the first line of `script`, and `rest` has the bytes after that line.
 pub record NextLine (dialect : Dialect) (line : Line) (script : List ℕ) (rest : Option (List ℕ)) : Type 0 where
-  pub said : said_by line ≡ line_of dialect (first_of script)
-  pub behind : lines_of script ≡ first_of script ∷ lines_of (rest_of script)
+  pub meaning : meaning_of line ≡ line_of dialect (first_of script)
+  pub lines : lines_of script ≡ first_of script ∷ lines_of (rest_of script)
   pub left : rest ≡ Some (rest_of script)
 
 -- The result of reading the next line: the first line of `script`, or `None` if no line is left.

@@ -175,20 +175,20 @@ nonce_left nonce (Tick moment) = nonce
 
 -- The nonce for the next request, after a line. A line that announces a nonce replaces it. Other
 -- lines without an input leave it as it is.
-abbrev pub nonce_behind : ℕ → Line → ℕ
-nonce_behind nonce (Announced other) = other
-nonce_behind nonce (Accepted callback input) = nonce_left nonce input
-nonce_behind nonce line = nonce
+abbrev pub nonce_after : ℕ → Line → ℕ
+nonce_after nonce (Announced other) = other
+nonce_after nonce (Accepted callback input) = nonce_left nonce input
+nonce_after nonce line = nonce
 
 -- The nonce for the next request, after these lines. It is 0 at first.
 abbrev pub nonce_at : List Line → ℕ
-nonce_at ls = fold nonce_behind 0 ls
+nonce_at ls = fold nonce_after 0 ls
 
 -- The lines, with the nonces set in the requests. `nonce`: the one for the first request, unless a
 -- line announces another.
 abbrev pub with_nonces : ℕ → List Line → List Line
 with_nonces nonce [] = []
-with_nonces nonce (line ∷ ls) = line_with nonce line ∷ with_nonces (nonce_behind nonce line) ls
+with_nonces nonce (line ∷ ls) = line_with nonce line ∷ with_nonces (nonce_after nonce line) ls
 
 -- ---- Inputs
 

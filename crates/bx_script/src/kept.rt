@@ -31,14 +31,14 @@ fn keep_on(kept: &mut Vec<u8>, part: &[u8]) -> Result<(), AllocError>
     requires { 0 < vec_len kept.old }
     ensures { OnOk result (kept.new.items ≡ kept_with kept.old.items part.now) }
 {
-    let part = told_by(kept.as_slice(), part);
+    let part = significant_part(kept.as_slice(), part);
     let room = KEPT_LIMIT.saturating_sub(kept.len()).min(part.len());
     kept.extend_from_slice(&part[..room])
 }
 
 // Returns `part`. If only a zero is kept, omits the leading zeros of `part`, since they change no
 // number.
-fn told_by<'a>(kept: &[u8], part: &'a [u8]) -> &'a [u8]
+fn significant_part<'a>(kept: &[u8], part: &'a [u8]) -> &'a [u8]
     ensures { result.now ≡ (if is_lone_zero kept.now then without_zeros part.now else part.now) }
 {
     if is_lone_zero(kept) {

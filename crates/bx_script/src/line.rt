@@ -6,7 +6,7 @@ ghost use Rattle.bx_message.specs.Statuses.{code_of};
 ghost use Rattle.bx_transport.specs.Statuses.{transport_status};
 ghost use Rattle.bx_transport.specs.Transports.{post_taken};
 ghost use Rattle.bx_script.specs.Replay.{Documents, Recorded, Rejected, announced_by, body_by, command, handed_by, is_space, line_of, noted_by, query_taken, recorded_command, resharded_by, reshards, timed_line};
-ghost use Rattle.bx_script.specs.Lines.{dialect_of, said_by};
+ghost use Rattle.bx_script.specs.Lines.{dialect_of, meaning_of};
 
 use crate::dialect::Dialect;
 use crate::digest::is_digest;
@@ -78,7 +78,7 @@ impl Line {
     ///
     /// `AllocError` if memory runs out.
     pub fn read(alloc: Global, dialect: Dialect, text: &[u8]) -> Result<Line, AllocError>
-        ensures said { IfOk result (λ line. said_by line ≡ line_of (dialect_of dialect) text.now) }
+        ensures meaning { IfOk result (λ line. meaning_of line ≡ line_of (dialect_of dialect) text.now) }
     {
         match (dialect, text.strip_prefix(b"A ")) {
             (Dialect::Recorded, Some(note)) => Ok(read_note(note)),
@@ -89,7 +89,7 @@ impl Line {
 
 // Parses a line that has a moment.
 fn read_timed(alloc: Global, dialect: Dialect, text: &[u8]) -> Result<Line, AllocError>
-    ensures { IfOk result (λ line. said_by line ≡ timed_line (dialect_of dialect) text.now) }
+    ensures { IfOk result (λ line. meaning_of line ≡ timed_line (dialect_of dialect) text.now) }
 {
     let (digits, rest) = cut_at_space(text);
     match number_of(digits) {
@@ -101,7 +101,7 @@ fn read_timed(alloc: Global, dialect: Dialect, text: &[u8]) -> Result<Line, Allo
 // Splits `text` at its first space. Without a space, the second part is empty.
 fn cut_at_space(text: &[u8]) -> (&[u8], &[u8])
     ensures before { result.0.now ≡ before_first is_space text.now }
-    ensures behind { result.1.now ≡ after_first is_space text.now }
+    ensures rest { result.1.now ≡ after_first is_space text.now }
 {
     match space_in(text) {
         Some(space) => (&text[..space], &text[space + 1..]),
@@ -123,7 +123,7 @@ fn read_command(
     moment: u64,
     rest: &[u8],
 ) -> Result<Line, AllocError>
-    ensures { IfOk result (λ line. said_by line ≡ command (dialect_of dialect) moment rest.now) }
+    ensures { IfOk result (λ line. meaning_of line ≡ command (dialect_of dialect) moment rest.now) }
 {
     if rest == b"T".as_slice() {
         return Ok(Line::Accepted {
@@ -148,7 +148,7 @@ fn read_command(
 
 // Parses what can follow the moment only in a record.
 fn read_recorded(alloc: Global, moment: u64, rest: &[u8]) -> Result<Line, AllocError>
-    ensures { IfOk result (λ line. said_by line ≡ recorded_command Recorded moment rest.now) }
+    ensures { IfOk result (λ line. meaning_of line ≡ recorded_command Recorded moment rest.now) }
 {
     if let Some(form) = rest.strip_prefix(b"F ") {
         return read_body(alloc, moment, Some(FORM_TYPE), form);
@@ -167,7 +167,7 @@ fn read_body(
     body: &[u8],
 ) -> Result<Line, AllocError>
     ensures { IfOk result (λ line.
-        said_by line ≡ handed_by moment (body_by (post_taken (option_map (λ t. t.now) content_type.entry) body.now))) }
+        meaning_of line ≡ handed_by moment (body_by (post_taken (option_map (λ t. t.now) content_type.entry) body.now))) }
 {
     match read_post(alloc, content_type, Vec::from_slice(alloc, body)?) {
         Ok(bodies) => Ok(request(moment, None, bodies)),
@@ -177,7 +177,7 @@ fn read_body(
 
 // Parses the query of a GET.
 fn read_query(alloc: Global, moment: u64, query: &[u8]) -> Result<Line, AllocError>
-    ensures { IfOk result (λ line. said_by line ≡ handed_by moment (query_taken query.now)) }
+    ensures { IfOk result (λ line. meaning_of line ≡ handed_by moment (query_taken query.now)) }
 {
     match read_get(alloc, query) {
         Ok((name, bodies)) => Ok(request(moment, Some(name), bodies)),
@@ -187,7 +187,7 @@ fn read_query(alloc: Global, moment: u64, query: &[u8]) -> Result<Line, AllocErr
 
 // Converts `error` to a rejected line. Fails if it is `Memory`.
 fn turned(error: TransportError) -> Result<Line, AllocError>
-    ensures status { IfOk result (λ line. said_by line ≡ Rejected (code_of (transport_status error))) }
+    ensures status { IfOk result (λ line. meaning_of line ≡ Rejected (code_of (transport_status error))) }
     ensures reason { OnOk result (error ≢ TransportError.Memory) }
 {
     match error {
@@ -199,7 +199,7 @@ fn turned(error: TransportError) -> Result<Line, AllocError>
 }
 
 fn request(moment: u64, callback: Option<String>, bodies: Bodies) -> Line
-    ensures { said_by result ≡ handed_by moment (Documents (option_map string_bytes callback) (texts_of bodies)) }
+    ensures { meaning_of result ≡ handed_by moment (Documents (option_map string_bytes callback) (texts_of bodies)) }
 {
     Line::Accepted {
         callback,
@@ -213,7 +213,7 @@ fn request(moment: u64, callback: Option<String>, bodies: Bodies) -> Line
 }
 
 fn read_shards(digits: &[u8]) -> Line
-    ensures { said_by result ≡ resharded_by digits.now }
+    ensures { meaning_of result ≡ resharded_by digits.now }
 {
     if digits.len() > BODY_LIMIT {
         return Line::Bad;
@@ -225,7 +225,7 @@ fn read_shards(digits: &[u8]) -> Line
 }
 
 fn shards_of(number: u64) -> Line
-    ensures { said_by result ≡ reshards (Some number) }
+    ensures { meaning_of result ≡ reshards (Some number) }
 {
     match ShardCount::new(number as usize) {
         Some(shards) => Line::Resharded { shards },
@@ -234,7 +234,7 @@ fn shards_of(number: u64) -> Line
 }
 
 fn read_nonce(digits: &[u8]) -> Line
-    ensures { said_by result ≡ announced_by digits.now }
+    ensures { meaning_of result ≡ announced_by digits.now }
 {
     match nonce_of(digits) {
         Some(nonce) => Line::Announced { nonce },
@@ -244,7 +244,7 @@ fn read_nonce(digits: &[u8]) -> Line
 
 // Parses what follows `A` and a space: a place and a digest.
 fn read_note(note: &[u8]) -> Line
-    ensures { said_by result ≡ noted_by note.now }
+    ensures { meaning_of result ≡ noted_by note.now }
 {
     if note.len() > BODY_LIMIT {
         return Line::Bad;

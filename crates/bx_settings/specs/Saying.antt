@@ -16,4 +16,4 @@ pub record IsConfigOf (shards timeout interval max_interval : List ℕ) (config 
 abbrev pub IsSaidBy : List (List ℕ) → Settings → Type 0
 IsSaidBy (listen ∷ shards ∷ timeout ∷ interval ∷ max_interval ∷ seed ∷ connections ∷ more) s =
     (s.listen.now ≡ listen) × IsConfigOf shards timeout interval max_interval s.config × (number_of connections ≡ Some s.connections)
-IsSaidBy words s = ⊥
+IsSaidBy args s = ⊥

@@ -29,7 +29,7 @@ const BODY: &str = "a number from 1 to 1048576";
 
 const CONNECTIONS: &str = "a number";
 
-/// Parses the flags in `words`.
+/// Parses the flags in `args`.
 ///
 /// `processors`: the number of processors. Without `--shards`, there is one shard for each of them,
 /// but at least 1 and at most 64.
@@ -40,11 +40,11 @@ const CONNECTIONS: &str = "a number";
 /// and `--version` also return an error, with the text to print.
 pub fn read_flags<'a>(
     alloc: Global,
-    words: &'a [String],
+    args: &'a [String],
     processors: usize,
 ) -> Result<Settings<'a>, Error> {
     let mut command = command(alloc)?;
-    let matches = command.try_get_matches_from_mut(words)?;
+    let matches = command.try_get_matches_from_mut(args)?;
     let config = read_config(alloc, &mut command, &matches, processors)?;
     let Some(body) = body_of(&matches) else {
         return Err(wrong(alloc, &mut command, &matches, "body", BODY)?);

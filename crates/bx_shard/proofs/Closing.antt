@@ -5,7 +5,7 @@ use Rattle.std.proofs.lemmas.List.Folds.{list_any_more}
 use Rattle.bx_entry.specs.Keeping.{Kept}
 use Rattle.bx_connects.specs.declared.connects.ConnectState.{ConnectState}
 use Rattle.bx_connects.specs.declared.connects.ConnectState.TheVariants.{Held, Filed}
-use Rattle.bx_shard.specs.Words.{forgetting, held_in, held_until, let_go}
+use Rattle.bx_shard.specs.Words.{forgetting, held_in, held_until, dropped_by}
 use Rattle.bx_shard.proofs.Ties.{Agree}
 
 abbrev pub parted_from : ℕ → Option ConnectState → Option ConnectState
@@ -23,8 +23,8 @@ pub closing_parts : (C : ℕ → Option ConnectState) (S : ℕ → Option Kept) 
     → (p : ℕ) → forgetting (held_in (S m)) C p ≡ parted_from m (C p)
 closing_parts C S m agree p = grind (arith, agree p m)
 
-pub let_go_none : (o : Option ConnectState) → o ≡ let_go [] o
-let_go_none o = grind arith
+pub dropped_by_none : (o : Option ConnectState) → o ≡ dropped_by [] o
+dropped_by_none o = grind arith
 
 either : {X : Type 0} (a b : Bool) (x : Option X) → cond b None (cond a None x) ≡ cond (a || b) None x
 either a b x = grind arith
@@ -33,8 +33,8 @@ module _ (numbers : List ℕ) (i : ℕ) (more : i < length numbers) where
   one_more : (n : ℕ) → list_any (λ m. m == n) (take (i + 1) numbers) ≡ (list_any (λ m. m == n) (take i numbers) || nat_eq (get_or numbers i 0) n)
   one_more n = list_any_more (λ m. m == n) numbers i 0 more
 
-  pub let_go_more : (o : Option ConnectState) → parted_from (get_or numbers i 0) (let_go (take i numbers) o) ≡ let_go (take (i + 1) numbers) o
-  let_go_more o = grind (arith, one_more)
+  pub dropped_by_more : (o : Option ConnectState) → parted_from (get_or numbers i 0) (dropped_by (take i numbers) o) ≡ dropped_by (take (i + 1) numbers) o
+  dropped_by_more o = grind (arith, one_more)
 
   pub gone_more : (n : ℕ) (o : Option Kept) → cond (nat_eq (get_or numbers i 0) n) None (cond (list_any (λ m. m == n) (take i numbers)) None o) ≡ cond (list_any (λ m. m == n) (take (i + 1) numbers)) None o
   gone_more n o = grind (arith, one_more n)

@@ -12,7 +12,7 @@ use Rattle.bx_entry.specs.declared.entry.EntryKind.TheVariants.{Opened, Tick}
 use Rattle.bx_theory.specs.Readings.{moment_of, opens_by}
 use Rattle.bx_theory.proofs.Dues.{Mapped, Same, named_session, numbered, numbered_below, served_sessions, swept_sessions, unchanged}
 use Rattle.bx_theory.proofs.{Lives.none_opened, Lives.served_opens}
-use Rattle.bx_theory.proofs.Verdicts.{each_registry, each_verdict, entries_behind, entry_of_place, judge_is, next_found, registry_next, verdict_of}
+use Rattle.bx_theory.proofs.Verdicts.{each_registry, each_verdict, entries_after, entry_of_place, judge_is, next_found, registry_next, verdict_of}
 
 -- ---- the numbers of the registry
 
@@ -109,7 +109,7 @@ numbers_next config ys x = ap numbers (registered_next config ys x) ∙ (adds co
 
 pub session_next : (config : Config) (number : ℕ) (ys : List Listed) (x : Listed) →
     session config number (entries_of (registry config (ys ++ x ∷ []))) ≡ step config (session config number (entries_of (registry config ys))) (entry_next config ys x)
-session_next config number ys x = ap (session config number) (entries_behind config ys (x ∷ [])) ∙ fold-append (step config) (unopened number) (entries_of (registry config ys)) (entry_next config ys x ∷ [])
+session_next config number ys x = ap (session config number) (entries_after config ys (x ∷ [])) ∙ fold-append (step config) (unopened number) (entries_of (registry config ys)) (entry_next config ys x ∷ [])
 
 pub all_fresh : (config : Config) (ys : List Listed) (n : ℕ) → length (registry config ys).sessions < n → session config n (entries_of (registry config ys)) ≡ unopened n
 all_fresh config ys = each_registry config (λ r. (n : ℕ) → length r.sessions < n → session config n (entries_of r) ≡ unopened n) (λ n l. refl) (λ zs x fresh n l.

@@ -7,7 +7,7 @@ use Rattle.bx_entry.specs.Words.{Listed, Registry, registry, entries_of, Waiting
 use Rattle.bx_entry.specs.declared.entry.{Entry.Entry, EntryKind.EntryKind}
 use Rattle.bx_entry.specs.declared.entry.EntryKind.TheVariants.{Opened}
 use Rattle.bx_entry.specs.Placings.{Setup}
-use Rattle.bx_shard.specs.Shards.{stands_in, is_taken, shard_at, sessions_in}
+use Rattle.bx_shard.specs.Shards.{is_placed_in, is_taken, shard_at, sessions_in}
 use Rattle.bx_theory.proofs.{Kept.kept_steps, Closings.idle_next}
 use Rattle.std.specs.Option.{option_or}
 use Rattle.bx_shard.specs.Steps.{answers_by, ShardsFile}
@@ -50,7 +50,7 @@ one_waiter : (config : Config) (zs : List Listed) (place n m : ℕ) (f g : Filed
 one_waiter config zs place n m f g x y = let both : Some (Waiting n) ≡ Some (Waiting m) = sym (waits_over config n place zs f x) ∙ waits_over config m place zs g y in cc
 
 opened_nothing : (config : Config) (setup : Setup) (shard : ℕ) (ys : List Listed) (x : Listed) (k : EntryKind) → (entry_next config ys x).kind ≡ k →
-    flat_map (λ (n : ℕ). (session config n (entries_of (registry config (ys ++ x ∷ [])))).answers) (filter (λ (n : ℕ). stands_in setup shard n) (opened_numbers k)) ≡ []
+    flat_map (λ (n : ℕ). (session config n (entries_of (registry config (ys ++ x ∷ [])))).answers) (filter (λ (n : ℕ). is_placed_in setup shard n) (opened_numbers k)) ≡ []
 opened_nothing config setup shard ys x (Opened n ack) h =
     let e : Entry = entry_next config ys x in
     let A : ℕ → List Filed = λ m. (session config m (entries_of (registry config (ys ++ x ∷ [])))).answers in
@@ -58,7 +58,7 @@ opened_nothing config setup shard ys x (Opened n ack) h =
     let here : (session config n (entries_of (registry config (ys ++ x ∷ [])))).answers ≡ [] =
     ap (λ (u : Session). u.answers) (session_next config n ys x ∙ ap (λ (u : Session). step config u e) (all_fresh config ys n (opens_above config ys x n ack h)))
     ∙ ap (λ (k : EntryKind). (step config (unopened n) (record e { kind = k })).answers) h ∙ none in
-    cond_both (stands_in setup shard n) (n ∷ []) [] (λ (ms : List ℕ). flat_map A ms ≡ []) (λ g. append-nil (A n) ∙ here) (λ g. refl)
+    cond_both (is_placed_in setup shard n) (n ∷ []) [] (λ (ms : List ℕ). flat_map A ms ≡ []) (λ g. append-nil (A n) ∙ here) (λ g. refl)
 opened_nothing config setup shard ys x _ h = refl
 
 live_answers : (config : Config) (ys : List Listed) (x : Listed) (ns : List ℕ) →
@@ -86,7 +86,7 @@ filed_next : (setup : Setup) (shard place : ℕ) (ys : List Listed) (x : Listed)
     find_of place (answers_over setup shard (ys ++ x ∷ [])) ≡ option_or (find_of place (answers_over setup shard ys)) (find_of place (answers_by setup.config (entry_next setup.config ys x) (held_over setup shard ys)))
 filed_next setup shard place ys x =
     let config : Config = setup.config in
-    let here : ℕ → Bool = λ n. stands_in setup shard n in
+    let here : ℕ → Bool = λ n. is_placed_in setup shard n in
     let es : List Entry = entries_of (registry setup.config ys) in
     let e : Entry = entry_next setup.config ys x in
     let ns : List ℕ = numbers (registry setup.config ys).sessions in

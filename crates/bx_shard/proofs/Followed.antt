@@ -15,14 +15,14 @@ use Rattle.bx_connects.specs.declared.connects.ConnectState.TheVariants.{Filed}
 use Rattle.bx_connects.specs.Connects.{connect_at, held_by, session_at}
 use Rattle.bx_shard.specs.declared.sessions.Sessions.{Sessions}
 use Rattle.bx_shard.specs.Effects.{answers_by, connect_filing, filing_each, holding}
-use Rattle.bx_shard.specs.Words.{Followed, alone, published_at, Connects, IsGiven, if_live, let_go, session_after}
+use Rattle.bx_shard.specs.Words.{Followed, alone, published_at, Connects, IsGiven, if_live, dropped_by, session_after}
 use Rattle.bx_shard.specs.Sessions.{AreCounted, AreHeld, IsCounted, IsOwn, kept_in, patterns_in}
 use Rattle.bx_shard.specs.States as states
 use Rattle.bx_shard.proofs.Beginnings.{both_answers, filing_more, is_own, is_superseded, others_superseded, own_answers, superseded, to_itself}
 use Rattle.bx_theory.proofs.Keeps.{Keeps, connected_k, expired_from_k, released_from_k}
 use Rattle.bx_shard.proofs.{Counts.published_stage, Counts.subscribed_l, Counts.subscribed_quiet, Singles.nowhere}
 use Rattle.bx_shard.proofs.Ends.{IsTo, filed_only, filed_to, held_to, is_to, release_settles}
-use Rattle.bx_shard.proofs.Keeps.{AreElsewhere, filing_each_session, held_session, let_go_session, unfiled}
+use Rattle.bx_shard.proofs.Keeps.{AreElsewhere, filing_each_session, held_session, dropped_by_session, unfiled}
 
 of_kind : (stands : Bool) (e : Entry) (kind : EntryKind) (old new : Sessions) → e.kind ≡ kind → Followed stands (record e { kind = kind; rides = None }) old new → Followed stands (alone e) old new
 of_kind stands e kind old new is follows = subst (λ (k : EntryKind). Followed stands (record e { kind = k; rides = None }) old new) (sym is) follows
@@ -411,16 +411,16 @@ pub followed_tick : (stands : Bool) (e : Entry) (numbers : List ℕ) (old betwee
     → ((p : ℕ) → session_at (connect_at between.connects p) ≡ session_at (connect_at old.connects p))
     → between.config ≡ old.config
     → ((n : ℕ) → kept_in new n ≡ cond (list_any (λ m. m == n) numbers) None (kept_in between n))
-    → ((p : ℕ) → connect_at new.connects p ≡ let_go numbers (connect_at between.connects p))
+    → ((p : ℕ) → connect_at new.connects p ≡ dropped_by numbers (connect_at between.connects p))
     → new.config ≡ between.config → AreCounted old → AreCounted new → AreHeld new → Followed stands (alone e) old new
 followed_tick stands e numbers old between new is ends given kept_at known config closed gone config_closed before counted held = of_kind stands e (kinds.Tick numbers) old new is (record {
   config = config_closed ∙ config;
   sessions = λ n. closed n ∙ ap (λ o. cond (list_any (λ m. m == n) numbers) None o) (ends n) ∙ by n (kept_in old n) (before n);
   connects = record {
-    given = λ n a g. gone a.place ∙ ap (let_go numbers) (given n a (subst (λ answers. Contains answers a) (answered (kept_in old n)) g));
-    kept = λ p never. gone p ∙ ap (let_go numbers) (kept_at p (λ n a g. never n a (subst (λ answers. Contains answers a) (sym (answered (kept_in old n))) g)));
+    given = λ n a g. gone a.place ∙ ap (dropped_by numbers) (given n a (subst (λ answers. Contains answers a) (answered (kept_in old n)) g));
+    kept = λ p never. gone p ∙ ap (dropped_by numbers) (kept_at p (λ n a g. never n a (subst (λ answers. Contains answers a) (sym (answered (kept_in old n))) g)));
   };
-  known = λ p m k. inl (sym (known p) ∙ let_go_session numbers (connect_at between.connects p) m (sym (ap session_at (gone p)) ∙ k));
+  known = λ p m k. inl (sym (known p) ∙ dropped_by_session numbers (connect_at between.connects p) m (sym (ap session_at (gone p)) ∙ k));
   counted = counted;
   held = held;
 })

@@ -3,9 +3,9 @@ use Rattle.std.proofs.Common.{◌≡◌, ℕ, ◌<◌, Option, Some, None, List,
 use Rattle.std.proofs.lemmas.List.{take-append-le}
 use Rattle.bx_advice.specs.declared.config.Config.{Config}
 use Rattle.bx_entry.specs.Words.{Listed, answer_of, Kept, kept, Registry, Registered, Judged, registry, entries_of, Session, Filed, session}
-use Rattle.bx_theory.proofs.{Lists.judged_length, Lists.slice_get_less, Verdicts.found_from, Verdicts.judged_behind}
+use Rattle.bx_theory.proofs.{Lists.judged_length, Lists.slice_get_less, Verdicts.found_from, Verdicts.judged_after}
 use Rattle.bx_connects.specs.Connects.{session_at}
-use Rattle.bx_shard.specs.Words.{Setup, filed_among, live_among, stands_in, RefinesAtFirst, RefinesLonger, RefinesStill, IsConnectOf, filed_with_place}
+use Rattle.bx_shard.specs.Words.{Setup, filed_among, live_among, is_placed_in, RefinesAtFirst, RefinesLonger, RefinesStill, IsConnectOf, filed_with_place}
 use Rattle.bx_shard.proofs.Taking.{waits_later}
 
 -- ---- at first, and after a call that changed nothing
@@ -43,7 +43,7 @@ refines_still setup list taken shard n old new h b sound = record {
 abbrev pub sessions_over : Setup → ℕ → List Listed → List Session
 sessions_over setup shard xs =
     let r : Registry = registry setup.config xs in
-    map (λ (s : Registered). session setup.config s.number (entries_of r)) (filter (λ (s : Registered). stands_in setup shard s.number) r.sessions)
+    map (λ (s : Registered). session setup.config s.number (entries_of r)) (filter (λ (s : Registered). is_placed_in setup shard s.number) r.sessions)
 
 abbrev found_session : Setup → ℕ → List Session → Option Kept
 found_session setup m ss = find (λ (k : Kept). k.number == m) (map kept (live_among ss))
@@ -53,7 +53,7 @@ found_answer taken p ss = find (λ (f : Filed). f.connect == p) (filed_among tak
 
 pub judged_alike : (config : Config) (xs ys : List Listed) (p : ℕ) → p < length xs → slice_get (registry config (xs ++ ys)).judged p ≡ slice_get (registry config xs).judged p
 judged_alike config xs ys p h =
-    ap (λ (js : List Judged). slice_get js p) (judged_behind config xs ys) ∙ slice_get_less (registry config xs).judged (found_from config (registry config xs) ys) p (omega (arith, h, judged_length config xs))
+    ap (λ (js : List Judged). slice_get js p) (judged_after config xs ys) ∙ slice_get_less (registry config xs).judged (found_from config (registry config xs) ys) p (omega (arith, h, judged_length config xs))
 
 connect_before : (setup : Setup) (list more : List Listed) (shard p : ℕ) → p < length list → IsConnectOf setup (list ++ more) shard p → IsConnectOf setup list shard p
 connect_before setup list more shard p h c = record {

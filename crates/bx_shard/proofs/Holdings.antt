@@ -7,7 +7,7 @@ use Rattle.bx_entry.specs.declared.entry.Entry.{Entry}
 use Rattle.bx_entry.specs.Words.{Listed, Registry, Registered, Judged, registry, entries_of, Session, is_live, unopened, session, Kept, kept}
 use Rattle.bx_theory.proofs.{Dues.NumberedFrom, Dues.numbered, Lists.judged_length, Closings.run_number, Closings.live_stage}
 use Rattle.bx_session.proofs.NumberLemmas.{numbers_count}
-use Rattle.bx_shard.specs.Words.{Setup, shard_at, stands_in, IsReached, SessionsReached, NumbersAscend, OpenedIsFresh}
+use Rattle.bx_shard.specs.Words.{Setup, shard_at, is_placed_in, IsReached, SessionsReached, NumbersAscend, OpenedIsFresh}
 use Rattle.bx_shard.proofs.Elements.{numbers, opens_above, Met, met}
 use Rattle.bx_shard.proofs.Stepping.{held_by, held_cons, numbers_in, held_at, EachNumber, numbers_below}
 
@@ -38,12 +38,12 @@ holds_reached setup list taken shard n =
 
 -- ---- the shard of a session
 
-each_standing : (setup : Setup) (shard : ℕ) (ns : List ℕ) → EachNumber (λ n. stands_in setup shard n ≡ true) (filter (λ (n : ℕ). stands_in setup shard n) ns)
+each_standing : (setup : Setup) (shard : ℕ) (ns : List ℕ) → EachNumber (λ n. is_placed_in setup shard n ≡ true) (filter (λ (n : ℕ). is_placed_in setup shard n) ns)
 each_standing setup shard [] = tt
 each_standing setup shard (n ∷ ns) =
-    let rest : List ℕ = filter (λ (m : ℕ). stands_in setup shard m) ns in
-    let theirs : EachNumber (λ m. stands_in setup shard m ≡ true) (filter (λ (m : ℕ). stands_in setup shard m) ns) = each_standing setup shard ns in
-    cond_both (stands_in setup shard n) (n ∷ rest) rest (EachNumber (λ m. stands_in setup shard m ≡ true)) (λ h. (h, theirs)) (λ h. theirs)
+    let rest : List ℕ = filter (λ (m : ℕ). is_placed_in setup shard m) ns in
+    let theirs : EachNumber (λ m. is_placed_in setup shard m ≡ true) (filter (λ (m : ℕ). is_placed_in setup shard m) ns) = each_standing setup shard ns in
+    cond_both (is_placed_in setup shard n) (n ∷ rest) rest (EachNumber (λ m. is_placed_in setup shard m ≡ true)) (λ h. (h, theirs)) (λ h. theirs)
 
 -- ---- numbers
 
@@ -72,15 +72,15 @@ sessions_ascend setup list taken shard n =
     let r : Registry = registry setup.config (take n list) in
     subst IsStrictlyIncreasing (sym (ap (map (λ (k : Kept). k.number)) (held_at setup list taken shard n) ∙ held_numbers setup.config es (numbers_in setup shard (take n list))))
     (IsStrictlyIncreasing-filter (λ m. is_live (session config m es).stage) (numbers_in setup shard (take n list))
-    (IsStrictlyIncreasing-filter (λ m. stands_in setup shard m) (numbers r.sessions) (numbers_ascend 1 r.sessions (numbered config (take n list)))))
+    (IsStrictlyIncreasing-filter (λ m. is_placed_in setup shard m) (numbers r.sessions) (numbers_ascend 1 r.sessions (numbered config (take n list)))))
 
-pub holds_stand : (setup : Setup) (list : List Listed) (taken : List ℕ) (shard n : ℕ) → All (λ k. stands_in setup shard k.number ≡ true) (shard_at setup list taken shard n).sessions
+pub holds_stand : (setup : Setup) (list : List Listed) (taken : List ℕ) (shard n : ℕ) → All (λ k. is_placed_in setup shard k.number ≡ true) (shard_at setup list taken shard n).sessions
 holds_stand setup list taken shard n =
     let es : List Entry = entries_of (registry setup.config (take n list)) in
     let r : Registry = registry setup.config (take n list) in
-    subst (All (λ k. stands_in setup shard k.number ≡ true)) (sym (held_at setup list taken shard n))
-    (each_held (λ k. stands_in setup shard k.number ≡ true) (λ m. stands_in setup shard m ≡ true) setup.config es (numbers_in setup shard (take n list))
-    (λ m q l. subst (λ (x : ℕ). stands_in setup shard x ≡ true) (sym (kept_number setup.config m es)) q) (each_standing setup shard (numbers r.sessions)))
+    subst (All (λ k. is_placed_in setup shard k.number ≡ true)) (sym (held_at setup list taken shard n))
+    (each_held (λ k. is_placed_in setup shard k.number ≡ true) (λ m. is_placed_in setup shard m ≡ true) setup.config es (numbers_in setup shard (take n list))
+    (λ m q l. subst (λ (x : ℕ). is_placed_in setup shard x ≡ true) (sym (kept_number setup.config m es)) q) (each_standing setup shard (numbers r.sessions)))
 
 pub opened_is_fresh : OpenedIsFresh
 opened_is_fresh setup list taken shard m number ack e there kind =

@@ -7,7 +7,7 @@ use Rattle.bx_session.specs.declared.answered.Answered.{Answered}
 use Rattle.bx_connects.specs.declared.connects.ConnectState.{ConnectState}
 use Rattle.bx_connects.specs.declared.connects.ConnectState.TheVariants.{Filed}
 use Rattle.bx_connects.specs.Connects.{filed_as, filing, session_at, unswept, unwatched, with_waker}
-use Rattle.bx_shard.specs.Words.{filing_each, held_until, let_go}
+use Rattle.bx_shard.specs.Words.{filing_each, held_until, dropped_by}
 use Rattle.bx_shard.proofs.Singles.{the_one}
 
 filed_session : (place : ℕ) (answer : Answer) (o : Option ConnectState) → session_at (filed_as place answer o) ≡ session_at o
@@ -29,8 +29,8 @@ unfiled place (a ∷ rest) C p never =
     unfiled place rest (filing place (Some a) C) p (λ b there. never b (Contains-append_right (a ∷ []) rest b there))
     ∙ ap (λ b. cond b (filed_as place a.answer (C a.place)) (C p)) (ne_eqb a.place p (never a (Contains-append_left (a ∷ []) rest a (the_one a))))
 
-pub let_go_session : (numbers : List ℕ) (o : Option ConnectState) (m : ℕ) → session_at (let_go numbers o) ≡ Some m → session_at o ≡ Some m
-let_go_session numbers o m h = grind arith
+pub dropped_by_session : (numbers : List ℕ) (o : Option ConnectState) (m : ℕ) → session_at (dropped_by numbers o) ≡ Some m → session_at o ≡ Some m
+dropped_by_session numbers o m h = grind arith
 
 pub held_session : (o : Option ConnectState) (n : ℕ) (deadline : Option ℕ) → held_until o n ≡ Some deadline → session_at o ≡ Some n
 held_session o n deadline h = grind arith

@@ -15,7 +15,7 @@ use Rattle.bx_connects.specs.declared.connects.ConnectState.{ConnectState}
 use Rattle.bx_connects.specs.declared.connects.ConnectState.TheVariants as states
 use Rattle.bx_connects.specs.Connects.{session_at}
 use Rattle.bx_shard.specs.Effects as effects
-use Rattle.bx_shard.specs.Words.{IsReached, Setup, is_taken, sessions_in, shard_at, stands_in, Applied, IsGiven, IsSound, State, begun, connect_in, if_live, let_go, opening, opens_in, session_after, session_in}
+use Rattle.bx_shard.specs.Words.{IsReached, Setup, is_taken, sessions_in, shard_at, is_placed_in, Applied, IsGiven, IsSound, State, begun, connect_in, if_live, dropped_by, opening, opens_in, session_after, session_in}
 use Rattle.bx_shard.specs.Refining.{Refines, RefinesOnwards, IsConnectOf, IsOwn, filed_with_place, placed}
 use Rattle.bx_shard.specs.Steps.{answers_by, opening_by, stepped}
 use Rattle.bx_shard.proofs.{Cases.by_option, Elements.Met, Elements.met, Filings.shards_file, Placed.entry_placed, Singles.nowhere, Stepping.shards_step, Untaken.find_of}
@@ -117,11 +117,11 @@ gave s e ks p f d known found =
 
 -- ---- the connects before any is answered
 
-let_go_filed : (numbers : List ℕ) (o : Option ConnectState) → filed_with_place (let_go numbers o) ≡ filed_with_place o
-let_go_filed numbers o = grind arith
+dropped_by_filed : (numbers : List ℕ) (o : Option ConnectState) → filed_with_place (dropped_by numbers o) ≡ filed_with_place o
+dropped_by_filed numbers o = grind arith
 
-let_go_none : (numbers : List ℕ) (o : Option ConnectState) → o ≡ None → let_go numbers o ≡ None
-let_go_none numbers o h = grind arith
+dropped_by_none : (numbers : List ℕ) (o : Option ConnectState) → o ≡ None → dropped_by numbers o ≡ None
+dropped_by_none numbers o h = grind arith
 
 begun_filed : (s : State) (e : Entry) (kind : EntryKind) (p : ℕ) → connect_in s e.place ≡ None → filed_with_place (begun (session_in s) (connect_in s) e kind p) ≡ filed_with_place (connect_in s p)
 begun_filed s e kind p fresh = grind arith
@@ -229,14 +229,14 @@ gone_next list taken n e s new p b a t c =
           (λ h. unanswered_as list taken n e s new p b a h ∙ begun_none s e e.kind p g.1 other) (λ f h. absurd ((answered list taken n e s p f b h).free t)),
     )
 
-stands_here : (list : List Listed) (taken : List ℕ) (n : ℕ) (e : Entry) (s : State) (m : ℕ) → Before list taken n e s → is_some (session_in s m) ≡ true → stands_in s.setup s.index m ≡ true
+stands_here : (list : List Listed) (taken : List ℕ) (n : ℕ) (e : Entry) (s : State) (m : ℕ) → Before list taken n e s → is_some (session_in s m) ≡ true → is_placed_in s.setup s.index m ≡ true
 stands_here list taken n e s m b here =
     let ks : List Kept = (shard_at s.setup list taken s.index n).sessions in
-    by_option (λ o. session_in s m ≡ o → stands_in s.setup s.index m ≡ true) (find_kept m ks)
+    by_option (λ o. session_in s m ≡ o → is_placed_in s.setup s.index m ≡ true) (find_kept m ks)
     (λ f h. absurd (let no : false ≡ true = sym (ap is_some h) ∙ here in cc))
     (λ k f h.
-    let w = found_each (λ j. stands_in s.setup s.index j.number ≡ true) m ks k f (holds_stand s.setup list taken s.index n) in
-    subst (λ (q : ℕ). stands_in s.setup s.index q ≡ true) w.1 w.0)
+    let w = found_each (λ j. is_placed_in s.setup s.index j.number ≡ true) m ks k f (holds_stand s.setup list taken s.index n) in
+    subst (λ (q : ℕ). is_placed_in s.setup s.index q ≡ true) w.1 w.0)
     (b.holds.sessions m)
 
 owned_next : (list : List Listed) (taken : List ℕ) (n : ℕ) (e : Entry) (s new : State) (p m : ℕ) → Before list taken n e s → Applied s e new → session_at (connect_in new p) ≡ Some m → IsOwn s.setup list s.index p m

@@ -7,7 +7,7 @@ use Rattle.bx_entry.specs.Words.{Listed, Registry, Registered, registry, entries
 use Rattle.bx_entry.specs.declared.entry.{Entry.Entry, EntryKind.EntryKind}
 use Rattle.bx_entry.specs.declared.entry.EntryKind.TheVariants.{Opened}
 use Rattle.bx_theory.specs.Readings.{opens_by, closes_by, EachSession}
-use Rattle.bx_shard.specs.Words.{Setup, stands_in, shard_at, opening_by, ShardsStep, stepped}
+use Rattle.bx_shard.specs.Words.{Setup, is_placed_in, shard_at, opening_by, ShardsStep, stepped}
 use Rattle.bx_theory.proofs.{Keeps.ride_k, Stages.Next, Stages.step_by_next, Dues.numbered, Dues.numbered_below, Kept.kept_steps, Closings.run_number}
 use Rattle.bx_shard.proofs.Elements.{numbers, numbers_next, opened_numbers, opens_no_other, entry_next, session_next, all_fresh, opens_above, Met, met}
 use Rattle.bx_shard.proofs.Finding.{steps}
@@ -15,7 +15,7 @@ use Rattle.bx_shard.proofs.Finding.{steps}
 -- ---- sessions by their numbers
 
 pub by_numbers : (config : Config) (setup : Setup) (shard : ℕ) (es : List Entry) (rs : List Registered) →
-    map (λ (s : Registered). session config s.number es) (filter (λ (s : Registered). stands_in setup shard s.number) rs) ≡ map (λ (n : ℕ). session config n es) (filter (λ (n : ℕ). stands_in setup shard n) (numbers rs))
+    map (λ (s : Registered). session config s.number es) (filter (λ (s : Registered). is_placed_in setup shard s.number) rs) ≡ map (λ (n : ℕ). session config n es) (filter (λ (n : ℕ). is_placed_in setup shard n) (numbers rs))
 by_numbers config setup shard es [] = refl
 by_numbers config setup shard es (r ∷ rs) = grind (arith, by_numbers config setup shard es rs)
 
@@ -29,7 +29,7 @@ pub held_cons : (config : Config) (es : List Entry) (n : ℕ) (ns : List ℕ) �
 held_cons config es n ns = grind arith
 
 abbrev pub numbers_in : Setup → ℕ → List Listed → List ℕ
-numbers_in setup shard xs = filter (λ (n : ℕ). stands_in setup shard n) (numbers (registry setup.config xs).sessions)
+numbers_in setup shard xs = filter (λ (n : ℕ). is_placed_in setup shard n) (numbers (registry setup.config xs).sessions)
 
 abbrev pub held_over : Setup → ℕ → List Listed → List Kept
 held_over setup shard xs = held_by setup.config (entries_of (registry setup.config xs)) (numbers_in setup shard xs)
@@ -85,7 +85,7 @@ each_number_of P (r ∷ rs) d = (d.0, each_number_of P rs d.1)
 pub numbers_below : (setup : Setup) (shard : ℕ) (xs : List Listed) → EachNumber (λ n. n < 1 + length (registry setup.config xs).sessions) (numbers_in setup shard xs)
 numbers_below setup shard xs =
     let r : Registry = registry setup.config xs in
-    each_number_filter (λ n. n < 1 + length r.sessions) (λ n. stands_in setup shard n) (numbers r.sessions)
+    each_number_filter (λ n. n < 1 + length r.sessions) (λ n. is_placed_in setup shard n) (numbers r.sessions)
     (each_number_of (λ n. n < 1 + length r.sessions) r.sessions (numbered_below 1 r.sessions (numbered setup.config xs)))
 
 held_step : (config : Config) (ys : List Listed) (x : Listed) (ns : List ℕ) → EachNumber (λ n. n < 1 + length (registry config ys).sessions) ns →
@@ -104,13 +104,13 @@ held_step config ys x (n ∷ ns) d =
     ∙ sym (ap (steps config e) (held_cons config es n ns))
 
 opening_step : (setup : Setup) (shard : ℕ) (ys : List Listed) (x : Listed) (k : EntryKind) → (entry_next setup.config ys x).kind ≡ k →
-    held_by setup.config (entries_of (registry setup.config (ys ++ x ∷ []))) (filter (λ (n : ℕ). stands_in setup shard n) (opened_numbers k)) ≡ steps setup.config (entry_next setup.config ys x) (opening_by setup shard k)
+    held_by setup.config (entries_of (registry setup.config (ys ++ x ∷ []))) (filter (λ (n : ℕ). is_placed_in setup shard n) (opened_numbers k)) ≡ steps setup.config (entry_next setup.config ys x) (opening_by setup shard k)
 opening_step setup shard ys x (Opened n ack) h =
     let e : Entry = entry_next setup.config ys x in
     let none : List Kept = [] in
     let begin : session setup.config n (entries_of (registry setup.config ys)) ≡ unopened n = all_fresh setup.config ys n (opens_above setup.config ys x n ack h) in
     let one : session setup.config n (entries_of (registry setup.config (ys ++ x ∷ []))) ≡ step setup.config (unopened n) (entry_next setup.config ys x) = session_next setup.config n ys x ∙ ap (λ (s : Session). step setup.config s e) begin in
-    (elim (stands_in setup shard n) as (λ b. held_by setup.config (entries_of (registry setup.config (ys ++ x ∷ []))) (cond b (n ∷ []) []) ≡ steps setup.config (entry_next setup.config ys x) (cond b (kept (unopened n) ∷ []) [])) [
+    (elim (is_placed_in setup shard n) as (λ b. held_by setup.config (entries_of (registry setup.config (ys ++ x ∷ []))) (cond b (n ∷ []) []) ≡ steps setup.config (entry_next setup.config ys x) (cond b (kept (unopened n) ∷ []) [])) [
       | true ↦ held_cons setup.config (entries_of (registry setup.config (ys ++ x ∷ []))) n [] ∙ ap (λ (s : Session). one_kept s none) one
           ∙ ap (λ (k : Kept). cond (is_live k.stage) (k ∷ none) none) (kept_steps setup.config (unopened n) e).state
       | false ↦ refl
@@ -124,7 +124,7 @@ shard_next setup shard ys x =
     let r : Registry = registry setup.config ys in
     let e : Entry = entry_next setup.config ys x in
     let after : List Entry = entries_of (registry setup.config (ys ++ x ∷ [])) in
-    let here : ℕ → Bool = λ n. stands_in setup shard n in
+    let here : ℕ → Bool = λ n. is_placed_in setup shard n in
     let ns : List ℕ = numbers r.sessions in
     let ms : List ℕ = opened_numbers e.kind in
     ap (λ (ks : List ℕ). held_by config after (filter here ks)) (numbers_next config ys x)

@@ -5,7 +5,7 @@ use Rattle.std.proofs.lemmas.{List.Elements.All-head, List.Elements.All-tail, Li
 use Rattle.bx_entry.specs.Words.{Listed, Registered, entries_of, registry, Filed, Session, session}
 use Rattle.bx_shard.proofs.Cases.{by_option}
 use Rattle.bx_entry.specs.Placings.{Setup}
-use Rattle.bx_shard.specs.Shards.{is_taken, sessions_in, shard_at, stands_in}
+use Rattle.bx_shard.specs.Shards.{is_taken, sessions_in, shard_at, is_placed_in}
 
 abbrev pub find_of : ℕ → List Filed → Option Filed
 find_of p fs = find (λ (f : Filed). f.connect == p) fs
@@ -37,9 +37,9 @@ found_by P A p f (x ∷ xs) each e =
     (sym (find-append (λ (g : Filed). g.connect == p) (A x) (flat_map A xs)) ∙ e)
 
 pub found_in : (setup : Setup) (list : List Listed) (taken : List ℕ) (shard n p : ℕ) (f : Filed) → find_of p (shard_at setup list taken shard n).filed ≡ Some f →
-    FoundBy (λ (r : Registered). stands_in setup shard r.number ≡ true) (λ (r : Registered). (session setup.config r.number (entries_of (registry setup.config (take n list)))).answers) p f
+    FoundBy (λ (r : Registered). is_placed_in setup shard r.number ≡ true) (λ (r : Registered). (session setup.config r.number (entries_of (registry setup.config (take n list)))).answers) p f
 found_in setup list taken shard n p f e =
-    let rs : List Registered = filter (λ (r : Registered). stands_in setup shard r.number) (registry setup.config (take n list)).sessions in
+    let rs : List Registered = filter (λ (r : Registered). is_placed_in setup shard r.number) (registry setup.config (take n list)).sessions in
     let S : Registered → Session = λ r. session setup.config r.number (entries_of (registry setup.config (take n list))) in
-    found_by (λ r. stands_in setup shard r.number ≡ true) (λ r. (S r).answers) p f rs (filter_passes (λ r. stands_in setup shard r.number) (registry setup.config (take n list)).sessions)
+    found_by (λ r. is_placed_in setup shard r.number ≡ true) (λ r. (S r).answers) p f rs (filter_passes (λ r. is_placed_in setup shard r.number) (registry setup.config (take n list)).sessions)
     (ap (find_of p) (sym (flat_map-map (λ (s : Session). s.answers) S rs)) ∙ (found_kept taken p (flat_map (λ (s : Session). s.answers) (sessions_in setup list shard n)) f e).0)

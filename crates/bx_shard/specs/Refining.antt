@@ -9,7 +9,7 @@ use Rattle.bx_connects.specs.declared.connects.ConnectState.{ConnectState}
 use Rattle.bx_connects.specs.declared.connects.ConnectState.TheVariants as states
 use Rattle.bx_connects.specs.Connects.{filed_answer, is_filed_below, session_at, taken_from}
 use Rattle.bx_entry.specs.Placings.{Setup}
-use Rattle.bx_shard.specs.Shards.{is_taken, shard_at, stands_in}
+use Rattle.bx_shard.specs.Shards.{is_taken, shard_at, is_placed_in}
 use Rattle.bx_shard.specs.States.{Applied, IsAsBefore, IsSound, State, Swept, Watched, WasShut, connect_in, session_in}
 
 -- The answer with the place of the entry that gave it.
@@ -30,12 +30,12 @@ filed_with_place (Some (states.Filed session place answer)) = Some (placed place
 pub record IsConnectOf (setup : Setup) (list : List Listed) (shard place : ℕ) : Type 0 where
   pub session : ℕ
   pub waits : option_map (λ (j : Judged). j.slot) (slice_get (registry setup.config list).judged place) ≡ Some (Waiting session)
-  pub stands : stands_in setup shard session ≡ true
+  pub stands : is_placed_in setup shard session ≡ true
 
 -- The message at `place` is an accepted connect or rider of `session`, which is in the shard.
 pub record IsOwn (setup : Setup) (list : List Listed) (shard place session : ℕ) : Type 0 where
   pub waits : option_map (λ (j : Judged). j.slot) (slice_get (registry setup.config list).judged place) ≡ Some (Waiting session)
-  pub stands : stands_in setup shard session ≡ true
+  pub stands : is_placed_in setup shard session ≡ true
 
 -- Shard `s` agrees with the definitions' shard after `n` entries. The answers to the connects at
 -- the places in `taken` were taken. Each of these places is in the list; if its connect is one of

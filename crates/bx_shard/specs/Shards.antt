@@ -5,8 +5,8 @@ use Rattle.bx_entry.specs.Placings.{Setup}
 use Rattle.bx_entry.specs.Words.{Listed, Registered, registry, entries_of, Session, Filed, session, is_live, Kept, kept}
 
 -- Whether session `number` is placed in the shard.
-abbrev pub stands_in : Setup → ℕ → ℕ → Bool
-stands_in setup shard number = setup.placing number setup.shards == shard
+abbrev pub is_placed_in : Setup → ℕ → ℕ → Bool
+is_placed_in setup shard number = setup.placing number setup.shards == shard
 
 -- ---- Contents of a shard
 
@@ -24,7 +24,7 @@ is_taken taken place = list_any (λ t. t == place) taken
 abbrev pub sessions_in : Setup → List Listed → ℕ → ℕ → List Session
 sessions_in setup list shard n =
     let r = registry setup.config (take n list) in
-    map (λ (s : Registered). session setup.config s.number (entries_of r)) (filter (λ (s : Registered). stands_in setup shard s.number) r.sessions)
+    map (λ (s : Registered). session setup.config s.number (entries_of r)) (filter (λ (s : Registered). is_placed_in setup shard s.number) r.sessions)
 
 -- The live sessions.
 abbrev pub live_among : List Session → List Session

@@ -15,7 +15,7 @@ use Rattle.futures.specs.declared.task.waker.Waker.{Waker}
 use Rattle.bx_shard.specs.Effects.{answers_by, holding}
 use Rattle.bx_shard.specs.Sessions.{AreTied, kept_in}
 use Rattle.bx_entry.specs.Placings.{Setup}
-use Rattle.bx_shard.specs.Shards.{stands_in}
+use Rattle.bx_shard.specs.Shards.{is_placed_in}
 
 -- A shard: its setup, index, number of applied entries, whether it is shut, and its sessions.
 pub record State : Type 0 where
@@ -51,17 +51,17 @@ session_after config stands e n o = option_and_then (λ k. if_live (kept_step co
 -- ---- Connects
 
 -- A connect becomes unknown if one of these sessions holds it.
-abbrev pub let_go : List ℕ → Option ConnectState → Option ConnectState
-let_go numbers None = None
-let_go numbers (Some (Held session deadline waker)) = if list_any (λ m. m == session) numbers then None else Some (Held session deadline waker)
-let_go numbers (Some (Filed session place answer)) = Some (Filed session place answer)
+abbrev pub dropped_by : List ℕ → Option ConnectState → Option ConnectState
+dropped_by numbers None = None
+dropped_by numbers (Some (Held session deadline waker)) = if list_any (λ m. m == session) numbers then None else Some (Held session deadline waker)
+dropped_by numbers (Some (Filed session place answer)) = Some (Filed session place answer)
 
 -- The connects before the entry's answers are filed. A connect is held if its session is in the
 -- shard. A tick drops the connects that its closed sessions hold; in a list there are none, since
 -- no session is due before its hold ends.
 abbrev pub begun : (ℕ → Option Kept) → (ℕ → Option ConnectState) → Entry → EntryKind → ℕ → Option ConnectState
 begun sessions connects e (Connect m client id acked hold) p = if is_some (sessions m) then holding m (pending e.place client id e.moment hold) connects p else connects p
-begun sessions connects e (Tick numbers) p = let_go numbers (connects p)
+begun sessions connects e (Tick numbers) p = dropped_by numbers (connects p)
 begun sessions connects e _ p = connects p
 
 -- The entry gives this answer to a connect or rider of session `number`.
@@ -94,7 +94,7 @@ KeepsSessions sessions e old new = (p m : ℕ) → session_at (new p) ≡ Some m
 
 -- Whether an entry of this kind opens a session in the shard.
 abbrev pub opens_in : Setup → ℕ → EntryKind → Bool
-opens_in setup index (Opened m ack) = stands_in setup index m
+opens_in setup index (Opened m ack) = is_placed_in setup index m
 opens_in setup index _ = false
 
 -- ---- One entry

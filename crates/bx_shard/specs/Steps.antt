@@ -6,13 +6,13 @@ use Rattle.bx_entry.specs.Words.{Listed, entries, Filed, is_live, unopened, Kept
 use Rattle.bx_entry.specs.declared.entry.{Entry.Entry, EntryKind.EntryKind}
 use Rattle.bx_entry.specs.declared.entry.EntryKind.TheVariants.{Opened}
 use Rattle.bx_entry.specs.Placings.{Setup}
-use Rattle.bx_shard.specs.Shards.{is_taken, stands_in, shard_at}
+use Rattle.bx_shard.specs.Shards.{is_taken, is_placed_in, shard_at}
 
 -- ---- Sessions
 
 -- The unopened session that an entry of this kind opens in the shard, if any.
 abbrev pub opening_by : Setup → ℕ → EntryKind → List Kept
-opening_by setup shard (Opened n ack) = if stands_in setup shard n then kept (unopened n) ∷ [] else []
+opening_by setup shard (Opened n ack) = if is_placed_in setup shard n then kept (unopened n) ∷ [] else []
 opening_by setup shard _ = []
 
 -- The live sessions of the shard after an entry, which may open one.

@@ -8,6 +8,6 @@ pub use Rattle.bx_shard.specs.Refining.{FiledIsGiven, IsConnectOf, Refines, Refi
 pub use Rattle.bx_shard.specs.Seen.{setup_in, state}
 pub use Rattle.bx_shard.specs.Sessions.{AreCountable, AreCounted, AreHeld, Fits, IsCounted, ends_for, has_formed_at_most, held_until, holds_until, kept_in, patterns_in}
 pub use Rattle.bx_entry.specs.Placings.{Setup}
-pub use Rattle.bx_shard.specs.Shards.{filed_among, is_taken, live_among, sessions_in, shard_at, stands_in}
-pub use Rattle.bx_shard.specs.States.{Applied, Connects, IsAsBefore, IsGiven, IsSound, State, Swept, WasShut, Watched, begun, connect_in, if_live, let_go, opening, opens_in, riding, session_after, session_in, takes_no_memory}
+pub use Rattle.bx_shard.specs.Shards.{filed_among, is_taken, live_among, sessions_in, shard_at, is_placed_in}
+pub use Rattle.bx_shard.specs.States.{Applied, Connects, IsAsBefore, IsGiven, IsSound, State, Swept, WasShut, Watched, begun, connect_in, if_live, dropped_by, opening, opens_in, riding, session_after, session_in, takes_no_memory}
 pub use Rattle.bx_shard.specs.Steps.{ShardsStep, opening_by, stepped}

@@ -9,7 +9,7 @@ ghost use Rattle.bx_connects.specs.Connects.{connect_at, session_at};
 ghost use Rattle.bx_connects.specs.Waking.{AreWoken};
 ghost use Rattle.bx_shard.specs.Effects.{answers_by};
 ghost use Rattle.bx_shard.specs.Sessions.{AreCounted, AreHeld, kept_in};
-ghost use Rattle.bx_shard.specs.States.{let_go};
+ghost use Rattle.bx_shard.specs.States.{dropped_by};
 
 use crate::sessions::Sessions;
 use bx_connects::Wakers;
@@ -45,7 +45,7 @@ impl Sessions {
         requires held { AreHeld self.old }
         ensures sessions { (n : ℕ) → kept_in self.new n
             ≡ (if list_any (λ m. m == n) numbers.now then None else kept_in self.old n) }
-        ensures connects { (p : ℕ) → connect_at self.new.connects p ≡ let_go numbers.now (connect_at self.old.connects p) }
+        ensures connects { (p : ℕ) → connect_at self.new.connects p ≡ dropped_by numbers.now (connect_at self.old.connects p) }
         ensures woken { AreWoken (connect_at self.old.connects) (connect_at self.new.connects) wakers.old wakers.new }
         ensures counted { AreCounted self.old → AreCounted self.new }
         ensures held { AreHeld self.new }

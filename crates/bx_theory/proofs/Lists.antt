@@ -6,7 +6,7 @@ use Rattle.std.specs.Option.{option_or}
 use Rattle.bx_advice.specs.declared.config.Config.{Config}
 use Rattle.bx_entry.specs.Words.{Listed, Registry, Judged, PlaceSlot, Ready, Waiting, NoSlot, judge, registry, empty_registry, entries_of, Filed, step, session, unopened, PlacedAnswer, answer_of, filed_for, answer_by, answer_at, answer}
 use Rattle.bx_entry.specs.declared.entry.Entry.{Entry}
-use Rattle.bx_theory.proofs.Verdicts.{entries_behind, found_from, judge_is, judged_behind, next_found}
+use Rattle.bx_theory.proofs.Verdicts.{entries_after, found_from, judge_is, judged_after, next_found}
 pub use Rattle.bx_theory.proofs.Verdicts.{judged_length}
 use Rattle.bx_theory.specs.Laws.{Each, AnswersStay, PlacesFrom, EntriesInOrder}
 use Rattle.bx_theory.proofs.{Counts.all_in_step, Counts.unopened_in_step, Runs.Grown, Runs.run_grown, Runs.EachEntry, Runs.all_places}
@@ -64,13 +64,13 @@ answer_at_more config es more place (Some j) u a room h e = ap (answer_at config
 
 pub judged_more : (config : Config) (xs ys : List Listed) (place : ℕ) (j : Judged) → slice_get (registry config xs).judged place ≡ Some j → slice_get (registry config (xs ++ ys)).judged place ≡ Some j
 judged_more config xs ys place k e =
-    ap (λ (js : List Judged). slice_get js place) (judged_behind config xs ys) ∙ slice_get_more (registry config xs).judged (found_from config (registry config xs) ys) place k e
+    ap (λ (js : List Judged). slice_get js place) (judged_after config xs ys) ∙ slice_get_more (registry config xs).judged (found_from config (registry config xs) ys) place k e
 
 pub answer_more : (config : Config) (xs ys : List Listed) (place : ℕ) (a : PlacedAnswer) → 0 < config.limits.batch → answer config xs place ≡ Some a → answer config (xs ++ ys) place ≡ Some a
 answer_more config xs ys place a room e =
     let r : Registry = registry config xs in
     let t : Registry = registry config (xs ++ ys) in
-    ap (λ (es : List Entry). answer_at config es place (slice_get t.judged place)) (entries_behind config xs ys)
+    ap (λ (es : List Entry). answer_at config es place (slice_get t.judged place)) (entries_after config xs ys)
     ∙ answer_at_more config (entries_of r) (map entry_of (found_from config r ys)) place (slice_get r.judged place) (slice_get t.judged place) a room (judged_more config xs ys place) e
 
 -- ---- An answer over a shorter list
@@ -91,7 +91,7 @@ entries_within config list n h =
     let es : List Entry = entries_of (registry config (take n list)) in
     let rest : List Entry = map entry_of (found_from config (registry config (take n list)) (drop n list)) in
     let count : length (entries_of (registry config (take n list))) ≡ n = omega (arith, entries_length config (take n list), length-take n list) in
-    sym (ap (λ (zs : List Listed). take n (entries_of (registry config zs))) (sym (take-append-drop n list)) ∙ ap (take n) (entries_behind config (take n list) (drop n list))
+    sym (ap (λ (zs : List Listed). take n (entries_of (registry config zs))) (sym (take-append-drop n list)) ∙ ap (take n) (entries_after config (take n list) (drop n list))
     ∙ ap (λ (k : ℕ). take k (es ++ rest)) (sym count) ∙ take-append_seam es rest)
 
 found_places : (config : Config) (r : Registry) (xs : List Listed) → PlacesFrom (length r.judged) (map entry_of (found_from config r xs))
@@ -101,7 +101,7 @@ found_places config r (x ∷ xs) =
     (refl, subst (λ (n : ℕ). PlacesFrom n (map entry_of (found_from config (judge config r x) xs))) many (found_places config (judge config r x) xs))
 
 pub entries_in_order : EntriesInOrder
-entries_in_order config list = subst (PlacesFrom 0) (sym (ap (map entry_of) (judged_behind config [] list))) (found_places config empty_registry list)
+entries_in_order config list = subst (PlacesFrom 0) (sym (ap (map entry_of) (judged_after config [] list))) (found_places config empty_registry list)
 
 answered_within : (config : Config) (number : ℕ) (xs : List Listed) → Only (λ n. n < length xs) (session config number (entries_of (registry config xs)))
 answered_within config number xs =
@@ -122,10 +122,10 @@ shared config xs ys room =
     let above : EachEntry (λ e. length xs ≤ e.place) (map entry_of (found_from config (registry config xs) ys)) = places_above (length xs) (length r.judged) (map entry_of more) (let l = judged_length config xs in omega arith) (found_places config r ys) in
     record {
       more = more;
-      judged = judged_behind config xs ys;
+      judged = judged_after config xs ys;
       many = judged_length config xs;
       before = λ number. answered_within config number xs;
-      grown = λ number. subst (λ (es : List Entry). Grown (length xs) (session config number (entries_of r)) (session config number es)) (sym (entries_behind config xs ys))
+      grown = λ number. subst (λ (es : List Entry). Grown (length xs) (session config number (entries_of r)) (session config number es)) (sym (entries_after config xs ys))
           (session_grown config number (length xs) (entries_of r) (map entry_of more) room above);
     }
 

@@ -7,14 +7,14 @@ use Rattle.bx_message.specs.Fields.{number_of}
 use Rattle.bx_entry.specs.declared.input.BodyError.{BodyError}
 use Rattle.bx_entry.specs.Inputs.{Request, Unread, Tick}
 use Rattle.bx_entry.specs.Words.{read_by, request_messages}
-use Rattle.bx_script.specs.Replay.{Dialect, Line, Bad, Recorded, Rejected, Accepted, Resharded, Announced, Noted, Script, Taken, Refused, Documents, announces, body_taken, command, form_taken, handed_by, is_space, line_by, line_of, line_with, nonce_behind, nonce_of, noted_by, query_taken, recorded_command, resharded_by, reshards, timed_line, with_nonce, with_nonces}
+use Rattle.bx_script.specs.Replay.{Dialect, Line, Bad, Recorded, Rejected, Accepted, Resharded, Announced, Noted, Script, Taken, Refused, Documents, announces, body_taken, command, form_taken, handed_by, is_space, line_by, line_of, line_with, nonce_after, nonce_of, noted_by, query_taken, recorded_command, resharded_by, reshards, timed_line, with_nonce, with_nonces}
 use Rattle.bx_theory.specs.Lines.{NoncesGoOn, NoncesStay, ScriptsSayNone, says_no_nonce}
 
 -- ---- One line, and the lines after it
 
-pub nonces_on : (nonce : ℕ) (ls ms : List Line) → with_nonces nonce (ls ++ ms) ≡ with_nonces nonce ls ++ with_nonces (fold nonce_behind nonce ls) ms
+pub nonces_on : (nonce : ℕ) (ls ms : List Line) → with_nonces nonce (ls ++ ms) ≡ with_nonces nonce ls ++ with_nonces (fold nonce_after nonce ls) ms
 nonces_on nonce [] ms = refl
-nonces_on nonce (l ∷ ls) ms = ap (λ (us : List Line). line_with nonce l ∷ us) (nonces_on (nonce_behind nonce l) ls ms)
+nonces_on nonce (l ∷ ls) ms = ap (λ (us : List Line). line_with nonce l ∷ us) (nonces_on (nonce_after nonce l) ls ms)
 
 pub nonces_go_on : NoncesGoOn
 nonces_go_on ls l = nonces_on 0 ls (l ∷ [])
@@ -87,7 +87,7 @@ none_line Script text = none_timed Script (number_of (before_first is_space text
 none_line Recorded text =
     none_by _ _ _ (none_noted (drop 2 text)) (none_timed Recorded (number_of (before_first is_space text)) (after_first is_space text))
 
-stays : (l : Line) → says_no_nonce l ≡ true → nonce_behind 0 l ≡ 0
+stays : (l : Line) → says_no_nonce l ≡ true → nonce_after 0 l ≡ 0
 stays Bad h = refl
 stays (Rejected status) h = refl
 stays (Accepted callback (Request moment nonce messages)) h = refl
@@ -103,7 +103,7 @@ nonces_stay d [] h = refl
 nonces_stay d (text ∷ texts) h =
     let line : Line = line_of d text in
     let parts = and_parts (says_no_nonce line) (list_all says_no_nonce (map (line_of d) texts)) h in
-    ap (λ (l : Line). l ∷ with_nonces (nonce_behind 0 line) (map (line_of d) texts)) (none_line d text)
+    ap (λ (l : Line). l ∷ with_nonces (nonce_after 0 line) (map (line_of d) texts)) (none_line d text)
     ∙ ap (λ (n : ℕ). line ∷ with_nonces n (map (line_of d) texts)) (stays line parts.0)
     ∙ ap (λ (us : List Line). line ∷ us) (nonces_stay d texts parts.1)
 

@@ -13,7 +13,7 @@ use Rattle.bx_entry.specs.declared.entry.EntryKind.TheVariants.{Connect, Subscri
 use Rattle.bx_entry.specs.declared.entry.EntryKind.TheVariants as entries
 use Rattle.bx_theory.specs.Laws.{NoRidersUnasked, RidesPlain, RidersArePlain, LastAnswer, LastGiven, Repetition}
 use Rattle.bx_theory.specs.Readings.{closes_by, moment_of, opens_by, since_opening, EachSession}
-use Rattle.bx_theory.proofs.Verdicts.{each_found, each_judge, each_registry, each_verdict, verdict_of, entries_behind, found_from, next_noted}
+use Rattle.bx_theory.proofs.Verdicts.{each_found, each_judge, each_registry, each_verdict, verdict_of, entries_after, found_from, next_noted}
 use Rattle.bx_theory.proofs.{Counts.ride_both, Counts.rider_of_both, Counts.all_in_step, Counts.unopened_in_step, Batches.acks_with_batch, Closings.run_number, Lives.opened_later, Lives.entries_push}
 use Rattle.bx_theory.proofs.Stages.{step_number, step_next, next_opened, next_unopened}
 use Rattle.bx_theory.proofs.Dues.{Mapped, each_session_map, each_session_push, each_session_through, named_session, served_sessions, overdue_closed_sessions, unchanged}
@@ -135,7 +135,7 @@ pub acks_later : (config : Config) (ys zs : List Listed) → EachSession (λ s. 
 acks_later config ys zs =
     let r : Registry = registry config ys in
     each_session_map (λ s. Acks config (entries_of r) s.number s.ack) (λ s. (session config s.number (entries_of (registry config (ys ++ zs)))).ack ≡ s.ack) r.sessions
-    (λ s a. ap (λ (es : List Entry). (session config s.number es).ack) (entries_behind config ys zs) ∙ (acks_more config (entries_of r) (map (λ (j : Judged). j.entry) (found_from config r zs)) s.number s.ack a).same) (known config ys)
+    (λ s a. ap (λ (es : List Entry). (session config s.number es).ack) (entries_after config ys zs) ∙ (acks_more config (entries_of r) (map (λ (j : Judged). j.entry) (found_from config r zs)) s.number s.ack a).same) (known config ys)
 
 rides_plain : (config : Config) (senders : Senders) (c : MessageKind) (p : Posted) (s : Registered) → is_rider config senders c p s ≡ true → s.ack ≡ false
 rides_plain config senders c p s h =

@@ -14,8 +14,8 @@ use Rattle.bx_entry.specs.Listing as messages
 use Rattle.bx_entry.specs.declared.{entry.Entry.Entry, entry.Rider.Rider, entry.EntryKind.EntryKind, senders.Senders.Senders}
 use Rattle.bx_entry.specs.declared.senders.Senders.TheVariants.{NoneYet, Only, Mixed}
 use Rattle.bx_theory.specs.Readings.{is_from, opens_by}
-use Rattle.bx_theory.specs.Riding.{found_behind, is_own, may_have_rider, IsRiderOf, rider_session, RiderReading, NothingRidesBeside, OthersNeverRide, GivesRider, RiderGiven}
-use Rattle.bx_theory.proofs.Verdicts.{by_verdict, each_found, found_from, judged_behind, verdict_of}
+use Rattle.bx_theory.specs.Riding.{found_after, is_own, may_have_rider, IsRiderOf, rider_session, RiderReading, NothingRidesBeside, OthersNeverRide, GivesRider, RiderGiven}
+use Rattle.bx_theory.proofs.Verdicts.{by_verdict, each_found, found_from, judged_after, verdict_of}
 use Rattle.bx_theory.proofs.{Dues.named_session, Lists.judged_length, Lives.found_of, Stages.Next, Stages.next_by, Stages.step_by_next}
 use Rattle.bx_theory.proofs.Riders.{WasOpened, step_by_a, acks_later, entries_all}
 
@@ -292,12 +292,12 @@ reads_at config es first (i ∷ js) (b ∷ before) j behind number d e =
     subst (λ (bs : List Judged). (rider_session j.entry.rides ≡ Some number) ↔ IsRiderOf number config es bs j behind) (append_assoc first (b ∷ []) before)
     (reads_at config es (first ++ b ∷ []) js before j behind number (subst (λ (k : Judged). EachReads config es (first ++ k ∷ []) js) one d.1) rest)
 
-found_is : (config : Config) (ys xs zs : List Listed) (more : List Judged) → (registry config (ys ++ xs)).judged ≡ (registry config ys).judged ++ more → length more ≡ length xs → found_behind config ys xs zs ≡ more
+found_is : (config : Config) (ys xs zs : List Listed) (more : List Judged) → (registry config (ys ++ xs)).judged ≡ (registry config ys).judged ++ more → length more ≡ length xs → found_after config ys xs zs ≡ more
 found_is config ys xs zs more judged many =
     let r : Registry = registry config ys in
     let rest : List Judged = found_from config (registry config (ys ++ xs)) zs in
     let whole : (registry config (ys ++ (xs ++ zs))).judged ≡ (registry config ys).judged ++ (more ++ found_from config (registry config (ys ++ xs)) zs) =
-    ap (λ (list : List Listed). (registry config list).judged) (sym (append_assoc ys xs zs)) ∙ judged_behind config (ys ++ xs) zs ∙ ap (λ (js : List Judged). js ++ rest) judged ∙ append_assoc r.judged more rest in
+    ap (λ (list : List Listed). (registry config list).judged) (sym (append_assoc ys xs zs)) ∙ judged_after config (ys ++ xs) zs ∙ ap (λ (js : List Judged). js ++ rest) judged ∙ append_assoc r.judged more rest in
     ap (λ (js : List Judged). take (length xs) (drop (length ys) js)) whole
     ∙ ap (λ (n : ℕ). take (length xs) (drop n (r.judged ++ (more ++ rest)))) (sym (judged_length config ys))
     ∙ ap (take (length xs)) (drop-append_seam r.judged (more ++ rest))
@@ -310,7 +310,7 @@ rider_reading config inputs moment nonce ms more before j behind number split =
     let fresh : (registry config (flat_map added_by inputs)).senders ≡ NoneYet = inputs_end config empty_registry inputs refl in
     let a : RequestReads config (entries config (flat_map added_by inputs ++ (listed_from moment nonce (length ms == 1) false ms ++ more))) [] (length ms) (registry config (flat_map added_by inputs)) (registry config (flat_map added_by inputs ++ listed_from moment nonce (length ms == 1) false ms)) =
     request_read config ys more [] moment nonce (length ms == 1) false ms (λ l. subst (λ (x : Senders). Says x []) (sym fresh) refl) in
-    let found : found_behind config (flat_map added_by inputs) (listed_from moment nonce (length ms == 1) false ms) more ≡ a.more = found_is config ys xs more a.more a.judged (a.many ∙ sym (listed_length moment nonce (length ms == 1) false ms)) in
+    let found : found_after config (flat_map added_by inputs) (listed_from moment nonce (length ms == 1) false ms) more ≡ a.more = found_is config ys xs more a.more a.judged (a.many ∙ sym (listed_length moment nonce (length ms == 1) false ms)) in
     reads_at config (entries config (ys ++ (xs ++ more))) [] a.more before j behind number a.reads (sym found ∙ split)
 
 own_at : (number : ℕ) (before : List Judged) (j : Judged) (behind : List Judged) → Own number (before ++ j ∷ behind) → is_own number j ≡ true

@@ -111,14 +111,14 @@ judged_run config r (x ∷ xs) =
     let rest : List Judged = found_from config (judge config r x) xs in
     judged_run config (judge config r x) xs ∙ ap (λ (t : Registry). t.judged ++ rest) (judge_is config r x) ∙ append_assoc r.judged (next_found config r x ∷ []) rest
 
-pub judged_behind : (config : Config) (ys zs : List Listed) → (registry config (ys ++ zs)).judged ≡ (registry config ys).judged ++ found_from config (registry config ys) zs
-judged_behind config ys zs = ap (λ (t : Registry). t.judged) (fold-append (judge config) empty_registry ys zs) ∙ judged_run config (registry config ys) zs
+pub judged_after : (config : Config) (ys zs : List Listed) → (registry config (ys ++ zs)).judged ≡ (registry config ys).judged ++ found_from config (registry config ys) zs
+judged_after config ys zs = ap (λ (t : Registry). t.judged) (fold-append (judge config) empty_registry ys zs) ∙ judged_run config (registry config ys) zs
 
 pub judged_length : (config : Config) (xs : List Listed) → length (registry config xs).judged ≡ length xs
 judged_length config xs = ap length (judged_run config empty_registry xs) ∙ found_many config empty_registry xs
 
-pub entries_behind : (config : Config) (ys zs : List Listed) → entries_of (registry config (ys ++ zs)) ≡ entries_of (registry config ys) ++ map (λ (j : Judged). j.entry) (found_from config (registry config ys) zs)
-entries_behind config ys zs = ap (map (λ (j : Judged). j.entry)) (judged_behind config ys zs) ∙ map-append (λ (j : Judged). j.entry) (registry config ys).judged (found_from config (registry config ys) zs)
+pub entries_after : (config : Config) (ys zs : List Listed) → entries_of (registry config (ys ++ zs)) ≡ entries_of (registry config ys) ++ map (λ (j : Judged). j.entry) (found_from config (registry config ys) zs)
+entries_after config ys zs = ap (map (λ (j : Judged). j.entry)) (judged_after config ys zs) ∙ map-append (λ (j : Judged). j.entry) (registry config ys).judged (found_from config (registry config ys) zs)
 
 -- What holds for the result of each element, after those before it, holds for all that were judged.
 pub each_found : (config : Config) (list : List Listed) (P : Judged → Type 0) → ((ys : List Listed) (x : Listed) (zs : List Listed) → ys ++ x ∷ zs ≡ list → P (next_found config (registry config ys) x)) →
@@ -165,7 +165,7 @@ judged_before config list place j f =
     let js : List Judged = (registry config f.before).judged in
     let rest : List Judged = found_from config (registry config f.before) (f.element ∷ f.behind) in
     let count : length (registry config f.before).judged ≡ place = judged_length config f.before ∙ f.many in
-    sym (ap (λ (zs : List Listed). take place (registry config zs).judged) (sym f.whole) ∙ ap (take place) (judged_behind config f.before (f.element ∷ f.behind))
+    sym (ap (λ (zs : List Listed). take place (registry config zs).judged) (sym f.whole) ∙ ap (take place) (judged_after config f.before (f.element ∷ f.behind))
     ∙ ap (λ (n : ℕ). take n (js ++ rest)) (sym count) ∙ take-append_seam js rest)
 
 pub got_here : {X : Type 0} (xs : List X) (x : X) (ys : List X) → slice_get (xs ++ x ∷ ys) (length xs) ≡ Some x
@@ -177,4 +177,4 @@ found_there config xs x ys =
     let js : List Judged = (registry config xs).judged in
     let j : Judged = next_found config (registry config xs) x in
     let rest : List Judged = found_from config (judge config (registry config xs) x) ys in
-    ap (λ (ks : List Judged). slice_get ks (length xs)) (judged_behind config xs (x ∷ ys)) ∙ ap (slice_get (js ++ j ∷ rest)) (sym (judged_length config xs)) ∙ got_here js j rest
+    ap (λ (ks : List Judged). slice_get ks (length xs)) (judged_after config xs (x ∷ ys)) ∙ ap (slice_get (js ++ j ∷ rest)) (sym (judged_length config xs)) ∙ got_here js j rest

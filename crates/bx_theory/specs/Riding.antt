@@ -12,8 +12,8 @@ use Rattle.bx_theory.specs.Readings.{is_from, opens_by}
 -- ---- Which messages are riders
 
 -- The results for the elements `these` of a longer list.
-abbrev pub found_behind : Config → List Listed → List Listed → List Listed → List Judged
-found_behind config before these behind = take (length these) (drop (length before) (registry config (before ++ (these ++ behind))).judged)
+abbrev pub found_after : Config → List Listed → List Listed → List Listed → List Judged
+found_after config before these behind = take (length these) (drop (length before) (registry config (before ++ (these ++ behind))).judged)
 
 -- Whether a result is for an accepted message of the session, except its handshake.
 abbrev pub is_own : ℕ → Judged → Bool
@@ -45,15 +45,15 @@ rider_session rides = option_map (λ (rider : Rider). rider.session) rides
 abbrev pub RiderReading : Type 0
 RiderReading = (config : Config) (inputs : List ReadInput) (moment nonce : ℕ) (ms : List Message) (more : List Listed)
     (before : List Judged) (j : Judged) (behind : List Judged) (number : ℕ) →
-    found_behind config (flat_map added_by inputs) (added_by (Request moment nonce ms)) more ≡ before ++ j ∷ behind →
+    found_after config (flat_map added_by inputs) (added_by (Request moment nonce ms)) more ≡ before ++ j ∷ behind →
     (rider_session j.entry.rides ≡ Some number) ↔ IsRiderOf number config (entries config (flat_map added_by inputs ++ (added_by (Request moment nonce ms) ++ more))) before j behind
 
 -- A request with a rejected or sessionless message has no rider.
 abbrev pub NothingRidesBeside : Type 0
 NothingRidesBeside = (config : Config) (inputs : List ReadInput) (moment nonce : ℕ) (ms : List Message) (more : List Listed)
     (before : List Judged) (other : Judged) (behind first : List Judged) (j : Judged) (rest : List Judged) →
-    found_behind config (flat_map added_by inputs) (added_by (Request moment nonce ms)) more ≡ before ++ other ∷ behind → other.sender ≡ None →
-    found_behind config (flat_map added_by inputs) (added_by (Request moment nonce ms)) more ≡ first ++ j ∷ rest → j.entry.rides ≡ None
+    found_after config (flat_map added_by inputs) (added_by (Request moment nonce ms)) more ≡ before ++ other ∷ behind → other.sender ≡ None →
+    found_after config (flat_map added_by inputs) (added_by (Request moment nonce ms)) more ≡ first ++ j ∷ rest → j.entry.rides ≡ None
 
 -- Ticks, rejected messages, handshakes, connects and disconnects have no rider.
 abbrev pub OthersNeverRide : Type 0

@@ -9,7 +9,7 @@ use Rattle.bx_message.specs.MessageKinds.{message_kind_of}
 use Rattle.bx_entry.specs.declared.{input.Input.Input, entry.Ticket.Ticket}
 use Rattle.bx_theory.proofs.{Verdicts.each_judge, Verdicts.each_registry, Lists.judged_more, Lists.answer_within}
 use Rattle.bx_theory.specs.Readings.{EachSession}
-use Rattle.bx_shard.specs.Words.{Setup, shard_at, sessions_in, stands_in, is_taken, given_of}
+use Rattle.bx_shard.specs.Words.{Setup, shard_at, sessions_in, is_placed_in, is_taken, given_of}
 use Rattle.bx_world.specs.Words.{WorldState, IsOutput, Runs, after, filed_under, AnswersAreFiled, AnswersCanBeTaken, NoneTakenTwice, SchedulesCompose, EachNew, taken_by, taken_places}
 use Rattle.bx_world.specs.declared.step.{Step.Step, StepOut.StepOut}
 use Rattle.bx_world.specs.declared.step.Step.TheVariants.{Admit, Apply, Take}
@@ -97,7 +97,7 @@ found_among config xs number place f (r ∷ rs) w e h =
     first_found (find test (g r.number).answers) (find test (g number).answers) (find test rest) r.number number f own (λ s. ap (λ (m : ℕ). find test (g m).answers) s) e
     (λ k. found_among config xs number place f rs w e (sym (ap (λ (b : Bool). b || has number rs) k) ∙ h)) (find-append test (g r.number).answers rest)
 
-has_standing : (setup : Setup) (shard number : ℕ) (rs : List Registered) → stands_in setup shard number ≡ true → has number rs ≡ true → has number (filter (λ (s : Registered). stands_in setup shard s.number) rs) ≡ true
+has_standing : (setup : Setup) (shard number : ℕ) (rs : List Registered) → is_placed_in setup shard number ≡ true → has number rs ≡ true → has number (filter (λ (s : Registered). is_placed_in setup shard s.number) rs) ≡ true
 has_standing setup shard number [] h e = cc
 has_standing setup shard number (r ∷ rs) h e = grind (arith, has_standing setup shard number rs h)
 
@@ -132,11 +132,11 @@ answers_are_filed setup list taken n place number a room waits e below free =
     filed_at setup.config list (take n list) (drop n list) number place a (slice_get (registry setup.config (take n list)).judged place) (take-append-drop n list) waits refl (answer_within setup.config list n place a room below e) in
     let r : Registry = registry setup.config (take n list) in
     let registered : has number (registry setup.config (take n list)).sessions ≡ true = slot_of f (slice_get r.judged place) refl in
-    let standing : has number (filter (λ (s : Registered). stands_in setup (setup.placing number setup.shards) s.number) (registry setup.config (take n list)).sessions) ≡ true =
+    let standing : has number (filter (λ (s : Registered). is_placed_in setup (setup.placing number setup.shards) s.number) (registry setup.config (take n list)).sessions) ≡ true =
     has_standing setup shard number r.sessions (eq-eqb shard shard refl) registered in
     ap (option_map answer_of)
     (find_untaken taken place (flat_map (λ (s : Session). s.answers) (sessions_in setup list shard n)) free
-    ∙ found_among setup.config (take n list) number place f.filed (filter (λ (s : Registered). stands_in setup (setup.placing number setup.shards) s.number) r.sessions) f.waits f.found standing)
+    ∙ found_among setup.config (take n list) number place f.filed (filter (λ (s : Registered). is_placed_in setup (setup.placing number setup.shards) s.number) r.sessions) f.waits f.found standing)
     ∙ ap Some f.same
   where
     slot_of : FiledOf setup.config (take n list) number place a → (o : Option Judged) → slice_get (registry setup.config (take n list)).judged place ≡ o → has number (registry setup.config (take n list)).sessions ≡ true

@@ -16,7 +16,7 @@ use Rattle.bx_world.specs.declared.step.{Step.Step, StepOut.StepOut}
 use Rattle.bx_world.specs.declared.step.Step.TheVariants.{Admit}
 use Rattle.bx_world.specs.declared.step.StepOut.TheVariants.{Admitted}
 use Rattle.bx_world.proofs.Takes.{Longer, run_longer}
-use Rattle.bx_theory.proofs.{Verdicts.Slotted, Verdicts.found_from, Verdicts.judged_behind, Verdicts.slotted, Lists.judged_more, Lists.judged_length}
+use Rattle.bx_theory.proofs.{Verdicts.Slotted, Verdicts.found_from, Verdicts.judged_after, Verdicts.slotted, Lists.judged_more, Lists.judged_length}
 
 -- ---- the slots of found elements
 
@@ -104,10 +104,10 @@ judging setup xs ys more list e =
       more = js;
       slotted = all_slotted setup.config r ys;
       slots = ap (λ (slots : List PlaceSlot). given_from setup (length xs) (drop (length xs) slots))
-          (ap (map (λ (j : Judged). j.slot)) (judged_behind setup.config xs ys) ∙ map-append (λ (j : Judged). j.slot) r.judged js)
+          (ap (map (λ (j : Judged). j.slot)) (judged_after setup.config xs ys) ∙ map-append (λ (j : Judged). j.slot) r.judged js)
           ∙ ap (given_from setup (length xs)) (drop_at (map (λ (j : Judged). j.slot) r.judged) (map (λ (j : Judged). j.slot) js) (length xs) (length-map r.judged (λ (j : Judged). j.slot) ∙ many));
       behind = λ k n j h g. ap (λ (zs : List Listed). slice_get (registry setup.config zs).judged n) e
-          ∙ judged_more setup.config (xs ++ ys) more n j (ap (λ (ks : List Judged). slice_get ks n) (judged_behind setup.config xs ys) ∙ got_behind r.judged js k n (omega (arith, h, many)) ∙ g);
+          ∙ judged_more setup.config (xs ++ ys) more n j (ap (λ (ks : List Judged). slice_get ks n) (judged_after setup.config xs ys) ∙ got_behind r.judged js k n (omega (arith, h, many)) ∙ g);
     }
 
 -- ---- an admission

@@ -67,10 +67,10 @@ impl<'a> Source for Lines<'a> {
         }
     }
 
-    fn take_notes(&mut self, empty: Vec<u8>) -> Vec<u8> {
-        let mut notes = empty;
-        let _ = notes.extend_from_slice(if self.turn == 0 { b"n1\n" } else { b"n2\n" });
-        notes
+    fn take_answers(&mut self, empty: Vec<u8>) -> Vec<u8> {
+        let mut answers = empty;
+        let _ = answers.extend_from_slice(if self.turn == 0 { b"n1\n" } else { b"n2\n" });
+        answers
     }
 
     fn stop(&mut self) {

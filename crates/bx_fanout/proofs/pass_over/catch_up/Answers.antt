@@ -1,5 +1,5 @@
-use Rattle.bx_fanout.proofs.Standing.{stands-over}
+use Rattle.bx_fanout.proofs.Standing.{consistent-over}
 use Rattle.bx_fanout.proofs.pass_over.catch_up.Goals as goal
 
-pub returns-clause-stands : goal.returns-clause-stands
-returns-clause-stands g c = let e = c.level.ensures in stands-over c.args.state.now c.level.new.world e.setup e.list e.taken c.requires.stands
+pub returns-clause-consistent : goal.returns-clause-consistent
+returns-clause-consistent g c = let e = c.level.ensures in consistent-over c.args.state.now c.level.new.world e.setup e.list e.taken c.requires.consistent

@@ -7,11 +7,11 @@ use Rattle.bx_world.specs.Seen.{setup_of, world_of}
 use Rattle.bx_fanout.proofs.{TakingIn.giving-out, Finishing.behind-is, Finishing.giving-at, Finishing.staged-at}
 use Rattle.bx_fanout.proofs.round_state.add_outs.Goals as goal
 
-pub returns-clause-stands : goal.returns-clause-stands
-returns-clause-stands g c =
+pub returns-clause-consistent : goal.returns-clause-consistent
+returns-clause-consistent g c =
     let p = c.args.state.now in
     let w = p.world in
-    let i = c.requires.stands in
+    let i = c.requires.consistent in
     let gives = c.give_out-given.ensures.gives in
     let held = c.give_out-given.new.held in
     let stage = c.give_out-given.new.stage in

@@ -1,8 +1,8 @@
-use Rattle.bx_fanout.proofs.Standing.{stands-over}
+use Rattle.bx_fanout.proofs.Standing.{consistent-over}
 use Rattle.bx_fanout.proofs.round_state.finish.Goals as goal
 
-pub returns-in_err-level-clause-stands : goal.returns-in_err-level-clause-stands
-returns-in_err-level-clause-stands g c = let e = c.level.ensures in stands-over c.args.state.now c.level.new.world e.setup e.list e.taken c.requires.stands
+pub returns-in_err-level-clause-consistent : goal.returns-in_err-level-clause-consistent
+returns-in_err-level-clause-consistent g c = let e = c.level.ensures in consistent-over c.args.state.now c.level.new.world e.setup e.list e.taken c.requires.consistent
 
-pub collect_last-requires-clause-stands : goal.collect_last-requires-clause-stands
-collect_last-requires-clause-stands g c = let e = c.level.ensures in stands-over c.args.state.now c.level.new.world e.setup e.list e.taken c.requires.stands
+pub collect_last-requires-clause-consistent : goal.collect_last-requires-clause-consistent
+collect_last-requires-clause-consistent g c = let e = c.level.ensures in consistent-over c.args.state.now c.level.new.world e.setup e.list e.taken c.requires.consistent

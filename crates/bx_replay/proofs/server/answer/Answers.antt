@@ -7,7 +7,7 @@ use Rattle.bx_script.specs.Words.{line_text, nonce_left, with_nonce, written}
 use Rattle.bx_fanout.specs.Rounds.{added_by, inputs_of, setup_in}
 use Rattle.bx_script.specs.declared.line.Line.{Line}
 use Rattle.bx_replay.proofs.{Keeping.appends_none, Fronts.front_as, Fronts.front_line, Fronts.handed_front, Nonces.nonce_more}
-use Rattle.bx_replay.proofs.Steps.{added_served, served_line, served_same, few_served, handed_served, handed_prints, hands_as, keeps_served, prints_bare, read_behind}
+use Rattle.bx_replay.proofs.Steps.{added_served, served_line, served_same, few_served, handed_served, handed_prints, hands_as, keeps_served, prints_bare, read_after}
 use Rattle.bx_script.proofs.Fronts.{front_none}
 use Rattle.bx_replay.proofs.server.answer.Goals as goal
 use Rattle.bx_fanout.proofs.TakingIn.{on-err}
@@ -68,7 +68,7 @@ returns-in_ok-hand-in-Accepted-clause-serves g c =
     let taken = c.take_nonce-input.ensures in
     record {
       served = handed_served s.round c.hand.new.round s.lines c.push.new.self c.args.line c.in-Accepted.callback input before after (get nat_cmp s.kept) (get nat_cmp c.hand.new.kept) s.number c.requires.serves.served
-          (hands_as s.round c.hand.new.round (s.number + 1) (option_map string_bytes c.in-Accepted.callback) (read_input c.take_nonce-input.result.0) (read_behind s.lines input) before after (get nat_cmp s.kept) (get nat_cmp c.hand.new.kept)
+          (hands_as s.round c.hand.new.round (s.number + 1) (option_map string_bytes c.in-Accepted.callback) (read_input c.take_nonce-input.result.0) (read_after s.lines input) before after (get nat_cmp s.kept) (get nat_cmp c.hand.new.kept)
           (taken.input ∙ ap (λ (n : ℕ). with_nonce n (read_input input)) c.requires.serves.nonce_is) c.in_ok-hand-in-Accepted.ensures.hands)
           c.push.ensures c.in-Accepted.is;
       nonce_is = nonce_more s.lines c.push.new.self c.args.line (Line.Accepted c.in-Accepted.callback input) c.take_nonce-input.result.1 c.push.ensures c.in-Accepted.is
@@ -82,7 +82,7 @@ returns-in_ok-hand-in-Accepted-clause-prints g c =
     let after = written g.W.Write.contents c.hand.new.writer in
     let input = c.in-Accepted.input in
     handed_prints s.round c.hand.new.round s.lines c.push.new.self c.args.line c.in-Accepted.callback input before after (get nat_cmp s.kept) (get nat_cmp c.hand.new.kept) s.number (setup_in c.hand.new.round).config.limits.some_batch c.requires.serves.served
-    (hands_as s.round c.hand.new.round (s.number + 1) (option_map string_bytes c.in-Accepted.callback) (read_input c.take_nonce-input.result.0) (read_behind s.lines input) before after (get nat_cmp s.kept) (get nat_cmp c.hand.new.kept)
+    (hands_as s.round c.hand.new.round (s.number + 1) (option_map string_bytes c.in-Accepted.callback) (read_input c.take_nonce-input.result.0) (read_after s.lines input) before after (get nat_cmp s.kept) (get nat_cmp c.hand.new.kept)
     (c.take_nonce-input.ensures.input ∙ ap (λ (n : ℕ). with_nonce n (read_input input)) c.requires.serves.nonce_is) c.in_ok-hand-in-Accepted.ensures.hands)
     c.push.ensures c.in-Accepted.is
 
@@ -181,7 +181,7 @@ returns-in_err-hand-in-Accepted-clause-fault g c =
     let input = c.in-Accepted.input in
     on-err c.from_residual-in_err-hand-in-Accepted.result
     (handed_front s.round s.lines c.args.line c.in-Accepted.callback input before after (get nat_cmp s.kept) s.number (setup_in s.round).config.limits.some_batch c.requires.serves.served
-    (front_as s.round (s.number + 1) (option_map string_bytes c.in-Accepted.callback) (read_input c.take_nonce-input.result.0) (read_behind s.lines input) before after (get nat_cmp s.kept)
+    (front_as s.round (s.number + 1) (option_map string_bytes c.in-Accepted.callback) (read_input c.take_nonce-input.result.0) (read_after s.lines input) before after (get nat_cmp s.kept)
     (c.take_nonce-input.ensures.input ∙ ap (λ (n : ℕ). with_nonce n (read_input input)) c.requires.serves.nonce_is) c.in_err-hand-in-Accepted.ensures.fault)
     c.in-Accepted.is)
 

@@ -10,7 +10,7 @@ pub returns-clause-held : goal.returns-clause-held
 returns-clause-held g c = λ none.
     let p = c.args.self.now.state in
     let batch = p.world.admission.config.limits.some_batch in
-    let staged = c.args.self.now.stands.staged in
+    let staged = c.args.self.now.consistent.staged in
     elim c.match-collecting.branch [
       | in-Some+in_ok-push w ↦ let some : is_collecting p.stage ≡ true = ap is_collecting w.in-Some.ensures.some in cc
       | in_default w ↦
@@ -22,7 +22,7 @@ pub returns-clause-collecting : goal.returns-clause-collecting
 returns-clause-collecting g c = λ some.
     let p = c.args.self.now.state in
     let batch = p.world.admission.config.limits.some_batch in
-    let staged = c.args.self.now.stands.staged in
+    let staged = c.args.self.now.consistent.staged in
     elim c.match-collecting.branch [
       | in-Some+in_ok-push w ↦
           let n = w.in-Some.current.now in
@@ -37,7 +37,7 @@ pub returns-clause-settled : goal.returns-clause-settled
 returns-clause-settled g c = λ all.
     let p = c.args.self.now.state in
     let batch = p.world.admission.config.limits.some_batch in
-    let staged = c.args.self.now.stands.staged in
+    let staged = c.args.self.now.consistent.staged in
     elim c.match-collecting.branch [
       | in-Some+in_ok-push w ↦
           let n = w.in-Some.current.now in

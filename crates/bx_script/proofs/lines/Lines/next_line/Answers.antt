@@ -7,4 +7,4 @@ pub returns-clause-next : goal.returns-clause-next
 returns-clause-next g c =
     let found : c.in_ok-read_text.field-0 ≡ true = search rules in
     let read = subst (λ b. ReadsLine b (g.R.Read.remaining c.args.self.now.reader) (g.R.Read.remaining c.read_text.new.reader) c.read_text.new.kept.items) found c.in_ok-read_text.ensures.line in
-    is_next (read_as c.args.self.now) c.in_ok-read.field-0 _ _ _ read (c.in_ok-read.ensures.said ∙ ap (line_of (read_as c.args.self.now)) c.as_slice.ensures.value)
+    is_next (read_as c.args.self.now) c.in_ok-read.field-0 _ _ _ read (c.in_ok-read.ensures.meaning ∙ ap (line_of (read_as c.args.self.now)) c.as_slice.ensures.value)

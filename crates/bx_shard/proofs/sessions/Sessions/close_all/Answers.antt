@@ -3,14 +3,14 @@ use Rattle.std.specs.List.{list_any}
 use Rattle.std.proofs.lemmas.List.{take_all}
 use Rattle.bx_connects.specs.Connects.{connect_at}
 use Rattle.bx_connects.proofs.WakingLemmas.{woken_onwards, woken_still}
-use Rattle.bx_shard.specs.Words.{kept_in, let_go}
-use Rattle.bx_shard.proofs.Closing.{closing_parts, gone_more, let_go_more, let_go_none, parted_from}
+use Rattle.bx_shard.specs.Words.{kept_in, dropped_by}
+use Rattle.bx_shard.proofs.Closing.{closing_parts, gone_more, dropped_by_more, dropped_by_none, parted_from}
 use Rattle.bx_shard.proofs.sessions.Sessions.close_all.Goals as goal
 
 pub loop-number-init : goal.loop-number-init
 loop-number-init c = record {
   sessions = λ n. refl;
-  connects = λ p. let_go_none (connect_at c.args.self.now.connects p);
+  connects = λ p. dropped_by_none (connect_at c.args.self.now.connects p);
   counted = λ counted. counted;
   held = c.requires.held;
   config = refl;
@@ -29,7 +29,7 @@ loop-number-preserved c =
           c.close.ensures.sessions n ∙ ap (cond (nat_eq number n) None) (loop.sessions n) ∙ gone_more numbers i c.loop-number-test.true n (kept_in c.args.self.now n);
       connects = λ p.
           c.close.ensures.connects p ∙ closing_parts (connect_at before.connects) (kept_in before) number loop.held p
-          ∙ ap (parted_from number) (loop.connects p) ∙ let_go_more numbers i c.loop-number-test.true (connect_at c.args.self.now.connects p);
+          ∙ ap (parted_from number) (loop.connects p) ∙ dropped_by_more numbers i c.loop-number-test.true (connect_at c.args.self.now.connects p);
       counted = λ counted. c.close.ensures.counted (loop.counted counted);
       held = c.close.ensures.held loop.held;
       config = c.close.ensures.config ∙ loop.config;
@@ -44,4 +44,4 @@ returns-clause-sessions c = λ n.
 pub returns-clause-connects : goal.returns-clause-connects
 returns-clause-connects c = λ p.
     c.loop-number.invariant.connects p
-    ∙ ap (λ numbers. let_go numbers (connect_at c.args.self.now.connects p)) (take_all c.loop-number.number-index c.args.numbers.now c.loop-number-test.false)
+    ∙ ap (λ numbers. dropped_by numbers (connect_at c.args.self.now.connects p)) (take_all c.loop-number.number-index c.args.numbers.now c.loop-number-test.false)

@@ -3,7 +3,7 @@ use std::fmt::{self, Display, Formatter, Write};
 
 /// What is wrong with the arguments: their number, or the value of one.
 #[derive(Clone, Copy, Debug, PartialEq, Eq)]
-pub enum WrongWord {
+pub enum ArgumentError {
     /// There are fewer than five or more than seven positional arguments.
     Count,
     /// The number of shards is not 1 to 64.
@@ -28,22 +28,22 @@ pub enum WrongWord {
     Patterns,
 }
 
-impl Display for WrongWord {
+impl Display for ArgumentError {
     /// Writes which arguments are valid instead.
     fn fmt<W: Write>(&self, f: &mut Formatter<W>) -> fmt::Result {
         f.write_str(match self {
-            WrongWord::Count =>
+            ArgumentError::Count =>
                 "expected 5 to 7 arguments, after optional --bytes, --sessions and --patterns",
-            WrongWord::Shards => "shards: expected a number from 1 to 64",
-            WrongWord::Workers => "workers: expected a number from 1 to 16",
-            WrongWord::Timeout => "timeout: expected a number from 0 to 4294967295",
-            WrongWord::Interval => "interval: expected a number from 0 to 4294967295",
-            WrongWord::MaxInterval => "max_interval: expected a number from 0 to 4294967295",
-            WrongWord::Options => "options: expected -, r, a or ra",
-            WrongWord::Limit => "limit: expected a number from 1 to 65536",
-            WrongWord::Bytes => "bytes: expected - or a number from 1 to 4294967295",
-            WrongWord::Sessions => "sessions: expected a number from 1 to 65536",
-            WrongWord::Patterns => "patterns: expected a number from 1 to 1024",
+            ArgumentError::Shards => "shards: expected a number from 1 to 64",
+            ArgumentError::Workers => "workers: expected a number from 1 to 16",
+            ArgumentError::Timeout => "timeout: expected a number from 0 to 4294967295",
+            ArgumentError::Interval => "interval: expected a number from 0 to 4294967295",
+            ArgumentError::MaxInterval => "max_interval: expected a number from 0 to 4294967295",
+            ArgumentError::Options => "options: expected -, r, a or ra",
+            ArgumentError::Limit => "limit: expected a number from 1 to 65536",
+            ArgumentError::Bytes => "bytes: expected - or a number from 1 to 4294967295",
+            ArgumentError::Sessions => "sessions: expected a number from 1 to 65536",
+            ArgumentError::Patterns => "patterns: expected a number from 1 to 1024",
         })
     }
 }

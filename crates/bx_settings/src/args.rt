@@ -19,8 +19,8 @@ use std::net::SocketAddr;
 /// - the number of connections after which the server ends: 0 for any number
 /// - optionally the options: as for [`Options::read`]
 /// - optionally the number of events that may wait for a session: 1 to 65,536, by default 1,024
-pub fn read_words(words: &[String]) -> Option<Settings<'_>>
-    ensures { IfSome result (IsSaidBy (map string_bytes words.now)) }
+pub fn parse_args(args: &[String]) -> Option<Settings<'_>>
+    ensures { IfSome result (IsSaidBy (map string_bytes args.now)) }
 {
     let [
         listen,
@@ -31,7 +31,7 @@ pub fn read_words(words: &[String]) -> Option<Settings<'_>>
         seed,
         connections,
         more @ ..,
-    ] = words
+    ] = args
     else {
         return None;
     };
@@ -68,11 +68,11 @@ fn config_of(shards: &[u8], timeout: &[u8], interval: &[u8], max_interval: &[u8]
 }
 
 // Applies the optional arguments to `config`, or returns `None` if they are wrong.
-fn with_more(config: Config, words: &[String]) -> Option<Config>
+fn with_more(config: Config, args: &[String]) -> Option<Config>
     ensures shards { IfSome result (λ c. c.shards ≡ config.shards) }
     ensures times { IfSome result (λ c. (c.timeout ≡ config.timeout) × (c.interval ≡ config.interval) × (c.max_interval ≡ config.max_interval)) }
 {
-    match words {
+    match args {
         [] => Some(config),
         [options] => Some(config.with(Options::read(options.as_bytes())?)),
         [options, limit] => {
