@@ -99,7 +99,7 @@ def try_figures(stand):
     It also shows the server's own metrics.
     """
     figures_at = f"127.0.0.1:{free_port()}"
-    stand.server.restart("--figures", figures_at)
+    stand.server.restart("--metrics", figures_at)
     window = Window(stand.browser, stand.from_disk("dashboard/figures.html"))
     window.wait_state("connected")
     try_cards(stand.server, window)

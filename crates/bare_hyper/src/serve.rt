@@ -1,6 +1,6 @@
 //! Serves HTTP connections, each as a task of a runtime.
 use crate::answer::Bare;
-use bx_serve::{Connections, Maker, most_of};
+use bx_serve::{Connections, MakeTask, most_of};
 use bytes::Bytes;
 use futures::task::{Context, Poll};
 use futures::{Future, StreamExt};
@@ -23,11 +23,11 @@ const PAUSE: u64 = 20;
 
 /// A future that runs another future and drops its output.
 #[derive(Drop)]
-pub struct Quiet<F> {
+pub struct IgnoreOutput<F> {
     inner: F,
 }
 
-impl<F: Future<Output = T>, T: Drop> Future for Quiet<F> {
+impl<F: Future<Output = T>, T: Drop> Future for IgnoreOutput<F> {
     type Output = ();
 
     ghost can_poll = { λ q. F.can_poll q.inner };
@@ -42,19 +42,19 @@ impl<F: Future<Output = T>, T: Drop> Future for Quiet<F> {
     }
 }
 
-/// A [`Maker`] that serves each connection over HTTP, without time limits.
+/// A [`MakeTask`] that serves each connection over HTTP, without time limits.
 #[derive(Drop)]
 pub struct BareServer {
     http: Builder,
     service: Bare,
 }
 
-impl Maker for BareServer {
-    type Task = Quiet<Connection<TcpStream, Bare, Full<Bytes>>>;
+impl MakeTask for BareServer {
+    type Task = IgnoreOutput<Connection<TcpStream, Bare, Full<Bytes>>>;
 
     fn make(&self, socket: TcpStream) -> Option<Self::Task> {
         let _ = socket.set_nodelay(true);
-        Some(Quiet {
+        Some(IgnoreOutput {
             inner: self.http.serve_connection(socket, self.service),
         })
     }

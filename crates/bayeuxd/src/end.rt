@@ -1,8 +1,8 @@
 //! Ends the server when standard input ends.
 use bx_entry::Placing;
-use bx_figures::Counts;
 use bx_hub::{Gate, Hub};
-use bx_window::Naming;
+use bx_metrics::Counts;
+use bx_window::LogId;
 use futures::channel::oneshot::Sender;
 use futures::task::{Context, Poll};
 use futures::{Future, ready};
@@ -10,8 +10,8 @@ use std::alloc::Global;
 use std::io::Read;
 use std::sync::{Arc, Wait};
 
-/// Reads standard input until it ends or fails, and then sends the signal `told`.
-pub fn tell_at_end<R: Input>(rt: &R, told: Sender<()>) {
+/// Reads standard input until it ends or fails, and then sends the signal `shutdown`.
+pub fn signal_at_eof<R: Input>(rt: &R, shutdown: Sender<()>) {
     let mut bytes = [0; 512];
     let mut input = rt.reader();
     for _ in 0..u64::MAX {
@@ -20,29 +20,29 @@ pub fn tell_at_end<R: Input>(rt: &R, told: Sender<()>) {
             Ok(_) => {}
         }
     }
-    let _ = told.send(());
+    let _ = shutdown.send(());
 }
 
-/// A future that waits for `told` and then closes the hub, which ends held connects.
+/// A future that waits for `shutdown` and then closes the hub, which ends held connects.
 ///
 /// # Blocking
 ///
 /// Polling it locks as [`Hub::close`] does.
 #[derive(Drop)]
-pub struct Closing<J: Naming, P: Placing, G: Gate + Drop, R: Wait + Drop, A> {
+pub struct Closing<L: LogId, P: Placing, G: Gate + Drop, R: Wait + Drop, A> {
     /// The right to wait for the hub's locks.
     pub rt: R,
     /// The hub to close.
-    pub hub: Arc<Hub<J, P, G, R>, Global>,
+    pub hub: Arc<Hub<L, P, G, R>, Global>,
     /// Metrics, which then show that the server no longer listens.
     pub counts: Arc<Counts, Global>,
     /// The signal to end.
-    pub told: A,
+    pub shutdown: A,
 }
 
-impl<J, P, G, R, A, T> Future for Closing<J, P, G, R, A>
+impl<L, P, G, R, A, T> Future for Closing<L, P, G, R, A>
 where
-    J: Naming,
+    L: LogId,
     P: Placing + Drop,
     G: Gate + Drop,
     R: Wait + Drop,
@@ -51,12 +51,12 @@ where
 {
     type Output = ();
 
-    ghost can_poll = { λ c. A.can_poll c.told };
+    ghost can_poll = { λ c. A.can_poll c.shutdown };
 
-    ghost needs = { λ c. A.needs c.told };
+    ghost needs = { λ c. A.needs c.shutdown };
 
     fn poll(&mut self, cx: &mut Context<'_>) -> Poll<()> {
-        let _ = ready!(self.told.poll(cx));
+        let _ = ready!(self.shutdown.poll(cx));
         self.counts.set_listens(false);
         self.hub.close(&self.rt);
         Poll::Ready(())

@@ -3,23 +3,23 @@
 
 mod clock;
 mod end;
-mod figures;
+mod metrics;
 mod recorder;
 mod refusals;
 mod serve;
 mod ticker;
 
 use bx_advice::STANDARD_BYTES;
-use bx_figures::Counts;
+use bx_metrics::Counts;
 use bx_service::BodyLimit;
 use bx_settings::{Seed, Settings, parse_args, read_flags, read_seed};
-use end::tell_at_end;
-use figures::show_figures;
+use end::signal_at_eof;
 use futures::channel::oneshot;
 use futures::channel::oneshot::{Receiver, Sender};
 use log::{error, info, warn};
+use metrics::serve_metrics;
 use recorder::{RecordFile, make_record};
-use serve::{Place, ServeFault, Serving, listen, serve};
+use serve::{ListenAddress, ServeFault, Serving, listen, serve};
 use std::alloc::{AllocError, Global};
 use std::fs::File;
 use std::net::{SocketAddr, ToSocketAddrs};
@@ -39,7 +39,7 @@ const FLAGS: &str = "or bayeuxd [--listen ADDRESS] [FLAG ..]\nSee bayeuxd --help
 const CANNOT_LISTEN: &str = "bayeuxd: cannot listen";
 
 /// Error text if the metrics listener cannot start. Its address and the reason follow.
-const NO_FIGURES: &str = "bayeuxd: cannot listen for metrics";
+const NO_METRICS: &str = "bayeuxd: cannot listen for metrics";
 
 /// Error text if the record file cannot be created or written. Its name and the reason follow.
 const CANNOT_RECORD: &str = "bayeuxd: cannot create the record";
@@ -69,21 +69,21 @@ fn main(rt: HostRuntime) -> ExitCode {
     };
     let Parts {
         arguments,
-        place,
+        listen_address,
         readers,
         counts,
-        told,
+        shutdown,
         end,
     } = parts;
     tell_settings(&rt, &settings);
-    let listening = match listen(&rt, place, readers) {
+    let listening = match listen(&rt, listen_address, readers) {
         Ok(listening) => listening,
         Err(fault) => return not_served(&rt, fault),
     };
-    if let Some(address) = settings.figures
-        && let Err(error) = show_figures(rt, address, &counts)
+    if let Some(address) = settings.metrics
+        && let Err(error) = serve_metrics(rt, address, &counts)
     {
-        return refused_at(&rt, NO_FIGURES, address, &error);
+        return refused_at(&rt, NO_METRICS, address, &error);
     }
     // Created last, so that a failed listener leaves no file.
     let record_file = match record_of(&rt, &settings) {
@@ -91,14 +91,14 @@ fn main(rt: HostRuntime) -> ExitCode {
         Err(status) => return status,
     };
     // Spawned here, because only `main` can pass the right to read standard input to a thread.
-    // Without `--until-eof`, `told` is kept: dropping it would end the server.
+    // Without `--until-eof`, `shutdown` is kept: dropping it would end the server.
     let _kept = if settings.until_eof {
-        let Ok(_reading) = thread::spawn(&rt, move || tell_at_end(&rt, told)) else {
+        let Ok(_reading) = thread::spawn(&rt, move || signal_at_eof(&rt, shutdown)) else {
             return failed(&rt, NO_READER);
         };
         None
     } else {
-        Some(told)
+        Some(shutdown)
     };
     let mut writer = io::writer(&rt);
     let served = serve(
@@ -122,10 +122,10 @@ fn main(rt: HostRuntime) -> ExitCode {
 // The parts of a server, before it listens.
 struct Parts<'a> {
     arguments: Serving,
-    place: Place<'a>,
-    readers: Option<Place<'a>>,
+    listen_address: ListenAddress<'a>,
+    readers: Option<ListenAddress<'a>>,
     counts: Arc<Counts, Global>,
-    told: Sender<()>,
+    shutdown: Sender<()>,
     end: Receiver<()>,
 }
 
@@ -135,12 +135,12 @@ fn parts_of<'a>(rt: &HostRuntime, settings: &Settings<'a>) -> Result<Parts<'a>, 
     let Ok(seed) = seed_of(rt, settings.seed) else {
         return Err(failed(rt, "bayeuxd: cannot read the seed"));
     };
-    let place = place_of(rt, settings.listen)?;
+    let listen_address = listen_address_of(rt, settings.listen)?;
     let readers = match settings.readers {
-        Some(name) => Some(place_of(rt, name)?),
+        Some(name) => Some(listen_address_of(rt, name)?),
         None => None,
     };
-    let (Ok(counts), Ok((told, end))) = (
+    let (Ok(counts), Ok((shutdown, end))) = (
         counts_of(rt, settings.config.shards),
         oneshot::channel(alloc),
     ) else {
@@ -154,10 +154,10 @@ fn parts_of<'a>(rt: &HostRuntime, settings: &Settings<'a>) -> Result<Parts<'a>, 
             connections: settings.connections,
             until_eof: settings.until_eof,
         },
-        place,
+        listen_address,
         readers,
         counts,
-        told,
+        shutdown,
         end,
     })
 }
@@ -248,9 +248,9 @@ fn settings_text(alloc: Global, settings: &Settings<'_>) -> Result<String, Alloc
     write!(text, " ride={} anonymous={}", config.ride, config.anonymous)?;
     write!(
         text,
-        " connections={} figures={} record={} record_answers={} until_eof={}",
+        " connections={} metrics={} record={} record_answers={} until_eof={}",
         settings.connections,
-        settings.figures.unwrap_or("-"),
+        settings.metrics.unwrap_or("-"),
         settings.record_file.unwrap_or("-"),
         settings.record_answers,
         settings.until_eof
@@ -313,9 +313,9 @@ fn seed_of(rt: &HostRuntime, seed: Seed<'_>) -> io::Result<[u8; 32]> {
 }
 
 // Resolves an address to listen at. Fails as `parts_of` does.
-fn place_of<'a>(rt: &HostRuntime, name: &'a str) -> Result<Place<'a>, ExitCode> {
+fn listen_address_of<'a>(rt: &HostRuntime, name: &'a str) -> Result<ListenAddress<'a>, ExitCode> {
     match addresses_of(rt, name) {
-        Ok(addresses) => Ok(Place { name, addresses }),
+        Ok(addresses) => Ok(ListenAddress { name, addresses }),
         Err(error) => Err(cannot_listen(rt, name, &error)),
     }
 }
@@ -336,8 +336,8 @@ fn cannot_listen(rt: &HostRuntime, listen: &str, error: &io::Error) -> ExitCode 
 }
 
 // Prints what failed, its address or file, and the error, and returns the exit status.
-fn refused_at(rt: &HostRuntime, what: &str, place: &str, error: &io::Error) -> ExitCode {
-    match format!(in rt.alloc(); "{what} at {place}: {error}") {
+fn refused_at(rt: &HostRuntime, what: &str, name: &str, error: &io::Error) -> ExitCode {
+    match format!(in rt.alloc(); "{what} at {name}: {error}") {
         Ok(why) => failed(rt, why.as_str()),
         Err(_) => failed(rt, what),
     }

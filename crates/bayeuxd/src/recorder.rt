@@ -6,7 +6,7 @@ use bx_hub::{Hub, OpenGate, RecordFront};
 use bx_record::{
     CountedFile, End, Out, RecordFault, Source, Taken, Written, config_text, write_out,
 };
-use bx_window::Naming;
+use bx_window::LogId;
 use log::{Log, info, warn};
 use std::alloc::{AllocError, AllocGlobal, Global};
 use std::fs::{File, OpenOptions};
@@ -57,7 +57,7 @@ pub fn make_record(
 pub struct Recorder {
     thread: Option<JoinHandle<()>>,
     answers: Option<Arc<AnswerLog, Global>>,
-    is_over: Arc<AtomicBool, Global>,
+    stop: Arc<AtomicBool, Global>,
 }
 
 impl Recorder {
@@ -74,23 +74,23 @@ impl Recorder {
     /// # Blocking
     ///
     /// Locks admission.
-    pub fn start<J, R, F>(
+    pub fn start<L, R, F>(
         rt: R,
-        hub: &Arc<Hub<J, ByRemainder, OpenGate, R>, Global>,
+        hub: &Arc<Hub<L, ByRemainder, OpenGate, R>, Global>,
         file: Option<RecordFile<F>>,
     ) -> io::Result<Recorder>
     where
-        J: Naming + Send + Sync + 'static,
+        L: LogId + Send + Sync + 'static,
         R: Wait + Threads + Clock + AllocGlobal + Log + Sync + Send + Copy + Drop + 'static,
         F: Write + Send + Drop + 'static,
     {
         let alloc = rt.alloc();
-        let is_over = Arc::new(alloc, AtomicBool::new(false))?;
+        let stop = Arc::new(alloc, AtomicBool::new(false))?;
         let Some(RecordFile { file, has_answers }) = file else {
             return Ok(Recorder {
                 thread: None,
                 answers: None,
-                is_over,
+                stop,
             });
         };
         let log = Arc::new(alloc, AnswerLog::new(alloc))?;
@@ -100,7 +100,7 @@ impl Recorder {
             hub: Arc::try_clone(hub)?,
             log: Arc::try_clone(&log)?,
         };
-        let over = Arc::try_clone(&is_over)?;
+        let over = Arc::try_clone(&stop)?;
         let Ok(start) = hub.start_record(&rt, alloc) else {
             return Err(io::ErrorKind::InvalidInput.into());
         };
@@ -112,7 +112,7 @@ impl Recorder {
         Ok(Recorder {
             thread: Some(thread),
             answers: has_answers.then_some(log),
-            is_over,
+            stop,
         })
     }
 
@@ -134,12 +134,8 @@ impl Recorder {
     ///
     /// Blocks until the thread has ended.
     pub fn end<R: Threads>(self, rt: &R) {
-        let Recorder {
-            thread,
-            is_over,
-            ..
-        } = self;
-        is_over.store(true, Ordering::SeqCst);
+        let Recorder { thread, stop, .. } = self;
+        stop.store(true, Ordering::SeqCst);
         if let Some(thread) = thread {
             thread.join(rt);
         }
@@ -155,15 +151,15 @@ struct Ended {
 
 // The lines of a hub's record and of its answers that wait to be written.
 #[derive(Drop)]
-struct HubRecord<J: Naming, R: Wait + Drop> {
+struct HubRecord<L: LogId, R: Wait + Drop> {
     rt: R,
     alloc: Global,
-    hub: Arc<Hub<J, ByRemainder, OpenGate, R>, Global>,
+    hub: Arc<Hub<L, ByRemainder, OpenGate, R>, Global>,
     log: Arc<AnswerLog, Global>,
 }
 
-impl<J: Naming, R: Wait + Log + Drop> Source for HubRecord<J, R> {
-    type Extent = RecordFront<J>;
+impl<L: LogId, R: Wait + Log + Drop> Source for HubRecord<L, R> {
+    type Extent = RecordFront<L>;
 
     type Fault = Ended;
 
@@ -171,7 +167,7 @@ impl<J: Naming, R: Wait + Log + Drop> Source for HubRecord<J, R> {
         self.hub.record_waiting(&self.rt)
     }
 
-    fn take(&mut self, empty: Vec<u8>) -> Option<Taken<RecordFront<J>, Ended>> {
+    fn take(&mut self, empty: Vec<u8>) -> Option<Taken<RecordFront<L>, Ended>> {
         let Taken { chunk, fault } = self.hub.take_record(&self.rt, empty).ok()?;
         let place = chunk.upto().place();
         Some(Taken {

@@ -9,12 +9,12 @@ use crate::ticker::tick;
 use bx_advice::Config;
 use bx_answers::{AnswerLog, AnswerLogger};
 use bx_entry::{Access, ByRemainder};
-use bx_figures::Counts;
 use bx_hub::{Hub, OpenGate};
 use bx_message::Item;
-use bx_serve::{Entrance, serve_until};
+use bx_metrics::Counts;
+use bx_serve::{Endpoint, serve_until};
 use bx_service::{Backend, BayeuxService, BodyLimit, HubBackend, Observer, Unanswered};
-use bx_window::{Naming, Opened};
+use bx_window::{LogId, Opened};
 use futures::Future;
 use futures::channel::oneshot::Receiver;
 use log::{Log, info};
@@ -69,7 +69,7 @@ impl From<io::Error> for ServeFault<'_> {
 
 /// A name to listen at, with its addresses.
 #[derive(Drop)]
-pub struct Place<'a> {
+pub struct ListenAddress<'a> {
     /// The host and the port, as they were given.
     pub name: &'a str,
     /// The addresses of `name`, in the order in which they are tried.
@@ -86,26 +86,26 @@ pub struct Listening {
     listeners: Listeners,
 }
 
-/// Listens at `place` and, for the read-only listener, at `readers`.
+/// Listens at `listen_address` and, for the read-only listener, at `readers`.
 ///
 /// Uses the first address of each at which it can listen.
 ///
 /// # Errors
 ///
 /// - `CannotServe`: the runtime cannot be created.
-/// - `CannotListen`: a place has no address at which the server can listen.
+/// - `CannotListen`: a name has no address at which the server can listen.
 pub fn listen<'a, R>(
     rt: &R,
-    place: Place<'a>,
-    readers: Option<Place<'a>>,
+    listen_address: ListenAddress<'a>,
+    readers: Option<ListenAddress<'a>>,
 ) -> Result<Listening, ServeFault<'a>>
 where
     R: Threads + Clock + RandomSource + AllocGlobal + Net,
 {
     let runtime = Runtime::new(rt)?;
-    let listener = bind(rt, &runtime, place)?;
+    let listener = bind(rt, &runtime, listen_address)?;
     let readers = match readers {
-        Some(place) => Some(bind(rt, &runtime, place)?),
+        Some(listen_address) => Some(bind(rt, &runtime, listen_address)?),
         None => None,
     };
     Ok(Listening {
@@ -114,11 +114,11 @@ where
     })
 }
 
-/// Serves connections until `arguments.connections` were accepted or `told` is ready.
+/// Serves connections until `arguments.connections` were accepted or `shutdown` is ready.
 ///
 /// Prints the listeners' addresses to `writer`, and records the list in `record_file`, if given.
-/// Once `told` is ready, it closes the hub, which ends held connects. At the end it waits for the
-/// open connections. With `until_eof` it closes those that are still open after a second.
+/// Once `shutdown` is ready, it closes the hub, which ends held connects. At the end it waits for
+/// the open connections. With `until_eof` it closes those that are still open after a second.
 ///
 /// # Errors
 ///
@@ -133,7 +133,7 @@ pub fn serve<R, F, W>(
     arguments: Serving,
     record_file: Option<RecordFile<F>>,
     counts: &Arc<Counts, Global>,
-    told: Receiver<()>,
+    shutdown: Receiver<()>,
     writer: &mut W,
 ) -> io::Result<()>
 where
@@ -165,13 +165,13 @@ where
         start,
         placing,
         counts,
-        told,
+        shutdown,
         writer,
     )
 }
 
 // Serves over a new hub, while a thread posts ticks.
-fn run<J, R, F, W>(
+fn run<L, R, F, W>(
     rt: R,
     opened: Opened,
     runtime: Runtime,
@@ -181,11 +181,11 @@ fn run<J, R, F, W>(
     start: Instant,
     placing: Arc<ByRemainder, Global>,
     counts: &Arc<Counts, Global>,
-    told: Receiver<()>,
+    shutdown: Receiver<()>,
     writer: &mut W,
 ) -> io::Result<()>
 where
-    J: Naming + Send + Sync + 'static,
+    L: LogId + Send + Sync + 'static,
     R: Wait
         + Threads
         + Clock
@@ -200,13 +200,13 @@ where
         + 'static,
     F: Write + Send + Drop + 'static,
     W: Write,
-    requires book { opened.seen.book ≡ J.book }
-    requires config { arguments.config ≡ J.config }
-    requires placing { by_remainder ≡ J.placing }
+    requires book { opened.seen.book ≡ L.book }
+    requires config { arguments.config ≡ L.config }
+    requires placing { by_remainder ≡ L.placing }
 {
     let alloc = rt.alloc();
     let clock = SinceStart { rt, start };
-    let hub = Hub::<J, ByRemainder, OpenGate, R>::new(
+    let hub = Hub::<L, ByRemainder, OpenGate, R>::new(
         alloc,
         rt,
         opened,
@@ -222,8 +222,8 @@ where
     if let Some(readers) = &readers {
         tell(&rt, "readers listening", readers, writer)?;
     }
-    let is_over = Arc::new(alloc, AtomicBool::new(false))?;
-    let (ticked, over) = (Arc::try_clone(&hub)?, Arc::try_clone(&is_over)?);
+    let stop = Arc::new(alloc, AtomicBool::new(false))?;
+    let (ticked, over) = (Arc::try_clone(&hub)?, Arc::try_clone(&stop)?);
     let counted = Arc::try_clone(counts)?;
     let crowd = arguments.config.limits.sessions;
     if arguments.until_eof {
@@ -233,11 +233,11 @@ where
         rt,
         hub: Arc::try_clone(&hub)?,
         counts: Arc::try_clone(counts)?,
-        told,
+        shutdown,
     };
     // Started before anything is appended to the list, such as the first tick.
     let recorder = Recorder::start(rt, &hub, record_file)?;
-    let doors = Doors {
+    let shared = SharedParts {
         rt,
         hub: Arc::try_clone(&hub)?,
         clock,
@@ -245,18 +245,18 @@ where
         counts: Arc::try_clone(counts)?,
         answers: recorder.answers()?,
     };
-    let first = doors.at(listener, Access::ReadWrite)?;
+    let first = shared.parts_for(listener, Access::ReadWrite)?;
     let other = match readers {
-        Some(listener) => Some(doors.at(listener, Access::ReadOnly)?),
+        Some(listener) => Some(shared.parts_for(listener, Access::ReadOnly)?),
         None => None,
     };
     let ticker = thread::spawn(
         &rt,
         move || tick(&rt, alloc, &*ticked, &clock, &*counted, crowd, &*over),
     )?;
-    let served = serve_doors(rt, &mut runtime, first, other, arguments, end);
+    let served = serve_endpoints(rt, &mut runtime, first, other, arguments, end);
     counts.set_listens(false);
-    is_over.store(true, Ordering::SeqCst);
+    stop.store(true, Ordering::SeqCst);
     ticker.join(&rt);
     hub.close(&rt);
     recorder.end(&rt);
@@ -276,27 +276,28 @@ fn tell<R: Log, W: Write>(
     writer.flush()
 }
 
-// Listens at the first address of `place` that works. If none does, returns the last error.
+// Listens at the first address of `listen_address` that works. If none does, returns the last
+// error.
 fn bind<'a, R: Net>(
     rt: &R,
     runtime: &Runtime,
-    place: Place<'a>,
+    listen_address: ListenAddress<'a>,
 ) -> Result<TcpListener, ServeFault<'a>> {
     let mut refused = io::ErrorKind::AddrNotAvailable.into();
-    for address in place.addresses {
+    for address in listen_address.addresses {
         match TcpListener::bind(rt, address, runtime.handle().reactor()) {
             Ok(listener) => return Ok(listener),
             Err(error) => refused = error,
         }
     }
-    Err(ServeFault::CannotListen(place.name, refused))
+    Err(ServeFault::CannotListen(listen_address.name, refused))
 }
 
 // What both listeners share.
 #[derive(Drop)]
-struct Doors<J: Naming, R: Wait + Drop> {
+struct SharedParts<L: LogId, R: Wait + Drop> {
     rt: R,
-    hub: Arc<Hub<J, ByRemainder, OpenGate, R>, Global>,
+    hub: Arc<Hub<L, ByRemainder, OpenGate, R>, Global>,
     clock: SinceStart<R>,
     generator: Arc<Mutex<ChaCha20Rng>, Global>,
     counts: Arc<Counts, Global>,
@@ -305,21 +306,21 @@ struct Doors<J: Naming, R: Wait + Drop> {
 
 // A listener with its backend and its observer.
 #[derive(Drop)]
-struct Doorway<S, O> {
+struct EndpointParts<S, O> {
     listener: TcpListener,
     backend: S,
     observer: O,
 }
 
-impl<J: Naming, R: Wait + Clock + AllocGlobal + Copy + Drop> Doors<J, R> {
+impl<L: LogId, R: Wait + Clock + AllocGlobal + Copy + Drop> SharedParts<L, R> {
     // Creates the backend and the observer for `listener`.
-    fn at(
+    fn parts_for(
         &self,
         listener: TcpListener,
         access: Access,
     ) -> io::Result<
-        Doorway<
-            HubBackend<J, ByRemainder, OpenGate, R, SinceStart<R>, Drawn<R>>,
+        EndpointParts<
+            HubBackend<L, ByRemainder, OpenGate, R, SinceStart<R>, Drawn<R>>,
             (Arc<Counts, Global>, AnswerLogger<R>),
         >,
     > {
@@ -333,7 +334,7 @@ impl<J: Naming, R: Wait + Clock + AllocGlobal + Copy + Drop> Doors<J, R> {
             Some(log) => Some(Arc::try_clone(log)?),
             None => None,
         };
-        Ok(Doorway {
+        Ok(EndpointParts {
             listener,
             backend: HubBackend::new(rt, alloc, hub, access, self.clock, nonces),
             observer: (
@@ -347,11 +348,11 @@ impl<J: Naming, R: Wait + Clock + AllocGlobal + Copy + Drop> Doors<J, R> {
 // Serves both listeners.
 //
 // Prover: generic, because comparing the full types in the connections' tasks takes too long.
-fn serve_doors<S, I, O, R, A>(
+fn serve_endpoints<S, I, O, R, A>(
     rt: R,
     runtime: &mut Runtime,
-    first: Doorway<S, O>,
-    other: Option<Doorway<S, O>>,
+    first: EndpointParts<S, O>,
+    other: Option<EndpointParts<S, O>>,
     arguments: Serving,
     end: A,
 ) -> io::Result<()>
@@ -364,20 +365,20 @@ where
     requires { A.can_poll end }
 {
     let (alloc, body) = (rt.alloc(), arguments.body);
-    let first = entrance_of(alloc, body, first)?;
+    let first = endpoint_of(alloc, body, first)?;
     let other = match other {
-        Some(door) => Some(entrance_of(alloc, body, door)?),
+        Some(parts) => Some(endpoint_of(alloc, body, parts)?),
         None => None,
     };
     serve_until(rt, runtime, first, other, arguments.connections, end)
 }
 
 // Creates the service of a listener.
-fn entrance_of<S: Backend, O: Observer>(
+fn endpoint_of<S: Backend, O: Observer>(
     alloc: Global,
     body: BodyLimit,
-    door: Doorway<S, O>,
-) -> io::Result<Entrance<BayeuxService<S, O>>> {
-    let service = BayeuxService::observed(alloc, door.backend, door.observer)?;
-    Ok((door.listener, service.with_limit(body)))
+    parts: EndpointParts<S, O>,
+) -> io::Result<Endpoint<BayeuxService<S, O>>> {
+    let service = BayeuxService::observed(alloc, parts.backend, parts.observer)?;
+    Ok((parts.listener, service.with_limit(body)))
 }

@@ -1,10 +1,10 @@
 //! The thread that posts ticks.
 use crate::refusals::Refusals;
 use bx_entry::Placing;
-use bx_figures::{Counts, Figure};
 use bx_hub::{Gate, Hub, Lagging, Pass, ShardSurvey, Survey};
+use bx_metrics::{Counts, Metric};
 use bx_service::Clock;
-use bx_window::Naming;
+use bx_window::LogId;
 use log::Log;
 use std::alloc::Global;
 use std::collections::VecDeque;
@@ -26,7 +26,7 @@ const KEPT_IN_A_CROWD: usize = 10;
 // Number of ticks between the log lines for rejected requests: a second. Policy of this server.
 const TELLING: u64 = 10;
 
-/// Posts a tick every 100 ms until `is_over` is set.
+/// Posts a tick every 100 ms until `stop` is set.
 ///
 /// Counts the ticks and copies the hub's state to `counts`. Once a second, logs why requests were
 /// rejected or not answered. Drops filed answers that are not taken within a minute, or within a
@@ -35,17 +35,17 @@ const TELLING: u64 = 10;
 /// # Blocking
 ///
 /// Sleeps between ticks. Locks and wakes tasks as [`Hub::tick`] does.
-pub fn tick<J, P, G, H, R, C>(
+pub fn tick<L, P, G, H, R, C>(
     rt: &R,
     alloc: Global,
-    hub: &Hub<J, P, G, H>,
+    hub: &Hub<L, P, G, H>,
     clock: &C,
     counts: &Counts,
     crowd: usize,
-    is_over: &AtomicBool,
+    stop: &AtomicBool,
 )
 where
-    J: Naming,
+    L: LogId,
     P: Placing,
     G: Gate + Drop,
     H: Wait + Drop,
@@ -57,7 +57,7 @@ where
     let mut refusals = Refusals::new();
     let mut turn: u64 = 0;
     for _ in rt.forever() {
-        if is_over.load(Ordering::SeqCst) {
+        if stop.load(Ordering::SeqCst) {
             refusals.tell(rt, counts);
             break;
         }
@@ -70,10 +70,10 @@ where
         // filed.
         match hub.tick(rt, alloc, &mut pass, clock.now()) {
             Ok(ticked) => {
-                count_tick(counts, ticked.brought.behind());
+                count_tick(counts, ticked.advanced.behind());
                 let _ = places.push_back(ticked.place);
             }
-            Err(_) => counts.add(Figure::RefusedTicks, 1),
+            Err(_) => counts.add(Metric::RefusedTicks, 1),
         }
         let filed = survey(rt, hub, &mut pass, counts);
         let kept = if filed > crowd as u64 {
@@ -83,7 +83,7 @@ where
         };
         if let Some(before) = last_before(&mut places, kept) {
             let swept = hub.sweep(rt, before).dropped();
-            counts.add(Figure::Swept, swept as u64);
+            counts.add(Metric::Swept, swept as u64);
         }
     }
 }
@@ -111,15 +111,15 @@ fn count_tick(counts: &Counts, behind: Lagging) {
     for some in [memory, overrun, paused, closed, misplaced] {
         shards = shards.saturating_add(some as u64);
     }
-    counts.add(Figure::Ticks, 1);
-    counts.set(Figure::ShardsBehind, shards);
+    counts.add(Metric::Ticks, 1);
+    counts.set(Metric::ShardsBehind, shards);
 }
 
 // Copies the state of the hub and its shards to `counts`. Returns how many answers are filed.
-fn survey<J: Naming, P: Placing, G: Gate + Drop, H: Wait + Drop, R: Wait>(
+fn survey<L: LogId, P: Placing, G: Gate + Drop, H: Wait + Drop, R: Wait>(
     rt: &R,
-    hub: &Hub<J, P, G, H>,
-    pass: &mut Pass<J>,
+    hub: &Hub<L, P, G, H>,
+    pass: &mut Pass<L>,
     counts: &Counts,
 ) -> u64 {
     let Survey {
@@ -128,10 +128,10 @@ fn survey<J: Naming, P: Placing, G: Gate + Drop, H: Wait + Drop, R: Wait>(
         opened,
         batches,
     } = hub.survey(rt, pass);
-    counts.set(Figure::Entries, entries);
-    counts.set(Figure::Sessions, live as u64);
-    counts.set(Figure::Opened, opened);
-    counts.set(Figure::Batches, batches as u64);
+    counts.set(Metric::Entries, entries);
+    counts.set(Metric::Sessions, live as u64);
+    counts.set(Metric::Opened, opened);
+    counts.set(Metric::Batches, batches as u64);
     let (mut connects, mut answers): (u64, u64) = (0, 0);
     for shard in 0..counts.shards() {
         let Some(ShardSurvey { place, held, filed }) = hub.survey_shard(rt, shard) else {
@@ -141,7 +141,7 @@ fn survey<J: Naming, P: Placing, G: Gate + Drop, H: Wait + Drop, R: Wait>(
         connects = connects.saturating_add(held as u64);
         answers = answers.saturating_add(filed as u64);
     }
-    counts.set(Figure::Connects, connects);
-    counts.set(Figure::Filed, answers);
+    counts.set(Metric::Connects, connects);
+    counts.set(Metric::Filed, answers);
     answers
 }

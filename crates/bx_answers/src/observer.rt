@@ -2,7 +2,7 @@
 ghost use Rattle.std.specs.Prelude.{◌≡◌};
 
 use crate::answer_log::AnswerLog;
-use bx_service::{Event, Observer};
+use bx_service::{Observer, ServiceEvent};
 use std::alloc::Global;
 use std::sync::{Arc, Wait};
 
@@ -26,10 +26,10 @@ impl<R> AnswerLogger<R> {
 }
 
 impl<R: Wait + Drop> Observer for AnswerLogger<R> {
-    fn see(&self, event: Event<'_>) {
+    fn see(&self, event: ServiceEvent<'_>) {
         if let (
             Some(log),
-            Event::Answered {
+            ServiceEvent::Answered {
                 place: Some(place),
                 items: Some(items),
             },

@@ -5,7 +5,7 @@ use bx_entry::Refusal;
 use bx_hub::PostFault;
 use bx_message::{AckReply, Item, RawJson, Reply, Status, Text};
 use bx_record::RecordFault;
-use bx_service::{Event, Observer};
+use bx_service::{Observer, ServiceEvent};
 use std::alloc::{AllocError, Global};
 use std::process::Abort;
 use std::sync::{Arc, Wait};
@@ -132,17 +132,17 @@ fn answers_are_logged(rt: HostRuntime) -> Result<(), Fail> {
         (Some(7), None, false),
     ] {
         for event in [
-            Event::Asked,
-            Event::Admitted(place),
-            Event::Refused(PostFault::Refused(Refusal::BadMoment)),
-            Event::Responded(Some(Status::Ok)),
-            Event::Left { was_admitted: true },
+            ServiceEvent::Asked,
+            ServiceEvent::Admitted(place),
+            ServiceEvent::Refused(PostFault::Refused(Refusal::BadMoment)),
+            ServiceEvent::Responded(Some(Status::Ok)),
+            ServiceEvent::Left { was_admitted: true },
         ] {
             logger.see(event);
         }
-        nobody.see(Event::Answered { place, items });
+        nobody.see(ServiceEvent::Answered { place, items });
         check_taken(&rt, alloc, &*log, "", None);
-        logger.see(Event::Answered { place, items });
+        logger.see(ServiceEvent::Answered { place, items });
         let wanted = if is_logged {
             format!(in alloc; "A 7 {CONNECTED}\n")?
         } else {

@@ -8,7 +8,7 @@ use anyhow::{Result, anyhow};
 use bx_advice::Config;
 use bx_entry::{ByRemainder, Slot};
 use bx_hub::{Hub, OpenGate, Pass};
-use bx_window::{Naming, Opened};
+use bx_window::{LogId, Opened};
 use std::alloc::Global;
 use std::marker::Brand;
 use std::sync::{Arc, Wait};
@@ -17,7 +17,7 @@ use std::thread::{Threads, join};
 // Number of sessions during the ticks.
 const IDLE: u64 = 65_536;
 
-type Served<J, R> = Hub<J, ByRemainder, OpenGate, R>;
+type Served<L, R> = Hub<L, ByRemainder, OpenGate, R>;
 
 /// Runs `load` in each of `threads` threads, and returns the number of events delivered.
 ///
@@ -43,7 +43,7 @@ pub fn posts<R: Threads + Wait + Sync>(
     Ok(events as usize)
 }
 
-fn serves<J: Naming + Send + Sync, R: Threads + Wait + Sync>(
+fn serves<L: LogId + Send + Sync, R: Threads + Wait + Sync>(
     rt: &R,
     alloc: Global,
     opened: Opened,
@@ -52,11 +52,11 @@ fn serves<J: Naming + Send + Sync, R: Threads + Wait + Sync>(
     threads: u64,
     load: Load,
 ) -> Result<u64>
-    requires book { opened.seen.book ≡ J.book }
-    requires config { config ≡ J.config }
-    requires placing { by_remainder ≡ J.placing }
+    requires book { opened.seen.book ≡ L.book }
+    requires config { config ≡ L.config }
+    requires placing { by_remainder ≡ L.placing }
 {
-    let hub = Served::<J, &R>::new(alloc, rt, opened, config, placing, OpenGate)?;
+    let hub = Served::<L, &R>::new(alloc, rt, opened, config, placing, OpenGate)?;
     for thread in 0..threads {
         opens(rt, alloc, &hub, thread, load).ok_or(anyhow!("not opened"))?;
     }
@@ -69,10 +69,10 @@ fn serves<J: Naming + Send + Sync, R: Threads + Wait + Sync>(
 }
 
 // Opens a thread's sessions: one that publishes, and those that receive.
-fn opens<J: Naming, H: Wait + Drop, R: Wait>(
+fn opens<L: LogId, H: Wait + Drop, R: Wait>(
     rt: &R,
     alloc: Global,
-    hub: &Served<J, H>,
+    hub: &Served<L, H>,
     thread: u64,
     load: Load,
 ) -> Option<u64> {
@@ -94,10 +94,10 @@ fn opens<J: Naming, H: Wait + Drop, R: Wait>(
 }
 
 // Runs a thread's load, and returns the number of events delivered.
-fn works<J: Naming, H: Wait + Drop, R: Wait>(
+fn works<L: LogId, H: Wait + Drop, R: Wait>(
     rt: &R,
     alloc: Global,
-    hub: &Served<J, H>,
+    hub: &Served<L, H>,
     thread: u64,
     load: Load,
 ) -> Option<u64> {
@@ -110,11 +110,11 @@ fn works<J: Naming, H: Wait + Drop, R: Wait>(
 }
 
 // Publishes, and then connects each receiving session. Returns the number of events delivered.
-fn round<J: Naming, H: Wait + Drop, R: Wait>(
+fn round<L: LogId, H: Wait + Drop, R: Wait>(
     rt: &R,
     alloc: Global,
-    hub: &Served<J, H>,
-    pass: &mut Pass<J>,
+    hub: &Served<L, H>,
+    pass: &mut Pass<L>,
     thread: u64,
     load: Load,
 ) -> Option<u64> {
@@ -131,11 +131,11 @@ fn round<J: Naming, H: Wait + Drop, R: Wait>(
 }
 
 // Posts `body` and takes the answers. Returns the number of their events.
-fn post<J: Naming, H: Wait + Drop, R: Wait>(
+fn post<L: LogId, H: Wait + Drop, R: Wait>(
     rt: &R,
     alloc: Global,
-    hub: &Served<J, H>,
-    pass: &mut Pass<J>,
+    hub: &Served<L, H>,
+    pass: &mut Pass<L>,
     body: String,
 ) -> Option<u64> {
     let posted = hub.post(rt, alloc, pass, arrival(body)).ok()?;
@@ -150,10 +150,10 @@ fn post<J: Naming, H: Wait + Drop, R: Wait>(
 }
 
 // Runs `load` in each of two threads, numbered from `thread` on.
-fn two<J: Naming + Send + Sync, H: Wait + Drop + Send, R: Threads + Wait + Sync>(
+fn two<L: LogId + Send + Sync, H: Wait + Drop + Send, R: Threads + Wait + Sync>(
     rt: &R,
     alloc: Global,
-    hub: &Served<J, H>,
+    hub: &Served<L, H>,
     thread: u64,
     load: Load,
 ) -> Option<u64> {
@@ -167,10 +167,10 @@ fn two<J: Naming + Send + Sync, H: Wait + Drop + Send, R: Threads + Wait + Sync>
 }
 
 // Runs `load` in each of four threads.
-fn four<J: Naming + Send + Sync, H: Wait + Drop + Send, R: Threads + Wait + Sync>(
+fn four<L: LogId + Send + Sync, H: Wait + Drop + Send, R: Threads + Wait + Sync>(
     rt: &R,
     alloc: Global,
-    hub: &Served<J, H>,
+    hub: &Served<L, H>,
     load: Load,
 ) -> Option<u64> {
     let (a, b) = join(
@@ -199,7 +199,7 @@ pub fn ticks<R: Threads + Wait + Sync>(rt: &R, alloc: Global, count: u64) -> Res
     Ok(behind as usize)
 }
 
-fn idles<J: Naming + Send + Sync, R: Threads + Wait + Sync>(
+fn idles<L: LogId + Send + Sync, R: Threads + Wait + Sync>(
     rt: &R,
     alloc: Global,
     opened: Opened,
@@ -207,11 +207,11 @@ fn idles<J: Naming + Send + Sync, R: Threads + Wait + Sync>(
     placing: Arc<ByRemainder, Global>,
     count: u64,
 ) -> Result<u64>
-    requires book { opened.seen.book ≡ J.book }
-    requires config { config ≡ J.config }
-    requires placing { by_remainder ≡ J.placing }
+    requires book { opened.seen.book ≡ L.book }
+    requires config { config ≡ L.config }
+    requires placing { by_remainder ≡ L.placing }
 {
-    let hub = Served::<J, &R>::new(alloc, rt, opened, config, placing, OpenGate)?;
+    let hub = Served::<L, &R>::new(alloc, rt, opened, config, placing, OpenGate)?;
     let idle = Load {
         rounds: 0,
         publishes: 0,
@@ -221,17 +221,17 @@ fn idles<J: Naming + Send + Sync, R: Threads + Wait + Sync>(
     ticked(rt, alloc, &hub, count).ok_or(anyhow!("no tick"))
 }
 
-fn ticked<J: Naming, H: Wait + Drop, R: Wait>(
+fn ticked<L: LogId, H: Wait + Drop, R: Wait>(
     rt: &R,
     alloc: Global,
-    hub: &Served<J, H>,
+    hub: &Served<L, H>,
     count: u64,
 ) -> Option<u64> {
     let mut pass = hub.pass();
     let mut behind = 0u64;
     for _ in 0..count {
         let ticked = hub.tick(rt, alloc, &mut pass, 0).ok()?;
-        behind = behind.saturating_add(ticked.brought.behind().memory as u64);
+        behind = behind.saturating_add(ticked.advanced.behind().memory as u64);
     }
     Some(behind)
 }

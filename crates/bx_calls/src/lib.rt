@@ -11,7 +11,7 @@ use bx_cut::Bodies;
 use bx_entry::{Access, Arrival, ByTable, Placing, Slot, Ticket};
 use bx_hub::{Gate, Hub, HubFault, Pass};
 use bx_message::{Answer, Item, body_text};
-use bx_window::Naming;
+use bx_window::LogId;
 use std::alloc::{AllocError, Global};
 use std::sync::Wait;
 pub use ticker::{Taken, Ticker};
@@ -145,11 +145,11 @@ fn ticket_of(slots: &[Slot]) -> Option<Ticket> {
 /// # Errors
 ///
 /// [`Refused`] if memory runs out or the hub does not admit the request.
-pub fn post<J: Naming, P: Placing, G: Gate + Drop, H: Wait + Drop, R: Wait>(
+pub fn post<L: LogId, P: Placing, G: Gate + Drop, H: Wait + Drop, R: Wait>(
     rt: &R,
     alloc: Global,
-    hub: &Hub<J, P, G, H>,
-    pass: &mut Pass<J>,
+    hub: &Hub<L, P, G, H>,
+    pass: &mut Pass<L>,
     body: &str,
 ) -> Result<(u64, Option<Ticket>), Refused> {
     let arrival = arrival(alloc, body)?;
@@ -184,11 +184,11 @@ fn found_in(alloc: Global, answer: Answer, wanted: &str) -> Result<Found, AllocE
 /// # Errors
 ///
 /// [`Refused`] if memory runs out for the answer's text. The answer was then taken all the same.
-pub fn find<J: Naming, P: Placing, G: Gate + Drop, H: Wait + Drop, R: Wait>(
+pub fn find<L: LogId, P: Placing, G: Gate + Drop, H: Wait + Drop, R: Wait>(
     rt: &R,
     alloc: Global,
-    hub: &Hub<J, P, G, H>,
-    pass: &mut Pass<J>,
+    hub: &Hub<L, P, G, H>,
+    pass: &mut Pass<L>,
     ticket: Ticket,
     wanted: &str,
 ) -> Result<Found, Refused> {
@@ -204,11 +204,11 @@ pub fn find<J: Naming, P: Placing, G: Gate + Drop, H: Wait + Drop, R: Wait>(
 /// # Errors
 ///
 /// [`Refused`] if the poll fails.
-pub fn poll<J: Naming, P: Placing, G: Gate + Drop, H: Wait + Drop, R: Wait>(
+pub fn poll<L: LogId, P: Placing, G: Gate + Drop, H: Wait + Drop, R: Wait>(
     rt: &R,
     alloc: Global,
-    hub: &Hub<J, P, G, H>,
-    pass: &mut Pass<J>,
+    hub: &Hub<L, P, G, H>,
+    pass: &mut Pass<L>,
     ticket: Ticket,
 ) -> Result<usize, Refused> {
     match hub.poll_answer(rt, alloc, pass, ticket) {
@@ -243,11 +243,11 @@ pub fn in_turn(alloc: Global, home: usize) -> Result<ByTable, AllocError> {
 /// # Errors
 ///
 /// [`Refused`] if a post fails or the connect is answered at once.
-pub fn hold<J: Naming, P: Placing, G: Gate + Drop, H: Wait + Drop, R: Wait>(
+pub fn hold<L: LogId, P: Placing, G: Gate + Drop, H: Wait + Drop, R: Wait>(
     rt: &R,
     alloc: Global,
-    hub: &Hub<J, P, G, H>,
-    pass: &mut Pass<J>,
+    hub: &Hub<L, P, G, H>,
+    pass: &mut Pass<L>,
 ) -> Result<Ticket, Refused> {
     post(rt, alloc, hub, pass, HANDSHAKE)?;
     post(rt, alloc, hub, pass, SUBSCRIBE)?;
@@ -260,11 +260,11 @@ pub fn hold<J: Naming, P: Placing, G: Gate + Drop, H: Wait + Drop, R: Wait>(
 /// # Errors
 ///
 /// [`Refused`] if a post fails.
-pub fn publish<J: Naming, P: Placing, G: Gate + Drop, H: Wait + Drop, R: Wait>(
+pub fn publish<L: LogId, P: Placing, G: Gate + Drop, H: Wait + Drop, R: Wait>(
     rt: &R,
     alloc: Global,
-    hub: &Hub<J, P, G, H>,
-    pass: &mut Pass<J>,
+    hub: &Hub<L, P, G, H>,
+    pass: &mut Pass<L>,
 ) -> Result<(), Refused> {
     post(rt, alloc, hub, pass, HANDSHAKE)?;
     post(rt, alloc, hub, pass, PUBLISH)?;

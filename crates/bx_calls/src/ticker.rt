@@ -6,7 +6,7 @@ ghost use Rattle.bx_calls.specs.Ticks.{ticks, tick_entries};
 use bx_entry::{Batch, Entry, EntryKind, Listing};
 use bx_history::History;
 use bx_message::Sequence;
-use bx_window::{Bundle, Front, LogWriter, Naming, PublishFault};
+use bx_window::{Bundle, Front, LogId, LogWriter, PublishFault};
 use std::alloc::{AllocError, Global};
 use std::sync::Wait;
 
@@ -31,28 +31,28 @@ pub enum Taken {
 
 /// A window writer that publishes only ticks of moment 0.
 #[derive(Drop)]
-pub struct Ticker<J: Naming, R: Wait + Drop> {
-    writer: LogWriter<J, R>,
+pub struct Ticker<L: LogId, R: Wait + Drop> {
+    writer: LogWriter<L, R>,
     /// Number of ticks published.
     pub end: u64,
     ghost ticks: { list_of writer ≡ ticks end },
 }
 
-impl<J: Naming, R: Wait + Drop> Ticker<J, R> {
+impl<L: LogId, R: Wait + Drop> Ticker<L, R> {
     /// Wraps a writer that has published nothing.
-    pub fn new(writer: LogWriter<J, R>) -> Ticker<J, R>
+    pub fn new(writer: LogWriter<L, R>) -> Ticker<L, R>
         requires { writer ≡ [] }
     {
         Ticker { writer, end: 0 }
     }
 
     /// Returns the front of all that was published.
-    pub fn tell(&self) -> Front<J> {
+    pub fn tell(&self) -> Front<L> {
         self.writer.tell()
     }
 
     /// Returns the front of all that was published, which covers `front`.
-    pub fn tell_beyond(&mut self, front: &Front<J>) -> Front<J> {
+    pub fn tell_beyond(&mut self, front: &Front<L>) -> Front<L> {
         self.writer.tell_beyond(front)
     }
 

@@ -5,7 +5,7 @@ use Rattle.bx_entry.specs.declared.entry.Ticket.{Ticket}
 use Rattle.bx_connects.specs.declared.watch.Watch.{Watch}
 use Rattle.bx_connects.specs.declared.watch.Watch.TheVariants.{Stored, Ready, Unknown, Shut}
 use Rattle.bx_hub.specs.Watches.{IsToldOf}
-use Rattle.bx_hub.specs.declared.desk.evidence.Watching.{Watching}
+use Rattle.bx_hub.specs.declared.shard_state.evidence.WatchEvidence.{WatchEvidence}
 use Rattle.futures.specs.Poll.{OnPending}
 use Rattle.futures.specs.Task.{Wakes}
 use Rattle.futures.specs.declared.task.Poll.{Poll}
@@ -24,13 +24,13 @@ is_stored (Ready given) = false
 is_stored (Unknown given) = false
 is_stored (Shut given) = false
 
-pub waited_for : {J : Type 0} (shards : ℕ) (slot : Option Waker) (waker : Waker) (older : Option Waker)
-    (ticket : Ticket) (watching : Option (Watching J)) (old new : Context)
+pub waited_for : {L : Type 0} (shards : ℕ) (slot : Option Waker) (waker : Waker) (older : Option Waker)
+    (ticket : Ticket) (evidence : Option (WatchEvidence L)) (old new : Context)
     → slot ≡ Some waker → (new.lacks_waker ≡ true) ⊎ IsSomeAnd slot (λ w. Wakes w old)
-    → IsToldOf shards ticket waker (Stored older) watching
-    → IsWaitedFor ticket watching old new
-waited_for shards slot waker older ticket watching old new is (inl lacks) told = inl (inr lacks)
-waited_for shards slot waker older ticket (Some watching) old new is (inr wakes) told =
+    → IsToldOf shards ticket waker (Stored older) evidence
+    → IsWaitedFor ticket evidence old new
+waited_for shards slot waker older ticket evidence old new is (inl lacks) told = inl (inr lacks)
+waited_for shards slot waker older ticket (Some evidence) old new is (inr wakes) told =
     inr (record {
       waker = waker;
       wakes = subst (λ (o : Option Waker). IsSomeAnd o (λ w. Wakes w old)) is wakes;

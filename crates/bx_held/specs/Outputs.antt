@@ -7,15 +7,15 @@ use Rattle.bx_entry.specs.Placings.{Setup}
 use Rattle.bx_window.specs.declared.law.LogStep.{LogStep}
 use Rattle.bx_hub.specs.Faults.{IsStopped}
 use Rattle.bx_hub.specs.Held.{IsLevelWithout, answer_over}
-use Rattle.bx_hub.specs.declared.{desk.evidence.Stopped.Stopped, fault.HubFault.HubFault}
+use Rattle.bx_hub.specs.declared.{shard_state.evidence.NoAnswer.NoAnswer, fault.HubFault.HubFault}
 
 -- The ticket names no shard, or a possible state of its shard at the end of `front` has no answer.
 abbrev pub HasNone : Setup → Ticket → List LogStep → Type 0
 HasNone setup ticket front = (setup.shards ≤ ticket.shard) ⊎ IsLevelWithout setup ticket front
 
-module _ {J : Type 0} where
+module _ {L : Type 0} where
   -- The output, with an error reduced to its fault.
-  abbrev pub output_of : Result (Option Answer) (Stopped J) → Result (Option Answer) HubFault
+  abbrev pub output_of : Result (Option Answer) (NoAnswer L) → Result (Option Answer) HubFault
   output_of (Ok answer) = Ok answer
   output_of (Err stopped) = Err stopped.fault
 

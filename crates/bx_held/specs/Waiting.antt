@@ -3,7 +3,7 @@ use Rattle.std.specs.Prelude.{ℕ, ◌≡◌, ◌⊎◌, true, Option, IsSomeAnd
 use Rattle.bx_connects.specs.declared.watch.Watch.TheVariants.{Stored, Unknown}
 use Rattle.bx_entry.specs.declared.entry.Ticket.{Ticket}
 use Rattle.bx_hub.specs.Watches.{IsSaid, IsToldOf}
-use Rattle.bx_hub.specs.declared.desk.evidence.Watching.{Watching}
+use Rattle.bx_hub.specs.declared.shard_state.evidence.WatchEvidence.{WatchEvidence}
 use Rattle.futures.specs.Task.{Wakes}
 use Rattle.futures.specs.declared.task.context.Context.{Context}
 use Rattle.futures.specs.declared.task.waker.Waker.{Waker}
@@ -12,19 +12,19 @@ use Rattle.futures.specs.declared.task.waker.Waker.{Waker}
 abbrev pub IsPolledAgain : Context → Type 0
 IsPolledAgain cx = (cx.is_woken ≡ true) ⊎ (cx.lacks_waker ≡ true)
 
-module _ {J : Type 0} where
+module _ {L : Type 0} where
   -- A waker of the context's task was registered under the ticket.
-  pub record IsLeftBy (cx : Context) (ticket : Ticket) (watching : Watching J) : Type 0 where
+  pub record IsLeftBy (cx : Context) (ticket : Ticket) (evidence : WatchEvidence L) : Type 0 where
     pub waker : Waker
     pub wakes : Wakes waker cx
     pub older : Option Waker
-    pub lies : IsSaid ticket waker (Stored older) watching
+    pub lies : IsSaid ticket waker (Stored older) evidence
 
   -- A waker of the polling task was registered, or the task is polled again in any case.
-  abbrev pub IsWaitedFor : Ticket → Option (Watching J) → Context → Context → Type 0
-  IsWaitedFor ticket watching old new = IsPolledAgain new ⊎ IsSomeAnd watching (IsLeftBy old ticket)
+  abbrev pub IsWaitedFor : Ticket → Option (WatchEvidence L) → Context → Context → Type 0
+  IsWaitedFor ticket evidence old new = IsPolledAgain new ⊎ IsSomeAnd evidence (IsLeftBy old ticket)
 
   -- The ticket names none of `shards` shards, or its shard knew no connect and returned the waker.
-  pub record IsUnknown (shards : ℕ) (ticket : Ticket) (watching : Option (Watching J)) : Type 0 where
+  pub record IsUnknown (shards : ℕ) (ticket : Ticket) (evidence : Option (WatchEvidence L)) : Type 0 where
     pub waker : Waker
-    pub told : IsToldOf shards ticket waker (Unknown waker) watching
+    pub told : IsToldOf shards ticket waker (Unknown waker) evidence

@@ -11,9 +11,9 @@ ghost use Rattle.bx_message.specs.declared.reply.Answer.{Answer};
 ghost use Rattle.bx_hub.specs.declared.fault.HubFault.{HubFault};
 
 use bx_entry::{Placing, Ticket};
-use bx_hub::{Gate, Hub, Pass, Stopped, Watch, Watching};
+use bx_hub::{Gate, Hub, NoAnswer, Pass, Watch, WatchEvidence};
 use bx_message::Answer;
-use bx_window::Naming;
+use bx_window::LogId;
 use futures::task::{Context, Poll, Source, Waker};
 use std::alloc::Global;
 use std::sync::Wait;
@@ -24,8 +24,8 @@ use std::sync::Wait;
 /// runs out for the waker, the task is polled again instead. When the connect is answered, the task
 /// that polled last is woken.
 #[derive(Drop)]
-pub struct PendingAnswer<J: Naming> {
-    pass: Pass<J>,
+pub struct PendingAnswer<L: LogId> {
+    pass: Pass<L>,
     ticket: Ticket,
     // Identifies this answer among the things that a task may wait for.
     source: Source,
@@ -36,11 +36,11 @@ pub struct PendingAnswer<J: Naming> {
     ghost reached: { ticket.place < length (list_of pass) },
 }
 
-impl<J: Naming> PendingAnswer<J> {
+impl<L: LogId> PendingAnswer<L> {
     /// Creates a pending answer for `ticket`.
     ///
     /// `pass` must have seen the connect or rider of `ticket`.
-    pub fn new(pass: Pass<J>, ticket: Ticket) -> PendingAnswer<J>
+    pub fn new(pass: Pass<L>, ticket: Ticket) -> PendingAnswer<L>
         requires { ticket.place < length (list_of pass) }
         ensures { (result.pass ≡ pass) × (result.ticket ≡ ticket) × (result.is_done ≡ false) }
     {
@@ -58,14 +58,14 @@ impl<J: Naming> PendingAnswer<J> {
         &mut self,
         rt: &R,
         alloc: Global,
-        hub: &Hub<J, P, G, H>,
-    ) -> Option<Result<Option<Answer>, Stopped<J>>>
+        hub: &Hub<L, P, G, H>,
+    ) -> Option<Result<Option<Answer>, NoAnswer<L>>>
         ensures seen { IsPrefix self.old.pass self.new.pass }
         ensures same { (self.new.ticket ≡ self.old.ticket) × (self.new.source ≡ self.old.source) }
-        ensures given { IfSome result (λ o. IsGiven (setup_of J.config J.placing) self.new.ticket self.new.pass (output_of o)) }
+        ensures given { IfSome result (λ o. IsGiven (setup_of L.config L.placing) self.new.ticket self.new.pass (output_of o)) }
         ensures own { IfSome result (λ o. IfErr o (λ s. s.ticket.value ≡ self.new.ticket)) }
         ensures done { IfSome result (λ o. (self.new.is_done ≡ true) × (o ≢ Ok None)) }
-        ensures none { IfNone result (HasNone (setup_of J.config J.placing) self.new.ticket self.new.pass) }
+        ensures none { IfNone result (HasNone (setup_of L.config L.placing) self.new.ticket self.new.pass) }
         ensures pending { IfNone result (self.new.is_done ≡ self.old.is_done) }
     {
         match hub.poll_answer(rt, alloc, &mut self.pass, self.ticket) {
@@ -92,7 +92,7 @@ impl<J: Naming> PendingAnswer<J> {
     ///
     /// # Errors
     ///
-    /// [`Stopped`] with the fault, as in [`Hub::poll_answer`]. It is the last output.
+    /// [`NoAnswer`] with the fault, as in [`Hub::poll_answer`]. It is the last output.
     ///
     /// # Blocking
     ///
@@ -101,26 +101,26 @@ impl<J: Naming> PendingAnswer<J> {
         &mut self,
         rt: &R,
         alloc: Global,
-        hub: &Hub<J, P, G, H>,
+        hub: &Hub<L, P, G, H>,
         cx: &mut Context<'_>,
     ) -> (
-        Poll<Result<Option<Answer>, Stopped<J>>>,
-        Option<Watching<J>>,
+        Poll<Result<Option<Answer>, NoAnswer<L>>>,
+        Option<WatchEvidence<L>>,
     )
-        ensures value { IfReady result.0 (λ o. MayGive (setup_of J.config J.placing) self.old.ticket self.old.pass
+        ensures value { IfReady result.0 (λ o. MayGive (setup_of L.config L.placing) self.old.ticket self.old.pass
             self.old.is_done (output_of o)) }
         ensures own { IfReady result.0 (λ o. IfErr o (λ s. s.ticket.value ≡ self.old.ticket)) }
         ensures unknown { self.old.is_done ≡ false → IfReady result.0
-            (λ o. o ≡ Ok None → IsUnknown J.config.shards self.old.ticket result.1) }
+            (λ o. o ≡ Ok None → IsUnknown L.config.shards self.old.ticket result.1) }
         ensures same { OnPending result.0 ((output : Result (Option Answer) HubFault)
-            → MayGive (setup_of J.config J.placing) self.new.ticket self.new.pass self.new.is_done output
-            → MayGive (setup_of J.config J.placing) self.old.ticket self.old.pass self.old.is_done output) }
+            → MayGive (setup_of L.config L.placing) self.new.ticket self.new.pass self.new.is_done output
+            → MayGive (setup_of L.config L.placing) self.old.ticket self.old.pass self.old.is_done output) }
         ensures registered { OnPending result.0 (Covers cx.new (λ s. s ≡ self.new.source.id)) }
         ensures left { OnPending result.0 (IsWaitedFor self.new.ticket result.1 cx.old cx.new) }
         ensures kept { Keeps cx.old cx.new }
         ensures seen { IsPrefix self.old.pass self.new.pass }
         ensures given { self.old.is_done ≡ false → IfReady result.0
-            (λ o. IsGiven (setup_of J.config J.placing) self.new.ticket self.new.pass (output_of o)) }
+            (λ o. IsGiven (setup_of L.config L.placing) self.new.ticket self.new.pass (output_of o)) }
         ensures done { IfReady result.0 (λ _. self.new.is_done ≡ true) }
         ensures pending { OnPending result.0 (self.new.is_done ≡ false) }
         ensures after { self.old.is_done ≡ true → result.0 ≡ polls.Ready (Ok None) }
@@ -135,21 +135,21 @@ impl<J: Naming> PendingAnswer<J> {
         let Some(waker) = self.own.take() else {
             return (pending, None);
         };
-        let (said, watching) = hub.watch(rt, self.ticket, waker);
+        let (said, evidence) = hub.watch(rt, self.ticket, waker);
         match said {
             Watch::Stored(older) => {
                 self.own = older;
-                return (pending, watching);
+                return (pending, evidence);
             }
             Watch::Ready(_) => {}
             Watch::Unknown(_) => {
                 self.is_done = true;
-                return (Poll::Ready(Ok(None)), watching);
+                return (Poll::Ready(Ok(None)), evidence);
             }
             Watch::Shut(_) => {
-                let Some(shut) = watching else { unreachable!() };
+                let Some(shut) = evidence else { unreachable!() };
                 self.is_done = true;
-                return (Poll::Ready(Err(shut.stopped(&self.ticket))), None);
+                return (Poll::Ready(Err(shut.no_answer(&self.ticket))), None);
             }
         }
         // The answer was filed after the first look.

@@ -6,7 +6,7 @@ use bx_cut::Bodies;
 use bx_entry::{Access, Arrival, ByRemainder};
 use bx_hub::{Hub, OpenGate};
 use bx_pieces::Pieces;
-use bx_window::Naming;
+use bx_window::LogId;
 use bytes::Bytes;
 use http::{Request, Response};
 use hyper::body::Incoming;
@@ -18,7 +18,7 @@ const HANDSHAKE: &str =
     r#"[{"channel":"/meta/handshake","version":"1.0","supportedConnectionTypes":["long-polling"]}]"#;
 
 /// The hub that is served.
-pub type Served<J, R> = Hub<J, ByRemainder, OpenGate, R>;
+pub type Served<L, R> = Hub<L, ByRemainder, OpenGate, R>;
 
 // Creates a request without messages.
 fn nothing(alloc: Global) -> Result<Arrival, AllocError> {
@@ -31,10 +31,10 @@ fn nothing(alloc: Global) -> Result<Arrival, AllocError> {
 }
 
 // Returns the length of the hub's list, in entries.
-fn entries<J: Naming, H: Wait + Drop, R: Wait>(
+fn entries<L: LogId, H: Wait + Drop, R: Wait>(
     rt: &R,
     alloc: Global,
-    hub: &Served<J, H>,
+    hub: &Served<L, H>,
 ) -> Result<u64> {
     let nothing = nothing(alloc)?;
     match &hub.post(rt, alloc, &mut hub.pass(), nothing) {
@@ -71,9 +71,9 @@ where
     /// # Blocking
     ///
     /// Locks as [`Hub::post`] does.
-    pub fn posts<J, H, R>(&self, rt: &R, hub: &Served<J, H>) -> Result<String>
+    pub fn posts<L, H, R>(&self, rt: &R, hub: &Served<L, H>) -> Result<String>
     where
-        J: Naming,
+        L: LogId,
         H: Wait + Drop,
         R: Wait,
         requires { (each : S) → S.can_call each }
@@ -87,9 +87,9 @@ where
     }
 
     // Sends each proper prefix of `bytes`, and returns after how many the list was empty.
-    fn empty_behind<J, H, R>(&self, rt: &R, hub: &Served<J, H>, bytes: &[u8]) -> Result<usize>
+    fn empty_behind<L, H, R>(&self, rt: &R, hub: &Served<L, H>, bytes: &[u8]) -> Result<usize>
     where
-        J: Naming,
+        L: LogId,
         H: Wait + Drop,
         R: Wait,
         requires { (each : S) → S.can_call each }

@@ -11,7 +11,7 @@ use bx_entry::{Access, ByRemainder};
 use bx_hub::OpenGate;
 use bx_pieces::Pieces;
 use bx_service::{BayeuxService, Clock, HubBackend, Nonces};
-use bx_window::{Naming, Opened};
+use bx_window::{LogId, Opened};
 use bytes::Bytes;
 use futures::test::MockTask;
 use http::{Request, Response};
@@ -60,7 +60,7 @@ where
     serves::<Brand, R>(rt, alloc, Opened::new(), config, placing, &http)
 }
 
-fn serves<J, R>(
+fn serves<L, R>(
     rt: R,
     alloc: Global,
     opened: Opened,
@@ -69,24 +69,24 @@ fn serves<J, R>(
     http: &http1::Builder,
 ) -> Result<String>
 where
-    J: Naming,
+    L: LogId,
     R: Wait + RandomSource + AllocGlobal + Copy + Drop,
-    requires book { opened.seen.book ≡ J.book }
-    requires config { config ≡ J.config }
-    requires placing { by_remainder ≡ J.placing }
+    requires book { opened.seen.book ≡ L.book }
+    requires config { config ≡ L.config }
+    requires placing { by_remainder ≡ L.placing }
 {
-    let hub = Served::<J, R>::new(alloc, rt, opened, config, placing, OpenGate)?;
+    let hub = Served::<L, R>::new(alloc, rt, opened, config, placing, OpenGate)?;
     serve_hub(rt, alloc, &Arc::new(alloc, hub)?, http)
 }
 
-fn serve_hub<J, R>(
+fn serve_hub<L, R>(
     rt: R,
     alloc: Global,
-    hub: &Arc<Served<J, R>, Global>,
+    hub: &Arc<Served<L, R>, Global>,
     http: &http1::Builder,
 ) -> Result<String>
 where
-    J: Naming,
+    L: LogId,
     R: Wait + RandomSource + AllocGlobal + Copy + Drop,
 {
     let backend = HubBackend::new(
@@ -102,15 +102,15 @@ where
 }
 
 // Runs all requests with two tasks.
-fn serve_all<J, S, E, H, R>(
+fn serve_all<L, S, E, H, R>(
     rt: &R,
     alloc: Global,
-    hub: &Served<J, H>,
+    hub: &Served<L, H>,
     service: &S,
     http: &http1::Builder,
 ) -> Result<String>
 where
-    J: Naming,
+    L: LogId,
     S: Service<Request<Incoming<Wire>>, Response = Response<Pieces<Bytes>>, Error = E> + Clone,
     E: Into<anyhow::Error> + Drop,
     H: Wait + Drop,
@@ -129,9 +129,9 @@ where
     add_all(rt, &host, hub)
 }
 
-fn add_all<J, S, E, H, R>(rt: &R, host: &Host<'_, S>, hub: &Served<J, H>) -> Result<String>
+fn add_all<L, S, E, H, R>(rt: &R, host: &Host<'_, S>, hub: &Served<L, H>) -> Result<String>
 where
-    J: Naming,
+    L: LogId,
     S: Service<Request<Incoming<Wire>>, Response = Response<Pieces<Bytes>>, Error = E> + Clone,
     E: Into<anyhow::Error> + Drop,
     H: Wait + Drop,

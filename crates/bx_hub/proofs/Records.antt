@@ -8,10 +8,10 @@ use Rattle.bx_entry.specs.Inputs.{added_by}
 use Rattle.bx_entry.specs.Listing.{request}
 use Rattle.bx_entry.specs.Requests.{arrival_messages, read_by, read_input}
 use Rattle.bx_record.specs.Laws.{CanRecord}
-use Rattle.bx_hub.specs.Listables.{input_of}
+use Rattle.bx_hub.specs.Submissions.{input_of}
 use Rattle.bx_hub.specs.Records.{inputs_by, list_by, where_any}
-use Rattle.bx_hub.specs.declared.listable.Listable.{Listable}
-use Rattle.bx_hub.specs.declared.listable.Listable.TheVariants as listable
+use Rattle.bx_hub.specs.declared.submission.Submission.{Submission}
+use Rattle.bx_hub.specs.declared.submission.Submission.TheVariants as submission
 
 pub all_recordable : (inputs : List Input) (input : Input) → AllByRecursion CanRecord inputs → CanRecord input → AllByRecursion CanRecord (inputs ++ input ∷ [])
 all_recordable [] input all one = (one, tt)
@@ -25,14 +25,14 @@ by_any : (a : Arrival) (ms : List Message) → arrival_messages a ≡ Ok ms → 
 by_any a [] is = refl
 by_any a (m ∷ ms) is = append-nil (added_by (read_input (Post a))) ∙ ap (λ r. added_by (read_by a.moment a.nonce r)) is
 
-pub list_by_one : (wanted : Listable) → list_by (inputs_by wanted) ≡ added_by (input_of wanted)
-list_by_one (listable.Request r) = by_any r.arrival r.messages.items r.read
-list_by_one (listable.Tick moment) = refl
+pub list_by_one : (wanted : Submission) → list_by (inputs_by wanted) ≡ added_by (input_of wanted)
+list_by_one (submission.Request r) = by_any r.arrival r.messages.items r.read
+list_by_one (submission.Tick moment) = refl
 
 no_request : (a : Arrival) (ms : List Message) → request a.moment a.nonce ms ≡ [] → where_any ms (Post a) ≡ []
 no_request a [] is = refl
 no_request a (m ∷ ms) is = absurd (omega (arith, ap length is))
 
-pub none_by : (wanted : Listable) → added_by (input_of wanted) ≡ [] → inputs_by wanted ≡ []
-none_by (listable.Request r) is = no_request r.arrival r.messages.items is
-none_by (listable.Tick moment) is = absurd (omega (arith, ap length is))
+pub none_by : (wanted : Submission) → added_by (input_of wanted) ≡ [] → inputs_by wanted ≡ []
+none_by (submission.Request r) is = no_request r.arrival r.messages.items is
+none_by (submission.Tick moment) is = absurd (omega (arith, ap length is))

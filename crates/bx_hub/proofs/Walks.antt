@@ -1,9 +1,9 @@
 -- A walk of as many steps as there are shards visits each of them.
 use Rattle.std.proofs.Common.{ℕ, ◌≡◌, ◌≤◌, ◌<◌, ◌+◌, ◌-◌, nat_lt, Bool, true, false, cond, length, refl, sym, subst, arith}
-use Rattle.bx_hub.specs.Bringing.{IsWalked}
+use Rattle.bx_hub.specs.Advancing.{IsWalked}
 use Rattle.bx_hub.specs.Walks.{walked_at}
-use Rattle.bx_hub.specs.declared.walk.AllBrought.{AllBrought}
-use Rattle.bx_window.specs.declared.law.Naming as Naming
+use Rattle.bx_hub.specs.declared.walk.AdvanceReport.{AdvanceReport}
+use Rattle.bx_window.specs.declared.law.LogId as LogId
 
 abbrev pub step_of : ℕ → ℕ → ℕ → ℕ
 step_of first shards index = cond (nat_lt index first) (index + (shards - first)) (index - first)
@@ -15,8 +15,8 @@ walked_each first shards index le lt = by (nat_lt index first) refl
     by true h = (grind (arith, le, lt, h), grind (arith, le, lt, h))
     by false h = (grind (arith, le, lt, h), grind (arith, le, lt, h))
 
-module _ {J : Type 0} {g : Naming.Ghosts J} where
-  pub all_walked : (round : AllBrought J g) → length round.stays ≡ round.shards → (index : ℕ) → index < round.shards → IsWalked round index
+module _ {L : Type 0} {g : LogId.Ghosts L} where
+  pub all_walked : (round : AdvanceReport L g) → length round.stays ≡ round.shards → (index : ℕ) → index < round.shards → IsWalked round index
   all_walked round all index lt =
       let each = walked_each round.first round.shards index round.within lt in
       record { step = step_of round.first round.shards index; done = subst (λ n. step_of round.first round.shards index < n) (sym all) each.0; is = each.1 }

@@ -3,9 +3,9 @@ use Rattle.std.specs.Prelude.{ℕ, ◌≡◌, ◌≢◌, true, length}
 use Rattle.bx_connects.specs.Connects.{unswept}
 use Rattle.bx_shard.specs.States.{State, Swept, WasShut, connect_in}
 use Rattle.bx_hub.specs.Faults.{paused, resumed}
-use Rattle.bx_hub.specs.declared.{activity.Activity.Activity, desk.evidence.Change.Change, desk.evidence.Changed.Changed, walk.AllChanged.AllChanged}
+use Rattle.bx_hub.specs.declared.{activity.Activity.Activity, shard_state.evidence.Change.Change, shard_state.evidence.ChangeEvidence.ChangeEvidence, walk.ChangeReport.ChangeReport}
 use Rattle.bx_hub.specs.declared.activity.Activity.TheVariants.{Active, Paused, Closed}
-use Rattle.bx_hub.specs.declared.desk.evidence.Change.TheVariants.{Pause, Resume, Shut, Sweep}
+use Rattle.bx_hub.specs.declared.shard_state.evidence.Change.TheVariants.{Pause, Resume, Shut, Sweep}
 
 -- The activity of a shard after a change.
 abbrev pub activity_after : Change → Activity → Activity
@@ -28,11 +28,11 @@ IsAfter Resume activity s = activity ≢ Paused
 IsAfter Shut activity s = (activity ≡ Closed) × (s.shut ≡ true)
 IsAfter (Sweep before) activity s = (place : ℕ) → unswept before (connect_in s place) ≡ connect_in s place
 
-module _ {J : Type 0} where
+module _ {L : Type 0} where
   -- `change` was applied to shard `shard`.
-  abbrev pub IsChanged : ℕ → Change → Changed J → Type 0
+  abbrev pub IsChanged : ℕ → Change → ChangeEvidence L → Type 0
   IsChanged shard change changed = (changed.shard.value ≡ shard) × (changed.change.value ≡ change)
 
   -- `change` was applied to each of `shards` shards.
-  abbrev pub AreAllChanged : ℕ → Change → AllChanged J → Type 0
+  abbrev pub AreAllChanged : ℕ → Change → ChangeReport L → Type 0
   AreAllChanged shards change all = (length all.done ≡ shards) × (all.change.value ≡ change)

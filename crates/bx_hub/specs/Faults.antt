@@ -35,8 +35,8 @@ IsStopped _ index front = Unit {0}
 
 -- `Overrun` reports the shard's position.
 abbrev pub IsAt : HubFault → ℕ → Type 0
-IsAt (stops.Overrun shard place) stood = place ≡ stood
-IsAt _ stood = Unit {0}
+IsAt (stops.Overrun shard place) position = place ≡ position
+IsAt _ position = Unit {0}
 
 -- A closed shard is stopped by `Closed`, a paused one by `Paused`, and an active one by neither.
 abbrev pub IsStoppedIn : Activity → HubFault → Type 0

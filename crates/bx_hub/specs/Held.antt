@@ -8,28 +8,28 @@ use Rattle.bx_shard.specs.Words.{Refines, given_of, Setup, state, State, connect
 use Rattle.bx_connects.specs.Connects.{filed_answer}
 use Rattle.bx_entry.specs.declared.Placing as Placing
 use Rattle.bx_entry.specs.declared.entry.Ticket.{Ticket}
-use Rattle.bx_window.specs.declared.law.Naming as Naming
-use Rattle.bx_hub.specs.declared.desk.Desk.{Desk}
+use Rattle.bx_window.specs.declared.law.LogId as LogId
+use Rattle.bx_hub.specs.declared.shard_state.ShardState.{ShardState}
 use Rattle.bx_window.specs.declared.law.LogStep.{LogStep}
 use Rattle.bx_window.specs.Steps.{list_of}
 
--- The log that the reader has seen, the longest note, the places of taken answers, and the shard.
+-- The log that the reader has seen, the longest prefix, the places of taken answers, and the shard.
 pub record Held : Type 0 where
   pub seen : List LogStep
   pub told : List LogStep
   pub taken : List ℕ
   pub state : State
 
--- The reader has seen the whole note, and the shard is not past the note's end. The shard's state
--- agrees with the definitions after the entries that the shard has applied.
+-- The reader has seen the whole prefix, and the shard is not past the prefix's end. The shard's
+-- state agrees with the definitions after the entries that the shard has applied.
 pub record Stands (setup : Setup) (h : Held) : Type 0 where
   pub learnt : IsPrefix h.told h.seen
   pub within : h.state.place ≤ length (list_of h.told)
   pub holds : Refines setup (list_of h.seen) h.taken h.state.index h.state.place h.state
 
--- What a shard's lock guards, read from its desk.
-abbrev pub held_of : {J P : Type 0} {g : Naming.Ghosts J} {h : Placing.Ghosts P} → Desk J P g h → Held
-held_of {J} {P} {g} {h} d = record { seen = d.reader; told = d.note; taken = d.taken; state = state h.place_of d.shard }
+-- What a shard's lock guards, read from its shard state.
+abbrev pub held_of : {L P : Type 0} {g : LogId.Ghosts L} {h : Placing.Ghosts P} → ShardState L P g h → Held
+held_of {L} {P} {g} {h} d = record { seen = d.reader; told = d.prefix; taken = d.taken; state = state h.place_of d.shard }
 
 -- The places of taken answers, with `place` if this poll took one.
 abbrev pub taken_by : {E : Type 0} → Result (Option Answer) E → ℕ → List ℕ → List ℕ

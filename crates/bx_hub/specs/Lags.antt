@@ -1,7 +1,7 @@
 -- Which shard keeps a full window from being trimmed, or is overrun.
 use Rattle.std.specs.Prelude.{ℕ, ◌≡◌, ◌<◌, List, Option, IsSomeAnd}
 use Rattle.bx_hub.specs.Posts.{IsUntrimmable}
-use Rattle.bx_hub.specs.declared.{fault.PostFault.PostFault, desk.evidence.Stood.Stood}
+use Rattle.bx_hub.specs.declared.{fault.PostFault.PostFault, shard_state.evidence.ShardPosition.ShardPosition}
 use Rattle.bx_hub.specs.declared.fault.PostFault.TheVariants.{Behind, Overrun}
 use Rattle.bx_window.specs.Steps.{begin_of}
 use Rattle.bx_window.specs.declared.law.LogStep.{LogStep}
@@ -11,10 +11,10 @@ abbrev pub IsOverrunIn : ℕ → PostFault → Type 0
 IsOverrunIn index (Overrun shard place) = shard ≡ index
 IsOverrunIn index _ = ⊥
 
-module _ {J : Type 0} where
+module _ {L : Type 0} where
   -- With `Behind`, no batch in the window of `front` is wholly before the shard's place. With
   -- `Overrun`, the shard was at the reported place, before the window that its reader saw.
-  abbrev pub IsLagging : PostFault → Option (Stood J) → List LogStep → Type 0
+  abbrev pub IsLagging : PostFault → Option (ShardPosition L) → List LogStep → Type 0
   IsLagging (Behind first) lag front = IsSomeAnd lag (λ s. IsUntrimmable s.place front)
   IsLagging (Overrun shard place) lag front = IsSomeAnd lag (λ s. (s.index.value ≡ shard) × ((s.place ≡ place) × (s.place < begin_of s.front.value)))
   IsLagging _ lag front = Unit {0}

@@ -1,10 +1,10 @@
-pub mod Bringing
+pub mod Advancing
 pub mod Changes
 pub mod Faults
 pub mod Held
 pub mod Lagging
 pub mod Lags
-pub mod Listables
+pub mod Submissions
 pub mod Posts
 pub mod Records
 pub mod Recordings

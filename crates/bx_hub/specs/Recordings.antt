@@ -1,17 +1,17 @@
 -- How a record continues and ends.
 use Rattle.std.specs.Prelude.{ℕ, ◌≡◌, List, ◌++◌}
 use Rattle.bx_window.specs.declared.law.LogStep.{LogStep}
-use Rattle.bx_window.specs.declared.law.Naming as Naming
+use Rattle.bx_window.specs.declared.law.LogId as LogId
 use Rattle.bx_hub.specs.declared.{admission.RecordEnd.RecordEnd, recording.Recording.Recording}
 
-module _ {J : Type 0} {g : Naming.Ghosts J} where
+module _ {L : Type 0} {g : LogId.Ghosts L} where
   -- The record continues with `text`, after what waits to be written.
-  pub record GoesOn (old : Recording J g) (text : List ℕ) (new : Recording J g) : Type 0 where
+  pub record GoesOn (old : Recording L g) (text : List ℕ) (new : Recording L g) : Type 0 where
     pub from : new.from ≡ old.from
     pub waiting : new.waiting ≡ old.waiting ++ text
 
   -- A record that ends keeps what waits to be written, up to `front`.
-  pub record EndsBefore (old : Recording J g) (front : List LogStep) (end : RecordEnd J g) : Type 0 where
+  pub record EndsBefore (old : Recording L g) (front : List LogStep) (end : RecordEnd L g) : Type 0 where
     pub from : end.recording.from ≡ old.from
     pub waiting : end.recording.waiting ≡ old.waiting
     pub upto : end.front ≡ front

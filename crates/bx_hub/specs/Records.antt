@@ -11,18 +11,18 @@ use Rattle.bx_entry.specs.declared.input.BodyError.{BodyError}
 use Rattle.bx_entry.specs.declared.input.Input.{Input}
 use Rattle.bx_entry.specs.declared.input.Input.TheVariants.{Post, Tick}
 use Rattle.bx_record.specs.Laws.{CanRecord}
-use Rattle.bx_hub.specs.declared.listable.Listable.{Listable}
-use Rattle.bx_hub.specs.declared.listable.Listable.TheVariants as listable
+use Rattle.bx_hub.specs.declared.submission.Submission.{Submission}
+use Rattle.bx_hub.specs.declared.submission.Submission.TheVariants as submission
 
 -- The input as it arrived.
-abbrev pub input_in : Listable → Input
-input_in (listable.Request r) = Post r.arrival
-input_in (listable.Tick moment) = Tick moment
+abbrev pub input_in : Submission → Input
+input_in (submission.Request r) = Post r.arrival
+input_in (submission.Tick moment) = Tick moment
 
 -- The documents of a request; a tick has none.
-abbrev pub documents_in : Listable → List (List ℕ)
-documents_in (listable.Request r) = texts_of r.arrival.bodies
-documents_in (listable.Tick moment) = []
+abbrev pub documents_in : Submission → List (List ℕ)
+documents_in (submission.Request r) = texts_of r.arrival.bodies
+documents_in (submission.Tick moment) = []
 
 -- The input, if its request has messages.
 abbrev pub where_any : List Message → Input → List Input
@@ -30,9 +30,9 @@ where_any [] input = []
 where_any (m ∷ ms) input = input ∷ []
 
 -- What is recorded of an input; a request without messages, which adds no entries, is left out.
-abbrev pub inputs_by : Listable → List Input
-inputs_by (listable.Request r) = where_any r.messages.items (Post r.arrival)
-inputs_by (listable.Tick moment) = Tick moment ∷ []
+abbrev pub inputs_by : Submission → List Input
+inputs_by (submission.Request r) = where_any r.messages.items (Post r.arrival)
+inputs_by (submission.Tick moment) = Tick moment ∷ []
 
 -- What is recorded of a request, by the messages read from it.
 abbrev pub input_by : Result (List Message) BodyError → Input → List Input

@@ -5,7 +5,7 @@ use Rattle.bx_connects.specs.Waking.{waker_of}
 use Rattle.bx_connects.specs.declared.{connects.ConnectState.ConnectState, watch.Watch.Watch}
 use Rattle.bx_connects.specs.declared.watch.Watch.TheVariants.{Stored, Ready, Unknown, Shut}
 use Rattle.bx_entry.specs.declared.entry.Ticket.{Ticket}
-use Rattle.bx_hub.specs.declared.desk.evidence.Watching.{Watching}
+use Rattle.bx_hub.specs.declared.shard_state.evidence.WatchEvidence.{WatchEvidence}
 use Rattle.futures.specs.declared.task.waker.Waker.{Waker}
 
 -- What each result claims about the connect, and about the shard before the call.
@@ -29,14 +29,14 @@ abbrev pub IsShut : Watch → Type 0
 IsShut (Shut given) = Unit {0}
 IsShut _ = ⊥
 
-module _ {J : Type 0} where
+module _ {L : Type 0} where
   -- The evidence names this ticket, waker and result.
-  pub record IsSaid (ticket : Ticket) (waker : Waker) (said : Watch) (watching : Watching J) : Type 0 where
-    pub ticket_is : watching.ticket.value ≡ ticket
-    pub waker_is : watching.waker.value ≡ waker
-    pub said_is : watching.said.value ≡ said
+  pub record IsSaid (ticket : Ticket) (waker : Waker) (said : Watch) (evidence : WatchEvidence L) : Type 0 where
+    pub ticket_is : evidence.ticket.value ≡ ticket
+    pub waker_is : evidence.waker.value ≡ waker
+    pub said_is : evidence.said.value ≡ said
 
   -- One of `shards` shards gave the result, or the ticket names none and the result is `Unknown`.
-  abbrev pub IsToldOf : ℕ → Ticket → Waker → Watch → Option (Watching J) → Type 0
-  IsToldOf shards ticket waker said (Some watching) = IsSaid ticket waker said watching
+  abbrev pub IsToldOf : ℕ → Ticket → Waker → Watch → Option (WatchEvidence L) → Type 0
+  IsToldOf shards ticket waker said (Some evidence) = IsSaid ticket waker said evidence
   IsToldOf shards ticket waker said None = (shards ≤ ticket.shard) × (said ≡ Unknown waker)

@@ -7,26 +7,26 @@ ghost use Rattle.bx_registry.specs.Slots.{admitted_slots};
 ghost use Rattle.bx_registry.specs.Standings.{Continues};
 ghost use Rattle.bx_entry.specs.Inputs.{IsFault, added_by, refusal_of};
 ghost use Rattle.bx_window.specs.Steps.{below, firsts_of, inputs_of, list_of, setup_of};
-ghost use Rattle.bx_hub.specs.declared.desk.evidence.Change.TheVariants as changes;
+ghost use Rattle.bx_hub.specs.declared.shard_state.evidence.Change.TheVariants as changes;
 ghost use Rattle.bx_hub.specs.declared.fault.PostFault.TheVariants as faults;
-ghost use Rattle.bx_hub.specs.Listables.{input_of};
+ghost use Rattle.bx_hub.specs.Submissions.{input_of};
 ghost use Rattle.bx_hub.specs.Records.{inputs_by, list_by};
 ghost use Rattle.bx_record.specs.Record.{record_of};
 ghost use Rattle.bx_hub.specs.Surveys.{survey_of};
 ghost use Rattle.bx_hub.specs.Posts.{AreSlotsAt, IsAdmittedAt, IsRefused, IsTrimmedTo, IsUnpublished, IsWhole};
 
-use crate::desk::Stood;
 use crate::fault::PostFault;
-use crate::listable::{Listable, Spent};
 use crate::recording::{RecordFront, Recording, inputs_by};
+use crate::shard_state::ShardPosition;
+use crate::submission::{ConsumedSubmission, Submission};
 use crate::survey::Survey;
-use crate::walk::{AllChanged, Least};
+use crate::walk::{ChangeReport, LowestPosition};
 use bx_advice::Config;
 use bx_entry::{AdmitFault, Admitted, Input, Placing, Refusal};
 use bx_history::History;
 use bx_record::{Extent, RecordFault, Taken};
 use bx_registry::{Plan, Registry};
-use bx_window::{Bundle, Front, LogWriter, Naming, PublishFault};
+use bx_window::{Bundle, Front, LogId, LogWriter, PublishFault};
 use std::alloc::{AllocError, Global};
 use std::sync::Wait;
 
@@ -35,31 +35,31 @@ const MOST_STEPS: u64 = 1 << 62;
 
 /// The rest of a record that has ended, and why it ended.
 #[derive(Drop)]
-struct RecordEnd<J: Naming> {
-    recording: Recording<J>,
+struct RecordEnd<L: LogId> {
+    recording: Recording<L>,
     // Where the record ends.
-    front: Front<J>,
+    front: Front<L>,
     fault: RecordFault,
     ghost whole: { (recording.inputs ≡ inputs_of front) × (list_by recording.inputs ≡ list_of front) },
 }
 
 /// The registry of sessions, the writer of the list and, if one is kept, the record.
 #[derive(Drop)]
-pub(crate) struct Admission<J: Naming, R: Wait + Drop> {
+pub(crate) struct Admission<L: LogId, R: Wait + Drop> {
     registry: Registry,
     closed: bool,
-    writer: LogWriter<J, R>,
-    recording: Option<Recording<J>>,
+    writer: LogWriter<L, R>,
+    recording: Option<Recording<L>>,
     // Kept until it is taken.
-    record_end: Option<RecordEnd<J>>,
-    ghost config: { registry.config ≡ J.config },
-    ghost counted: { registry.shards ≡ J.config.shards },
+    record_end: Option<RecordEnd<L>>,
+    ghost config: { registry.config ≡ L.config },
+    ghost counted: { registry.shards ≡ L.config.shards },
     ghost listed: { registry.list ≡ list_of writer },
     ghost of_inputs: { list_by (inputs_of writer) ≡ list_of writer },
     ghost recorded: { ForSome recording (λ r. r.inputs ≡ inputs_of writer) },
 }
 
-impl<J: Naming, R: Wait + Drop> Admission<J, R> {
+impl<L: LogId, R: Wait + Drop> Admission<L, R> {
     ghost use Rattle.bx_hub.specs.Recordings.{EndsBefore, GoesOn};
 
     /// Creates an open admission with an empty list.
@@ -70,9 +70,9 @@ impl<J: Naming, R: Wait + Drop> Admission<J, R> {
     pub(crate) fn new(
         alloc: Global,
         config: Config,
-        writer: LogWriter<J, R>,
-    ) -> Result<Admission<J, R>, AllocError>
-        requires config { config ≡ J.config }
+        writer: LogWriter<L, R>,
+    ) -> Result<Admission<L, R>, AllocError>
+        requires config { config ≡ L.config }
         requires empty { writer ≡ [] }
         ensures { IfOk result (λ a. (a.writer ≡ []) × (a.closed ≡ false)) }
     {
@@ -103,13 +103,13 @@ impl<J: Naming, R: Wait + Drop> Admission<J, R> {
         &mut self,
         alloc: Global,
         placing: &P,
-        pass: &mut Front<J>,
-        wanted: Listable,
-    ) -> Result<(Admitted, Spent), (Listable, PostFault)>
-        requires placing { P.place_of placing.now ≡ J.placing }
+        pass: &mut Front<L>,
+        wanted: Submission,
+    ) -> Result<(Admitted, ConsumedSubmission), (Submission, PostFault)>
+        requires placing { P.place_of placing.now ≡ L.placing }
         ensures seen { IsPrefix pass.old pass.new }
         ensures admitted { IfOk result (λ a. IsAdmittedAt (input_of wanted) a.0.first pass.old pass.new) }
-        ensures slots { IfOk result (λ a. AreSlotsAt (setup_of J.config J.placing) (input_of wanted) a.0.first
+        ensures slots { IfOk result (λ a. AreSlotsAt (setup_of L.config L.placing) (input_of wanted) a.0.first
             pass.new a.0.slots) }
         ensures back { IfErr result (λ r. r.0 ≡ wanted) }
         ensures refused { IfErr result (λ r. IsRefused (input_of wanted) r.1 pass.new) }
@@ -132,7 +132,7 @@ impl<J: Naming, R: Wait + Drop> Admission<J, R> {
                 if let Some(recording) = recording {
                     self.record(alloc, recording, before, &wanted);
                 }
-                Ok((receipt, wanted.into_spent()))
+                Ok((receipt, wanted.into_consumed()))
             }
             Err(fault) => {
                 self.recording = recording;
@@ -145,9 +145,9 @@ impl<J: Naming, R: Wait + Drop> Admission<J, R> {
     fn record(
         &mut self,
         alloc: Global,
-        recording: Recording<J>,
-        before: Front<J>,
-        listed: &Listable,
+        recording: Recording<L>,
+        before: Front<L>,
+        listed: &Submission,
     )
         requires unrecorded { self.old.recording ≡ None }
         requires inputs { recording.inputs ≡ inputs_of before }
@@ -179,7 +179,7 @@ impl<J: Naming, R: Wait + Drop> Admission<J, R> {
     /// # Errors
     ///
     /// The front of the list, if it is not empty; nothing has changed.
-    pub(crate) fn start_record(&mut self, alloc: Global) -> Result<RecordFront<J>, Front<J>>
+    pub(crate) fn start_record(&mut self, alloc: Global) -> Result<RecordFront<L>, Front<L>>
         ensures same { (self.new.registry ≡ self.old.registry) × (self.new.writer ≡ self.old.writer) × (self.new.closed ≡ self.old.closed) }
         ensures started { IfOk result (λ it. (it.front ≡ []) × (self.old.writer ≡ [])
             × MatchOption self.new.recording ⊥ (λ r. (r.from.front ≡ []) × (r.waiting ≡ []))) }
@@ -221,7 +221,7 @@ impl<J: Naming, R: Wait + Drop> Admission<J, R> {
     pub(crate) fn take_record(
         &mut self,
         empty: Vec<u8>,
-    ) -> Option<Taken<RecordFront<J>, RecordFault>>
+    ) -> Option<Taken<RecordFront<L>, RecordFault>>
         requires { empty.items ≡ [] }
         ensures same { (self.new.registry ≡ self.old.registry) × (self.new.writer ≡ self.old.writer) × (self.new.closed ≡ self.old.closed) }
         ensures taken { IfSome self.old.recording (λ r. MatchOption result ⊥ (λ t. (t.chunk.from ≡ r.from) × (t.chunk.to.front ≡ self.old.writer) × (t.chunk.bytes.items ≡ r.waiting) × (t.fault ≡ None))) }
@@ -253,14 +253,14 @@ impl<J: Naming, R: Wait + Drop> Admission<J, R> {
         &mut self,
         alloc: Global,
         placing: &P,
-        pass: &mut Front<J>,
-        wanted: &Listable,
+        pass: &mut Front<L>,
+        wanted: &Submission,
     ) -> Result<Admitted, PostFault>
-        requires placing { P.place_of placing.now ≡ J.placing }
+        requires placing { P.place_of placing.now ≡ L.placing }
         requires unrecorded { self.old.recording ≡ None }
         ensures seen { IsPrefix pass.old pass.new }
         ensures admitted { IfOk result (λ a. IsAdmittedAt (input_of wanted.now) a.first pass.old pass.new) }
-        ensures slots { IfOk result (λ a. AreSlotsAt (setup_of J.config J.placing) (input_of wanted.now) a.first
+        ensures slots { IfOk result (λ a. AreSlotsAt (setup_of L.config L.placing) (input_of wanted.now) a.first
             pass.new a.slots) }
         ensures refused { IfErr result (λ f. IsRefused (input_of wanted.now) f pass.new) }
         ensures grown { IfOk result (λ a. (a.first ≡ length (list_of self.old.writer)) × (list_of self.new.writer ≡ list_of self.old.writer ++ added_by (input_of wanted.now)) × (pass.new ≡ self.new.writer)) }
@@ -292,26 +292,26 @@ impl<J: Naming, R: Wait + Drop> Admission<J, R> {
         &mut self,
         alloc: Global,
         placing: &P,
-        wanted: &Listable,
+        wanted: &Submission,
     ) -> Result<Plan, AdmitFault>
-        requires placing { P.place_of placing.now ≡ J.placing }
+        requires placing { P.place_of placing.now ≡ L.placing }
         ensures same { (self.new.writer ≡ self.old.writer) × (self.new.closed ≡ self.old.closed) × (self.new.recording ≡ self.old.recording) × (self.new.record_end ≡ self.old.record_end) }
         ensures continues { IfOk result (λ p. Continues self.new.registry p) }
         ensures elements { IfOk result (λ p. p.elements ≡ added_by (input_of wanted.now)) }
-        ensures slots { IfOk result (λ p. p.slots ≡ admitted_slots (setup_of J.config J.placing)
+        ensures slots { IfOk result (λ p. p.slots ≡ admitted_slots (setup_of L.config L.placing)
             (list_of self.new.writer) p.elements) }
         ensures allowed { OnOk result (refusal_of (length (list_of self.new.writer)) (input_of wanted.now) ≡ None) }
         ensures fault { IfErr result (λ f. IsFault (refusal_of (length (list_of self.new.writer)) (input_of wanted.now)) f) }
     {
         match wanted {
-            Listable::Request(reading) => self.registry.plan(
+            Submission::Request(request) => self.registry.plan(
                 alloc,
                 placing,
-                reading.arrival().moment,
-                reading.arrival().nonce,
-                reading.messages(),
+                request.arrival().moment,
+                request.arrival().nonce,
+                request.messages(),
             ),
-            Listable::Tick(moment) => self.registry.plan_tick(alloc, *moment),
+            Submission::Tick(moment) => self.registry.plan_tick(alloc, *moment),
         }
     }
 
@@ -319,7 +319,7 @@ impl<J: Naming, R: Wait + Drop> Admission<J, R> {
     fn publish(
         &mut self,
         alloc: Global,
-        pass: &mut Front<J>,
+        pass: &mut Front<L>,
         plan: Plan,
         inputs: History<Input>,
     ) -> Result<Admitted, PostFault>
@@ -376,9 +376,9 @@ impl<J: Naming, R: Wait + Drop> Admission<J, R> {
     ///
     /// `AllocError` if an earlier change still cannot be shown to readers; nothing has changed.
     #[tactic(auto, using(crate::proofs::Places::untrimmable))]
-    pub(crate) fn trim(&mut self, least: Least<J>) -> Result<Stood<J>, AllocError>
-        requires all { length least.stood ≡ J.config.shards }
-        ensures lowest { IfOk result (λ s. All (λ p. s.place ≤ p) least.stood) }
+    pub(crate) fn trim(&mut self, least: LowestPosition<L>) -> Result<ShardPosition<L>, AllocError>
+        requires all { length least.positions ≡ L.config.shards }
+        ensures lowest { IfOk result (λ s. All (λ p. s.place ≤ p) least.positions) }
         ensures trimmed { IfOk result (λ s. (firsts_of self.new.writer ≡ firsts_of self.old.writer)
             ⊎ (firsts_of self.new.writer ≡ drop (below s.place (length (list_of self.old.writer)) (firsts_of self.old.writer)) (firsts_of self.old.writer))) }
         ensures room { IfOk result (λ s. IsTrimmedTo s.place self.new.writer) }
@@ -401,11 +401,11 @@ impl<J: Naming, R: Wait + Drop> Admission<J, R> {
     /// Returns the state of the list and the sessions.
     ///
     /// `pass` has then seen the whole list.
-    pub(crate) fn survey(&mut self, pass: &mut Front<J>) -> Survey
+    pub(crate) fn survey(&mut self, pass: &mut Front<L>) -> Survey
         ensures same { (self.new.registry ≡ self.old.registry) × (self.new.writer ≡ self.old.writer) × (self.new.closed ≡ self.old.closed) × (self.new.recording ≡ self.old.recording) × (self.new.record_end ≡ self.old.record_end) }
         ensures seen { IsPrefix pass.old pass.new }
         ensures whole { pass.new ≡ self.old.writer }
-        ensures counted { result ≡ survey_of J.config pass.new }
+        ensures counted { result ≡ survey_of L.config pass.new }
     {
         *pass = self.writer.tell_beyond(pass);
         Survey {
@@ -424,12 +424,12 @@ impl<J: Naming, R: Wait + Drop> Admission<J, R> {
     }
 
     /// Closes admission, and returns evidence of that. No shard is closed yet.
-    pub(crate) fn close(&mut self) -> AllChanged<J>
+    pub(crate) fn close(&mut self) -> ChangeReport<L>
         ensures closed { self.new.closed ≡ true }
         ensures none { (result.change.value ≡ changes.Shut) × (result.done ≡ []) }
         ensures same { (self.new.writer ≡ self.old.writer) × (self.new.recording ≡ self.old.recording) × (self.new.record_end ≡ self.old.record_end) }
     {
         self.closed = true;
-        AllChanged::shutting(self)
+        ChangeReport::shutting(self)
     }
 }

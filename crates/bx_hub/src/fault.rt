@@ -3,30 +3,30 @@ ghost use Rattle.std.specs.Prelude.{◌≡◌, ◌+◌, ◌<◌, ◌^◌};
 ghost use Rattle.bx_hub.specs.declared.fault.PostFault.TheVariants as faults;
 ghost use Rattle.bx_hub.specs.Faults.{count_of, of_admission, one_more};
 
-use crate::walk::AllBrought;
+use crate::walk::AdvanceReport;
 use bx_entry::{AdmitFault, Refusal, Slot};
 use bx_message::Sequence;
-use bx_window::Naming;
+use bx_window::LogId;
 use std::alloc::AllocError;
 
 /// The result of a post: the places of its messages, and how each is answered.
 #[derive(Drop)]
-pub struct PostReceipt<J: Naming> {
+pub struct PostReceipt<L: LogId> {
     /// The place of the first message, or the list's length if there are no messages.
     pub first: u64,
     /// For each message in order, its reply or the ticket of a connect or a rider.
     pub slots: Sequence<Slot>,
     /// How many shards have not applied the whole request, and why.
-    pub brought: AllBrought<J>,
+    pub advanced: AdvanceReport<L>,
 }
 
 /// The result of a tick.
 #[derive(Drop)]
-pub struct TickReceipt<J: Naming> {
+pub struct TickReceipt<L: LogId> {
     /// The place of the tick.
     pub place: u64,
     /// How many shards have not applied the tick, and why.
-    pub brought: AllBrought<J>,
+    pub advanced: AdvanceReport<L>,
 }
 
 /// How many shards lag, by what stopped them.

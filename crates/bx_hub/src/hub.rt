@@ -8,20 +8,23 @@ ghost use Rattle.bx_window.specs.Steps.{inputs_of, list_of, setup_of};
 ghost use Rattle.bx_hub.specs.Faults.{IsStopped};
 
 use crate::admission::Admission;
-use crate::desk::{Brought, Change, Changed, Desk, Stood, Stopped, Watching, Woken};
 use crate::fault::{PostFault, PostReceipt, TickReceipt};
-use crate::listable::{Listable, Spent};
-use crate::reading::{Reading, Unlisted};
+use crate::parsed_request::{ParsedRequest, Rejection};
 use crate::recording::{RecordFront, Unrecorded};
+use crate::shard_state::{
+    AddedWakers, Change, ChangeEvidence, NoAnswer, ShardAdvance, ShardPosition, ShardState,
+    WatchEvidence,
+};
+use crate::submission::{ConsumedSubmission, Submission};
 use crate::survey::{ShardSurvey, Survey};
-use crate::walk::{AllBrought, AllChanged, Least};
+use crate::walk::{AdvanceReport, ChangeReport, LowestPosition};
 use bx_advice::Config;
 use bx_connects::Watch;
 use bx_entry::{Admitted, Arrival, Placing, Ticket};
 use bx_message::Answer;
 use bx_record::{RecordFault, Taken};
 use bx_shard::Wakers;
-use bx_window::{Front, Naming, Opened, log_pair};
+use bx_window::{Front, LogId, Opened, log_pair};
 use bx_workers::Gate;
 use futures::task::Waker;
 use std::alloc::{AllocError, Global};
@@ -35,7 +38,7 @@ const TRIM_EVERY: u64 = 64;
 /// The part of a hub's list that a caller has seen.
 ///
 /// It only grows, by the caller's calls and by what others share.
-pub type Pass<J> = Front<J>;
+pub type Pass<L> = Front<L>;
 
 /// The server for any number of threads.
 ///
@@ -45,22 +48,22 @@ pub type Pass<J> = Front<J>;
 /// A caller gets what a single-threaded server would give for the entries that the [`Pass`] of the
 /// caller has seen.
 #[derive(Drop)]
-pub struct Hub<J: Naming, P: Placing, G: Gate + Drop, R: Wait + Drop> {
+pub struct Hub<L: LogId, P: Placing, G: Gate + Drop, R: Wait + Drop> {
     placing: Arc<P, Global>,
     gate: G,
-    start: Front<J>,
-    admission: Mutex<Admission<J, R>>,
-    desks: Vec<Mutex<Desk<J, P>>>,
-    ghost placed: { P.place_of (arc_value placing) ≡ J.placing },
+    start: Front<L>,
+    admission: Mutex<Admission<L, R>>,
+    shards: Vec<Mutex<ShardState<L, P>>>,
+    ghost placed: { P.place_of (arc_value placing) ≡ L.placing },
     ghost started: { start ≡ [] },
-    ghost counted: { length desks.items ≡ J.config.shards },
+    ghost counted: { length shards.items ≡ L.config.shards },
 }
 
-impl<J: Naming, P: Placing, G: Gate + Drop, R: Wait + Drop> Hub<J, P, G, R> {
-    ghost use Rattle.bx_hub.specs.Bringing.{IsOfAll};
+impl<L: LogId, P: Placing, G: Gate + Drop, R: Wait + Drop> Hub<L, P, G, R> {
+    ghost use Rattle.bx_hub.specs.Advancing.{IsOfAll};
     ghost use Rattle.bx_hub.specs.Held.{IsLevelWithout, answer_over};
     ghost use Rattle.bx_hub.specs.Lags.{IsLagging};
-    ghost use Rattle.bx_hub.specs.Listables.{input_of};
+    ghost use Rattle.bx_hub.specs.Submissions.{input_of};
     ghost use Rattle.bx_hub.specs.Records.{EndsIn, inputs_by, inputs_from};
     ghost use Rattle.bx_hub.specs.Posts.{AreSlotsAt, IsAdmittedAt, IsRefused, IsTrimmedTo, IsWithoutRoom};
     ghost use Rattle.bx_hub.specs.Surveys.{survey_of};
@@ -68,7 +71,7 @@ impl<J: Naming, P: Placing, G: Gate + Drop, R: Wait + Drop> Hub<J, P, G, R> {
     ghost use Rattle.bx_hub.specs.Changes.{AreAllChanged, IsChanged};
     ghost use Rattle.bx_connects.specs.declared.watch.Watch.TheVariants as watches;
     ghost use Rattle.bx_hub.specs.Watches.{IsBack, IsToldOf};
-    ghost use Rattle.bx_hub.specs.declared.desk.evidence.Change.TheVariants as changes;
+    ghost use Rattle.bx_hub.specs.declared.shard_state.evidence.Change.TheVariants as changes;
 
     /// Creates a hub with an empty list and `config.shards` shards.
     ///
@@ -86,25 +89,25 @@ impl<J: Naming, P: Placing, G: Gate + Drop, R: Wait + Drop> Hub<J, P, G, R> {
         config: Config,
         placing: Arc<P, Global>,
         gate: G,
-    ) -> Result<Hub<J, P, G, R>, AllocError>
+    ) -> Result<Hub<L, P, G, R>, AllocError>
     where
         P: Drop,
-        requires book { opened.seen.book ≡ J.book }
-        requires config { config ≡ J.config }
-        requires placing { P.place_of (arc_value placing) ≡ J.placing }
+        requires book { opened.seen.book ≡ L.book }
+        requires config { config ≡ L.config }
+        requires placing { P.place_of (arc_value placing) ≡ L.placing }
     {
-        let (writer, readers) = log_pair::<J, R>(alloc, rt, opened, config.shards)?;
+        let (writer, readers) = log_pair::<L, R>(alloc, rt, opened, config.shards)?;
         let start = writer.tell();
-        let mut desks = Vec::new(alloc);
+        let mut shards = Vec::new(alloc);
         for reader in readers {
-            let desk = Desk::new(
+            let shard_state = ShardState::new(
                 alloc,
-                desks.len(),
+                shards.len(),
                 config,
                 Arc::try_clone(&placing)?,
                 reader,
             );
-            desks.push(Mutex::new(desk))?;
+            shards.push(Mutex::new(shard_state))?;
         }
         let admission = Mutex::new(Admission::new(alloc, config, writer)?);
         Ok(Hub {
@@ -112,12 +115,12 @@ impl<J: Naming, P: Placing, G: Gate + Drop, R: Wait + Drop> Hub<J, P, G, R> {
             gate,
             start,
             admission,
-            desks,
+            shards,
         })
     }
 
     /// Returns a pass that has seen no entries.
-    pub fn pass(&self) -> Pass<J>
+    pub fn pass(&self) -> Pass<L>
         ensures { result ≡ [] }
     {
         self.start.again()
@@ -166,22 +169,22 @@ impl<J: Naming, P: Placing, G: Gate + Drop, R: Wait + Drop> Hub<J, P, G, R> {
         &self,
         rt: &W,
         alloc: Global,
-        pass: &mut Pass<J>,
+        pass: &mut Pass<L>,
         arrival: Arrival,
-    ) -> Result<PostReceipt<J>, (Arrival, Unlisted<J>)>
+    ) -> Result<PostReceipt<L>, (Arrival, Rejection<L>)>
         ensures seen { IsPrefix pass.old pass.new }
         ensures admitted { IfOk result (λ p. IsAdmittedAt (read_input (inputs.Post arrival)) p.first pass.old pass.new) }
-        ensures slots { IfOk result (λ p. AreSlotsAt (setup_of J.config J.placing) (read_input (inputs.Post arrival))
+        ensures slots { IfOk result (λ p. AreSlotsAt (setup_of L.config L.placing) (read_input (inputs.Post arrival))
             p.first pass.new p.slots) }
         ensures back { IfErr result (λ r. r.0 ≡ arrival) }
         ensures refused { IfErr result (λ r. IsRefused (read_input (inputs.Post arrival)) r.1.fault pass.new) }
         ensures lags { IfErr result (λ r. IsLagging r.1.fault r.1.lag pass.new) }
-        ensures behind { IfOk result (λ p. IsOfAll J.config.shards pass.new p.brought) }
+        ensures behind { IfOk result (λ p. IsOfAll L.config.shards pass.new p.advanced) }
         ensures inputs { OnOk result (EndsIn (inputs_of pass.new) (inputs_from (inputs.Post arrival))) }
     {
-        let reading = Reading::of(alloc, arrival)?;
-        let wanted = Listable::Request(reading);
-        let (Admitted { first, slots }, spent) = match self.admit(rt, alloc, pass, wanted) {
+        let request = ParsedRequest::of(alloc, arrival)?;
+        let wanted = Submission::Request(request);
+        let (Admitted { first, slots }, consumed) = match self.admit(rt, alloc, pass, wanted) {
             Ok(listed) => listed,
             Err((wanted, why)) => {
                 let Some(arrival) = wanted.into_arrival() else {
@@ -190,15 +193,15 @@ impl<J: Naming, P: Placing, G: Gate + Drop, R: Wait + Drop> Hub<J, P, G, R> {
                 return Err((arrival, why));
             }
         };
-        let brought = self.bring_all(rt, alloc, &*pass);
-        drop(spent);
+        let advanced = self.advance_all(rt, alloc, &*pass);
+        drop(consumed);
         if first % TRIM_EVERY + slots.len() as u64 >= TRIM_EVERY {
             self.let_go(rt);
         }
         Ok(PostReceipt {
             first,
             slots,
-            brought,
+            advanced,
         })
     }
 
@@ -218,26 +221,26 @@ impl<J: Naming, P: Placing, G: Gate + Drop, R: Wait + Drop> Hub<J, P, G, R> {
         &self,
         rt: &W,
         alloc: Global,
-        pass: &mut Pass<J>,
+        pass: &mut Pass<L>,
         moment: u64,
-    ) -> Result<TickReceipt<J>, Unlisted<J>>
+    ) -> Result<TickReceipt<L>, Rejection<L>>
         ensures seen { IsPrefix pass.old pass.new }
         ensures admitted { IfOk result (λ t. IsAdmittedAt (read_input (inputs.Tick moment)) t.place pass.old pass.new) }
         ensures refused { IfErr result (λ u. IsRefused (read_input (inputs.Tick moment)) u.fault pass.new) }
         ensures lags { IfErr result (λ u. IsLagging u.fault u.lag pass.new) }
-        ensures behind { IfOk result (λ t. IsOfAll J.config.shards pass.new t.brought) }
+        ensures behind { IfOk result (λ t. IsOfAll L.config.shards pass.new t.advanced) }
         ensures inputs { OnOk result (EndsIn (inputs_of pass.new) (inputs_from (inputs.Tick moment))) }
     {
-        let wanted = Listable::Tick(moment);
+        let wanted = Submission::Tick(moment);
         let (Admitted { first, .. }, _) = match self.admit(rt, alloc, pass, wanted) {
             Ok(listed) => listed,
             Err((_, why)) => return Err(why),
         };
-        let brought = self.bring_all(rt, alloc, &*pass);
+        let advanced = self.advance_all(rt, alloc, &*pass);
         self.let_go(rt);
         Ok(TickReceipt {
             place: first,
-            brought,
+            advanced,
         })
     }
 
@@ -247,12 +250,12 @@ impl<J: Naming, P: Placing, G: Gate + Drop, R: Wait + Drop> Hub<J, P, G, R> {
         &self,
         rt: &W,
         alloc: Global,
-        pass: &mut Front<J>,
-        wanted: Listable,
-    ) -> Result<(Admitted, Spent), (Listable, Unlisted<J>)>
+        pass: &mut Front<L>,
+        wanted: Submission,
+    ) -> Result<(Admitted, ConsumedSubmission), (Submission, Rejection<L>)>
         ensures seen { IsPrefix pass.old pass.new }
         ensures admitted { IfOk result (λ a. IsAdmittedAt (input_of wanted) a.0.first pass.old pass.new) }
-        ensures slots { IfOk result (λ a. AreSlotsAt (setup_of J.config J.placing) (input_of wanted) a.0.first
+        ensures slots { IfOk result (λ a. AreSlotsAt (setup_of L.config L.placing) (input_of wanted) a.0.first
             pass.new a.0.slots) }
         ensures back { IfErr result (λ r. r.0 ≡ wanted) }
         ensures refused { IfErr result (λ r. IsRefused (input_of wanted) r.1.fault pass.new) }
@@ -263,15 +266,15 @@ impl<J: Naming, P: Placing, G: Gate + Drop, R: Wait + Drop> Hub<J, P, G, R> {
         let wanted = match admission.admit(alloc, &*self.placing, pass, wanted) {
             Ok(listed) => return Ok(listed),
             Err((wanted, PostFault::Behind { .. })) => wanted,
-            Err((wanted, fault)) => return Err((wanted, Unlisted::of(&*admission, fault, None))),
+            Err((wanted, fault)) => return Err((wanted, Rejection::of(&*admission, fault, None))),
         };
         let lowest = match self.make_room(rt, alloc, &mut admission, pass) {
             Ok(lowest) => lowest,
-            Err((fault, lag)) => return Err((wanted, Unlisted::of(&*admission, fault, lag))),
+            Err((fault, lag)) => return Err((wanted, Rejection::of(&*admission, fault, lag))),
         };
         match admission.admit(alloc, &*self.placing, pass, wanted) {
             Ok(listed) => Ok(listed),
-            Err((wanted, fault)) => Err((wanted, Unlisted::of(&*admission, fault, Some(lowest)))),
+            Err((wanted, fault)) => Err((wanted, Rejection::of(&*admission, fault, Some(lowest)))),
         }
     }
 
@@ -280,15 +283,15 @@ impl<J: Naming, P: Placing, G: Gate + Drop, R: Wait + Drop> Hub<J, P, G, R> {
         &self,
         rt: &W,
         alloc: Global,
-        admission: &mut Admission<J, R>,
-        pass: &mut Front<J>,
-    ) -> Result<Stood<J>, (PostFault, Option<Stood<J>>)>
+        admission: &mut Admission<L, R>,
+        pass: &mut Front<L>,
+    ) -> Result<ShardPosition<L>, (PostFault, Option<ShardPosition<L>>)>
         ensures seen { IsPrefix pass.old pass.new }
         ensures refused { IfErr result (λ r. IsWithoutRoom r.0 pass.new × IsLagging r.0 r.1 pass.new) }
         ensures room { IfOk result (λ s. IsTrimmedTo s.place admission.new.writer) }
         ensures kept { admission.new.closed ≡ admission.old.closed }
     {
-        let least = self.bring_least(rt, alloc, pass)?;
+        let least = self.advance_and_find_lowest(rt, alloc, pass)?;
         match admission.trim(least) {
             Ok(lowest) => Ok(lowest),
             Err(_) => Err((PostFault::Memory, None)),
@@ -297,64 +300,64 @@ impl<J: Naming, P: Placing, G: Gate + Drop, R: Wait + Drop> Hub<J, P, G, R> {
 
     // Trims the entries that all shards have applied. If memory runs out, a later call does it.
     fn let_go<W: Wait>(&self, rt: &W) {
-        let mut least = Least::new();
-        for index in 0..self.desks.len() {
-            let Ok(desk) = self.desk(rt, index) else {
+        let mut least = LowestPosition::new();
+        for index in 0..self.shards.len() {
+            let Ok(shard_state) = self.lock_shard(rt, index) else {
                 return;
             };
-            let stood = Stood::of(&*desk);
-            drop(desk);
-            least.add(stood);
+            let position = ShardPosition::of(&*shard_state);
+            drop(shard_state);
+            least.add(position);
         }
         let _ = self.admission.lock(rt).trim(least);
     }
 
     // Advances every shard to the end of `pass` and returns the lowest position. Wakes tasks as in
     // `post`.
-    fn bring_least<W: Wait>(
+    fn advance_and_find_lowest<W: Wait>(
         &self,
         rt: &W,
         alloc: Global,
-        pass: &mut Front<J>,
-    ) -> Result<Least<J>, (PostFault, Option<Stood<J>>)>
+        pass: &mut Front<L>,
+    ) -> Result<LowestPosition<L>, (PostFault, Option<ShardPosition<L>>)>
         ensures seen { IsPrefix pass.old pass.new }
         ensures refused { IfErr result (λ r. IsWithoutRoom r.0 pass.new × IsLagging r.0 r.1 pass.new) }
-        ensures all { IfOk result (λ l. length l.stood ≡ J.config.shards) }
+        ensures all { IfOk result (λ l. length l.positions ≡ L.config.shards) }
     {
-        let mut least = Least::new();
-        for index in 0..self.desks.len() {
+        let mut least = LowestPosition::new();
+        for index in 0..self.shards.len() {
             let mut wakers = Wakers::new(alloc);
-            let (stood, _woken) = self.stand_one(rt, alloc, index, pass, &mut wakers);
-            least.add(stood?);
+            let (position, _woken) = self.advance_one_to_end(rt, alloc, index, pass, &mut wakers);
+            least.add(position?);
         }
         Ok(least)
     }
 
     // Advances a shard to the end of `pass` and returns its position. Adds the wakers of answered
     // connects to `wakers`. Dropping that list, once the shard is unlocked, wakes their tasks.
-    fn stand_one<W: Wait>(
+    fn advance_one_to_end<W: Wait>(
         &self,
         rt: &W,
         alloc: Global,
         index: usize,
-        pass: &mut Front<J>,
+        pass: &mut Front<L>,
         wakers: &mut Wakers,
     ) -> (
-        Result<Stood<J>, (PostFault, Option<Stood<J>>)>,
-        Option<Woken>,
+        Result<ShardPosition<L>, (PostFault, Option<ShardPosition<L>>)>,
+        Option<AddedWakers>,
     )
-        requires { index < length self.now.desks.items }
+        requires { index < length self.now.shards.items }
         ensures seen { IsPrefix pass.old pass.new }
-        ensures stood { IfOk result.0 (λ s. s.index.value ≡ index) }
+        ensures position { IfOk result.0 (λ s. s.index.value ≡ index) }
         ensures still { OnOk result.0 (pass.new ≡ pass.old) }
         ensures refused { IfErr result.0 (λ r. IsWithoutRoom r.0 pass.new × IsLagging r.0 r.1 pass.new) }
         ensures put { wakers.new ≡ wakers.old ++ put_of result.1 }
         ensures asked { IfNone result.1 (IsErr result.0) }
     {
-        match self.desk(rt, index) {
-            Ok(mut desk) => {
-                let (stood, woken) = desk.stand(alloc, &self.gate, pass, wakers);
-                (stood, Some(woken))
+        match self.lock_shard(rt, index) {
+            Ok(mut shard_state) => {
+                let (position, woken) = shard_state.advance_to_end(alloc, &self.gate, pass, wakers);
+                (position, Some(woken))
             }
             Err(other) => {
                 let found = other.index();
@@ -364,57 +367,57 @@ impl<J: Naming, P: Placing, G: Gate + Drop, R: Wait + Drop> Hub<J, P, G, R> {
         }
     }
 
-    // Advances every shard to the end of `note`, and reports how many lag and why.
+    // Advances every shard to the end of `prefix`, and reports how many lag and why.
     #[tactic(auto, using(crate::proofs::Walks::all_walked))]
-    fn bring_all<W: Wait>(&self, rt: &W, alloc: Global, note: &Front<J>) -> AllBrought<J>
-        ensures { IsOfAll J.config.shards note.now result }
+    fn advance_all<W: Wait>(&self, rt: &W, alloc: Global, prefix: &Front<L>) -> AdvanceReport<L>
+        ensures { IsOfAll L.config.shards prefix.now result }
     {
-        let shards = self.desks.len();
-        let mut round = AllBrought::new(note, shards);
+        let shards = self.shards.len();
+        let mut round = AdvanceReport::new(prefix, shards);
         for step in 0..shards {
             let index = round.index_at(step);
             let mut wakers = Wakers::new(alloc);
-            round.add(self.bring_one(rt, alloc, index, note, &mut wakers));
+            round.add(self.advance_one(rt, alloc, index, prefix, &mut wakers));
         }
         round
     }
 
-    // Advances a shard to the end of `note`. Adds wakers as `stand_one` does.
-    fn bring_one<W: Wait>(
+    // Advances a shard to the end of `prefix`. Adds wakers as `advance_one_to_end` does.
+    fn advance_one<W: Wait>(
         &self,
         rt: &W,
         alloc: Global,
         index: usize,
-        note: &Front<J>,
+        prefix: &Front<L>,
         wakers: &mut Wakers,
-    ) -> Brought<J>
-        requires { index < length self.now.desks.items }
-        ensures brought { (result.index.value ≡ index) × (result.note.value ≡ note.now) }
+    ) -> ShardAdvance<L>
+        requires { index < length self.now.shards.items }
+        ensures advanced { (result.index.value ≡ index) × (result.prefix.value ≡ prefix.now) }
         ensures put { wakers.new ≡ wakers.old ++ put_of result.woken }
     {
-        match self.desk(rt, index) {
-            Ok(mut desk) => desk.bring_to(alloc, &self.gate, note, wakers),
-            Err(other) => Brought::misplaced(&*other, &index, note),
+        match self.lock_shard(rt, index) {
+            Ok(mut shard_state) => shard_state.advance_to(alloc, &self.gate, prefix, wakers),
+            Err(other) => ShardAdvance::misplaced(&*other, &index, prefix),
         }
     }
 
     // Locks a shard. Returns `Err` if the lock guards another one.
     //
     // Prover: no contract can state which shard a lock guards, so every call checks.
-    fn desk<W: Wait>(
+    fn lock_shard<W: Wait>(
         &self,
         rt: &W,
         index: usize,
-    ) -> Result<MutexGuard<'_, Desk<J, P>>, MutexGuard<'_, Desk<J, P>>>
-        requires { index < length self.now.desks.items }
-        ensures own { IfOk result (λ desk. desk.value.shard.index ≡ index) }
-        ensures other { IfErr result (λ desk. desk.value.shard.index ≢ index) }
+    ) -> Result<MutexGuard<'_, ShardState<L, P>>, MutexGuard<'_, ShardState<L, P>>>
+        requires { index < length self.now.shards.items }
+        ensures own { IfOk result (λ shard_state. shard_state.value.shard.index ≡ index) }
+        ensures other { IfErr result (λ shard_state. shard_state.value.shard.index ≢ index) }
     {
-        let desk = self.desks[index].lock(rt);
-        if desk.index() == index {
-            Ok(desk)
+        let shard_state = self.shards[index].lock(rt);
+        if shard_state.index() == index {
+            Ok(shard_state)
         } else {
-            Err(desk)
+            Err(shard_state)
         }
     }
 
@@ -441,16 +444,16 @@ impl<J: Naming, P: Placing, G: Gate + Drop, R: Wait + Drop> Hub<J, P, G, R> {
         &self,
         rt: &W,
         alloc: Global,
-        pass: &mut Pass<J>,
+        pass: &mut Pass<L>,
         ticket: Ticket,
-    ) -> Result<Option<Answer>, Stopped<J>>
+    ) -> Result<Option<Answer>, NoAnswer<L>>
         ensures seen { IsPrefix pass.old pass.new }
-        ensures answer { IfOk result (λ o. IfSome o (λ a. answer_over J.config pass.new ticket.place ≡ Some a)) }
-        ensures none { IfOk result (λ o. IfNone o ((J.config.shards ≤ ticket.shard)
-            ⊎ IsLevelWithout (setup_of J.config J.placing) ticket pass.new)) }
+        ensures answer { IfOk result (λ o. IfSome o (λ a. answer_over L.config pass.new ticket.place ≡ Some a)) }
+        ensures none { IfOk result (λ o. IfNone o ((L.config.shards ≤ ticket.shard)
+            ⊎ IsLevelWithout (setup_of L.config L.placing) ticket pass.new)) }
         ensures stopped { IfErr result (λ s. (s.ticket.value ≡ ticket) × IsStopped s.fault ticket.shard pass.new) }
     {
-        if ticket.shard >= self.desks.len() {
+        if ticket.shard >= self.shards.len() {
             return Ok(None);
         }
         let mut wakers = Wakers::new(alloc);
@@ -458,29 +461,29 @@ impl<J: Naming, P: Placing, G: Gate + Drop, R: Wait + Drop> Hub<J, P, G, R> {
         answer
     }
 
-    // Polls a shard that exists, as `poll_answer` does. Adds wakers as `stand_one` does.
+    // Polls a shard that exists, as `poll_answer` does. Adds wakers as `advance_one_to_end` does.
     fn poll_one<W: Wait>(
         &self,
         rt: &W,
         alloc: Global,
-        pass: &mut Front<J>,
+        pass: &mut Front<L>,
         ticket: Ticket,
         wakers: &mut Wakers,
-    ) -> (Result<Option<Answer>, Stopped<J>>, Option<Woken>)
-        requires { ticket.shard < length self.now.desks.items }
+    ) -> (Result<Option<Answer>, NoAnswer<L>>, Option<AddedWakers>)
+        requires { ticket.shard < length self.now.shards.items }
         ensures seen { IsPrefix pass.old pass.new }
-        ensures answer { IfOk result.0 (λ o. IfSome o (λ a. answer_over J.config pass.new ticket.place ≡ Some a)) }
-        ensures none { IfOk result.0 (λ o. IfNone o (IsLevelWithout (setup_of J.config J.placing) ticket pass.new)) }
+        ensures answer { IfOk result.0 (λ o. IfSome o (λ a. answer_over L.config pass.new ticket.place ≡ Some a)) }
+        ensures none { IfOk result.0 (λ o. IfNone o (IsLevelWithout (setup_of L.config L.placing) ticket pass.new)) }
         ensures stopped { IfErr result.0 (λ s. (s.ticket.value ≡ ticket) × IsStopped s.fault ticket.shard pass.new) }
         ensures put { wakers.new ≡ wakers.old ++ put_of result.1 }
         ensures asked { IfNone result.1 (IsErr result.0) }
     {
-        match self.desk(rt, ticket.shard) {
-            Ok(mut desk) => {
-                let (answer, woken) = desk.poll(alloc, &self.gate, pass, ticket, wakers);
+        match self.lock_shard(rt, ticket.shard) {
+            Ok(mut shard_state) => {
+                let (answer, woken) = shard_state.poll(alloc, &self.gate, pass, ticket, wakers);
                 (answer, Some(woken))
             }
-            Err(other) => (Err(Stopped::misplaced(&*other, &ticket)), None),
+            Err(other) => (Err(NoAnswer::misplaced(&*other, &ticket)), None),
         }
     }
 
@@ -499,24 +502,24 @@ impl<J: Naming, P: Placing, G: Gate + Drop, R: Wait + Drop> Hub<J, P, G, R> {
         rt: &W,
         ticket: Ticket,
         waker: Waker,
-    ) -> (Watch, Option<Watching<J>>)
-        ensures told { IsToldOf J.config.shards ticket waker result.0 result.1 }
+    ) -> (Watch, Option<WatchEvidence<L>>)
+        ensures told { IsToldOf L.config.shards ticket waker result.0 result.1 }
         ensures back { IsBack waker result.0 }
-        ensures unknown { J.config.shards ≤ ticket.shard → result.0 ≡ watches.Unknown waker }
+        ensures unknown { L.config.shards ≤ ticket.shard → result.0 ≡ watches.Unknown waker }
     {
-        if ticket.shard >= self.desks.len() {
+        if ticket.shard >= self.shards.len() {
             return (Watch::Unknown(waker), None);
         }
-        match self.desk(rt, ticket.shard) {
-            Ok(mut desk) => {
-                let (said, watching) = desk.watch(ticket, waker);
-                (said, Some(watching))
+        match self.lock_shard(rt, ticket.shard) {
+            Ok(mut shard_state) => {
+                let (said, evidence) = shard_state.watch(ticket, waker);
+                (said, Some(evidence))
             }
             Err(other) => {
                 let seen = Snapshot::of(&waker);
                 let said = Watch::Unknown(waker);
-                let watching = Watching::misplaced(&*other, &ticket, seen, &said);
-                (said, Some(watching))
+                let evidence = WatchEvidence::misplaced(&*other, &ticket, seen, &said);
+                (said, Some(evidence))
             }
         }
     }
@@ -528,9 +531,9 @@ impl<J: Naming, P: Placing, G: Gate + Drop, R: Wait + Drop> Hub<J, P, G, R> {
     /// # Blocking
     ///
     /// Locks admission.
-    pub fn survey<W: Wait>(&self, rt: &W, pass: &mut Pass<J>) -> Survey
+    pub fn survey<W: Wait>(&self, rt: &W, pass: &mut Pass<L>) -> Survey
         ensures seen { IsPrefix pass.old pass.new }
-        ensures counted { result ≡ survey_of J.config pass.new }
+        ensures counted { result ≡ survey_of L.config pass.new }
     {
         self.admission.lock(rt).survey(pass)
     }
@@ -541,10 +544,10 @@ impl<J: Naming, P: Placing, G: Gate + Drop, R: Wait + Drop> Hub<J, P, G, R> {
     ///
     /// Locks the shard.
     pub fn survey_shard<W: Wait>(&self, rt: &W, shard: usize) -> Option<ShardSurvey>
-        ensures { is_some result ≡ nat_lt shard J.config.shards }
+        ensures { is_some result ≡ nat_lt shard L.config.shards }
     {
-        let desk = self.desks.get(shard)?;
-        Some(desk.lock(rt).survey())
+        let shard_state = self.shards.get(shard)?;
+        Some(shard_state.lock(rt).survey())
     }
 
     /// Starts to record what is appended to the list, which must be empty.
@@ -556,7 +559,7 @@ impl<J: Naming, P: Placing, G: Gate + Drop, R: Wait + Drop> Hub<J, P, G, R> {
     /// # Blocking
     ///
     /// Locks admission.
-    pub fn start_record<W: Wait>(&self, rt: &W, alloc: Global) -> Result<RecordFront<J>, Front<J>>
+    pub fn start_record<W: Wait>(&self, rt: &W, alloc: Global) -> Result<RecordFront<L>, Front<L>>
         ensures started { IfOk result (λ it. it.front ≡ []) }
         ensures refused { IfErr result (λ front. 0 < length front) }
     {
@@ -588,7 +591,7 @@ impl<J: Naming, P: Placing, G: Gate + Drop, R: Wait + Drop> Hub<J, P, G, R> {
         &self,
         rt: &W,
         empty: Vec<u8>,
-    ) -> Result<Taken<RecordFront<J>, RecordFault>, Unrecorded<J>>
+    ) -> Result<Taken<RecordFront<L>, RecordFault>, Unrecorded<L>>
         requires { empty.items ≡ [] }
     {
         let mut admission = self.admission.lock(rt);
@@ -603,7 +606,7 @@ impl<J: Naming, P: Placing, G: Gate + Drop, R: Wait + Drop> Hub<J, P, G, R> {
     /// # Blocking
     ///
     /// Locks admission.
-    pub fn stop_record<W: Wait>(&self, rt: &W) -> Unrecorded<J> {
+    pub fn stop_record<W: Wait>(&self, rt: &W) -> Unrecorded<L> {
         let mut admission = self.admission.lock(rt);
         admission.stop_record();
         Unrecorded::of(&*admission)
@@ -614,10 +617,10 @@ impl<J: Naming, P: Placing, G: Gate + Drop, R: Wait + Drop> Hub<J, P, G, R> {
     /// # Blocking
     ///
     /// Locks each shard in turn.
-    pub fn sweep<W: Wait>(&self, rt: &W, before: u64) -> AllChanged<J>
-        ensures { AreAllChanged J.config.shards (changes.Sweep before) result }
+    pub fn sweep<W: Wait>(&self, rt: &W, before: u64) -> ChangeReport<L>
+        ensures { AreAllChanged L.config.shards (changes.Sweep before) result }
     {
-        let mut all = AllChanged::sweeping(before);
+        let mut all = ChangeReport::sweeping(before);
         self.change_all(rt, Change::Sweep { before }, &mut all);
         all
     }
@@ -629,11 +632,11 @@ impl<J: Naming, P: Placing, G: Gate + Drop, R: Wait + Drop> Hub<J, P, G, R> {
     /// # Blocking
     ///
     /// Locks the shard.
-    pub fn pause<W: Wait>(&self, rt: &W, shard: usize) -> Option<Changed<J>>
-        ensures some { is_some result ≡ nat_lt shard J.config.shards }
+    pub fn pause<W: Wait>(&self, rt: &W, shard: usize) -> Option<ChangeEvidence<L>>
+        ensures some { is_some result ≡ nat_lt shard L.config.shards }
         ensures changed { IfSome result (IsChanged shard changes.Pause) }
     {
-        if shard >= self.desks.len() {
+        if shard >= self.shards.len() {
             return None;
         }
         Some(self.change(rt, shard, Change::Pause))
@@ -646,11 +649,11 @@ impl<J: Naming, P: Placing, G: Gate + Drop, R: Wait + Drop> Hub<J, P, G, R> {
     /// # Blocking
     ///
     /// Locks the shard.
-    pub fn resume<W: Wait>(&self, rt: &W, shard: usize) -> Option<Changed<J>>
-        ensures some { is_some result ≡ nat_lt shard J.config.shards }
+    pub fn resume<W: Wait>(&self, rt: &W, shard: usize) -> Option<ChangeEvidence<L>>
+        ensures some { is_some result ≡ nat_lt shard L.config.shards }
         ensures changed { IfSome result (IsChanged shard changes.Resume) }
     {
-        if shard >= self.desks.len() {
+        if shard >= self.shards.len() {
             return None;
         }
         Some(self.change(rt, shard, Change::Resume))
@@ -664,8 +667,8 @@ impl<J: Naming, P: Placing, G: Gate + Drop, R: Wait + Drop> Hub<J, P, G, R> {
     ///
     /// Locks admission, then each shard in turn. Tasks with a held connect are woken while its
     /// shard is locked.
-    pub fn close<W: Wait>(&self, rt: &W) -> AllChanged<J>
-        ensures { AreAllChanged J.config.shards changes.Shut result }
+    pub fn close<W: Wait>(&self, rt: &W) -> ChangeReport<L>
+        ensures { AreAllChanged L.config.shards changes.Shut result }
     {
         let mut all = self.admission.lock(rt).close();
         self.change_all(rt, Change::Shut, &mut all);
@@ -673,24 +676,24 @@ impl<J: Naming, P: Placing, G: Gate + Drop, R: Wait + Drop> Hub<J, P, G, R> {
     }
 
     // Applies `change` to each shard in turn.
-    fn change_all<W: Wait>(&self, rt: &W, change: Change, all: &mut AllChanged<J>)
+    fn change_all<W: Wait>(&self, rt: &W, change: Change, all: &mut ChangeReport<L>)
         requires none { all.old.done ≡ [] }
         requires change { all.old.change.value ≡ change }
-        ensures { AreAllChanged J.config.shards change all.new }
+        ensures { AreAllChanged L.config.shards change all.new }
     {
-        for index in 0..self.desks.len() {
+        for index in 0..self.shards.len() {
             all.add(self.change(rt, index, change));
         }
     }
 
     // Applies `change` to a shard.
-    fn change<W: Wait>(&self, rt: &W, index: usize, change: Change) -> Changed<J>
-        requires { index < length self.now.desks.items }
+    fn change<W: Wait>(&self, rt: &W, index: usize, change: Change) -> ChangeEvidence<L>
+        requires { index < length self.now.shards.items }
         ensures { IsChanged index change result }
     {
-        match self.desk(rt, index) {
-            Ok(mut desk) => desk.change(change),
-            Err(other) => Changed::misplaced(&*other, &index, change),
+        match self.lock_shard(rt, index) {
+            Ok(mut shard_state) => shard_state.change(change),
+            Err(other) => ChangeEvidence::misplaced(&*other, &index, change),
         }
     }
 }

@@ -5,21 +5,21 @@
 
 mod activity;
 mod admission;
-mod desk;
 mod fault;
 mod hub;
-mod listable;
-mod reading;
+mod parsed_request;
 mod recording;
+mod shard_state;
+mod submission;
 mod survey;
 mod walk;
 
 pub use bx_connects::Watch;
 pub use bx_workers::{Gate, OpenGate};
-pub use desk::{Change, Changed, Stopped, Watching};
 pub use fault::{HubFault, Lagging, PostFault, PostReceipt, TickReceipt};
 pub use hub::{Hub, Pass};
-pub use reading::Unlisted;
+pub use parsed_request::Rejection;
 pub use recording::{RecordFront, Unrecorded};
+pub use shard_state::{Change, ChangeEvidence, NoAnswer, WatchEvidence};
 pub use survey::{ShardSurvey, Survey};
-pub use walk::{AllBrought, AllChanged};
+pub use walk::{AdvanceReport, ChangeReport};

@@ -9,11 +9,11 @@ ghost use Rattle.bx_record.specs.Record.{can_say, input_text, record_of};
 ghost use Rattle.bx_window.specs.Steps.{inputs_of, list_of};
 
 use crate::admission::Admission;
-use crate::listable::Listable;
+use crate::submission::Submission;
 use bx_entry::Input;
 use bx_history::{History, Lists};
 use bx_record::{Chunk, Extent, RecordFault, Waiting, request_text, tick_text};
-use bx_window::{Front, Naming};
+use bx_window::{Front, LogId};
 use std::alloc::Global;
 use std::marker::PhantomData;
 use std::mem;
@@ -23,15 +23,15 @@ use std::sync::Wait;
 ///
 /// Its requests and ticks result in exactly its list, and all of them can be recorded.
 #[derive(Drop)]
-pub struct RecordFront<J: Naming> {
-    front: Front<J>,
+pub struct RecordFront<L: LogId> {
+    front: Front<L>,
     ghost listed: { list_by (inputs_of front) ≡ list_of front },
     ghost recordable: { AllByRecursion CanRecord (inputs_of front) } by { Prim.hlevel record_props },
 }
 
-impl<J: Naming> RecordFront<J> {
+impl<L: LogId> RecordFront<L> {
     // Creates a `RecordFront` at `front`.
-    fn of(front: Front<J>) -> RecordFront<J>
+    fn of(front: Front<L>) -> RecordFront<L>
         requires listed { list_by (inputs_of front) ≡ list_of front }
         requires recordable { AllByRecursion CanRecord (inputs_of front) }
         ensures { result.front ≡ front }
@@ -47,7 +47,7 @@ impl<J: Naming> RecordFront<J> {
     }
 
     /// Creates the start of a record, before the first entry.
-    pub(crate) fn first(front: Front<J>) -> RecordFront<J>
+    pub(crate) fn first(front: Front<L>) -> RecordFront<L>
         requires { front ≡ [] }
         ensures { result.front ≡ front }
     {
@@ -55,7 +55,7 @@ impl<J: Naming> RecordFront<J> {
     }
 }
 
-impl<J: Naming> Extent for RecordFront<J> {
+impl<L: LogId> Extent for RecordFront<L> {
     ghost use Rattle.std.specs.Prelude.{◌≡◌};
     ghost use Rattle.bx_record.specs.Record.{record_of};
     ghost use Rattle.bx_window.specs.Steps.{inputs_of};
@@ -64,26 +64,26 @@ impl<J: Naming> Extent for RecordFront<J> {
 
     ghost is_copy = { λ it copy. copy.front ≡ it.front };
 
-    fn again(&self) -> RecordFront<J> {
+    fn again(&self) -> RecordFront<L> {
         RecordFront {
             front: self.front.again(),
         }
     }
 
-    fn is_same(&self, other: &RecordFront<J>) -> bool {
+    fn is_same(&self, other: &RecordFront<L>) -> bool {
         self.front.covers(&other.front) && other.front.covers(&self.front)
     }
 }
 
 /// Evidence, created while admission is locked, that nothing of a record is kept.
 #[derive(Drop)]
-pub struct Unrecorded<J: Naming> {
-    of: PhantomData<J>,
+pub struct Unrecorded<L: LogId> {
+    of: PhantomData<L>,
 }
 
-impl<J: Naming> Unrecorded<J> {
+impl<L: LogId> Unrecorded<L> {
     /// Creates the evidence from `admission`, which records nothing.
-    pub(crate) fn of<R: Wait + Drop>(admission: &Admission<J, R>) -> Unrecorded<J>
+    pub(crate) fn of<R: Wait + Drop>(admission: &Admission<L, R>) -> Unrecorded<L>
         requires recording { admission.now.recording ≡ None }
         requires end { admission.now.record_end ≡ None }
     {
@@ -96,8 +96,8 @@ impl<J: Naming> Unrecorded<J> {
 ///
 /// They follow the record's text up to `from`, which was taken before.
 #[derive(Drop)]
-pub(crate) struct Recording<J: Naming> {
-    from: RecordFront<J>,
+pub(crate) struct Recording<L: LogId> {
+    from: RecordFront<L>,
     // Ghost: all requests and ticks recorded since the record began.
     inputs: History<Input>,
     waiting: Waiting,
@@ -105,9 +105,9 @@ pub(crate) struct Recording<J: Naming> {
     ghost recordable: { AllByRecursion CanRecord inputs } by { Prim.hlevel record_props },
 }
 
-impl<J: Naming> Recording<J> {
+impl<L: LogId> Recording<L> {
     /// Creates a record of an empty list.
-    pub(crate) fn new(alloc: Global, from: RecordFront<J>) -> Recording<J>
+    pub(crate) fn new(alloc: Global, from: RecordFront<L>) -> Recording<L>
         requires { from.front ≡ [] }
         ensures { (result.from ≡ from) × (result.inputs ≡ []) × (result.waiting ≡ []) }
     {
@@ -135,7 +135,7 @@ impl<J: Naming> Recording<J> {
     /// - `Full`: more than 64 MiB would wait.
     /// - `Memory`: memory ran out, at any step.
     #[tactic(auto, using(crate::proofs::Records::all_recordable))]
-    pub(crate) fn add(&mut self, alloc: Global, listed: &Listable) -> Result<(), RecordFault>
+    pub(crate) fn add(&mut self, alloc: Global, listed: &Submission) -> Result<(), RecordFault>
         requires { inputs_by listed.now ≡ input_in listed.now ∷ [] }
         ensures added { OnOk result ((self.new.inputs ≡ self.old.inputs ++ input_in listed.now ∷ []) × (self.new.waiting ≡ self.old.waiting ++ input_text (input_in listed.now))) }
         ensures same { OnErr result ((self.new.inputs ≡ self.old.inputs) × (self.new.waiting ≡ self.old.waiting)) }
@@ -152,7 +152,7 @@ impl<J: Naming> Recording<J> {
     ///
     /// They are the record's text from where the last call ended up to `upto`. Does not allocate or
     /// copy.
-    pub(crate) fn take(&mut self, upto: Front<J>, empty: Vec<u8>) -> Chunk<RecordFront<J>>
+    pub(crate) fn take(&mut self, upto: Front<L>, empty: Vec<u8>) -> Chunk<RecordFront<L>>
         requires inputs { self.old.inputs ≡ inputs_of upto }
         requires listed { list_by self.old.inputs ≡ list_of upto }
         requires empty { empty.items ≡ [] }
@@ -169,33 +169,33 @@ impl<J: Naming> Recording<J> {
 /// Returns the ghost list of what is recorded of `wanted`.
 ///
 /// It is empty for a request without messages, and otherwise has the request or tick.
-pub(crate) fn inputs_by(wanted: &Listable) -> History<Input>
+pub(crate) fn inputs_by(wanted: &Submission) -> History<Input>
     ensures { result ≡ inputs_by wanted.now }
 {
-    History::of::<&Listable, Recorded>(&wanted)
+    History::of::<&Submission, Recorded>(&wanted)
 }
 
 // Returns the record's lines for `listed`.
-fn text_of(alloc: Global, listed: &Listable) -> Result<Vec<u8>, RecordFault>
+fn text_of(alloc: Global, listed: &Submission) -> Result<Vec<u8>, RecordFault>
     ensures text { IfOk result (λ text. text.items ≡ input_text (input_in listed.now)) }
     ensures recordable { OnOk result (CanRecord (input_in listed.now)) }
     ensures unsayable { IfErr result (λ f. (f ≢ faults.Full) × (f ≡ faults.Unsayable → can_say (documents_in listed.now) ≡ false)) }
 {
     match listed {
-        Listable::Request(reading) => {
-            match request_text(alloc, reading.arrival(), reading.messages())? {
+        Submission::Request(request) => {
+            match request_text(alloc, request.arrival(), request.messages())? {
                 Some(text) => Ok(text),
                 None => Err(RecordFault::Unsayable),
             }
         }
-        Listable::Tick(moment) => Ok(tick_text(alloc, *moment)?),
+        Submission::Tick(moment) => Ok(tick_text(alloc, *moment)?),
     }
 }
 
 // Ghost: what is recorded of a request or a tick.
 struct Recorded;
 
-impl<'a> Lists<&'a Listable, Input> for Recorded {
+impl<'a> Lists<&'a Submission, Input> for Recorded {
     ghost use Rattle.bx_hub.specs.Records.{inputs_by};
 
     ghost listed = { λ listed. inputs_by listed.now };

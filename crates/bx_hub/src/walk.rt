@@ -4,69 +4,69 @@ ghost use Rattle.std.specs.List.{All};
 ghost use Rattle.std.proofs.Props.{props};
 ghost use Rattle.bx_hub.specs.Lagging.{lagging_of};
 ghost use Rattle.bx_hub.specs.Walks.{walked_at};
-ghost use Rattle.bx_hub.specs.declared.desk.evidence.Change.TheVariants as changes;
+ghost use Rattle.bx_hub.specs.declared.shard_state.evidence.Change.TheVariants as changes;
 
 use crate::admission::Admission;
-use crate::desk::{Brought, Change, Changed, Stood};
 use crate::fault::{HubFault, Lagging};
+use crate::shard_state::{Change, ChangeEvidence, ShardAdvance, ShardPosition};
 use bx_history::History;
-use bx_window::{Front, Naming};
+use bx_window::{Front, LogId};
 use std::marker::PhantomData;
 use std::snapshot::Snapshot;
 use std::sync::Wait;
 
 /// A shard at the lowest position among those added so far.
 #[derive(Drop)]
-pub(crate) struct Least<J: Naming> {
-    lowest: Option<Stood<J>>,
+pub(crate) struct LowestPosition<L: LogId> {
+    lowest: Option<ShardPosition<L>>,
     // Ghost: all positions, by the shard's index.
-    stood: History<u64>,
-    ghost least: { All (λ p. unwrap_or (option_map (λ s. s.place) lowest) 0 ≤ p) stood } by { Prim.hlevel props },
-    ghost none: { lowest ≡ None → stood ≡ [] },
+    positions: History<u64>,
+    ghost least: { All (λ p. unwrap_or (option_map (λ s. s.place) lowest) 0 ≤ p) positions } by { Prim.hlevel props },
+    ghost none: { lowest ≡ None → positions ≡ [] },
 }
 
-impl<J: Naming> Least<J> {
-    /// Creates a `Least` with no shards.
-    pub(crate) fn new() -> Least<J>
-        ensures { (result.lowest ≡ None) × (result.stood ≡ []) }
+impl<L: LogId> LowestPosition<L> {
+    /// Creates a `LowestPosition` with no shards.
+    pub(crate) fn new() -> LowestPosition<L>
+        ensures { (result.lowest ≡ None) × (result.positions ≡ []) }
     {
-        Least {
+        LowestPosition {
             lowest: None,
-            stood: History::new(),
+            positions: History::new(),
         }
     }
 
     /// Adds the position of the next shard.
-    pub(crate) fn add(&mut self, stood: Stood<J>)
-        requires next { stood.index.value ≡ length self.old.stood }
-        ensures added { self.new.stood ≡ self.old.stood ++ stood.place ∷ [] }
+    pub(crate) fn add(&mut self, position: ShardPosition<L>)
+        requires next { position.index.value ≡ length self.old.positions }
+        ensures added { self.new.positions ≡ self.old.positions ++ position.place ∷ [] }
     {
-        self.stood.push(&stood.place());
+        self.positions.push(&position.place());
         let is_lower = match &self.lowest {
-            Some(lowest) => stood.place() < lowest.place(),
+            Some(lowest) => position.place() < lowest.place(),
             None => true,
         };
         if is_lower {
-            self.lowest = Some(stood);
+            self.lowest = Some(position);
         }
     }
 
     /// Returns a shard at the lowest position, or `None` if no shard was added.
-    pub(crate) fn into_lowest(self) -> Option<Stood<J>>
+    pub(crate) fn into_lowest(self) -> Option<ShardPosition<L>>
         ensures lowest { result ≡ self.lowest }
-        ensures least { IfSome result (λ s. All (λ p. s.place ≤ p) self.stood) }
-        ensures some { 0 < length self.stood → is_some result ≡ true }
+        ensures least { IfSome result (λ s. All (λ p. s.place ≤ p) self.positions) }
+        ensures some { 0 < length self.positions → is_some result ≡ true }
     {
         self.lowest
     }
 }
 
-/// The result of advancing all shards to a note.
+/// The result of advancing all shards to a prefix.
 ///
 /// The first shard to advance is `first`. After the last shard, shard 0 follows.
 #[derive(Drop)]
-pub struct AllBrought<J: Naming> {
-    note: Snapshot<Front<J>>,
+pub struct AdvanceReport<L: LogId> {
+    prefix: Snapshot<Front<L>>,
     first: usize,
     shards: usize,
     // Ghost: what stopped each shard, in the order of advancing.
@@ -76,17 +76,17 @@ pub struct AllBrought<J: Naming> {
     ghost counted: { behind ≡ lagging_of stays },
 }
 
-impl<J: Naming> AllBrought<J> {
-    /// Creates the result before any of `shards` shards has advanced to `note`.
+impl<L: LogId> AdvanceReport<L> {
+    /// Creates the result before any of `shards` shards has advanced to `prefix`.
     ///
-    /// The index of the first shard to advance is the length of the note's list modulo `shards`.
+    /// The index of the first shard to advance is the length of the prefix's list modulo `shards`.
     /// Threads that advance shards at the same time therefore mostly start at different ones.
-    pub(crate) fn new(note: &Front<J>, shards: usize) -> AllBrought<J>
-        ensures { (result.note.value ≡ note.now) × (result.shards ≡ shards) × (result.stays ≡ []) }
+    pub(crate) fn new(prefix: &Front<L>, shards: usize) -> AdvanceReport<L>
+        ensures { (result.prefix.value ≡ prefix.now) × (result.shards ≡ shards) × (result.stays ≡ []) }
     {
-        AllBrought {
-            note: Snapshot::of(note),
-            first: (note.len() as usize).checked_rem(shards).unwrap_or(0),
+        AdvanceReport {
+            prefix: Snapshot::of(prefix),
+            first: (prefix.len() as usize).checked_rem(shards).unwrap_or(0),
             shards,
             stays: History::new(),
             behind: Lagging::none(),
@@ -107,15 +107,15 @@ impl<J: Naming> AllBrought<J> {
     }
 
     /// Adds the result of the next shard.
-    pub(crate) fn add(&mut self, brought: Brought<J>)
-        requires next { brought.index.value ≡ walked_at self.old.first self.old.shards (length self.old.stays) }
-        requires note { brought.note.value ≡ self.old.note.value }
+    pub(crate) fn add(&mut self, advanced: ShardAdvance<L>)
+        requires next { advanced.index.value ≡ walked_at self.old.first self.old.shards (length self.old.stays) }
+        requires prefix { advanced.prefix.value ≡ self.old.prefix.value }
         requires few { length self.old.stays < 18446744073709551615 }
-        ensures added { self.new.stays ≡ self.old.stays ++ brought.stays ∷ [] }
-        ensures same { (self.new.note ≡ self.old.note) × (self.new.first ≡ self.old.first)
+        ensures added { self.new.stays ≡ self.old.stays ++ advanced.stays ∷ [] }
+        ensures same { (self.new.prefix ≡ self.old.prefix) × (self.new.first ≡ self.old.first)
             × (self.new.shards ≡ self.old.shards) }
     {
-        let stays = brought.stays();
+        let stays = advanced.stays();
         self.stays.push(&stays);
         match stays {
             Some(fault) => self.behind = self.behind.with(fault),
@@ -131,24 +131,24 @@ impl<J: Naming> AllBrought<J> {
     }
 }
 
-/// Evidence that a change was applied to all shards in turn, as [`Changed`] is for one.
+/// Evidence that a change was applied to all shards in turn, as [`ChangeEvidence`] is for one.
 ///
 /// For [`Change::Shut`], admission was closed before.
 #[derive(Drop)]
-pub struct AllChanged<J: Naming> {
+pub struct ChangeReport<L: LogId> {
     change: Snapshot<Change>,
     // Ghost: how many answers each shard dropped, in the order of the shards.
     done: History<usize>,
     dropped: usize,
-    of: PhantomData<J>,
+    of: PhantomData<L>,
 }
 
-impl<J: Naming> AllChanged<J> {
+impl<L: LogId> ChangeReport<L> {
     /// Creates evidence of a sweep before place `before`, with no shard swept yet.
-    pub(crate) fn sweeping(before: u64) -> AllChanged<J>
+    pub(crate) fn sweeping(before: u64) -> ChangeReport<L>
         ensures { (result.change.value ≡ changes.Sweep before) × (result.done ≡ []) × (result.dropped ≡ 0) }
     {
-        AllChanged {
+        ChangeReport {
             change: Snapshot::of(&Change::Sweep { before }),
             done: History::new(),
             dropped: 0,
@@ -157,12 +157,12 @@ impl<J: Naming> AllChanged<J> {
     }
 
     /// Creates evidence that `admission` is closed, with no shard closed yet.
-    pub(crate) fn shutting<R: Wait + Drop>(admission: &Admission<J, R>) -> AllChanged<J>
+    pub(crate) fn shutting<R: Wait + Drop>(admission: &Admission<L, R>) -> ChangeReport<L>
         requires { admission.now.closed ≡ true }
         ensures { (result.change.value ≡ changes.Shut) × (result.done ≡ []) × (result.dropped ≡ 0) }
     {
         let _ = admission;
-        AllChanged {
+        ChangeReport {
             change: Snapshot::of(&Change::Shut),
             done: History::new(),
             dropped: 0,
@@ -171,7 +171,7 @@ impl<J: Naming> AllChanged<J> {
     }
 
     /// Adds evidence of the change to the next shard.
-    pub(crate) fn add(&mut self, changed: Changed<J>)
+    pub(crate) fn add(&mut self, changed: ChangeEvidence<L>)
         requires next { changed.shard.value ≡ length self.old.done }
         requires change { changed.change.value ≡ self.old.change.value }
         ensures added { self.new.done ≡ self.old.done ++ changed.dropped ∷ [] }

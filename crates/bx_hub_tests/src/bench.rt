@@ -7,7 +7,7 @@ use bx_calls::{
 use bx_entry::{Arrival, ByTable, Ticket};
 use bx_hub::{Gate, Hub, Lagging, Pass, PostFault, RecordFront, Watch};
 use bx_record::{Chunk, RecordFault};
-use bx_window::Naming;
+use bx_window::LogId;
 use futures::task::{Poll, Source, Waker};
 use futures::test::MockTask;
 use std::alloc::{AllocGlobal, Global};
@@ -119,10 +119,10 @@ pub fn behind(paused: usize) -> Lagging {
 
 /// A hub, its caller's pass, and the waiting tasks.
 #[derive(Drop)]
-pub struct Bench<J: Naming, H: Wait + Drop> {
+pub struct Bench<L: LogId, H: Wait + Drop> {
     pub alloc: Global,
-    pub hub: Hub<J, ByTable, Looking, H>,
-    pub pass: Pass<J>,
+    pub hub: Hub<L, ByTable, Looking, H>,
+    pub pass: Pass<L>,
     pub waiting: Arc<Waiting, Global>,
     /// The last request that was not admitted.
     pub back: Option<Arrival>,
@@ -130,7 +130,7 @@ pub struct Bench<J: Naming, H: Wait + Drop> {
     pub older: Option<Waker>,
 }
 
-impl<J: Naming, H: Wait + Drop> Bench<J, H> {
+impl<L: LogId, H: Wait + Drop> Bench<L, H> {
     /// Creates the ticket of a connect or rider at `place` in the first session's shard.
     pub fn ticket(&self, place: u64) -> Ticket {
         Ticket {
@@ -189,7 +189,7 @@ impl<J: Naming, H: Wait + Drop> Bench<J, H> {
         body: &str,
     ) -> Result<(u64, Lagging), PostFault> {
         match self.hub.post(rt, self.alloc, &mut self.pass, arrival) {
-            Ok(posted) => Ok((posted.first, posted.brought.behind())),
+            Ok(posted) => Ok((posted.first, posted.advanced.behind())),
             Err((back, why)) => {
                 same(rt, is_of(&back, body), true, body);
                 self.back = Some(back);
@@ -264,7 +264,7 @@ impl<J: Naming, H: Wait + Drop> Bench<J, H> {
         rt: &R,
         length: usize,
         fault: Option<RecordFault>,
-    ) -> Result<Chunk<RecordFront<J>>, Fail> {
+    ) -> Result<Chunk<RecordFront<L>>, Fail> {
         let waiting = if fault.is_none() { length } else { 0 };
         same(rt, self.hub.record_waiting(rt), waiting, "what waits");
         match self.hub.take_record(rt, Vec::new(self.alloc)) {

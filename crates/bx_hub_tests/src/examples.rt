@@ -8,17 +8,17 @@ use bx_advice::Config;
 use bx_calls::{CONNECT, HANDSHAKE, arrival, post};
 use bx_entry::{ByRemainder, Placing, Slot};
 use bx_hub::{Gate, Hub, OpenGate};
-use bx_window::{Naming, Opened};
+use bx_window::{LogId, Opened};
 use std::alloc::Global;
 use std::marker::Brand;
 use std::process::Abort;
 use std::sync::{Arc, Wait};
 use std::test::*;
 
-fn posts_and_polls<J: Naming, P: Placing, G: Gate + Drop, H: Wait + Drop, R: Wait + Abort>(
+fn posts_and_polls<L: LogId, P: Placing, G: Gate + Drop, H: Wait + Drop, R: Wait + Abort>(
     rt: &R,
     alloc: Global,
-    hub: &Hub<J, P, G, H>,
+    hub: &Hub<L, P, G, H>,
 ) -> Result<(), Fail> {
     post(rt, alloc, hub, &mut hub.pass(), HANDSHAKE)?;
     let connect = arrival(alloc, CONNECT)?;
@@ -36,18 +36,18 @@ fn posts_and_polls<J: Naming, P: Placing, G: Gate + Drop, H: Wait + Drop, R: Wai
     Ok(())
 }
 
-fn over_a_hub<J: Naming, R: Wait + Abort>(
+fn over_a_hub<L: LogId, R: Wait + Abort>(
     rt: &R,
     alloc: Global,
     opened: Opened,
     config: Config,
     placing: Arc<ByRemainder, Global>,
 ) -> Result<(), Fail>
-    requires book { opened.seen.book ≡ J.book }
-    requires config { config ≡ J.config }
-    requires placing { by_remainder ≡ J.placing }
+    requires book { opened.seen.book ≡ L.book }
+    requires config { config ≡ L.config }
+    requires placing { by_remainder ≡ L.placing }
 {
-    let hub = Hub::<J, ByRemainder, OpenGate, &R>::new(
+    let hub = Hub::<L, ByRemainder, OpenGate, &R>::new(
         alloc, rt, opened, config, placing, OpenGate,
     )?;
     posts_and_polls(rt, alloc, &hub)

@@ -1,18 +1,18 @@
 //! Test that types can move to other threads.
 use bx_entry::{Batch, Entry};
-use bx_window::{Bundle, Front, LogReader, LogWriter, Naming, Next, Opened, PublishedBatch, Ring};
+use bx_window::{Bundle, Front, LogId, LogReader, LogWriter, Next, Opened, PublishedBatch, Ring};
 use std::alloc::Global;
 use std::marker::Brand;
 use std::sync::{Arc, Wait};
 
 fn moves<T: Send>() {}
 
-fn all_move<J: Naming + Send + Sync, R: Wait + Drop + Send>() {
-    moves::<Front<J>>();
-    moves::<LogReader<J>>();
-    moves::<LogWriter<J, R>>();
-    moves::<PublishedBatch<J>>();
-    moves::<Ring<J>>();
+fn all_move<L: LogId + Send + Sync, R: Wait + Drop + Send>() {
+    moves::<Front<L>>();
+    moves::<LogReader<L>>();
+    moves::<LogWriter<L, R>>();
+    moves::<PublishedBatch<L>>();
+    moves::<Ring<L>>();
 }
 
 fn values_move() {

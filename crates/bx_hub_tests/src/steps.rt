@@ -10,7 +10,7 @@ use bx_calls::{Found, arrival, find, hold, in_turn, publish, shards_for};
 use bx_entry::{ByTable, Ticket};
 use bx_hub::{Hub, PostFault, ShardSurvey, Survey};
 use bx_record::RecordFault;
-use bx_window::{Naming, Opened};
+use bx_window::{LogId, Opened};
 use std::alloc::{AllocGlobal, Global};
 use std::marker::Brand;
 use std::process::Abort;
@@ -89,9 +89,9 @@ pub enum Step {
 }
 
 // Runs a step that posts or ticks, and passes other steps to `ask`.
-fn take<J: Naming, H: Wait + Drop, R: Wait + Abort>(
+fn take<L: LogId, H: Wait + Drop, R: Wait + Abort>(
     rt: &R,
-    bench: &mut Bench<J, H>,
+    bench: &mut Bench<L, H>,
     step: Step,
 ) -> Result<(), Fail> {
     let alloc = bench.alloc;
@@ -125,9 +125,9 @@ fn take<J: Naming, H: Wait + Drop, R: Wait + Abort>(
 }
 
 // Runs a step that polls, watches, sweeps, closes, pauses or resumes, and passes others to `look`.
-fn ask<J: Naming, H: Wait + Drop, R: Wait + Abort>(
+fn ask<L: LogId, H: Wait + Drop, R: Wait + Abort>(
     rt: &R,
-    bench: &mut Bench<J, H>,
+    bench: &mut Bench<L, H>,
     step: Step,
 ) -> Result<(), Fail> {
     let home = bench.waiting.home;
@@ -160,9 +160,9 @@ fn ask<J: Naming, H: Wait + Drop, R: Wait + Abort>(
 }
 
 // Runs a step that inspects the hub or uses its record.
-fn look<J: Naming, H: Wait + Drop, R: Wait + Abort>(
+fn look<L: LogId, H: Wait + Drop, R: Wait + Abort>(
     rt: &R,
-    bench: &mut Bench<J, H>,
+    bench: &mut Bench<L, H>,
     step: Step,
 ) -> Result<(), Fail> {
     let (alloc, hub, waiting) = (bench.alloc, &bench.hub, &bench.waiting);
@@ -201,9 +201,9 @@ fn look<J: Naming, H: Wait + Drop, R: Wait + Abort>(
 }
 
 // Runs all steps, and checks that the gate is called as often after advances as before them.
-fn take_all<J: Naming, H: Wait + Drop, R: Wait + Abort>(
+fn take_all<L: LogId, H: Wait + Drop, R: Wait + Abort>(
     rt: &R,
-    bench: &mut Bench<J, H>,
+    bench: &mut Bench<L, H>,
     steps: &[Step],
 ) -> Result<(), Fail> {
     same(rt, bench.pass.len(), 0, "seen at first");
@@ -217,7 +217,7 @@ fn take_all<J: Naming, H: Wait + Drop, R: Wait + Abort>(
     Ok(())
 }
 
-fn run_in_hub<J: Naming, R: Wait + Abort>(
+fn run_in_hub<L: LogId, R: Wait + Abort>(
     rt: &R,
     alloc: Global,
     opened: Opened,
@@ -226,12 +226,12 @@ fn run_in_hub<J: Naming, R: Wait + Abort>(
     gates: (Looking, Arc<Waiting, Global>),
     steps: &[Step],
 ) -> Result<(), Fail>
-    requires book { opened.seen.book ≡ J.book }
-    requires config { config ≡ J.config }
-    requires placing { by_table (arc_value placing) ≡ J.placing }
+    requires book { opened.seen.book ≡ L.book }
+    requires config { config ≡ L.config }
+    requires placing { by_table (arc_value placing) ≡ L.placing }
 {
     let (gate, waiting) = gates;
-    let hub = Hub::<J, ByTable, Looking, &R>::new(alloc, rt, opened, config, placing, gate)?;
+    let hub = Hub::<L, ByTable, Looking, &R>::new(alloc, rt, opened, config, placing, gate)?;
     let pass = hub.pass();
     let mut bench = Bench {
         alloc,

@@ -3,7 +3,7 @@ ghost use Rattle.std.specs.Prelude.{◌≡◌, [], IfOk};
 
 use crate::same::same;
 use bx_calls::{Taken, Ticker};
-use bx_window::{Front, LogReader, Naming, Next, Opened, PublishFault, entry_of, log_pair};
+use bx_window::{Front, LogId, LogReader, Next, Opened, PublishFault, entry_of, log_pair};
 use std::alloc::{AllocError, Global};
 use std::marker::Brand;
 use std::process::Abort;
@@ -121,12 +121,12 @@ const RUNS: [&[Step]; 6] = [
 ];
 
 // Creates a writer of ticks with two readers.
-fn pair<J: Naming, R: Wait + Drop>(
+fn pair<L: LogId, R: Wait + Drop>(
     alloc: Global,
     rt: R,
     opened: Opened,
-) -> Result<(Ticker<J, R>, LogReader<J>, LogReader<J>), AllocError>
-    requires { opened.seen.book ≡ J.book }
+) -> Result<(Ticker<L, R>, LogReader<L>, LogReader<L>), AllocError>
+    requires { opened.seen.book ≡ L.book }
 {
     let (writer, mut readers) = log_pair(alloc, rt, opened, 2)?;
     let other = readers.pop().ok_or(AllocError)?;
@@ -134,7 +134,7 @@ fn pair<J: Naming, R: Wait + Drop>(
     Ok((Ticker::new(writer), reader, other))
 }
 
-fn find<J: Naming>(reader: &mut LogReader<J>, place: u64) -> Found {
+fn find<L: LogId>(reader: &mut LogReader<L>, place: u64) -> Found {
     match reader.next(place) {
         Ok(Next::Batch(batch)) => {
             let entry = entry_of(&batch, place).place;
@@ -146,34 +146,34 @@ fn find<J: Naming>(reader: &mut LogReader<J>, place: u64) -> Found {
     }
 }
 
-// Checks that a reader that has seen nothing learns `note`, and ignores an older one.
-fn check_told<J: Naming, R: Abort>(
+// Checks that a reader that has seen nothing learns `prefix`, and ignores an older one.
+fn check_told<L: LogId, R: Abort>(
     rt: &R,
-    reader: &mut LogReader<J>,
-    note: &Front<J>,
+    reader: &mut LogReader<L>,
+    prefix: &Front<L>,
     length: u64,
 ) {
     let old = reader.note();
     same(rt, old.len(), 0, "before");
-    reader.learn(note);
+    reader.learn(prefix);
     same(rt, reader.note().len(), length, "told");
     reader.learn(&old);
     same(rt, reader.note().len(), length, "told what is old");
 }
 
 // Checks that `long` covers `short` and itself, and that `short` does not cover `long`.
-fn check_covers<J: Naming, R: Abort>(rt: &R, long: &Front<J>, short: &Front<J>) {
+fn check_covers<L: LogId, R: Abort>(rt: &R, long: &Front<L>, short: &Front<L>) {
     same(rt, long.covers(short), true, "the shorter");
     same(rt, long.covers(&long.again()), true, "itself");
     same(rt, short.covers(long), false, "the longer");
 }
 
-fn take<J: Naming, H: Wait + Drop, R: Abort>(
+fn take<L: LogId, H: Wait + Drop, R: Abort>(
     rt: &R,
     alloc: Global,
-    writer: &mut Ticker<J, H>,
-    reader: &mut LogReader<J>,
-    other: &mut LogReader<J>,
+    writer: &mut Ticker<L, H>,
+    reader: &mut LogReader<L>,
+    other: &mut LogReader<L>,
     step: Step,
 ) -> Result<(), AllocError> {
     match step {
@@ -209,12 +209,12 @@ fn take<J: Naming, H: Wait + Drop, R: Abort>(
     Ok(())
 }
 
-fn take_all<J: Naming, H: Wait + Drop, R: Abort>(
+fn take_all<L: LogId, H: Wait + Drop, R: Abort>(
     rt: &R,
     alloc: Global,
-    writer: &mut Ticker<J, H>,
-    reader: &mut LogReader<J>,
-    other: &mut LogReader<J>,
+    writer: &mut Ticker<L, H>,
+    reader: &mut LogReader<L>,
+    other: &mut LogReader<L>,
     steps: &[Step],
 ) -> Result<(), AllocError> {
     for step in steps {
@@ -223,15 +223,15 @@ fn take_all<J: Naming, H: Wait + Drop, R: Abort>(
     Ok(())
 }
 
-fn ask<J: Naming, R: Wait + Abort>(
+fn ask<L: LogId, R: Wait + Abort>(
     rt: &R,
     alloc: Global,
     opened: Opened,
     steps: &[Step],
 ) -> Result<(), AllocError>
-    requires { opened.seen.book ≡ J.book }
+    requires { opened.seen.book ≡ L.book }
 {
-    let (mut writer, mut reader, mut other) = pair::<J, &R>(alloc, rt, opened)?;
+    let (mut writer, mut reader, mut other) = pair::<L, &R>(alloc, rt, opened)?;
     take_all(rt, alloc, &mut writer, &mut reader, &mut other, steps)
 }
 

@@ -22,7 +22,7 @@ pub(crate) const SOON: usize = 64 << 10;
 /// Why writing ended.
 #[derive(Debug, Drop)]
 pub enum End<E> {
-    /// `is_over` was set, and everything that waited is written.
+    /// `stop` was set, and everything that waited is written.
     Told,
     /// The text ended, for this reason; its last part is written.
     Ended(E),
@@ -41,9 +41,9 @@ pub struct Written<E> {
     pub end: End<E>,
 }
 
-/// Writes what waits in `source` to `out`, until `is_over` is set.
+/// Writes what waits in `source` to `out`, until `stop` is set.
 ///
-/// Writes at once, then every 100 ms, or within 10 ms if 64 KiB of text wait. After `is_over` is
+/// Writes at once, then every 100 ms, or within 10 ms if 64 KiB of text wait. After `stop` is
 /// set, writes a last time and does not stop the source.
 ///
 /// Ends earlier if the text ends or cannot be written, and then stops the source.
@@ -56,7 +56,7 @@ pub fn write_out<R, S, W>(
     alloc: Global,
     mut source: S,
     out: Out<S::Extent, W>,
-    is_over: &AtomicBool,
+    stop: &AtomicBool,
 ) -> Written<S::Fault>
 where
     R: Wait + Clock,
@@ -67,8 +67,8 @@ where
     let (mut text, mut answers) = (Vec::new(alloc), Vec::new(alloc));
     let mut looks = 0;
     for _ in rt.forever() {
-        // Read first, so that all that was appended before `is_over` was set is written.
-        let is_last = is_over.load(Ordering::SeqCst);
+        // Read first, so that all that was appended before `stop` was set is written.
+        let is_last = stop.load(Ordering::SeqCst);
         if is_last || looks == 0 || source.waiting() >= SOON {
             looks = LOOKS;
             match write_once(&mut source, out, text, answers) {

@@ -12,7 +12,7 @@ use bx_advice::Config;
 use bx_entry::ByRemainder;
 use bx_hub::{Hub, OpenGate};
 use bx_record::RecordFault;
-use bx_window::{Naming, Opened};
+use bx_window::{LogId, Opened};
 use said::Said;
 use std::alloc::{AllocGlobal, Global};
 use std::marker::Brand;
@@ -20,7 +20,7 @@ use std::random::RandomSource;
 use std::sync::{Arc, Wait};
 
 /// The hub of these runs.
-pub type Served<J, R> = Hub<J, ByRemainder, OpenGate, R>;
+pub type Served<L, R> = Hub<L, ByRemainder, OpenGate, R>;
 
 /// Runs two sessions and a tick over two shards, and then over one.
 ///
@@ -53,7 +53,7 @@ where
     serves::<Brand, R>(rt, alloc, Opened::new(), config, placing)
 }
 
-fn serves<J, R>(
+fn serves<L, R>(
     rt: &R,
     alloc: Global,
     opened: Opened,
@@ -61,14 +61,14 @@ fn serves<J, R>(
     placing: Arc<ByRemainder, Global>,
 ) -> Result<String, Unlike>
 where
-    J: Naming,
+    L: LogId,
     R: Wait + RandomSource + AllocGlobal,
-    requires book { opened.seen.book ≡ J.book }
-    requires config { config ≡ J.config }
-    requires placing { by_remainder ≡ J.placing }
+    requires book { opened.seen.book ≡ L.book }
+    requires config { config ≡ L.config }
+    requires placing { by_remainder ≡ L.placing }
 {
     let shards = config.shards;
-    let hub = Served::<J, &R>::new(alloc, rt, opened, config, placing, OpenGate)?;
+    let hub = Served::<L, &R>::new(alloc, rt, opened, config, placing, OpenGate)?;
     let hub = Arc::new(alloc, hub)?;
     let mut said = Said::new(alloc);
     if hub.start_record(rt, alloc).is_err() {
@@ -80,9 +80,9 @@ where
 }
 
 // Checks that the record still runs, or that it ended for lack of memory.
-fn check_record<'a, J, R>(rt: &'a R, alloc: Global, hub: &Served<J, &'a R>) -> Result<(), Unlike>
+fn check_record<'a, L, R>(rt: &'a R, alloc: Global, hub: &Served<L, &'a R>) -> Result<(), Unlike>
 where
-    J: Naming,
+    L: LogId,
     R: Wait,
 {
     let Ok(taken) = hub.take_record(rt, Vec::new(alloc)) else {
@@ -95,15 +95,15 @@ where
     }
 }
 
-fn exchange<'a, J, R>(
+fn exchange<'a, L, R>(
     rt: &'a R,
     alloc: Global,
-    hub: &Arc<Served<J, &'a R>, Global>,
+    hub: &Arc<Served<L, &'a R>, Global>,
     shards: usize,
     said: &mut Said,
 ) -> Result<(), Unlike>
 where
-    J: Naming,
+    L: LogId,
     R: Wait + RandomSource + AllocGlobal,
 {
     if shards == 1 {

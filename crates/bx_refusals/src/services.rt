@@ -14,7 +14,7 @@ use bx_advice::Config;
 use bx_entry::{Access, ByRemainder};
 use bx_hub::OpenGate;
 use bx_service::{BayeuxService, Clock, HubBackend, Nonces};
-use bx_window::{Naming, Opened};
+use bx_window::{LogId, Opened};
 use client::Client;
 use exchanges::made;
 use futures::test::MockTask;
@@ -61,7 +61,7 @@ where
     serves::<Brand, R>(rt, alloc, Opened::new(), config, placing, task)
 }
 
-fn serves<J, R>(
+fn serves<L, R>(
     rt: R,
     alloc: Global,
     opened: Opened,
@@ -70,13 +70,13 @@ fn serves<J, R>(
     task: MockTask,
 ) -> Result<String, Unlike>
 where
-    J: Naming,
+    L: LogId,
     R: Wait + Copy + Drop,
-    requires book { opened.seen.book ≡ J.book }
-    requires config { config ≡ J.config }
-    requires placing { by_remainder ≡ J.placing }
+    requires book { opened.seen.book ≡ L.book }
+    requires config { config ≡ L.config }
+    requires placing { by_remainder ≡ L.placing }
 {
-    let hub = Served::<J, R>::new(alloc, rt, opened, config, placing, OpenGate)?;
+    let hub = Served::<L, R>::new(alloc, rt, opened, config, placing, OpenGate)?;
     let hub = Arc::new(alloc, hub)?;
     let backend = HubBackend::new(
         rt,

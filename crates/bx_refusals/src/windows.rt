@@ -6,7 +6,7 @@ mod shows;
 use crate::requests::add_line;
 use crate::unlike::Unlike;
 use bx_calls::Ticker;
-use bx_window::{LogReader, Naming, Opened, PublishFault, log_pair};
+use bx_window::{LogId, LogReader, Opened, PublishFault, log_pair};
 use shows::shown;
 use std::alloc::Global;
 use std::marker::Brand;
@@ -45,10 +45,10 @@ pub fn run<R: Wait>(rt: &R, alloc: Global) -> Result<String, Unlike> {
     worked::<Brand, R>(rt, alloc, Opened::new())
 }
 
-fn worked<J: Naming, R: Wait>(rt: &R, alloc: Global, opened: Opened) -> Result<String, Unlike>
-    requires { opened.seen.book ≡ J.book }
+fn worked<L: LogId, R: Wait>(rt: &R, alloc: Global, opened: Opened) -> Result<String, Unlike>
+    requires { opened.seen.book ≡ L.book }
 {
-    let (writer, mut readers) = log_pair::<J, &R>(alloc, rt, opened, 2)?;
+    let (writer, mut readers) = log_pair::<L, &R>(alloc, rt, opened, 2)?;
     let mut writer = Ticker::new(writer);
     match (readers.pop(), readers.pop()) {
         (Some(mut other), Some(mut reader)) => told(alloc, &mut writer, &mut reader, &mut other),
@@ -56,11 +56,11 @@ fn worked<J: Naming, R: Wait>(rt: &R, alloc: Global, opened: Opened) -> Result<S
     }
 }
 
-fn told<J: Naming, R: Wait + Drop>(
+fn told<L: LogId, R: Wait + Drop>(
     alloc: Global,
-    writer: &mut Ticker<J, R>,
-    reader: &mut LogReader<J>,
-    other: &mut LogReader<J>,
+    writer: &mut Ticker<L, R>,
+    reader: &mut LogReader<L>,
+    other: &mut LogReader<L>,
 ) -> Result<String, Unlike> {
     let mut text = String::new(alloc);
     work(alloc, writer, reader, &mut text)?;
@@ -70,10 +70,10 @@ fn told<J: Naming, R: Wait + Drop>(
 }
 
 // Makes all changes. After each, appends a line with what the reader finds.
-fn work<J: Naming, R: Wait + Drop>(
+fn work<L: LogId, R: Wait + Drop>(
     alloc: Global,
-    writer: &mut Ticker<J, R>,
-    reader: &mut LogReader<J>,
+    writer: &mut Ticker<L, R>,
+    reader: &mut LogReader<L>,
     text: &mut String,
 ) -> Result<(), Unlike> {
     for deed in DEEDS {
@@ -90,10 +90,10 @@ fn work<J: Naming, R: Wait + Drop>(
 
 // Publishes a batch of `count` ticks. If memory runs out, checks that the reader still finds
 // `before`, and publishes the returned batch.
-fn publish<J: Naming, R: Wait + Drop>(
+fn publish<L: LogId, R: Wait + Drop>(
     alloc: Global,
-    writer: &mut Ticker<J, R>,
-    reader: &mut LogReader<J>,
+    writer: &mut Ticker<L, R>,
+    reader: &mut LogReader<L>,
     count: u64,
     before: &str,
 ) -> Result<(), Unlike> {
@@ -113,10 +113,10 @@ fn publish<J: Naming, R: Wait + Drop>(
 
 // Trims the window. If memory runs out, checks that the reader still finds `before`, and trims
 // again.
-fn trim<J: Naming, R: Wait + Drop>(
+fn trim<L: LogId, R: Wait + Drop>(
     alloc: Global,
-    writer: &mut Ticker<J, R>,
-    reader: &mut LogReader<J>,
+    writer: &mut Ticker<L, R>,
+    reader: &mut LogReader<L>,
     place: u64,
     before: &str,
 ) -> Result<(), Unlike> {
@@ -131,10 +131,10 @@ fn trim<J: Naming, R: Wait + Drop>(
 }
 
 // Checks that the reader still finds `before`, and has seen all steps of the writer.
-fn check_same<J: Naming, R: Wait + Drop>(
+fn check_same<L: LogId, R: Wait + Drop>(
     alloc: Global,
-    writer: &Ticker<J, R>,
-    reader: &mut LogReader<J>,
+    writer: &Ticker<L, R>,
+    reader: &mut LogReader<L>,
     before: &str,
 ) -> Result<(), Unlike> {
     let after = shown(alloc, reader, writer.end)?;

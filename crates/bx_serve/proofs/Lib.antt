@@ -1,1 +1,1 @@
-pub mod PatienceLemmas
+pub mod TimeoutLemmas

@@ -2,10 +2,10 @@
 use Rattle.std.specs.Prelude.{◌≡◌}
 use Rattle.http.specs.Request.{head_of, body_of}
 use Rattle.http.specs.declared.request.Request.{Request}
-use Rattle.bx_serve.specs.declared.patient.Patient.{Patient}
+use Rattle.bx_serve.specs.declared.timeout_body.TimeoutBody.{TimeoutBody}
 
 module _ {B T : Type 0} where
   -- `handed` has the head of `came`, and the body of `came` with a time limit.
-  pub record IsWithPatience (came : Request B) (handed : Request (Patient B T)) : Type 0 where
+  pub record IsWithTimeouts (came : Request B) (handed : Request (TimeoutBody B T)) : Type 0 where
     pub head : head_of handed ≡ head_of came
     pub body : (body_of handed).body ≡ body_of came

@@ -1,3 +1,3 @@
 pub mod Handing
-pub mod Patience
+pub mod Timeouts
 pub mod Waits

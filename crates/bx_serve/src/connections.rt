@@ -6,7 +6,7 @@ ghost use Rattle.tokio.specs.Net.{listener_readable};
 ghost use Rattle.tokio.specs.Timers.{interval_delay, sleep_source};
 ghost use Rattle.bx_serve.specs.Waits.{Awaits};
 
-use crate::maker::Maker;
+use crate::make_task::MakeTask;
 use futures::task::{Context, Poll};
 use futures::{Stream, ready};
 use std::time::Clock;
@@ -71,7 +71,7 @@ impl<R: Clock, M> Connections<R, M> {
     }
 }
 
-impl<R: Clock + Drop, M: Maker> Stream for Connections<R, M> {
+impl<R: Clock + Drop, M: MakeTask> Stream for Connections<R, M> {
     type Item = M::Task;
 
     ghost can_poll = { λ c. M.can_make c.maker };

@@ -3,18 +3,18 @@
 
 mod connections;
 mod listen;
-mod maker;
-mod patience;
-mod patient;
-mod peer;
+mod make_task;
 mod spawn_each;
 #[cfg(test)]
 mod tests;
+mod timeout_body;
+mod timeout_io;
+mod timeouts;
 
 pub use connections::{Connections, most_of};
-pub use listen::{Entrance, serve_until};
-pub use maker::{Maker, Quiet, Server};
-pub use patience::Patience;
-pub use patient::{Patient, PatientFault, Patiently};
-pub use peer::Peer;
+pub use listen::{Endpoint, serve_until};
+pub use make_task::{IgnoreOutput, MakeTask, Server};
 pub use spawn_each::{SpawnEach, run_until};
+pub use timeout_body::{TimeoutBody, TimeoutBodyFault, TimeoutService};
+pub use timeout_io::TimeoutIo;
+pub use timeouts::Timeouts;

@@ -1,6 +1,6 @@
 //! Serves the connections of one listener or two.
 use crate::connections::{Connections, most_of};
-use crate::maker::{Coming, Server};
+use crate::make_task::{RequestBody, Server};
 use crate::spawn_each::run_until;
 use bx_pieces::Pieces;
 use bytes::Bytes;
@@ -24,14 +24,14 @@ const PAUSE: u64 = 20;
 
 // Longest wait for more of a body, or for the peer to take more data, in milliseconds. Policy of
 // this server.
-const PATIENCE: u64 = 30_000;
+const IDLE_LIMIT: u64 = 30_000;
 
 // Longest time for a complete body, from the first wait for more of it, in milliseconds. Policy of
 // this server.
 const WHOLE: u64 = 300_000;
 
 /// A listener and the service for its connections.
-pub type Entrance<S> = (TcpListener, S);
+pub type Endpoint<S> = (TcpListener, S);
 
 /// Serves up to `count` connections over HTTP, each as a task, until `end` is ready.
 ///
@@ -52,14 +52,16 @@ pub type Entrance<S> = (TcpListener, S);
 pub fn serve_until<R, S, E, A, T>(
     rt: R,
     runtime: &mut Runtime,
-    first: Entrance<S>,
-    other: Option<Entrance<S>>,
+    first: Endpoint<S>,
+    other: Option<Endpoint<S>>,
     count: u64,
     end: A,
 ) -> io::Result<()>
 where
     R: Wait + Threads + Clock + RandomSource + AllocGlobal + Sync + Send + Copy + Drop,
-    S: Service<Request<Coming<R>>, Response = Response<Pieces<Bytes>>, Error = E> + Clone + Send,
+    S: Service<Request<RequestBody<R>>, Response = Response<Pieces<Bytes>>, Error = E>
+        + Clone
+        + Send,
     S::Future: Send,
     E: Into<anyhow::Error> + Drop + Send,
     A: Future<Output = T>,
@@ -75,15 +77,17 @@ where
     run_until(&rt, runtime, first, other, most_of(count), end)
 }
 
-// Creates the stream of the tasks that serve an entrance's connections.
+// Creates the stream of the tasks that serve an endpoint's connections.
 fn connections_of<R, S, E>(
     rt: &R,
     runtime: &Runtime,
-    (listener, service): Entrance<S>,
+    (listener, service): Endpoint<S>,
 ) -> io::Result<Connections<R, Server<R, S>>>
 where
     R: Clock + RandomSource + AllocGlobal + Copy + Drop,
-    S: Service<Request<Coming<R>>, Response = Response<Pieces<Bytes>>, Error = E> + Clone + Drop,
+    S: Service<Request<RequestBody<R>>, Response = Response<Pieces<Bytes>>, Error = E>
+        + Clone
+        + Drop,
     E: Into<anyhow::Error> + Drop,
 {
     let timers = runtime.handle().time().clone()?;
@@ -95,7 +99,7 @@ where
         http,
         service,
         timer,
-        limit: Duration::from_millis(PATIENCE),
+        limit: Duration::from_millis(IDLE_LIMIT),
         whole: Duration::from_millis(WHOLE),
     };
     Ok(Connections::new(*rt, listener.incoming(), maker, pause))

@@ -1,5 +1,5 @@
-use crate::patience::Patience;
-use crate::patient::{Patient, PatientFault};
+use crate::timeout_body::{TimeoutBody, TimeoutBodyFault};
+use crate::timeouts::Timeouts;
 use bytes::Bytes;
 use futures::task::{Context, Poll};
 use futures::test::MockTask;
@@ -79,7 +79,7 @@ fn end_of<R: RandomSource + AllocGlobal>(
     let clock = Told(&seconds);
     let mut driver = Driver::new(rt.alloc(), Instant::now(&clock)?)?;
     let timer = TokioTimer::new(clock, driver.handle().clone()?);
-    let patience = Patience::new(
+    let timeouts = Timeouts::new(
         timer,
         Duration::from_secs(30),
         whole.map(Duration::from_secs),
@@ -90,7 +90,7 @@ fn end_of<R: RandomSource + AllocGlobal>(
         step,
         left: count,
     };
-    let mut body = Patient::new(drips, patience);
+    let mut body = TimeoutBody::new(drips, timeouts);
     for second in 0..SECONDS {
         seconds.store(second, SeqCst);
         let now = Instant::now(&clock)?;
@@ -98,8 +98,8 @@ fn end_of<R: RandomSource + AllocGlobal>(
         for _ in 0..2 {
             match task.enter(|cx| body.poll_frame(cx)) {
                 Poll::Ready(None) => return Ok(End::Whole(second)),
-                Poll::Ready(Some(Err(PatientFault::Late))) => return Ok(End::Late(second)),
-                Poll::Ready(Some(Err(PatientFault::Body(error)))) => return Err(error.into()),
+                Poll::Ready(Some(Err(TimeoutBodyFault::Late))) => return Ok(End::Late(second)),
+                Poll::Ready(Some(Err(TimeoutBodyFault::Body(error)))) => return Err(error.into()),
                 Poll::Ready(Some(Ok(_))) | Poll::Pending => {}
             }
         }

@@ -14,7 +14,7 @@ use Rattle.bx_message.specs.declared.{reply.Answer.Answer, reply.Item.Item}
 use Rattle.bx_message.specs.declared.reply.Item.TheVariants.{EventItem, ReplyItem}
 use Rattle.bx_entry.specs.Placings.{Setup}
 use Rattle.bx_window.specs.declared.law.LogStep.{LogStep}
-use Rattle.bx_window.specs.declared.law.Naming as Naming
+use Rattle.bx_window.specs.declared.law.LogId as LogId
 
 -- If the slot waits, its ticket's place is below `end`.
 abbrev pub IsBelow : ℕ → Slot → Type 0
@@ -47,7 +47,7 @@ abbrev pub awaited_as : Ticket → List LogStep → Bool → Awaited
 awaited_as ticket seen is_done = record { ticket = ticket; seen = seen; is_done = is_done }
 
 -- The pending answer, if any.
-abbrev pub awaited : {J : Type 0} {g : Naming.Ghosts J} → Option (PendingAnswer J g) → Option Awaited
+abbrev pub awaited : {L : Type 0} {g : LogId.Ghosts L} → Option (PendingAnswer L g) → Option Awaited
 awaited held = option_map (λ h. awaited_as h.ticket h.pass h.is_done) held
 
 module _ (setup : Setup) where

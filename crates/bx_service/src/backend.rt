@@ -12,9 +12,9 @@ ghost use Rattle.bx_service.specs.declared.backend.Declined.{Declined};
 use crate::gathering::Gathering;
 use bx_cut::Bodies;
 use bx_entry::{Access, Arrival, Placing};
-use bx_hub::{Gate, Hub, PostFault, Stopped};
+use bx_hub::{Gate, Hub, NoAnswer, PostFault};
 use bx_message::Item;
-use bx_window::Naming;
+use bx_window::LogId;
 use futures::Future;
 use std::alloc::{AllocError, Global};
 use std::sync::{Arc, Wait};
@@ -49,8 +49,8 @@ impl From<AllocError> for Unanswered {
     }
 }
 
-impl<J: Naming> From<Stopped<J>> for Unanswered {
-    fn from(_stopped: Stopped<J>) -> Unanswered {
+impl<L: LogId> From<NoAnswer<L>> for Unanswered {
+    fn from(_no_answer: NoAnswer<L>) -> Unanswered {
         Unanswered
     }
 }
@@ -94,16 +94,16 @@ pub trait Backend: Drop {
 
 /// A [`Backend`] over a hub, for the requests of one listener.
 #[derive(Drop)]
-pub struct HubBackend<J: Naming, P: Placing, G: Gate + Drop, R: Wait + Drop, C, N> {
+pub struct HubBackend<L: LogId, P: Placing, G: Gate + Drop, R: Wait + Drop, C, N> {
     rt: R,
     alloc: Global,
-    hub: Arc<Hub<J, P, G, R>, Global>,
+    hub: Arc<Hub<L, P, G, R>, Global>,
     access: Access,
     clock: C,
     nonces: N,
 }
 
-impl<J: Naming, P: Placing, G: Gate + Drop, R: Wait + Drop, C, N> HubBackend<J, P, G, R, C, N> {
+impl<L: LogId, P: Placing, G: Gate + Drop, R: Wait + Drop, C, N> HubBackend<L, P, G, R, C, N> {
     /// Creates a backend that posts to `hub`.
     ///
     /// `access`: what the requests' listener allows. `clock` and `nonces`: the sources of each
@@ -111,11 +111,11 @@ impl<J: Naming, P: Placing, G: Gate + Drop, R: Wait + Drop, C, N> HubBackend<J, 
     pub fn new(
         rt: R,
         alloc: Global,
-        hub: Arc<Hub<J, P, G, R>, Global>,
+        hub: Arc<Hub<L, P, G, R>, Global>,
         access: Access,
         clock: C,
         nonces: N,
-    ) -> HubBackend<J, P, G, R, C, N>
+    ) -> HubBackend<L, P, G, R, C, N>
         ensures hub { arc_value result.hub ≡ arc_value hub }
         ensures others { (result.access ≡ access) × (result.clock ≡ clock) × (result.nonces ≡ nonces) }
     {
@@ -130,23 +130,23 @@ impl<J: Naming, P: Placing, G: Gate + Drop, R: Wait + Drop, C, N> HubBackend<J, 
     }
 }
 
-impl<J, P, G, R, C, N> Backend for HubBackend<J, P, G, R, C, N>
+impl<L, P, G, R, C, N> Backend for HubBackend<L, P, G, R, C, N>
 where
-    J: Naming,
+    L: LogId,
     P: Placing + Drop,
     G: Gate + Drop,
     R: Wait + Copy + Drop,
     C: Clock + Drop,
     N: Nonces + Drop,
 {
-    type Items = Gathering<J, P, G, R>;
+    type Items = Gathering<L, P, G, R>;
 
     // Ghost: on success there are no items yet, and the slots and the place are those that a
     // single-threaded server gives. On error the documents are unchanged, and the hub rejected them
     // or memory ran out.
     ghost admits = { λ backend bodies outcome.
         IfOk outcome (λ g. (g.items.items ≡ []) × (g.held ≡ None)
-        × AreSlotsFor (C.tells backend.clock) (N.draws backend.nonces) backend.access (setup_of J.config J.placing) (texts_of bodies)
+        × AreSlotsFor (C.tells backend.clock) (N.draws backend.nonces) backend.access (setup_of L.config L.placing) (texts_of bodies)
         g.pass g.first (into_iter_items g.slots))
         × IfErr outcome (λ d. (d.bodies ≡ bodies)
         × ((d.fault ≡ faults.Memory) ⊎ IsRefusedWith (C.tells backend.clock) (N.draws backend.nonces) backend.access
@@ -156,7 +156,7 @@ where
 
     // Clones the handle before the post, since no error may follow an admission. Locks as
     // `Hub::post` does.
-    fn admit(&self, bodies: Bodies) -> Result<Gathering<J, P, G, R>, Declined> {
+    fn admit(&self, bodies: Bodies) -> Result<Gathering<L, P, G, R>, Declined> {
         let Ok(hub) = Arc::try_clone(&self.hub) else {
             return Err(Declined {
                 fault: PostFault::Memory,
@@ -186,7 +186,7 @@ where
         }
     }
 
-    fn place(&self, items: &Gathering<J, P, G, R>) -> Option<u64> {
+    fn place(&self, items: &Gathering<L, P, G, R>) -> Option<u64> {
         items.place()
     }
 }

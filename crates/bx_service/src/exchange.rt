@@ -20,11 +20,11 @@ use crate::backend::{Backend, Unanswered};
 use crate::collect::{Collect, CollectError};
 use crate::limit::BodyLimit;
 use crate::observer::Observer;
+use crate::probe::RequestProbe;
 use crate::response::{answer, refusal};
 use crate::route::Route;
 use crate::service::ServiceFault;
 use crate::status::{body_status, post_status};
-use crate::watch::Watch;
 use bx_cut::Bodies;
 use bx_message::{Item, Status, number_of};
 use bx_pieces::Pieces;
@@ -47,7 +47,7 @@ pub struct Exchange<S, I, B, O: Observer> {
     // `None` after the output, or if the handle on the backend or the observer was not cloned.
     pub(crate) backend: Option<Arc<S, Global>>,
     pub(crate) state: State<I, B>,
-    pub(crate) watch: Watch<O>,
+    pub(crate) probe: RequestProbe<O>,
 }
 
 /// The progress of a request.
@@ -131,7 +131,7 @@ fn says_more(limit: BodyLimit, length: Option<&HeaderValue>) -> bool
 // Posts the documents of a request and returns its next state.
 fn admitted<S, I, B, D, O>(
     backend: &S,
-    watch: &mut Watch<O>,
+    probe: &mut RequestProbe<O>,
     callback: Option<String>,
     bodies: Bodies,
 ) -> State<I, B>
@@ -142,17 +142,17 @@ where
     D: Buf + Drop,
     O: Observer,
     ensures again { CanPoll I.can_poll B.can_poll result }
-    ensures place { IsPlaced S.stands watch.new.place result }
+    ensures place { IsPlaced S.stands probe.new.place result }
     ensures value { (sent : Sent) → MayAnswer I.gives (S.admits backend.now) D.unread B.yields result sent
         → ForDocuments I.gives (S.admits backend.now) (option_map string_bytes callback) (texts_of bodies) sent }
 {
     match backend.admit(bodies) {
         Ok(items) => {
-            watch.admit(backend.place(&items));
+            probe.admit(backend.place(&items));
             State::Held { callback, items }
         }
         Err(declined) => {
-            watch.refuse(declined.fault);
+            probe.refuse(declined.fault);
             State::Refused(post_status(declined.fault))
         }
     }
@@ -162,7 +162,7 @@ where
 fn posted<S, I, B, D, O>(
     alloc: Global,
     backend: &S,
-    watch: &mut Watch<O>,
+    probe: &mut RequestProbe<O>,
     content_type: Option<&HeaderValue>,
     collected: Result<Vec<u8>, CollectError>,
 ) -> State<I, B>
@@ -182,13 +182,18 @@ where
     };
     let content_type = content_type.map(|value| value.as_bytes());
     match read_post(alloc, content_type, body) {
-        Ok(bodies) => admitted(backend, watch, None, bodies),
+        Ok(bodies) => admitted(backend, probe, None, bodies),
         Err(error) => State::Refused(error.status()),
     }
 }
 
 // Reads the query of a GET, posts its documents and returns the next state.
-fn asked<S, I, B, D, O>(alloc: Global, backend: &S, watch: &mut Watch<O>, uri: &Uri) -> State<I, B>
+fn asked<S, I, B, D, O>(
+    alloc: Global,
+    backend: &S,
+    probe: &mut RequestProbe<O>,
+    uri: &Uri,
+) -> State<I, B>
 where
     S: Backend<Items = I>,
     I: Future<Output = Result<Vec<Item>, Unanswered>>,
@@ -200,7 +205,7 @@ where
         → ForAsked I.gives (S.admits backend.now) (query_of uri.now) sent }
 {
     match read_get(alloc, query_of(uri).as_bytes()) {
-        Ok((name, bodies)) => admitted(backend, watch, Some(name), bodies),
+        Ok((name, bodies)) => admitted(backend, probe, Some(name), bodies),
         Err(error) => State::Refused(error.status()),
     }
 }
@@ -208,17 +213,17 @@ where
 // Creates a response with `status` and no body, and reports it to the observer.
 fn refused<O: Observer>(
     alloc: Global,
-    watch: &Watch<O>,
+    probe: &RequestProbe<O>,
     status: Status,
 ) -> Result<Response<Pieces<Bytes>>, ServiceFault>
     ensures { IfOk result (IsRefusal status) }
 {
     match refusal(alloc, status) {
         Ok(response) => {
-            watch.respond(status);
+            probe.respond(status);
             Ok(response)
         }
-        Err(_) => Err(watch.give_up()),
+        Err(_) => Err(probe.give_up()),
     }
 }
 
@@ -226,22 +231,22 @@ fn refused<O: Observer>(
 // observer. The status is 503 if the items are unavailable or memory runs out.
 fn answered<O: Observer>(
     alloc: Global,
-    watch: &Watch<O>,
+    probe: &RequestProbe<O>,
     callback: Option<&str>,
     gathered: Result<Vec<Item>, Unanswered>,
 ) -> Result<Response<Pieces<Bytes>>, ServiceFault>
     ensures { IfOk result (ForItems (option_map (λ name. name.now) callback.entry) gathered) }
 {
-    watch.answer(&gathered);
+    probe.answer(&gathered);
     let Ok(items) = gathered else {
-        return refused(alloc, watch, Status::Unavailable);
+        return refused(alloc, probe, Status::Unavailable);
     };
     match answer(alloc, callback, items.as_slice()) {
         Ok(response) => {
-            watch.respond(Status::Ok);
+            probe.respond(Status::Ok);
             Ok(response)
         }
-        Err(_) => refused(alloc, watch, Status::Unavailable),
+        Err(_) => refused(alloc, probe, Status::Unavailable),
     }
 }
 
@@ -271,12 +276,12 @@ where
                     Poll::Ready(collected) => collected,
                 };
                 let content_type = content_type.as_ref();
-                let state = posted(alloc, backend, &mut self.watch, content_type, collected);
+                let state = posted(alloc, backend, &mut self.probe, content_type, collected);
                 drop(mem::replace(&mut self.state, state));
                 Poll::Ready(())
             }
             State::Asked(uri) => {
-                let state = asked(alloc, backend, &mut self.watch, uri);
+                let state = asked(alloc, backend, &mut self.probe, uri);
                 drop(mem::replace(&mut self.state, state));
                 Poll::Ready(())
             }
@@ -304,11 +309,11 @@ where
                 Poll::Pending => Poll::Pending,
                 Poll::Ready(gathered) => {
                     let callback = callback.as_ref().map(|it| it.as_str());
-                    Poll::Ready(answered(alloc, &self.watch, callback, gathered))
+                    Poll::Ready(answered(alloc, &self.probe, callback, gathered))
                 }
             },
-            State::Refused(status) => Poll::Ready(refused(alloc, &self.watch, *status)),
-            _ => Poll::Ready(Err(self.watch.give_up())),
+            State::Refused(status) => Poll::Ready(refused(alloc, &self.probe, *status)),
+            _ => Poll::Ready(Err(self.probe.give_up())),
         }
     }
 }
@@ -346,7 +351,7 @@ where
         ensures after { self.old.backend ≡ None → (result ≡ Ready (Err Memory)) × (self.new ≡ self.old) }
     {
         let Some(backend) = self.backend.take() else {
-            return Poll::Ready(Err(self.watch.give_up()));
+            return Poll::Ready(Err(self.probe.give_up()));
         };
         let polled = match self.poll_admitted(&*backend, cx) {
             Poll::Pending => Poll::Pending,

@@ -13,7 +13,7 @@ use bx_entry::{Placing, Slot, Ticket};
 use bx_held::PendingAnswer;
 use bx_hub::{Gate, Hub, Pass};
 use bx_message::{Answer, Item, Reply, Sequence};
-use bx_window::Naming;
+use bx_window::LogId;
 use futures::Future;
 use futures::task::{Context, Poll};
 use std::alloc::{AllocError, Global};
@@ -26,31 +26,31 @@ use std::vec::IntoIter;
 /// It handles the slots in order, and waits for the answer to each connect or rider. Polling for an
 /// answer locks its shard.
 #[derive(Drop)]
-pub struct Gathering<J: Naming, P: Placing, G: Gate + Drop, R: Wait + Drop> {
+pub struct Gathering<L: LogId, P: Placing, G: Gate + Drop, R: Wait + Drop> {
     rt: R,
     alloc: Global,
-    hub: Arc<Hub<J, P, G, R>, Global>,
-    pass: Pass<J>,
+    hub: Arc<Hub<L, P, G, R>, Global>,
+    pass: Pass<L>,
     items: Vec<Item>,
-    held: Option<PendingAnswer<J>>,
+    held: Option<PendingAnswer<L>>,
     slots: IntoIter<Slot>,
     // The place of the first message. `None` if the request has no messages.
     first: Option<u64>,
     ghost within: { AreBelow (length (list_of pass)) (into_iter_items slots) } by { are_below-prop (length (list_of pass)) (into_iter_items slots) },
 }
 
-impl<J: Naming, P: Placing + Drop, G: Gate + Drop, R: Wait + Copy + Drop> Gathering<J, P, G, R> {
+impl<L: LogId, P: Placing + Drop, G: Gate + Drop, R: Wait + Copy + Drop> Gathering<L, P, G, R> {
     /// Creates the future for `slots`, which the hub returned for a post that updated `pass`.
     ///
     /// `first`: the place of the first message.
     pub(crate) fn new(
         rt: R,
         alloc: Global,
-        hub: Arc<Hub<J, P, G, R>, Global>,
-        pass: Pass<J>,
+        hub: Arc<Hub<L, P, G, R>, Global>,
+        pass: Pass<L>,
         first: u64,
         slots: Sequence<Slot>,
-    ) -> Gathering<J, P, G, R>
+    ) -> Gathering<L, P, G, R>
         requires { AreBelow (length (list_of pass)) slots }
         ensures begins { (result.items.items ≡ []) × (result.held ≡ None) }
         ensures slots { (result.pass ≡ pass) × (into_iter_items result.slots ≡ slots) }
@@ -88,9 +88,9 @@ impl<J: Naming, P: Placing + Drop, G: Gate + Drop, R: Wait + Copy + Drop> Gather
     // Polls the awaited answer, if any, and appends its items.
     fn poll_held(&mut self, cx: &mut Context<'_>) -> Result<Poll<()>, Unanswered>
         ensures same { OnOk result ((all : List Item)
-            → AreAll (setup_of J.config J.placing) self.new.pass self.new.items.items (awaited self.new.held)
+            → AreAll (setup_of L.config L.placing) self.new.pass self.new.items.items (awaited self.new.held)
             (into_iter_items self.new.slots) all
-            → AreAll (setup_of J.config J.placing) self.old.pass self.old.items.items (awaited self.old.held)
+            → AreAll (setup_of L.config L.placing) self.old.pass self.old.items.items (awaited self.old.held)
             (into_iter_items self.old.slots) all) }
         ensures done { IfOk result (λ polled. IfReady polled (λ _. self.new.held ≡ None)) }
         ensures slots { (self.new.pass ≡ self.old.pass) × (self.new.slots ≡ self.old.slots) }
@@ -117,9 +117,9 @@ impl<J: Naming, P: Placing + Drop, G: Gate + Drop, R: Wait + Copy + Drop> Gather
         requires below { IsBelow (length (list_of self.old.pass)) slot }
         requires free { self.old.held ≡ None }
         ensures same { OnOk result ((all : List Item)
-            → AreAll (setup_of J.config J.placing) self.new.pass self.new.items.items (awaited self.new.held)
+            → AreAll (setup_of L.config L.placing) self.new.pass self.new.items.items (awaited self.new.held)
             (into_iter_items self.new.slots) all
-            → AreAll (setup_of J.config J.placing) self.old.pass self.old.items.items None
+            → AreAll (setup_of L.config L.placing) self.old.pass self.old.items.items None
             (slot ∷ into_iter_items self.old.slots) all) }
         ensures done { IfOk result (λ polled. IfReady polled (λ _. self.new.held ≡ None)) }
         ensures slots { (self.new.pass ≡ self.old.pass) × (self.new.slots ≡ self.old.slots) }
@@ -141,9 +141,9 @@ impl<J: Naming, P: Placing + Drop, G: Gate + Drop, R: Wait + Copy + Drop> Gather
     // Polls until all items are appended or an answer is pending.
     fn gather(&mut self, cx: &mut Context<'_>) -> Result<Poll<()>, Unanswered>
         ensures same { OnOk result ((all : List Item)
-            → AreAll (setup_of J.config J.placing) self.new.pass self.new.items.items (awaited self.new.held)
+            → AreAll (setup_of L.config L.placing) self.new.pass self.new.items.items (awaited self.new.held)
             (into_iter_items self.new.slots) all
-            → AreAll (setup_of J.config J.placing) self.old.pass self.old.items.items (awaited self.old.held)
+            → AreAll (setup_of L.config L.placing) self.old.pass self.old.items.items (awaited self.old.held)
             (into_iter_items self.old.slots) all) }
         ensures done { IfOk result (λ polled. IfReady polled (λ _. (self.new.held ≡ None) × (into_iter_items self.new.slots ≡ []))) }
         ensures registered { IfOk result (λ polled. OnPending polled (Covers cx.new (λ s. MatchOption self.new.held ⊥ (λ h. s ≡ h.source.id)))) }
@@ -161,14 +161,14 @@ impl<J: Naming, P: Placing + Drop, G: Gate + Drop, R: Wait + Copy + Drop> Gather
     }
 }
 
-impl<J: Naming, P: Placing + Drop, G: Gate + Drop, R: Wait + Copy + Drop> Future
-    for Gathering<J, P, G, R> {
+impl<L: LogId, P: Placing + Drop, G: Gate + Drop, R: Wait + Copy + Drop> Future
+    for Gathering<L, P, G, R> {
     type Output = Result<Vec<Item>, Unanswered>;
 
     // Ghost: the source that wakes it is that of the awaited answer.
     ghost needs = { λ g s. MatchOption g.held ⊥ (λ h. s ≡ h.source.id) };
 
-    ghost gives = { λ g gathered. IfOk gathered (λ items. AreAll (setup_of J.config J.placing) g.pass g.items.items
+    ghost gives = { λ g gathered. IfOk gathered (λ items. AreAll (setup_of L.config L.placing) g.pass g.items.items
         (awaited g.held) (into_iter_items g.slots) items.items) };
 
     fn poll(&mut self, cx: &mut Context<'_>) -> Poll<Result<Vec<Item>, Unanswered>> {

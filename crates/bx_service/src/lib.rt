@@ -7,16 +7,16 @@ mod exchange;
 mod gathering;
 mod limit;
 mod observer;
+mod probe;
 mod response;
 mod route;
 mod service;
 mod status;
-mod watch;
 
 pub use backend::{Backend, Clock, Declined, HubBackend, Nonces, Unanswered};
 pub use collect::{Collect, CollectError};
 pub use exchange::Exchange;
 pub use gathering::Gathering;
 pub use limit::BodyLimit;
-pub use observer::{Event, Observer};
+pub use observer::{Observer, ServiceEvent};
 pub use service::{BayeuxService, ServiceFault};

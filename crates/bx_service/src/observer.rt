@@ -8,7 +8,7 @@ use std::sync::Arc;
 ///
 /// Not the event that subscribers get of a publish.
 #[derive(Clone, Copy)]
-pub enum Event<'a> {
+pub enum ServiceEvent<'a> {
     /// A connection was opened.
     Opened,
     /// A connection was closed.
@@ -21,7 +21,7 @@ pub enum Event<'a> {
     Refused(PostFault),
     /// The items of the response are complete, or unavailable if `items` is `None`.
     ///
-    /// `place` is that of [`Admitted`](Event::Admitted).
+    /// `place` is that of [`Admitted`](ServiceEvent::Admitted).
     Answered {
         place: Option<u64>,
         items: Option<&'a [Item]>,
@@ -41,17 +41,17 @@ pub enum Event<'a> {
 /// It is called for each connection and request, and cannot change a response.
 pub trait Observer: Drop {
     /// Receives `event`.
-    fn see(&self, event: Event<'_>);
+    fn see(&self, event: ServiceEvent<'_>);
 }
 
 /// Ignores every event.
 impl Observer for () {
-    fn see(&self, _event: Event<'_>) {}
+    fn see(&self, _event: ServiceEvent<'_>) {}
 }
 
 /// Forwards every event to both observers, in order.
 impl<A: Observer, B: Observer> Observer for (A, B) {
-    fn see(&self, event: Event<'_>) {
+    fn see(&self, event: ServiceEvent<'_>) {
         self.0.see(event);
         self.1.see(event);
     }
@@ -59,7 +59,7 @@ impl<A: Observer, B: Observer> Observer for (A, B) {
 
 /// Forwards every event to a shared observer.
 impl<O: Observer> Observer for Arc<O, Global> {
-    fn see(&self, event: Event<'_>) {
+    fn see(&self, event: ServiceEvent<'_>) {
         (**self).see(event);
     }
 }

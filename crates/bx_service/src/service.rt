@@ -9,7 +9,7 @@ use crate::backend::{Backend, Unanswered};
 use crate::exchange::{Exchange, State};
 use crate::limit::BodyLimit;
 use crate::observer::Observer;
-use crate::watch::Outlook;
+use crate::probe::ConnectionProbe;
 use bx_message::Item;
 use bx_pieces::Pieces;
 use bytes::{Buf, Bytes};
@@ -43,7 +43,7 @@ pub struct BayeuxService<S, O: Observer = ()> {
     alloc: Global,
     backend: Arc<S, Global>,
     limit: BodyLimit,
-    outlook: Outlook<O>,
+    probe: ConnectionProbe<O>,
 }
 
 impl<S: Drop> BayeuxService<S, ()> {
@@ -95,7 +95,7 @@ impl<S: Drop, O: Observer> BayeuxService<S, O> {
             alloc,
             backend: Arc::new(alloc, backend)?,
             limit: BodyLimit::greatest(),
-            outlook: Outlook::new(alloc, observer)?,
+            probe: ConnectionProbe::new(alloc, observer)?,
         })
     }
 
@@ -117,7 +117,7 @@ impl<S: Drop, O: Observer> Clone for BayeuxService<S, O> {
             alloc: self.alloc,
             backend: Arc::try_clone(&self.backend)?,
             limit: self.limit,
-            outlook: self.outlook.open()?,
+            probe: self.probe.open()?,
         })
     }
 }
@@ -146,8 +146,8 @@ where
 
     fn call(&self, request: Request<B>) -> Self::Future {
         let (parts, body) = request.into_parts();
-        let watch = self.outlook.ask();
-        let backend = if watch.is_told() {
+        let probe = self.probe.ask();
+        let backend = if probe.is_told() {
             Arc::try_clone(&self.backend).ok()
         } else {
             None
@@ -156,7 +156,7 @@ where
             alloc: self.alloc,
             backend,
             state: State::new(self.alloc, self.limit, parts, body),
-            watch,
+            probe,
         }
     }
 }

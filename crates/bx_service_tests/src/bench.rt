@@ -2,14 +2,14 @@
 use bx_entry::ByRemainder;
 use bx_hub::{Hub, OpenGate, Pass};
 use bx_service::{BayeuxService, Clock, Nonces};
-use bx_window::Naming;
+use bx_window::LogId;
 use futures::test::MockTask;
 use std::alloc::Global;
 use std::sync::{Arc, Wait};
 use std::test::*;
 
 /// The hub of these tests.
-pub type TestHub<J, H> = Hub<J, ByRemainder, OpenGate, H>;
+pub type TestHub<L, H> = Hub<L, ByRemainder, OpenGate, H>;
 
 /// A clock fixed at a moment in milliseconds.
 #[derive(Clone, Copy)]
@@ -33,10 +33,10 @@ impl Nonces for Zeros {
 
 /// Four services that post to one hub, and two tasks. Neither task is woken.
 #[derive(Drop)]
-pub struct Bench<J: Naming, S: Drop, H: Wait + Drop> {
+pub struct Bench<L: LogId, S: Drop, H: Wait + Drop> {
     pub alloc: Global,
-    pub hub: Arc<TestHub<J, H>, Global>,
-    pub pass: Pass<J>,
+    pub hub: Arc<TestHub<L, H>, Global>,
+    pub pass: Pass<L>,
     /// At the publishers' listener.
     pub service: BayeuxService<S>,
     /// At the read-only listener.
@@ -49,7 +49,7 @@ pub struct Bench<J: Naming, S: Drop, H: Wait + Drop> {
     pub second: MockTask,
 }
 
-impl<J: Naming, S: Drop, H: Wait + Drop> Bench<J, S, H> {
+impl<L: LogId, S: Drop, H: Wait + Drop> Bench<L, S, H> {
     /// Posts a tick at `moment`, in milliseconds.
     ///
     /// # Errors

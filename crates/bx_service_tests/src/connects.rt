@@ -10,7 +10,7 @@ use bx_advice::Config;
 use bx_entry::{ByRemainder, Ticket};
 use bx_held::PendingAnswer;
 use bx_hub::{Hub, HubFault, OpenGate};
-use bx_window::{Naming, Opened};
+use bx_window::{LogId, Opened};
 use futures::test::MockTask;
 use std::alloc::Global;
 use std::marker::Brand;
@@ -168,9 +168,9 @@ const RUNS: [&[Step]; 12] = [
 ];
 
 // Checks what a poll of a new future of `ticket` returns.
-fn other<J: Naming, H: Wait + Drop, Q: Wait + Copy + Drop, R: Abort>(
+fn other<L: LogId, H: Wait + Drop, Q: Wait + Copy + Drop, R: Abort>(
     rt: &R,
-    bench: &Bench<J, H, Q>,
+    bench: &Bench<L, H, Q>,
     ticket: Ticket,
     want: Want,
 ) -> Result<(), Fail> {
@@ -179,11 +179,11 @@ fn other<J: Naming, H: Wait + Drop, Q: Wait + Copy + Drop, R: Abort>(
 }
 
 // Checks that a poll of `held` returns `want`, and that two more return no answer.
-fn gives<J: Naming, H: Wait + Drop, Q: Wait + Copy + Drop, R: Abort>(
+fn gives<L: LogId, H: Wait + Drop, Q: Wait + Copy + Drop, R: Abort>(
     rt: &R,
-    bench: &Bench<J, H, Q>,
+    bench: &Bench<L, H, Q>,
     task: Task,
-    held: &mut PendingAnswer<J>,
+    held: &mut PendingAnswer<L>,
     want: Want,
 ) -> Result<(), Fail> {
     check_poll(rt, bench.alloc, &bench.poll(task, held), want)?;
@@ -193,10 +193,10 @@ fn gives<J: Naming, H: Wait + Drop, Q: Wait + Copy + Drop, R: Abort>(
     Ok(())
 }
 
-fn take<J: Naming, H: Wait + Drop, Q: Wait + Copy + Drop, R: Abort>(
+fn take<L: LogId, H: Wait + Drop, Q: Wait + Copy + Drop, R: Abort>(
     rt: &R,
-    bench: &mut Bench<J, H, Q>,
-    held: &mut PendingAnswer<J>,
+    bench: &mut Bench<L, H, Q>,
+    held: &mut PendingAnswer<L>,
     step: Step,
 ) -> Result<(), Fail> {
     match step {
@@ -218,10 +218,10 @@ fn take<J: Naming, H: Wait + Drop, Q: Wait + Copy + Drop, R: Abort>(
     Ok(())
 }
 
-fn take_all<J: Naming, H: Wait + Drop, Q: Wait + Copy + Drop, R: Abort>(
+fn take_all<L: LogId, H: Wait + Drop, Q: Wait + Copy + Drop, R: Abort>(
     rt: &R,
-    bench: &mut Bench<J, H, Q>,
-    held: &mut PendingAnswer<J>,
+    bench: &mut Bench<L, H, Q>,
+    held: &mut PendingAnswer<L>,
     steps: &[Step],
 ) -> Result<(), Fail> {
     for step in steps {
@@ -230,9 +230,9 @@ fn take_all<J: Naming, H: Wait + Drop, Q: Wait + Copy + Drop, R: Abort>(
     Ok(())
 }
 
-fn run<J: Naming, H: Wait + Drop, Q: Wait + Copy + Drop, R: Abort>(
+fn run<L: LogId, H: Wait + Drop, Q: Wait + Copy + Drop, R: Abort>(
     rt: &R,
-    bench: &mut Bench<J, H, Q>,
+    bench: &mut Bench<L, H, Q>,
     steps: &[Step],
 ) -> Result<(), Fail> {
     bench.hold()?;
@@ -240,7 +240,7 @@ fn run<J: Naming, H: Wait + Drop, Q: Wait + Copy + Drop, R: Abort>(
     take_all(rt, bench, &mut held, steps)
 }
 
-fn run_in_hub<J: Naming, R: Wait + Abort>(
+fn run_in_hub<L: LogId, R: Wait + Abort>(
     rt: &R,
     alloc: Global,
     opened: Opened,
@@ -249,11 +249,11 @@ fn run_in_hub<J: Naming, R: Wait + Abort>(
     tasks: (MockTask, MockTask),
     steps: &[Step],
 ) -> Result<(), Fail>
-    requires book { opened.seen.book ≡ J.book }
-    requires config { config ≡ J.config }
-    requires placing { by_remainder ≡ J.placing }
+    requires book { opened.seen.book ≡ L.book }
+    requires config { config ≡ L.config }
+    requires placing { by_remainder ≡ L.placing }
 {
-    let hub = Hub::<J, ByRemainder, OpenGate, &R>::new(
+    let hub = Hub::<L, ByRemainder, OpenGate, &R>::new(
         alloc, rt, opened, config, placing, OpenGate,
     )?;
     let pass = hub.pass();

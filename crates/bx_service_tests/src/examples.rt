@@ -10,7 +10,7 @@ use bx_advice::Config;
 use bx_entry::{Access, ByRemainder};
 use bx_hub::{Hub, OpenGate};
 use bx_service::{BayeuxService, HubBackend};
-use bx_window::{Naming, Opened};
+use bx_window::{LogId, Opened};
 use futures::task::Poll;
 use futures::test::MockTask;
 use hyper::service::Service;
@@ -20,10 +20,10 @@ use std::process::Abort;
 use std::sync::{Arc, Wait};
 use std::test::*;
 
-fn serves<'a, J: Naming, R: Wait + Abort>(
+fn serves<'a, L: LogId, R: Wait + Abort>(
     rt: &'a R,
     alloc: Global,
-    hub: TestHub<J, &'a R>,
+    hub: TestHub<L, &'a R>,
     task: &MockTask,
 ) -> Result<(), Fail> {
     let hub = Arc::new(alloc, hub)?;
@@ -39,7 +39,7 @@ fn serves<'a, J: Naming, R: Wait + Abort>(
     Ok(())
 }
 
-fn over_a_hub<J: Naming, R: Wait + Abort>(
+fn over_a_hub<L: LogId, R: Wait + Abort>(
     rt: &R,
     alloc: Global,
     opened: Opened,
@@ -47,11 +47,11 @@ fn over_a_hub<J: Naming, R: Wait + Abort>(
     placing: Arc<ByRemainder, Global>,
     task: &MockTask,
 ) -> Result<(), Fail>
-    requires book { opened.seen.book ≡ J.book }
-    requires config { config ≡ J.config }
-    requires placing { by_remainder ≡ J.placing }
+    requires book { opened.seen.book ≡ L.book }
+    requires config { config ≡ L.config }
+    requires placing { by_remainder ≡ L.placing }
 {
-    let hub = Hub::<J, ByRemainder, OpenGate, &R>::new(
+    let hub = Hub::<L, ByRemainder, OpenGate, &R>::new(
         alloc, rt, opened, config, placing, OpenGate,
     )?;
     serves(rt, alloc, hub, task)

@@ -10,7 +10,7 @@ use bx_entry::{Access, ByRemainder};
 use bx_hub::{Hub, OpenGate};
 use bx_message::Item;
 use bx_service::{Backend, BayeuxService, BodyLimit, HubBackend, Unanswered};
-use bx_window::{Naming, Opened};
+use bx_window::{LogId, Opened};
 use futures::Future;
 use futures::test::MockTask;
 use hyper::service::Service;
@@ -107,9 +107,9 @@ fn asked(step: &Step) -> Option<(Ask, Want)> {
     }
 }
 
-fn take<J, S, I, H, R>(rt: &R, bench: &mut Bench<J, S, H>, step: &Step) -> Result<(), Fail>
+fn take<L, S, I, H, R>(rt: &R, bench: &mut Bench<L, S, H>, step: &Step) -> Result<(), Fail>
 where
-    J: Naming,
+    L: LogId,
     S: Backend<Items = I> + Drop,
     I: Future<Output = Result<Vec<Item>, Unanswered>> + Drop,
     H: Wait + Drop,
@@ -143,9 +143,9 @@ where
     Ok(())
 }
 
-fn take_all<J, S, I, H, R>(rt: &R, bench: &mut Bench<J, S, H>, steps: &[Step]) -> Result<(), Fail>
+fn take_all<L, S, I, H, R>(rt: &R, bench: &mut Bench<L, S, H>, steps: &[Step]) -> Result<(), Fail>
 where
-    J: Naming,
+    L: LogId,
     S: Backend<Items = I> + Drop,
     I: Future<Output = Result<Vec<Item>, Unanswered>> + Drop,
     H: Wait + Drop,
@@ -158,15 +158,15 @@ where
 }
 
 // Checks an exchange before, between and after the steps of `held`.
-fn watch<F, J, S, I, H, R>(
+fn watch<F, L, S, I, H, R>(
     rt: &R,
-    bench: &mut Bench<J, S, H>,
+    bench: &mut Bench<L, S, H>,
     exchange: &mut F,
     held: &Held,
 ) -> Result<(), Fail>
 where
     F: Future<Output = Given>,
-    J: Naming,
+    L: LogId,
     S: Backend<Items = I> + Drop,
     I: Future<Output = Result<Vec<Item>, Unanswered>> + Drop,
     H: Wait + Drop,
@@ -187,9 +187,9 @@ where
 }
 
 // Creates the exchange of `held` and checks it.
-fn hold<J, S, I, H, R>(rt: &R, bench: &mut Bench<J, S, H>, held: &Held) -> Result<(), Fail>
+fn hold<L, S, I, H, R>(rt: &R, bench: &mut Bench<L, S, H>, held: &Held) -> Result<(), Fail>
 where
-    J: Naming,
+    L: LogId,
     S: Backend<Items = I> + Drop,
     I: Future<Output = Result<Vec<Item>, Unanswered>> + Drop,
     H: Wait + Drop,
@@ -201,9 +201,9 @@ where
 }
 
 // Executes the run at index `number`.
-fn run<J, S, I, H, R>(rt: &R, bench: &mut Bench<J, S, H>, number: usize) -> Result<(), Fail>
+fn run<L, S, I, H, R>(rt: &R, bench: &mut Bench<L, S, H>, number: usize) -> Result<(), Fail>
 where
-    J: Naming,
+    L: LogId,
     S: Backend<Items = I> + Drop,
     I: Future<Output = Result<Vec<Item>, Unanswered>> + Drop,
     H: Wait + Drop,
@@ -218,18 +218,18 @@ where
 }
 
 // Creates a backend with `access` and a clock fixed at `moment`, in milliseconds.
-fn backend_of<'a, J: Naming, R: Wait>(
+fn backend_of<'a, L: LogId, R: Wait>(
     rt: &'a R,
     alloc: Global,
-    hub: &Arc<TestHub<J, &'a R>, Global>,
+    hub: &Arc<TestHub<L, &'a R>, Global>,
     access: Access,
     moment: u64,
-) -> Result<HubBackend<J, ByRemainder, OpenGate, &'a R, Still, Zeros>, Fail> {
+) -> Result<HubBackend<L, ByRemainder, OpenGate, &'a R, Still, Zeros>, Fail> {
     let hub = Arc::try_clone(hub)?;
     Ok(HubBackend::new(rt, alloc, hub, access, Still(moment), Zeros))
 }
 
-fn run_in_hub<J: Naming, R: Wait + Abort>(
+fn run_in_hub<L: LogId, R: Wait + Abort>(
     rt: &R,
     alloc: Global,
     opened: Opened,
@@ -238,11 +238,11 @@ fn run_in_hub<J: Naming, R: Wait + Abort>(
     tasks: (MockTask, MockTask),
     number: usize,
 ) -> Result<(), Fail>
-    requires book { opened.seen.book ≡ J.book }
-    requires config { config ≡ J.config }
-    requires placing { by_remainder ≡ J.placing }
+    requires book { opened.seen.book ≡ L.book }
+    requires config { config ≡ L.config }
+    requires placing { by_remainder ≡ L.placing }
 {
-    let hub = Hub::<J, ByRemainder, OpenGate, &R>::new(
+    let hub = Hub::<L, ByRemainder, OpenGate, &R>::new(
         alloc, rt, opened, config, placing, OpenGate,
     )?;
     let pass = hub.pass();

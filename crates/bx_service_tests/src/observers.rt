@@ -4,7 +4,7 @@ use bx_cut::Bodies;
 use bx_entry::Refusal;
 use bx_hub::PostFault;
 use bx_message::{Item, Status};
-use bx_service::{Backend, BayeuxService, Declined, Event, Observer, Unanswered};
+use bx_service::{Backend, BayeuxService, Declined, Observer, ServiceEvent, Unanswered};
 use futures::Future;
 use futures::task::{Context, Poll};
 use futures::test::MockTask;
@@ -19,27 +19,27 @@ use std::test::*;
 struct Digits(AtomicU64);
 
 impl Observer for Digits {
-    fn see(&self, event: Event<'_>) {
+    fn see(&self, event: ServiceEvent<'_>) {
         let digit = match event {
-            Event::Opened => 1,
-            Event::Closed => 2,
-            Event::Asked => 3,
-            Event::Admitted(Some(9)) => 4,
-            Event::Refused(PostFault::Refused(Refusal::BadMoment)) => 5,
-            Event::Answered {
+            ServiceEvent::Opened => 1,
+            ServiceEvent::Closed => 2,
+            ServiceEvent::Asked => 3,
+            ServiceEvent::Admitted(Some(9)) => 4,
+            ServiceEvent::Refused(PostFault::Refused(Refusal::BadMoment)) => 5,
+            ServiceEvent::Answered {
                 place: Some(9),
                 items: Some([]),
             } => 6,
-            Event::Answered {
+            ServiceEvent::Answered {
                 place: Some(9),
                 items: None,
             } => 7,
-            Event::Responded(Some(Status::Ok)) => 8,
-            Event::Responded(Some(Status::Unavailable)) => 9,
-            Event::Responded(Some(Status::BadRequest)) => 10,
-            Event::Responded(Some(Status::MethodNotAllowed)) => 11,
-            Event::Left { was_admitted: true } => 12,
-            Event::Left {
+            ServiceEvent::Responded(Some(Status::Ok)) => 8,
+            ServiceEvent::Responded(Some(Status::Unavailable)) => 9,
+            ServiceEvent::Responded(Some(Status::BadRequest)) => 10,
+            ServiceEvent::Responded(Some(Status::MethodNotAllowed)) => 11,
+            ServiceEvent::Left { was_admitted: true } => 12,
+            ServiceEvent::Left {
                 was_admitted: false,
             } => 13,
             _ => 15,

@@ -49,7 +49,7 @@ pub fn parse_args(args: &[String]) -> Option<Settings<'_>>
         body: BODY_LIMIT,
         seed: Seed::Said(read_digits(seed.as_bytes())?),
         connections: number_of(connections.as_bytes())?,
-        figures: None,
+        metrics: None,
         record_file: None,
         record_answers: false,
         until_eof: false,

@@ -62,7 +62,7 @@ pub fn read_flags<'a>(
             None => Seed::Drawn,
         },
         connections,
-        figures: matches.get_str("figures"),
+        metrics: matches.get_str("metrics"),
         record_file: matches.get_str("record"),
         record_answers: matches.get_flag("record-answers"),
         until_eof: matches.get_flag("until-eof"),
@@ -298,6 +298,14 @@ fn with_running<'a>(alloc: Global, command: Command<'a>) -> Result<Command<'a>, 
         "Record the SHA-256 of each answer too",
     )
     .requires_arg("record")?;
+    // `--figures` is its former name.
+    let metrics = value(
+        alloc,
+        "metrics",
+        "ADDRESS",
+        "Serve GET /metrics and GET /healthz at ADDRESS [default: none]",
+    )
+    .alias("figures")?;
     command
         .arg(value(
             alloc,
@@ -305,12 +313,7 @@ fn with_running<'a>(alloc: Global, command: Command<'a>) -> Result<Command<'a>, 
             "N",
             "Exit after N connections, 0 for never [default: 0]",
         ))?
-        .arg(value(
-            alloc,
-            "figures",
-            "ADDRESS",
-            "Serve GET /metrics and GET /healthz at ADDRESS [default: none]",
-        ))?
+        .arg(metrics)?
         .arg(value(
             alloc,
             "record",

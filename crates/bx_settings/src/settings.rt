@@ -31,7 +31,7 @@ pub struct Settings<'a> {
     /// The number of connections after which the server ends, or 0 if it serves any number.
     pub connections: u64,
     /// The address of the listener for metrics, if any, in the form of `listen`.
-    pub figures: Option<&'a str>,
+    pub metrics: Option<&'a str>,
     /// The file to create for the record, if any.
     pub record_file: Option<&'a str>,
     /// Whether the record has the SHA-256 of each answer.

@@ -7,7 +7,7 @@ use bx_advice::Config;
 use bx_calls::{ANSWER, Found, HANDSHAKE, PUBLISH, find, hold, post};
 use bx_entry::{ByRemainder, Placing, Ticket};
 use bx_hub::{Gate, Hub, Watch};
-use bx_window::{Naming, Opened};
+use bx_window::{LogId, Opened};
 use futures::task::{Doorbell, Poll, Solo, Source, Waker};
 use libc::net::{EFD_CLOEXEC, eventfd};
 use os::FromRawFd;
@@ -113,10 +113,10 @@ fn wait_for<R: Clock>(rt: &R, flag: &AtomicBool) -> bool {
     false
 }
 
-fn wakes<J: Naming, P: Placing, G: Gate + Drop, H: Wait + Drop, R: Wait>(
+fn wakes<L: LogId, P: Placing, G: Gate + Drop, H: Wait + Drop, R: Wait>(
     rt: &R,
     alloc: Global,
-    hub: &Hub<J, P, G, H>,
+    hub: &Hub<L, P, G, H>,
     ticket: Ticket,
     waking: Waking,
     flags: &Flags,
@@ -133,9 +133,9 @@ fn wakes<J: Naming, P: Placing, G: Gate + Drop, H: Wait + Drop, R: Wait>(
 }
 
 // Locks every shard once, after the waking call has locked shard 1. Returns `true` if it has.
-fn sweeps<J: Naming, P: Placing, G: Gate + Drop, H: Wait + Drop, R: Wait + Clock>(
+fn sweeps<L: LogId, P: Placing, G: Gate + Drop, H: Wait + Drop, R: Wait + Clock>(
     rt: &R,
-    hub: &Hub<J, P, G, H>,
+    hub: &Hub<L, P, G, H>,
     flags: &Flags,
 ) -> bool {
     let stood = wait_for(rt, &flags.stands);
@@ -168,12 +168,12 @@ fn lets_go<R: Clock>(rt: &R, flags: &Flags, counter: &Counter) -> Told {
 }
 
 fn sweeps_and_lets_go<
-    J: Naming + Send + Sync,
+    L: LogId + Send + Sync,
     P: Placing + Send + Sync,
     G: Gate + Drop + Send + Sync,
     H: Wait + Drop + Send,
     R: Threads + Wait + Clock + Sync,
->(rt: &R, hub: &Hub<J, P, G, H>, flags: &Flags, counter: &Counter) -> (bool, Told) {
+>(rt: &R, hub: &Hub<L, P, G, H>, flags: &Flags, counter: &Counter) -> (bool, Told) {
     join(
         rt,
         || sweeps(rt, hub, flags),
@@ -182,7 +182,7 @@ fn sweeps_and_lets_go<
 }
 
 fn beside<
-    J: Naming + Send + Sync,
+    L: LogId + Send + Sync,
     P: Placing + Send + Sync,
     G: Gate + Drop + Send + Sync,
     H: Wait + Drop + Send,
@@ -190,7 +190,7 @@ fn beside<
 >(
     rt: &R,
     alloc: Global,
-    hub: &Hub<J, P, G, H>,
+    hub: &Hub<L, P, G, H>,
     ticket: Ticket,
     waking: Waking,
     flags: &Flags,
@@ -212,7 +212,7 @@ fn beside<
 
 // Registers a waker of `task`, makes its wake block, and runs the threads while the task sleeps.
 fn rings<
-    J: Naming + Send + Sync,
+    L: LogId + Send + Sync,
     P: Placing + Send + Sync,
     G: Gate + Drop + Send + Sync,
     H: Wait + Drop + Send,
@@ -220,7 +220,7 @@ fn rings<
 >(
     rt: &R,
     alloc: Global,
-    hub: &Hub<J, P, G, H>,
+    hub: &Hub<L, P, G, H>,
     ticket: Ticket,
     waking: Waking,
     task: &Solo,
@@ -252,7 +252,7 @@ fn waker_of(task: &Solo) -> Option<Waker> {
 }
 
 fn held<
-    J: Naming + Send + Sync,
+    L: LogId + Send + Sync,
     P: Placing + Send + Sync,
     G: Gate + Drop + Send + Sync,
     H: Wait + Drop + Send,
@@ -260,7 +260,7 @@ fn held<
 >(
     rt: &R,
     alloc: Global,
-    hub: &Hub<J, P, G, H>,
+    hub: &Hub<L, P, G, H>,
     waking: Waking,
     task: &Solo,
     flags: &Flags,
@@ -277,7 +277,7 @@ fn held<
     rings(rt, alloc, hub, ticket, waking, task, flags, counter)
 }
 
-fn free<J: Naming + Send + Sync, R: Threads + Wait + Clock + Abort + Sync>(
+fn free<L: LogId + Send + Sync, R: Threads + Wait + Clock + Abort + Sync>(
     rt: &R,
     alloc: Global,
     opened: Opened,
@@ -289,11 +289,11 @@ fn free<J: Naming + Send + Sync, R: Threads + Wait + Clock + Abort + Sync>(
     flags: &Flags,
     counter: &Counter,
 ) -> Result<(), Fail>
-    requires book { opened.seen.book ≡ J.book }
-    requires config { config ≡ J.config }
-    requires placing { by_remainder ≡ J.placing }
+    requires book { opened.seen.book ≡ L.book }
+    requires config { config ≡ L.config }
+    requires placing { by_remainder ≡ L.placing }
 {
-    let hub = Hub::<J, ByRemainder, Telling, &R>::new(alloc, rt, opened, config, placing, gate)?;
+    let hub = Hub::<L, ByRemainder, Telling, &R>::new(alloc, rt, opened, config, placing, gate)?;
     held(rt, alloc, &hub, waking, task, flags, counter)
 }
 

@@ -7,7 +7,7 @@ use bx_advice::Config;
 use bx_calls::{HANDSHAKE, post};
 use bx_entry::{ByRemainder, Placing};
 use bx_hub::{Gate, Hub, OpenGate, Pass};
-use bx_window::{Naming, Opened};
+use bx_window::{LogId, Opened};
 use std::alloc::Global;
 use std::marker::Brand;
 use std::process::Abort;
@@ -50,10 +50,10 @@ enum Job {
 }
 
 // Publishes `EVENTS` events. The data of each is its number, counted from `first`.
-fn publishes<J: Naming, P: Placing, G: Gate + Drop, H: Wait + Drop, R: Wait>(
+fn publishes<L: LogId, P: Placing, G: Gate + Drop, H: Wait + Drop, R: Wait>(
     rt: &R,
     alloc: Global,
-    hub: &Hub<J, P, G, H>,
+    hub: &Hub<L, P, G, H>,
     first: usize,
 ) -> Option<Vec<usize>> {
     let mut pass = hub.pass();
@@ -66,10 +66,10 @@ fn publishes<J: Naming, P: Placing, G: Gate + Drop, H: Wait + Drop, R: Wait>(
     Some(Vec::new(alloc))
 }
 
-fn ticks<J: Naming, P: Placing, G: Gate + Drop, H: Wait + Drop, R: Wait>(
+fn ticks<L: LogId, P: Placing, G: Gate + Drop, H: Wait + Drop, R: Wait>(
     rt: &R,
     alloc: Global,
-    hub: &Hub<J, P, G, H>,
+    hub: &Hub<L, P, G, H>,
 ) -> Option<Vec<usize>> {
     let mut pass = hub.pass();
     for _ in 0..TICKS {
@@ -81,11 +81,11 @@ fn ticks<J: Naming, P: Placing, G: Gate + Drop, H: Wait + Drop, R: Wait>(
 // Appends the numbers of the events that one connect gets to `given`.
 //
 // Adds `ALL_EVENTS` to those of session 1, so that no two events have the same number.
-fn asks<J: Naming, P: Placing, G: Gate + Drop, H: Wait + Drop, R: Wait>(
+fn asks<L: LogId, P: Placing, G: Gate + Drop, H: Wait + Drop, R: Wait>(
     rt: &R,
     alloc: Global,
-    hub: &Hub<J, P, G, H>,
-    pass: &mut Pass<J>,
+    hub: &Hub<L, P, G, H>,
+    pass: &mut Pass<L>,
     session: usize,
     given: &mut Vec<usize>,
 ) -> Option<()> {
@@ -101,10 +101,10 @@ fn asks<J: Naming, P: Placing, G: Gate + Drop, H: Wait + Drop, R: Wait>(
 }
 
 // Returns the numbers of the events that a session gets by `CONNECTS` connects.
-fn receives<J: Naming, P: Placing, G: Gate + Drop, H: Wait + Drop, R: Wait>(
+fn receives<L: LogId, P: Placing, G: Gate + Drop, H: Wait + Drop, R: Wait>(
     rt: &R,
     alloc: Global,
-    hub: &Hub<J, P, G, H>,
+    hub: &Hub<L, P, G, H>,
     session: usize,
 ) -> Option<Vec<usize>> {
     let mut pass = hub.pass();
@@ -116,10 +116,10 @@ fn receives<J: Naming, P: Placing, G: Gate + Drop, H: Wait + Drop, R: Wait>(
 }
 
 // Sweeps repeatedly. Returns `None` if that drops an answer.
-fn sweeps<J: Naming, P: Placing, G: Gate + Drop, H: Wait + Drop, R: Wait>(
+fn sweeps<L: LogId, P: Placing, G: Gate + Drop, H: Wait + Drop, R: Wait>(
     rt: &R,
     alloc: Global,
-    hub: &Hub<J, P, G, H>,
+    hub: &Hub<L, P, G, H>,
 ) -> Option<Vec<usize>> {
     for _ in 0..TICKS {
         if hub.sweep(rt, 0).dropped() > 0 {
@@ -129,10 +129,10 @@ fn sweeps<J: Naming, P: Placing, G: Gate + Drop, H: Wait + Drop, R: Wait>(
     Some(Vec::new(alloc))
 }
 
-fn works<J: Naming, P: Placing, G: Gate + Drop, H: Wait + Drop, R: Wait>(
+fn works<L: LogId, P: Placing, G: Gate + Drop, H: Wait + Drop, R: Wait>(
     rt: &R,
     alloc: Global,
-    hub: &Hub<J, P, G, H>,
+    hub: &Hub<L, P, G, H>,
     job: Job,
 ) -> Option<Vec<usize>> {
     match job {
@@ -151,12 +151,12 @@ fn joined(first: Option<Vec<usize>>, second: Option<Vec<usize>>) -> Option<Vec<u
 }
 
 fn two<
-    J: Naming + Send + Sync,
+    L: LogId + Send + Sync,
     P: Placing + Send + Sync,
     G: Gate + Drop + Send + Sync,
     H: Wait + Drop + Send,
     R: Threads + Wait + Sync,
->(rt: &R, alloc: Global, hub: &Hub<J, P, G, H>, jobs: (Job, Job)) -> Option<Vec<usize>> {
+>(rt: &R, alloc: Global, hub: &Hub<L, P, G, H>, jobs: (Job, Job)) -> Option<Vec<usize>> {
     let (a, b) = join(
         rt,
         || works(rt, alloc, hub, jobs.0),
@@ -166,7 +166,7 @@ fn two<
 }
 
 fn four<
-    J: Naming + Send + Sync,
+    L: LogId + Send + Sync,
     P: Placing + Send + Sync,
     G: Gate + Drop + Send + Sync,
     H: Wait + Drop + Send,
@@ -174,7 +174,7 @@ fn four<
 >(
     rt: &R,
     alloc: Global,
-    hub: &Hub<J, P, G, H>,
+    hub: &Hub<L, P, G, H>,
     first: (Job, Job),
     second: (Job, Job),
 ) -> Option<Vec<usize>> {
@@ -188,12 +188,12 @@ fn four<
 
 // Runs eight threads, and returns the numbers of the events that the two sessions get meanwhile.
 fn eight<
-    J: Naming + Send + Sync,
+    L: LogId + Send + Sync,
     P: Placing + Send + Sync,
     G: Gate + Drop + Send + Sync,
     H: Wait + Drop + Send,
     R: Threads + Wait + Sync,
->(rt: &R, alloc: Global, hub: &Hub<J, P, G, H>) -> Option<Vec<usize>> {
+>(rt: &R, alloc: Global, hub: &Hub<L, P, G, H>) -> Option<Vec<usize>> {
     let (a, b) = join(
         rt,
         || four(
@@ -215,10 +215,10 @@ fn eight<
 }
 
 // Opens and subscribes two sessions.
-fn opens<J: Naming, P: Placing, G: Gate + Drop, H: Wait + Drop, R: Wait>(
+fn opens<L: LogId, P: Placing, G: Gate + Drop, H: Wait + Drop, R: Wait>(
     rt: &R,
     alloc: Global,
-    hub: &Hub<J, P, G, H>,
+    hub: &Hub<L, P, G, H>,
 ) -> Option<()> {
     let mut pass = hub.pass();
     for body in [HANDSHAKE, HANDSHAKE, SUBSCRIPTIONS[0], SUBSCRIPTIONS[1]] {
@@ -231,12 +231,12 @@ fn opens<J: Naming, P: Placing, G: Gate + Drop, H: Wait + Drop, R: Wait>(
 //
 // Connects after the threads end fetch the events that are left.
 fn given<
-    J: Naming + Send + Sync,
+    L: LogId + Send + Sync,
     P: Placing + Send + Sync,
     G: Gate + Drop + Send + Sync,
     H: Wait + Drop + Send,
     R: Threads + Wait + Sync,
->(rt: &R, alloc: Global, hub: &Hub<J, P, G, H>) -> Option<Vec<usize>> {
+>(rt: &R, alloc: Global, hub: &Hub<L, P, G, H>) -> Option<Vec<usize>> {
     opens(rt, alloc, hub)?;
     let given = eight(rt, alloc, hub)?;
     let first = receives(rt, alloc, hub, 0);
@@ -246,18 +246,18 @@ fn given<
     Some(all)
 }
 
-fn crowd<J: Naming + Send + Sync, R: Threads + Wait + Abort + Sync>(
+fn crowd<L: LogId + Send + Sync, R: Threads + Wait + Abort + Sync>(
     rt: &R,
     alloc: Global,
     opened: Opened,
     config: Config,
     placing: Arc<ByRemainder, Global>,
 ) -> Result<(), Fail>
-    requires book { opened.seen.book ≡ J.book }
-    requires config { config ≡ J.config }
-    requires placing { by_remainder ≡ J.placing }
+    requires book { opened.seen.book ≡ L.book }
+    requires config { config ≡ L.config }
+    requires placing { by_remainder ≡ L.placing }
 {
-    let hub = Hub::<J, ByRemainder, OpenGate, &R>::new(
+    let hub = Hub::<L, ByRemainder, OpenGate, &R>::new(
         alloc, rt, opened, config, placing, OpenGate,
     )?;
     let given = given(rt, alloc, &hub).ok_or("a call failed")?;

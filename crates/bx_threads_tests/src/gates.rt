@@ -7,7 +7,7 @@ use bx_advice::Config;
 use bx_calls::{ANSWER, Found, HANDSHAKE, PUBLISH, Refused, find, hold, post};
 use bx_entry::{ByRemainder, Placing, Refusal, Ticket};
 use bx_hub::{Gate, Hub, Pass, PostFault};
-use bx_window::{Naming, Opened};
+use bx_window::{LogId, Opened};
 use std::alloc::Global;
 use std::hint;
 use std::marker::Brand;
@@ -71,11 +71,11 @@ impl Gate for Holding {
 // Ticks and polls while the publish is stopped in shard 0, and then lets it continue.
 //
 // Admission and shard 1 must be unlocked, and the list must have the publish.
-fn takes<J: Naming, P: Placing, H: Wait + Drop, R: Wait>(
+fn takes<L: LogId, P: Placing, H: Wait + Drop, R: Wait>(
     rt: &R,
     alloc: Global,
-    hub: &Hub<J, P, Holding, H>,
-    mut pass: Pass<J>,
+    hub: &Hub<L, P, Holding, H>,
+    mut pass: Pass<L>,
     ticket: Ticket,
     flags: &Flags,
 ) -> Told {
@@ -100,11 +100,11 @@ fn takes<J: Naming, P: Placing, H: Wait + Drop, R: Wait>(
 }
 
 // Publishes, and is stopped under the lock of shard 0.
-fn posts<J: Naming, P: Placing, H: Wait + Drop, R: Wait>(
+fn posts<L: LogId, P: Placing, H: Wait + Drop, R: Wait>(
     rt: &R,
     alloc: Global,
-    hub: &Hub<J, P, Holding, H>,
-    mut pass: Pass<J>,
+    hub: &Hub<L, P, Holding, H>,
+    mut pass: Pass<L>,
 ) -> bool {
     post(rt, alloc, hub, &mut pass, PUBLISH).is_ok()
 }
@@ -113,15 +113,15 @@ fn posts<J: Naming, P: Placing, H: Wait + Drop, R: Wait>(
 //
 // If one lock guarded both shards, or admission and shard 0, the publish would wait in vain.
 fn beside<
-    J: Naming + Send + Sync,
+    L: LogId + Send + Sync,
     P: Placing + Send + Sync,
     H: Wait + Drop + Send,
     R: Threads + Wait + Abort + Sync,
 >(
     rt: &R,
     alloc: Global,
-    hub: &Hub<J, P, Holding, H>,
-    pass: Pass<J>,
+    hub: &Hub<L, P, Holding, H>,
+    pass: Pass<L>,
     ticket: Ticket,
     flags: &Flags,
 ) -> Result<(), Fail> {
@@ -155,11 +155,11 @@ fn beside<
 }
 
 // Opens two sessions, and returns the ticket of the first one's held connect.
-fn opens<J: Naming, P: Placing, G: Gate + Drop, H: Wait + Drop, R: Wait>(
+fn opens<L: LogId, P: Placing, G: Gate + Drop, H: Wait + Drop, R: Wait>(
     rt: &R,
     alloc: Global,
-    hub: &Hub<J, P, G, H>,
-    pass: &mut Pass<J>,
+    hub: &Hub<L, P, G, H>,
+    pass: &mut Pass<L>,
 ) -> Result<Ticket, Refused> {
     let ticket = hold(rt, alloc, hub, pass)?;
     post(rt, alloc, hub, pass, HANDSHAKE)?;
@@ -167,17 +167,17 @@ fn opens<J: Naming, P: Placing, G: Gate + Drop, H: Wait + Drop, R: Wait>(
 }
 
 fn stands<
-    J: Naming + Send + Sync,
+    L: LogId + Send + Sync,
     P: Placing + Send + Sync,
     H: Wait + Drop + Send,
     R: Threads + Wait + Abort + Sync,
->(rt: &R, alloc: Global, hub: &Hub<J, P, Holding, H>, flags: &Flags) -> Result<(), Fail> {
+>(rt: &R, alloc: Global, hub: &Hub<L, P, Holding, H>, flags: &Flags) -> Result<(), Fail> {
     let mut pass = hub.pass();
     let ticket = opens(rt, alloc, hub, &mut pass)?;
     beside(rt, alloc, hub, pass, ticket, flags)
 }
 
-fn held<J: Naming + Send + Sync, R: Threads + Wait + Abort + Sync>(
+fn held<L: LogId + Send + Sync, R: Threads + Wait + Abort + Sync>(
     rt: &R,
     alloc: Global,
     opened: Opened,
@@ -186,11 +186,11 @@ fn held<J: Naming + Send + Sync, R: Threads + Wait + Abort + Sync>(
     gate: Holding,
     flags: &Flags,
 ) -> Result<(), Fail>
-    requires book { opened.seen.book ≡ J.book }
-    requires config { config ≡ J.config }
-    requires placing { by_remainder ≡ J.placing }
+    requires book { opened.seen.book ≡ L.book }
+    requires config { config ≡ L.config }
+    requires placing { by_remainder ≡ L.placing }
 {
-    let hub = Hub::<J, ByRemainder, Holding, &R>::new(alloc, rt, opened, config, placing, gate)?;
+    let hub = Hub::<L, ByRemainder, Holding, &R>::new(alloc, rt, opened, config, placing, gate)?;
     stands(rt, alloc, &hub, flags)
 }
 

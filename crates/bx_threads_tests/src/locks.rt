@@ -7,7 +7,7 @@ use bx_advice::Config;
 use bx_calls::{CONNECT, HANDSHAKE, PING, post};
 use bx_entry::{ByRemainder, Placing, Ticket};
 use bx_hub::{Gate, Hub};
-use bx_window::{Naming, Opened};
+use bx_window::{LogId, Opened};
 use std::alloc::{AllocError, Global};
 use std::marker::Brand;
 use std::process::Abort;
@@ -138,10 +138,10 @@ impl<C: Clock + Drop> Placing for Holding<C> {
 }
 
 // Makes the call that is stopped in shard 1, and returns `true` if it succeeds.
-fn calls<J: Naming, P: Placing, G: Gate + Drop, H: Wait + Drop, C: Clock + Drop, R: Wait>(
+fn calls<L: LogId, P: Placing, G: Gate + Drop, H: Wait + Drop, C: Clock + Drop, R: Wait>(
     rt: &R,
     alloc: Global,
-    hub: &Hub<J, P, G, H>,
+    hub: &Hub<L, P, G, H>,
     flags: &Flags<C>,
     call: Call,
 ) -> bool {
@@ -165,10 +165,10 @@ fn calls<J: Naming, P: Placing, G: Gate + Drop, H: Wait + Drop, C: Clock + Drop,
 }
 
 // Posts a connect, which is stopped while admission is locked.
-fn posts<J: Naming, P: Placing, G: Gate + Drop, H: Wait + Drop, C: Clock + Drop, R: Wait>(
+fn posts<L: LogId, P: Placing, G: Gate + Drop, H: Wait + Drop, C: Clock + Drop, R: Wait>(
     rt: &R,
     alloc: Global,
-    hub: &Hub<J, P, G, H>,
+    hub: &Hub<L, P, G, H>,
     flags: &Flags<C>,
 ) -> bool {
     flags.wait_for(&flags.call_stands);
@@ -177,9 +177,9 @@ fn posts<J: Naming, P: Placing, G: Gate + Drop, H: Wait + Drop, C: Clock + Drop,
 }
 
 // Locks every shard repeatedly, while the post has locked admission and the call can continue.
-fn sweeps<J: Naming, P: Placing, G: Gate + Drop, H: Wait + Drop, C: Clock + Drop, R: Wait>(
+fn sweeps<L: LogId, P: Placing, G: Gate + Drop, H: Wait + Drop, C: Clock + Drop, R: Wait>(
     rt: &R,
-    hub: &Hub<J, P, G, H>,
+    hub: &Hub<L, P, G, H>,
     flags: &Flags<C>,
 ) -> usize {
     flags.wait_for(&flags.post_stands);
@@ -193,13 +193,13 @@ fn sweeps<J: Naming, P: Placing, G: Gate + Drop, H: Wait + Drop, C: Clock + Drop
 }
 
 fn posts_and_sweeps<
-    J: Naming + Send + Sync,
+    L: LogId + Send + Sync,
     P: Placing + Send + Sync,
     G: Gate + Drop + Send + Sync,
     H: Wait + Drop + Send,
     C: Clock + Drop + Sync,
     R: Threads + Wait + Sync,
->(rt: &R, alloc: Global, hub: &Hub<J, P, G, H>, flags: &Flags<C>) -> (bool, usize) {
+>(rt: &R, alloc: Global, hub: &Hub<L, P, G, H>, flags: &Flags<C>) -> (bool, usize) {
     join(
         rt,
         || posts(rt, alloc, hub, flags),
@@ -212,13 +212,13 @@ fn posts_and_sweeps<
 // If the call waited for admission while it has locked a shard, the sweeps would block, and the
 // post would wait for them in vain.
 fn beside<
-    J: Naming + Send + Sync,
+    L: LogId + Send + Sync,
     P: Placing + Send + Sync,
     G: Gate + Drop + Send + Sync,
     H: Wait + Drop + Send,
     C: Clock + Drop + Sync,
     R: Threads + Wait + Abort + Sync,
->(rt: &R, alloc: Global, hub: &Hub<J, P, G, H>, flags: &Flags<C>, call: Call) {
+>(rt: &R, alloc: Global, hub: &Hub<L, P, G, H>, flags: &Flags<C>, call: Call) {
     let (called, (posted, swept)) = join(
         rt,
         || calls(rt, alloc, hub, flags, call),
@@ -232,13 +232,13 @@ fn beside<
 }
 
 fn stands<
-    J: Naming + Send + Sync,
+    L: LogId + Send + Sync,
     P: Placing + Send + Sync,
     G: Gate + Drop + Send + Sync,
     H: Wait + Drop + Send,
     C: Clock + Drop + Sync,
     R: Threads + Wait + Abort + Sync,
->(rt: &R, alloc: Global, hub: &Hub<J, P, G, H>, flags: &Flags<C>, call: Call) -> Result<(), Fail> {
+>(rt: &R, alloc: Global, hub: &Hub<L, P, G, H>, flags: &Flags<C>, call: Call) -> Result<(), Fail> {
     post(rt, alloc, hub, &mut hub.pass(), HANDSHAKE)?;
     // Each shard places the new session when it applies its handshake.
     let between = flags.between.load(Ordering::SeqCst);
@@ -247,11 +247,7 @@ fn stands<
     Ok(())
 }
 
-fn ordered<
-    J: Naming + Send + Sync,
-    C: Clock + Drop + Send + Sync,
-    R: Threads + Wait + Abort + Sync,
->(
+fn ordered<L: LogId + Send + Sync, C: Clock + Drop + Send + Sync, R: Threads + Wait + Abort + Sync>(
     rt: &R,
     alloc: Global,
     opened: Opened,
@@ -261,11 +257,11 @@ fn ordered<
     flags: &Flags<C>,
     call: Call,
 ) -> Result<(), Fail>
-    requires book { opened.seen.book ≡ J.book }
-    requires config { config ≡ J.config }
-    requires placing { by_remainder ≡ J.placing }
+    requires book { opened.seen.book ≡ L.book }
+    requires config { config ≡ L.config }
+    requires placing { by_remainder ≡ L.placing }
 {
-    let hub = Hub::<J, Holding<C>, Holding<C>, &R>::new(alloc, rt, opened, config, placing, gate)?;
+    let hub = Hub::<L, Holding<C>, Holding<C>, &R>::new(alloc, rt, opened, config, placing, gate)?;
     stands(rt, alloc, &hub, flags, call)
 }
 

@@ -7,7 +7,7 @@ use bx_advice::Config;
 use bx_calls::{CONNECT, Found, HANDSHAKE, SUBSCRIBE, find, post};
 use bx_entry::{ByRemainder, Placing, Ticket};
 use bx_hub::{Gate, Hub, OpenGate, Pass, Watch};
-use bx_window::{Naming, Opened};
+use bx_window::{LogId, Opened};
 use futures::task::{Doorbell, Poll, Queue, Source, Waker};
 use std::alloc::{AllocError, Global};
 use std::marker::Brand;
@@ -135,9 +135,9 @@ impl Told {
 }
 
 // Registers a waker and sleeps until it is woken, unless the connect was answered meanwhile.
-fn wait<J: Naming, P: Placing, G: Gate + Drop, H: Wait + Drop, R: Wait>(
+fn wait<L: LogId, P: Placing, G: Gate + Drop, H: Wait + Drop, R: Wait>(
     rt: &R,
-    hub: &Hub<J, P, G, H>,
+    hub: &Hub<L, P, G, H>,
     ticket: Ticket,
     turns: &Turns,
     slot: &mut Option<Waker>,
@@ -162,11 +162,11 @@ fn wait<J: Naming, P: Placing, G: Gate + Drop, H: Wait + Drop, R: Wait>(
 }
 
 // Checks that the connect gets `wanted`, at once or after `wait`.
-fn answered<J: Naming, P: Placing, G: Gate + Drop, H: Wait + Drop, R: Wait>(
+fn answered<L: LogId, P: Placing, G: Gate + Drop, H: Wait + Drop, R: Wait>(
     rt: &R,
     alloc: Global,
-    hub: &Hub<J, P, G, H>,
-    pass: &mut Pass<J>,
+    hub: &Hub<L, P, G, H>,
+    pass: &mut Pass<L>,
     ticket: Ticket,
     wanted: &str,
     turns: &Turns,
@@ -186,11 +186,11 @@ fn answered<J: Naming, P: Placing, G: Gate + Drop, H: Wait + Drop, R: Wait>(
 }
 
 // Posts a connect of the first session. In even rounds the event may be published before it.
-fn connects<J: Naming, P: Placing, G: Gate + Drop, H: Wait + Drop, R: Wait>(
+fn connects<L: LogId, P: Placing, G: Gate + Drop, H: Wait + Drop, R: Wait>(
     rt: &R,
     alloc: Global,
-    hub: &Hub<J, P, G, H>,
-    pass: &mut Pass<J>,
+    hub: &Hub<L, P, G, H>,
+    pass: &mut Pass<L>,
     turns: &Turns,
     round: u64,
 ) -> Option<Ticket> {
@@ -203,11 +203,11 @@ fn connects<J: Naming, P: Placing, G: Gate + Drop, H: Wait + Drop, R: Wait>(
 }
 
 // Plays a round: its connect must get its event.
-fn plays<J: Naming, P: Placing, G: Gate + Drop, H: Wait + Drop, R: Wait>(
+fn plays<L: LogId, P: Placing, G: Gate + Drop, H: Wait + Drop, R: Wait>(
     rt: &R,
     alloc: Global,
-    hub: &Hub<J, P, G, H>,
-    pass: &mut Pass<J>,
+    hub: &Hub<L, P, G, H>,
+    pass: &mut Pass<L>,
     turns: &Turns,
     slot: &mut Option<Waker>,
     told: &mut Told,
@@ -220,10 +220,10 @@ fn plays<J: Naming, P: Placing, G: Gate + Drop, H: Wait + Drop, R: Wait>(
 }
 
 // Plays rounds until one fails or time is up, and returns the counts.
-fn waits<J: Naming, P: Placing, G: Gate + Drop, H: Wait + Drop, R: Wait + Clock>(
+fn waits<L: LogId, P: Placing, G: Gate + Drop, H: Wait + Drop, R: Wait + Clock>(
     rt: &R,
     alloc: Global,
-    hub: &Hub<J, P, G, H>,
+    hub: &Hub<L, P, G, H>,
     turns: &Turns,
     start: Instant,
 ) -> Told {
@@ -252,10 +252,10 @@ fn waits<J: Naming, P: Placing, G: Gate + Drop, H: Wait + Drop, R: Wait + Clock>
 // Publishes an event in each round, and returns how many.
 //
 // Returns `None` if a publish fails or a round does not begin in time.
-fn publishes<J: Naming, P: Placing, G: Gate + Drop, H: Wait + Drop, R: Wait + Clock>(
+fn publishes<L: LogId, P: Placing, G: Gate + Drop, H: Wait + Drop, R: Wait + Clock>(
     rt: &R,
     alloc: Global,
-    hub: &Hub<J, P, G, H>,
+    hub: &Hub<L, P, G, H>,
     turns: &Turns,
 ) -> Option<u64> {
     let mut pass = hub.pass();
@@ -269,11 +269,11 @@ fn publishes<J: Naming, P: Placing, G: Gate + Drop, H: Wait + Drop, R: Wait + Cl
     Some(ROUNDS)
 }
 
-fn publish<J: Naming, P: Placing, G: Gate + Drop, H: Wait + Drop, R: Wait>(
+fn publish<L: LogId, P: Placing, G: Gate + Drop, H: Wait + Drop, R: Wait>(
     rt: &R,
     alloc: Global,
-    hub: &Hub<J, P, G, H>,
-    pass: &mut Pass<J>,
+    hub: &Hub<L, P, G, H>,
+    pass: &mut Pass<L>,
     round: u64,
 ) -> Option<()> {
     let body = text_of(alloc, PUBLISH, round).ok()?;
@@ -282,10 +282,10 @@ fn publish<J: Naming, P: Placing, G: Gate + Drop, H: Wait + Drop, R: Wait>(
 }
 
 // Runs `publishes`. If that fails, shuts the task down so that it does not sleep forever.
-fn publishes_all<J: Naming, P: Placing, G: Gate + Drop, H: Wait + Drop, R: Wait + Clock>(
+fn publishes_all<L: LogId, P: Placing, G: Gate + Drop, H: Wait + Drop, R: Wait + Clock>(
     rt: &R,
     alloc: Global,
-    hub: &Hub<J, P, G, H>,
+    hub: &Hub<L, P, G, H>,
     turns: &Turns,
 ) -> Option<u64> {
     let published = publishes(rt, alloc, hub, turns);
@@ -296,10 +296,10 @@ fn publishes_all<J: Naming, P: Placing, G: Gate + Drop, H: Wait + Drop, R: Wait 
 }
 
 // Opens two sessions and subscribes the first.
-fn opens<J: Naming, P: Placing, G: Gate + Drop, H: Wait + Drop, R: Wait>(
+fn opens<L: LogId, P: Placing, G: Gate + Drop, H: Wait + Drop, R: Wait>(
     rt: &R,
     alloc: Global,
-    hub: &Hub<J, P, G, H>,
+    hub: &Hub<L, P, G, H>,
 ) -> Result<(), Fail> {
     let mut pass = hub.pass();
     for body in [HANDSHAKE, HANDSHAKE, SUBSCRIBE] {
@@ -309,12 +309,12 @@ fn opens<J: Naming, P: Placing, G: Gate + Drop, H: Wait + Drop, R: Wait>(
 }
 
 fn rounds<
-    J: Naming + Send + Sync,
+    L: LogId + Send + Sync,
     P: Placing + Send + Sync,
     G: Gate + Drop + Send + Sync,
     H: Wait + Drop + Send,
     R: Threads + Wait + Clock + Abort + Sync,
->(rt: &R, alloc: Global, hub: &Hub<J, P, G, H>, turns: &Turns) -> Result<(), Fail> {
+>(rt: &R, alloc: Global, hub: &Hub<L, P, G, H>, turns: &Turns) -> Result<(), Fail> {
     opens(rt, alloc, hub)?;
     let start = Instant::now(rt)?;
     let (told, published) = join(
@@ -338,7 +338,7 @@ fn check<R: Abort>(rt: &R, told: Told, published: Option<u64>) {
     same(rt, told.left > 0, true, "some waker was left");
 }
 
-fn play<J: Naming + Send + Sync, R: Threads + Wait + Clock + Abort + Sync>(
+fn play<L: LogId + Send + Sync, R: Threads + Wait + Clock + Abort + Sync>(
     rt: &R,
     alloc: Global,
     opened: Opened,
@@ -346,11 +346,11 @@ fn play<J: Naming + Send + Sync, R: Threads + Wait + Clock + Abort + Sync>(
     placing: Arc<ByRemainder, Global>,
     turns: &Turns,
 ) -> Result<(), Fail>
-    requires book { opened.seen.book ≡ J.book }
-    requires config { config ≡ J.config }
-    requires placing { by_remainder ≡ J.placing }
+    requires book { opened.seen.book ≡ L.book }
+    requires config { config ≡ L.config }
+    requires placing { by_remainder ≡ L.placing }
 {
-    let hub = Hub::<J, ByRemainder, OpenGate, &R>::new(
+    let hub = Hub::<L, ByRemainder, OpenGate, &R>::new(
         alloc, rt, opened, config, placing, OpenGate,
     )?;
     rounds(rt, alloc, &hub, turns)

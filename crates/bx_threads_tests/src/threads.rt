@@ -7,7 +7,7 @@ use bx_advice::Config;
 use bx_calls::{ANSWER, Found, find, hold, publish};
 use bx_entry::{ByRemainder, Placing, Ticket};
 use bx_hub::{Gate, Hub, OpenGate, Pass};
-use bx_window::{Naming, Opened};
+use bx_window::{LogId, Opened};
 use std::alloc::Global;
 use std::marker::Brand;
 use std::process::Abort;
@@ -19,12 +19,12 @@ use std::thread::{Threads, join};
 const TICKS: usize = 5_000;
 
 // Ticks without publishing, so that any event found later is the other thread's.
-fn ticks<J: Naming, P: Placing, G: Gate + Drop, H: Wait + Drop, R: Wait>(
+fn ticks<L: LogId, P: Placing, G: Gate + Drop, H: Wait + Drop, R: Wait>(
     rt: &R,
     alloc: Global,
-    hub: &Hub<J, P, G, H>,
-    mut pass: Pass<J>,
-) -> Option<Pass<J>> {
+    hub: &Hub<L, P, G, H>,
+    mut pass: Pass<L>,
+) -> Option<Pass<L>> {
     for _ in 0..TICKS {
         hub.tick(rt, alloc, &mut pass, 0).ok()?;
     }
@@ -32,12 +32,12 @@ fn ticks<J: Naming, P: Placing, G: Gate + Drop, H: Wait + Drop, R: Wait>(
 }
 
 // Publishes an event, and returns the pass that has seen it.
-fn tells<J: Naming, P: Placing, G: Gate + Drop, H: Wait + Drop, R: Wait>(
+fn tells<L: LogId, P: Placing, G: Gate + Drop, H: Wait + Drop, R: Wait>(
     rt: &R,
     alloc: Global,
-    hub: &Hub<J, P, G, H>,
-    mut pass: Pass<J>,
-) -> Option<Pass<J>> {
+    hub: &Hub<L, P, G, H>,
+    mut pass: Pass<L>,
+) -> Option<Pass<L>> {
     publish(rt, alloc, hub, &mut pass).ok()?;
     Some(pass)
 }
@@ -46,12 +46,12 @@ fn tells<J: Naming, P: Placing, G: Gate + Drop, H: Wait + Drop, R: Wait>(
 //
 // The held connect must then be answered once, with the event.
 fn meet<
-    J: Naming + Send + Sync,
+    L: LogId + Send + Sync,
     P: Placing + Send + Sync,
     G: Gate + Drop + Send + Sync,
     H: Wait + Drop + Send,
     R: Threads + Wait + Abort + Sync,
->(rt: &R, alloc: Global, hub: &Hub<J, P, G, H>, pass: Pass<J>, ticket: Ticket) -> Result<(), Fail> {
+>(rt: &R, alloc: Global, hub: &Hub<L, P, G, H>, pass: Pass<L>, ticket: Ticket) -> Result<(), Fail> {
     let other = hub.pass();
     let (a, b) = join(
         rt,
@@ -68,11 +68,11 @@ fn meet<
 }
 
 // Checks that the connect is answered once, with the event and its reply.
-fn answered<J: Naming, P: Placing, G: Gate + Drop, H: Wait + Drop, R: Wait + Abort>(
+fn answered<L: LogId, P: Placing, G: Gate + Drop, H: Wait + Drop, R: Wait + Abort>(
     rt: &R,
     alloc: Global,
-    hub: &Hub<J, P, G, H>,
-    pass: &mut Pass<J>,
+    hub: &Hub<L, P, G, H>,
+    pass: &mut Pass<L>,
     ticket: Ticket,
 ) -> Result<(), Fail> {
     let first = find(rt, alloc, hub, pass, ticket, ANSWER)?;
@@ -83,11 +83,11 @@ fn answered<J: Naming, P: Placing, G: Gate + Drop, H: Wait + Drop, R: Wait + Abo
 }
 
 // Holds a connect, checks that it has no answer, and returns its ticket.
-fn waits<J: Naming, P: Placing, G: Gate + Drop, H: Wait + Drop, R: Wait + Abort>(
+fn waits<L: LogId, P: Placing, G: Gate + Drop, H: Wait + Drop, R: Wait + Abort>(
     rt: &R,
     alloc: Global,
-    hub: &Hub<J, P, G, H>,
-    pass: &mut Pass<J>,
+    hub: &Hub<L, P, G, H>,
+    pass: &mut Pass<L>,
 ) -> Result<Ticket, Fail> {
     let ticket = hold(rt, alloc, hub, pass)?;
     let found = find(rt, alloc, hub, pass, ticket, ANSWER)?;
@@ -96,29 +96,29 @@ fn waits<J: Naming, P: Placing, G: Gate + Drop, H: Wait + Drop, R: Wait + Abort>
 }
 
 fn meet_once<
-    J: Naming + Send + Sync,
+    L: LogId + Send + Sync,
     P: Placing + Send + Sync,
     G: Gate + Drop + Send + Sync,
     H: Wait + Drop + Send,
     R: Threads + Wait + Abort + Sync,
->(rt: &R, alloc: Global, hub: &Hub<J, P, G, H>) -> Result<(), Fail> {
+>(rt: &R, alloc: Global, hub: &Hub<L, P, G, H>) -> Result<(), Fail> {
     let mut pass = hub.pass();
     let ticket = waits(rt, alloc, hub, &mut pass)?;
     meet(rt, alloc, hub, pass, ticket)
 }
 
-fn two<J: Naming + Send + Sync, R: Threads + Wait + Abort + Sync>(
+fn two<L: LogId + Send + Sync, R: Threads + Wait + Abort + Sync>(
     rt: &R,
     alloc: Global,
     opened: Opened,
     config: Config,
     placing: Arc<ByRemainder, Global>,
 ) -> Result<(), Fail>
-    requires book { opened.seen.book ≡ J.book }
-    requires config { config ≡ J.config }
-    requires placing { by_remainder ≡ J.placing }
+    requires book { opened.seen.book ≡ L.book }
+    requires config { config ≡ L.config }
+    requires placing { by_remainder ≡ L.placing }
 {
-    let hub = Hub::<J, ByRemainder, OpenGate, &R>::new(
+    let hub = Hub::<L, ByRemainder, OpenGate, &R>::new(
         alloc, rt, opened, config, placing, OpenGate,
     )?;
     meet_once(rt, alloc, &hub)

@@ -6,7 +6,7 @@ ghost use Rattle.logbook.specs.Pages.{may_write};
 ghost use Rattle.bx_window.specs.Steps.{adding, trimming, stepping, list_of, begin_of, before};
 ghost use Rattle.bx_window.specs.Rules.{head_of};
 
-use crate::law::{Add, Asked, Law, Logged, Naming, NoGain, Open, Spare, Whole};
+use crate::law::{Add, Asked, Law, LogId, Logged, NoGain, Open, Spare, Whole};
 use bx_entry::{Input, Listing};
 use bx_history::History;
 use logbook::{Offer, Pen, Seen, Start, Word};
@@ -33,8 +33,8 @@ impl Opened {
     }
 
     // Begins the log. Returns `None` if it has already begun, which does not happen.
-    pub(crate) fn begun<J: Naming>(self) -> Option<Book<J>>
-        requires { self.seen.book ≡ J.book }
+    pub(crate) fn begun<L: LogId>(self) -> Option<Book<L>>
+        requires { self.seen.book ≡ L.book }
         ensures { IfSome result (λ b. b ≡ []) }
     {
         let Opened { head, mut seen } = self;
@@ -86,17 +86,17 @@ fn spare(head: &Word<Logged, u64, Law>, seen: &Seen<Logged, u64, Law>) -> Pen
 ///
 /// Model: the steps of the log.
 #[derive(Drop)]
-pub struct Book<J: Naming> {
+pub struct Book<L: LogId> {
     head: Word<Logged, u64, Law>,
     pen: Pen,
     steps: u64,
     len: u64,
     begin: u64,
     seen: Seen<Logged, u64, Law>,
-    of: PhantomData<J>,
+    of: PhantomData<L>,
 }
 
-impl<J: Naming> Model for Book<J> {
+impl<L: LogId> Model for Book<L> {
     ghost use Rattle.std.specs.Prelude.{◌≡◌, ◌≤◌, ◌+◌, ◌^◌, List, length};
     ghost use Rattle.bx_advice.specs.Limits.{greatest_length};
     ghost use Rattle.logbook.specs.Pages.{may_write};
@@ -108,12 +108,12 @@ impl<J: Naming> Model for Book<J> {
 
     ghost view = { λ b. steps_of b.seen.log };
 
-    ghost invariant = { λ b. (b.steps + 1 ≡ length b.seen.log) × (b.len ≡ length (list_of (steps_of b.seen.log))) × (b.begin ≡ begin_of (steps_of b.seen.log)) × (b.seen.book ≡ J.book) × (b.len ≤ greatest_length) × (b.head ≡ head_of J.book) × (b.pen.book ≡ J.book) × (b.pen.nib.right ≡ may_write) × (b.pen.nib.key ≡ key_of b.seen.log) × (b.steps ≤ 2 ^ 62) };
+    ghost invariant = { λ b. (b.steps + 1 ≡ length b.seen.log) × (b.len ≡ length (list_of (steps_of b.seen.log))) × (b.begin ≡ begin_of (steps_of b.seen.log)) × (b.seen.book ≡ L.book) × (b.len ≤ greatest_length) × (b.head ≡ head_of L.book) × (b.pen.book ≡ L.book) × (b.pen.nib.right ≡ may_write) × (b.pen.nib.key ≡ key_of b.seen.log) × (b.steps ≤ 2 ^ 62) };
 }
 
-impl<J: Naming> Book<J> {
+impl<L: LogId> Book<L> {
     // Returns the whole log.
-    pub(crate) fn front(&self) -> Front<J>
+    pub(crate) fn front(&self) -> Front<L>
         ensures { result ≡ self.now }
     {
         Front {
@@ -126,7 +126,7 @@ impl<J: Naming> Book<J> {
     }
 
     // Returns the whole log. `other` is a prefix of it, because only the pen can append steps.
-    pub(crate) fn beyond(&mut self, other: &Front<J>) -> Front<J>
+    pub(crate) fn beyond(&mut self, other: &Front<L>) -> Front<L>
         ensures same { self.new ≡ self.old }
         ensures whole { result ≡ self.old }
         ensures begins { IsPrefix other.now self.old }
@@ -207,15 +207,15 @@ impl<J: Naming> Book<J> {
 ///
 /// Model: the steps of this prefix.
 #[derive(Drop)]
-pub struct Front<J: Naming> {
+pub struct Front<L: LogId> {
     steps: u64,
     len: u64,
     begin: u64,
     seen: Seen<Logged, u64, Law>,
-    of: PhantomData<J>,
+    of: PhantomData<L>,
 }
 
-impl<J: Naming> Model for Front<J> {
+impl<L: LogId> Model for Front<L> {
     ghost use Rattle.std.specs.Prelude.{◌≡◌, ◌≤◌, List, length};
     ghost use Rattle.bx_advice.specs.Limits.{greatest_length};
     ghost use Rattle.bx_window.specs.declared.law.LogStep.{LogStep};
@@ -226,10 +226,10 @@ impl<J: Naming> Model for Front<J> {
 
     ghost view = { λ f. steps_of f.seen.log };
 
-    ghost invariant = { λ f. (f.steps ≡ length (steps_of f.seen.log)) × (f.len ≡ length (list_of (steps_of f.seen.log))) × (f.begin ≡ begin_of (steps_of f.seen.log)) × (f.seen.book ≡ J.book) × (f.len ≤ greatest_length) };
+    ghost invariant = { λ f. (f.steps ≡ length (steps_of f.seen.log)) × (f.len ≡ length (list_of (steps_of f.seen.log))) × (f.begin ≡ begin_of (steps_of f.seen.log)) × (f.seen.book ≡ L.book) × (f.len ≤ greatest_length) };
 }
 
-impl<J: Naming> Front<J> {
+impl<L: LogId> Front<L> {
     /// Returns the length of the list, as far as this front shows it.
     pub fn len(&self) -> u64
         ensures end { result ≡ length (list_of self.now) }
@@ -257,7 +257,7 @@ impl<J: Naming> Front<J> {
     /// Returns a copy of `self`.
     ///
     /// Does not allocate.
-    pub fn again(&self) -> Front<J>
+    pub fn again(&self) -> Front<L>
         ensures { result ≡ self.now }
     {
         Front {
@@ -272,7 +272,7 @@ impl<J: Naming> Front<J> {
     /// Returns a copy of the longer of `self` and `other`.
     ///
     /// The shorter one is a prefix of the longer one. Does not allocate.
-    pub fn longer(&self, other: &Front<J>) -> Front<J>
+    pub fn longer(&self, other: &Front<L>) -> Front<L>
         ensures one { (result ≡ self.now) ⊎ (result ≡ other.now) }
         ensures this { IsPrefix self.now result }
         ensures that { IsPrefix other.now result }
@@ -289,7 +289,7 @@ impl<J: Naming> Front<J> {
     /// Returns `true` if `other` has no more steps than `self`.
     ///
     /// Then `other` is a prefix of `self`.
-    pub fn covers(&self, other: &Front<J>) -> bool
+    pub fn covers(&self, other: &Front<L>) -> bool
         ensures begins { IsTrue result → IsPrefix other.now self.now }
         ensures steps { IsTrue result ↔ length other.now ≤ length self.now }
     {
@@ -300,7 +300,7 @@ impl<J: Naming> Front<J> {
 
     // Returns `true` if `self` has the steps of `other` and one more.
     #[tactic(auto, using(crate::proofs::Fronts::before_prefix))]
-    pub(crate) fn follows(&self, other: &Front<J>) -> bool
+    pub(crate) fn follows(&self, other: &Front<L>) -> bool
         ensures next { IsTrue result → before self.now ≡ other.now }
         ensures steps { result ≡ (length self.now == length other.now + 1) }
     {

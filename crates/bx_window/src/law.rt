@@ -127,7 +127,7 @@ impl Plain<u64, Logged, u64> for Spare {
 /// The ghost constants of a window: its book, its configuration and its placing of sessions.
 ///
 /// The caller that creates the window chooses them.
-pub trait Naming {
+pub trait LogId {
     ghost use Rattle.std.specs.Prelude.{ℕ};
     ghost use Rattle.logbook.specs.Pages.{Book};
     ghost use Rattle.bx_advice.specs.declared.config.Config.{Config};
@@ -142,7 +142,7 @@ pub trait Naming {
     ghost placing: { ℕ → ℕ → ℕ };
 }
 
-impl Naming for Brand {
+impl LogId for Brand {
     ghost use Rattle.bx_window.specs.Steps.{unnamed};
 
     ghost book = { record { number = 0; log_name = 0; cells_name = 0 } };

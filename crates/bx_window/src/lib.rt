@@ -12,7 +12,7 @@ mod writer;
 
 pub use batch::{Bundle, entry_of};
 pub use front::{Book, Front, Opened};
-pub use law::{Law, LogStep, Logged, Naming};
+pub use law::{Law, LogId, LogStep, Logged};
 pub use published::{PublishedBatch, RingChange, Trimmed};
 pub use reader::{LogReader, Next};
 pub use ring::{Kept, Ring};

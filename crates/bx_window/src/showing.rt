@@ -6,7 +6,7 @@ ghost use Rattle.bx_window.specs.Changes.{after};
 ghost use Rattle.bx_window.specs.Showing.{IsShown};
 
 use crate::front::Front;
-use crate::law::Naming;
+use crate::law::LogId;
 use crate::published::{RingChange, Trimmed};
 use crate::ring::Ring;
 use left_right::WriteHandle;
@@ -22,10 +22,10 @@ pub(crate) struct Late<O: Drop> {
 /// Shows `change` to readers.
 ///
 /// Returns the change as late if it cannot be shown. Readers then see what they saw before.
-pub(crate) fn show<J: Naming, R: Wait + Drop>(
-    handle: &mut WriteHandle<Ring<J>, RingChange<J>, R>,
-    change: RingChange<J>,
-) -> Option<Late<RingChange<J>>>
+pub(crate) fn show<L: LogId, R: Wait + Drop>(
+    handle: &mut WriteHandle<Ring<L>, RingChange<L>, R>,
+    change: RingChange<L>,
+) -> Option<Late<RingChange<L>>>
     requires { pending handle.old ≡ [] }
     ensures pending { pending handle.new ≡ [] }
     ensures shown { IfNone result ((published handle.new).front ≡ after (published handle.old).front change) }
@@ -41,9 +41,9 @@ pub(crate) fn show<J: Naming, R: Wait + Drop>(
 }
 
 /// Shows the late change, if any, and returns `true` if no change is late any more.
-pub(crate) fn catch_up<J: Naming, R: Wait + Drop>(
-    handle: &mut WriteHandle<Ring<J>, RingChange<J>, R>,
-    late: &mut Option<Late<RingChange<J>>>,
+pub(crate) fn catch_up<L: LogId, R: Wait + Drop>(
+    handle: &mut WriteHandle<Ring<L>, RingChange<L>, R>,
+    late: &mut Option<Late<RingChange<L>>>,
 ) -> bool
     requires { pending handle.old ≡ [] }
     ensures pending { pending handle.new ≡ [] }
@@ -67,9 +67,9 @@ pub(crate) fn catch_up<J: Naming, R: Wait + Drop>(
 /// # Errors
 ///
 /// `AllocError` if memory runs out.
-pub(crate) fn make_room<J: Naming, R: Wait + Drop>(
-    handle: &mut WriteHandle<Ring<J>, RingChange<J>, R>,
-    front: &Front<J>,
+pub(crate) fn make_room<L: LogId, R: Wait + Drop>(
+    handle: &mut WriteHandle<Ring<L>, RingChange<L>, R>,
+    front: &Front<L>,
 ) -> Result<(), AllocError>
     requires pending { pending handle.old ≡ [] }
     requires empty { (front.now ≡ []) × ((published handle.old).front ≡ []) }

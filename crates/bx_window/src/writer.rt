@@ -14,7 +14,7 @@ ghost use Rattle.bx_window.specs.Refusals.{IsFair};
 
 use crate::batch::Bundle;
 use crate::front::{Book, Front, Opened};
-use crate::law::{LogStep, Naming};
+use crate::law::{LogId, LogStep};
 use crate::published::{PublishedBatch, RingChange, Trimmed};
 use crate::reader::LogReader;
 use crate::ring::{Ring, drop_first};
@@ -49,15 +49,15 @@ pub enum PublishFault {
 ///
 /// Model: the steps of the log.
 #[derive(Drop)]
-pub struct Writer<J: Naming, R: Wait + Drop, T: Absorb<O, State = [LogStep; 0]> + Drop, O: Drop> {
+pub struct Writer<L: LogId, R: Wait + Drop, T: Absorb<O, State = [LogStep; 0]> + Drop, O: Drop> {
     handle: WriteHandle<T, O, R>,
-    book: Book<J>,
+    book: Book<L>,
     firsts: HeapCircularBuffer<u64>,
     late: Option<Late<O>>,
 }
 
-impl<J: Naming, R: Wait + Drop, T: Absorb<O, State = [LogStep; 0]> + Drop, O: Drop> Model
-    for Writer<J, R, T, O> {
+impl<L: LogId, R: Wait + Drop, T: Absorb<O, State = [LogStep; 0]> + Drop, O: Drop> Model
+    for Writer<L, R, T, O> {
     ghost use Rattle.std.specs.Prelude.{◌≡◌, [], List};
     ghost use Rattle.left_right.specs.Handles.{published, pending};
     ghost use Rattle.bx_window.specs.declared.law.LogStep.{LogStep};
@@ -72,7 +72,7 @@ impl<J: Naming, R: Wait + Drop, T: Absorb<O, State = [LogStep; 0]> + Drop, O: Dr
 }
 
 /// The only writer of a window.
-pub type LogWriter<J, R> = Writer<J, R, Ring<J>, RingChange<J>>;
+pub type LogWriter<L, R> = Writer<L, R, Ring<L>, RingChange<L>>;
 
 /// Creates the writer and `readers` readers of an opened window.
 ///
@@ -81,19 +81,19 @@ pub type LogWriter<J, R> = Writer<J, R, Ring<J>, RingChange<J>>;
 /// # Errors
 ///
 /// `AllocError` if memory runs out.
-pub fn log_pair<J: Naming, R: Wait + Drop>(
+pub fn log_pair<L: LogId, R: Wait + Drop>(
     alloc: Global,
     rt: R,
     opened: Opened,
     readers: usize,
-) -> Result<(LogWriter<J, R>, Vec<LogReader<J>>), AllocError>
-    requires book { opened.seen.book ≡ J.book }
+) -> Result<(LogWriter<L, R>, Vec<LogReader<L>>), AllocError>
+    requires book { opened.seen.book ≡ L.book }
     requires readers { (0 < readers) × (readers < 2 ^ 32) }
     ensures writer { IfOk result (λ p. p.0 ≡ []) }
     ensures readers { IfOk result (λ p. All (λ r. r ≡ []) p.1.items) }
     ensures count { IfOk result (λ p. length p.1.items ≡ readers) }
 {
-    let Some(book) = opened.begun::<J>() else {
+    let Some(book) = opened.begun::<L>() else {
         return Err(AllocError);
     };
     let front = book.front();
@@ -117,7 +117,7 @@ pub fn log_pair<J: Naming, R: Wait + Drop>(
 }
 
 // Creates a ring without batches.
-fn empty_ring<J: Naming>(alloc: Global, front: &Front<J>) -> Result<Ring<J>, AllocError>
+fn empty_ring<L: LogId>(alloc: Global, front: &Front<L>) -> Result<Ring<L>, AllocError>
     requires { front.now ≡ [] }
     ensures { IfOk result (λ r. r.front ≡ []) }
 {
@@ -127,11 +127,11 @@ fn empty_ring<J: Naming>(alloc: Global, front: &Front<J>) -> Result<Ring<J>, All
     })
 }
 
-impl<J: Naming, R: Wait + Drop> Writer<J, R, Ring<J>, RingChange<J>> {
+impl<L: LogId, R: Wait + Drop> Writer<L, R, Ring<L>, RingChange<L>> {
     /// Returns the front of all that was published, for readers to learn.
     ///
     /// Does not allocate.
-    pub fn tell(&self) -> Front<J>
+    pub fn tell(&self) -> Front<L>
         ensures { result ≡ self.now }
     {
         self.book.front()
@@ -140,7 +140,7 @@ impl<J: Naming, R: Wait + Drop> Writer<J, R, Ring<J>, RingChange<J>> {
     /// Returns the front of all that was published, which covers `front`.
     ///
     /// It covers every front, because only the writer appends to the list. Does not allocate.
-    pub fn tell_beyond(&mut self, front: &Front<J>) -> Front<J>
+    pub fn tell_beyond(&mut self, front: &Front<L>) -> Front<L>
         ensures same { self.new ≡ self.old }
         ensures whole { result ≡ self.old }
         ensures begins { IsPrefix front.now self.old }
@@ -173,7 +173,7 @@ impl<J: Naming, R: Wait + Drop> Writer<J, R, Ring<J>, RingChange<J>> {
     /// Waits for readers that still use the older copy of the ring.
     #[tactic(auto, using(crate::proofs::Places::stands_newest, crate::proofs::Places::many_elements, crate::proofs::Lists::firsts_of_adding, crate::proofs::Rooms::room_full, crate::proofs::Rings::newest_bundle, crate::proofs::Rings::ends_bundle))]
     pub fn publish(&mut self, alloc: Global, bundle: Bundle) -> Result<(), (Bundle, PublishFault)>
-        requires continues { Continues J.config (list_of self.old) bundle }
+        requires continues { Continues L.config (list_of self.old) bundle }
         requires places { length (list_of self.old) + length bundle.batch.entries ≤ greatest_length }
         requires steps { length self.old < 2 ^ 62 }
         ensures ok { OnOk result (self.new ≡ self.old ++ adding bundle.elements bundle.inputs ∷ []) }

@@ -5,7 +5,7 @@ use crate::requests::{HANDSHAKE, PUBLISH};
 use crate::unlike::Unlike;
 use bx_hub::Pass;
 use bx_message::Answer;
-use bx_window::Naming;
+use bx_window::LogId;
 use std::alloc::Global;
 use std::sync::Wait;
 
@@ -14,10 +14,10 @@ use std::sync::Wait;
 /// # Errors
 ///
 /// As for `hubs::run`.
-pub fn run<J: Naming, H: Wait + Drop, R: Wait>(
+pub fn run<L: LogId, H: Wait + Drop, R: Wait>(
     rt: &R,
     alloc: Global,
-    hub: &Served<J, H>,
+    hub: &Served<L, H>,
     said: &mut Said,
 ) -> Result<(), Unlike> {
     let mut reader = hub.pass();
@@ -26,11 +26,11 @@ pub fn run<J: Naming, H: Wait + Drop, R: Wait>(
 }
 
 // Connects with `reader`, publishes with another pass, and returns the answer to the connect.
-fn answer<J: Naming, H: Wait + Drop, R: Wait>(
+fn answer<L: LogId, H: Wait + Drop, R: Wait>(
     rt: &R,
     alloc: Global,
-    hub: &Served<J, H>,
-    reader: &mut Pass<J>,
+    hub: &Served<L, H>,
+    reader: &mut Pass<L>,
     said: &mut Said,
 ) -> Result<Answer, Unlike> {
     let (ticket, _) = connect(rt, alloc, hub, reader, said)?;
@@ -44,11 +44,11 @@ fn answer<J: Naming, H: Wait + Drop, R: Wait>(
 }
 
 // Opens the second session, publishes its event, and posts a tick.
-fn publish<J: Naming, H: Wait + Drop, R: Wait>(
+fn publish<L: LogId, H: Wait + Drop, R: Wait>(
     rt: &R,
     alloc: Global,
-    hub: &Served<J, H>,
-    pass: &mut Pass<J>,
+    hub: &Served<L, H>,
+    pass: &mut Pass<L>,
     said: &mut Said,
 ) -> Result<(), Unlike> {
     for (place, body) in [(3, HANDSHAKE), (4, PUBLISH)] {

@@ -5,7 +5,7 @@ use crate::unlike::Unlike;
 use bx_entry::{Slot, Ticket};
 use bx_hub::{HubFault, Lagging, Pass, PostFault, PostReceipt, TickReceipt};
 use bx_message::Answer;
-use bx_window::Naming;
+use bx_window::LogId;
 use std::alloc::Global;
 use std::sync::Wait;
 
@@ -99,11 +99,11 @@ pub struct PostEnd {
 ///
 /// `Memory` if memory runs out outside of the hub's call; `Wrong` for another result than expected,
 /// or if the second attempt fails.
-pub fn post<J: Naming, H: Wait + Drop, R: Wait>(
+pub fn post<L: LogId, H: Wait + Drop, R: Wait>(
     rt: &R,
     alloc: Global,
-    hub: &Served<J, H>,
-    pass: &mut Pass<J>,
+    hub: &Served<L, H>,
+    pass: &mut Pass<L>,
     said: &mut Said,
     place: u64,
     body: &str,
@@ -121,16 +121,16 @@ pub fn post<J: Naming, H: Wait + Drop, R: Wait>(
     }
 }
 
-fn end_of<J: Naming>(
+fn end_of<L: LogId>(
     alloc: Global,
     said: &mut Said,
     place: u64,
-    posted: PostReceipt<J>,
+    posted: PostReceipt<L>,
 ) -> Result<PostEnd, Unlike> {
     if posted.first != place {
         return Err(Unlike::Wrong("posted elsewhere"));
     }
-    let is_behind = said.is_behind(posted.brought.behind())?;
+    let is_behind = said.is_behind(posted.advanced.behind())?;
     let ticket = said.add_slots(alloc, posted.first, posted.slots.as_slice())?;
     Ok(PostEnd { ticket, is_behind })
 }
@@ -142,11 +142,11 @@ fn end_of<J: Naming>(
 /// # Errors
 ///
 /// As for [`post`].
-pub fn connect<J: Naming, H: Wait + Drop, R: Wait>(
+pub fn connect<L: LogId, H: Wait + Drop, R: Wait>(
     rt: &R,
     alloc: Global,
-    hub: &Served<J, H>,
-    pass: &mut Pass<J>,
+    hub: &Served<L, H>,
+    pass: &mut Pass<L>,
     said: &mut Said,
 ) -> Result<(Ticket, bool), Unlike> {
     for (place, body) in [(0, HANDSHAKE), (1, SUBSCRIBE)] {
@@ -164,11 +164,11 @@ pub fn connect<J: Naming, H: Wait + Drop, R: Wait>(
 /// # Errors
 ///
 /// As for [`post`].
-pub fn tick<J: Naming, H: Wait + Drop, R: Wait>(
+pub fn tick<L: LogId, H: Wait + Drop, R: Wait>(
     rt: &R,
     alloc: Global,
-    hub: &Served<J, H>,
-    pass: &mut Pass<J>,
+    hub: &Served<L, H>,
+    pass: &mut Pass<L>,
     said: &mut Said,
 ) -> Result<(), Unlike> {
     let fault = match hub.tick(rt, alloc, pass, 0) {
@@ -184,15 +184,15 @@ pub fn tick<J: Naming, H: Wait + Drop, R: Wait>(
     }
 }
 
-fn end_of_tick<J: Naming>(
+fn end_of_tick<L: LogId>(
     alloc: Global,
     said: &mut Said,
-    ticked: TickReceipt<J>,
+    ticked: TickReceipt<L>,
 ) -> Result<(), Unlike> {
     if ticked.place != 5 {
         return Err(Unlike::Wrong("ticks elsewhere"));
     }
-    said.is_behind(ticked.brought.behind())?;
+    said.is_behind(ticked.advanced.behind())?;
     said.add(alloc, ticked.place, "ticks")
 }
 
@@ -201,11 +201,11 @@ fn end_of_tick<J: Naming>(
 /// # Errors
 ///
 /// `Wrong` if the call fails for another reason, or fails again.
-pub fn poll<J: Naming, H: Wait + Drop, R: Wait>(
+pub fn poll<L: LogId, H: Wait + Drop, R: Wait>(
     rt: &R,
     alloc: Global,
-    hub: &Served<J, H>,
-    pass: &mut Pass<J>,
+    hub: &Served<L, H>,
+    pass: &mut Pass<L>,
     ticket: Ticket,
 ) -> Result<Option<Answer>, Unlike> {
     let stopped = match hub.poll_answer(rt, alloc, pass, ticket) {

@@ -7,7 +7,7 @@ use bx_entry::Ticket;
 use bx_held::PendingAnswer;
 use bx_hub::{HubFault, Pass, Watch};
 use bx_message::Answer;
-use bx_window::Naming;
+use bx_window::LogId;
 use futures::task::{Poll, Source, Waker};
 use futures::test::MockTask;
 use std::alloc::{AllocGlobal, Global};
@@ -19,14 +19,14 @@ use std::sync::{Arc, Wait};
 /// # Errors
 ///
 /// As for `hubs::run`.
-pub fn run<'a, J, R>(
+pub fn run<'a, L, R>(
     rt: &'a R,
     alloc: Global,
-    hub: &Arc<Served<J, &'a R>, Global>,
+    hub: &Arc<Served<L, &'a R>, Global>,
     said: &mut Said,
 ) -> Result<(), Unlike>
 where
-    J: Naming,
+    L: LogId,
     R: Wait + RandomSource + AllocGlobal,
 {
     let task = MockTask::new(rt).map_err(|_| Unlike::Memory)?;
@@ -49,13 +49,13 @@ fn waker(task: &MockTask) -> Result<Waker, Unlike> {
 }
 
 // Returns `true` if the shard holds the connect, and `false` if it does not know the connect yet.
-fn is_there<J: Naming, H: Wait + Drop, R: Wait>(
+fn is_there<L: LogId, H: Wait + Drop, R: Wait>(
     rt: &R,
-    hub: &Served<J, H>,
+    hub: &Served<L, H>,
     ticket: Ticket,
     task: &MockTask,
 ) -> Result<bool, Unlike> {
-    let (said, _watching) = hub.watch(rt, ticket, waker(task)?);
+    let (said, _evidence) = hub.watch(rt, ticket, waker(task)?);
     match said {
         Watch::Stored(_) => Ok(true),
         Watch::Unknown(_) => Ok(false),
@@ -64,7 +64,7 @@ fn is_there<J: Naming, H: Wait + Drop, R: Wait>(
 }
 
 // Returns a future of the answer under `ticket`. Fails if `pass` has not seen its place.
-fn waiting<J: Naming>(pass: &Pass<J>, ticket: Ticket) -> Result<PendingAnswer<J>, Unlike> {
+fn waiting<L: LogId>(pass: &Pass<L>, ticket: Ticket) -> Result<PendingAnswer<L>, Unlike> {
     let pass = pass.again();
     if ticket.place >= pass.len() {
         return Err(Unlike::Wrong("a ticket beyond the list"));
@@ -73,12 +73,12 @@ fn waiting<J: Naming>(pass: &Pass<J>, ticket: Ticket) -> Result<PendingAnswer<J>
 }
 
 // Polls `held` once.
-fn polled<J: Naming, H: Wait + Drop, R: Wait>(
+fn polled<L: LogId, H: Wait + Drop, R: Wait>(
     rt: &R,
     alloc: Global,
-    hub: &Served<J, H>,
+    hub: &Served<L, H>,
     task: &MockTask,
-    held: &mut PendingAnswer<J>,
+    held: &mut PendingAnswer<L>,
 ) -> Poll<Result<Option<Answer>, HubFault>> {
     let (polled, _left) = task.enter(|cx| held.poll(rt, alloc, hub, cx));
     match polled {
@@ -97,12 +97,12 @@ enum First {
 }
 
 // Polls `held`, which should be pending.
-fn look<J: Naming, H: Wait + Drop, R: Wait>(
+fn look<L: LogId, H: Wait + Drop, R: Wait>(
     rt: &R,
     alloc: Global,
-    hub: &Served<J, H>,
+    hub: &Served<L, H>,
     task: &MockTask,
-    held: &mut PendingAnswer<J>,
+    held: &mut PendingAnswer<L>,
 ) -> First {
     match polled(rt, alloc, hub, task, held) {
         Poll::Pending => First::Pending,
@@ -113,11 +113,11 @@ fn look<J: Naming, H: Wait + Drop, R: Wait>(
 
 // Checks that the connect is held, even if the shard lagged before, and that the task waits. If
 // memory runs out in the poll, polls a new future.
-fn wait<J: Naming, H: Wait + Drop, R: Wait>(
+fn wait<L: LogId, H: Wait + Drop, R: Wait>(
     rt: &R,
     alloc: Global,
-    hub: &Served<J, H>,
-    pass: &mut Pass<J>,
+    hub: &Served<L, H>,
+    pass: &mut Pass<L>,
     ticket: Ticket,
     task: &MockTask,
     said: &mut Said,
@@ -135,12 +135,12 @@ fn wait<J: Naming, H: Wait + Drop, R: Wait>(
 }
 
 // Checks that a publish answers the connect. The last poll does not allocate, so it is not retried.
-fn answer<J: Naming, H: Wait + Drop, R: Wait>(
+fn answer<L: LogId, H: Wait + Drop, R: Wait>(
     rt: &R,
     alloc: Global,
-    hub: &Served<J, H>,
+    hub: &Served<L, H>,
     task: &MockTask,
-    held: &mut PendingAnswer<J>,
+    held: &mut PendingAnswer<L>,
     said: &mut Said,
 ) -> Result<(), Unlike> {
     publish(rt, alloc, hub, task, said)?;
@@ -151,10 +151,10 @@ fn answer<J: Naming, H: Wait + Drop, R: Wait>(
 }
 
 // Checks that the publish wakes the task or, if the shard lags after it, that the next tick does.
-fn publish<J: Naming, H: Wait + Drop, R: Wait>(
+fn publish<L: LogId, H: Wait + Drop, R: Wait>(
     rt: &R,
     alloc: Global,
-    hub: &Served<J, H>,
+    hub: &Served<L, H>,
     task: &MockTask,
     said: &mut Said,
 ) -> Result<(), Unlike> {

@@ -2,7 +2,7 @@
 use crate::hubs::Served;
 use crate::requests::arrival;
 use crate::unlike::Unlike;
-use bx_window::Naming;
+use bx_window::LogId;
 use std::alloc::Global;
 use std::sync::{Arc, Wait};
 
@@ -18,14 +18,14 @@ pub trait Count {
 
 /// The list of a hub.
 #[derive(Drop)]
-pub struct HubList<J: Naming, R: Wait + Drop> {
+pub struct HubList<L: LogId, R: Wait + Drop> {
     /// The right to wait for the hub's locks.
     pub rt: R,
     /// The hub.
-    pub hub: Arc<Served<J, R>, Global>,
+    pub hub: Arc<Served<L, R>, Global>,
 }
 
-impl<J: Naming, R: Wait + Drop> Count for HubList<J, R> {
+impl<L: LogId, R: Wait + Drop> Count for HubList<L, R> {
     fn entries(&self, alloc: Global) -> Result<u64, Unlike> {
         let nothing = arrival(alloc, "[]")?;
         match self

@@ -1,6 +1,6 @@
 //! What a reader of a window finds.
 use crate::unlike::Unlike;
-use bx_window::{LogReader, Naming, Next};
+use bx_window::{LogId, LogReader, Next};
 use std::alloc::Global;
 
 /// Returns what `reader` finds at each place from 0 to `end`, and what it has then seen.
@@ -11,9 +11,9 @@ use std::alloc::Global;
 /// # Errors
 ///
 /// `Memory` if memory runs out outside of `LogReader::next`; `Wrong` if that call fails again.
-pub fn shown<J: Naming>(
+pub fn shown<L: LogId>(
     alloc: Global,
-    reader: &mut LogReader<J>,
+    reader: &mut LogReader<L>,
     end: u64,
 ) -> Result<String, Unlike> {
     let mut places = String::new(alloc);
@@ -27,9 +27,9 @@ pub fn shown<J: Naming>(
 }
 
 // Returns the text of what is at `place`: a batch, the end, or a dropped entry.
-fn found_at<J: Naming>(
+fn found_at<L: LogId>(
     alloc: Global,
-    reader: &mut LogReader<J>,
+    reader: &mut LogReader<L>,
     place: u64,
 ) -> Result<String, Unlike> {
     match next(reader, place)? {
@@ -44,7 +44,7 @@ fn found_at<J: Naming>(
 }
 
 // Reads at `place`. Retries once if memory runs out and the reader has seen no more steps.
-fn next<J: Naming>(reader: &mut LogReader<J>, place: u64) -> Result<Next, Unlike> {
+fn next<L: LogId>(reader: &mut LogReader<L>, place: u64) -> Result<Next, Unlike> {
     let before = reader.note().steps();
     let next = match reader.next(place) {
         Err(_) if reader.note().steps() == before => reader.next(place),

@@ -6,7 +6,7 @@ use bx_entry::{Access, Arrival, Ticket};
 use bx_held::PendingAnswer;
 use bx_hub::{HubFault, Pass};
 use bx_message::{Answer, event_text, reply_text};
-use bx_window::Naming;
+use bx_window::LogId;
 use futures::task::Poll;
 use futures::test::MockTask;
 use std::alloc::{AllocError, Global};
@@ -80,16 +80,16 @@ pub fn check_poll<A: Abort>(
 
 /// A hub, a pass and two tasks. Neither task is woken.
 #[derive(Drop)]
-pub struct Bench<J: Naming, H: Wait + Drop, R: Wait + Copy + Drop> {
+pub struct Bench<L: LogId, H: Wait + Drop, R: Wait + Copy + Drop> {
     pub rt: R,
     pub alloc: Global,
-    pub hub: Arc<TestHub<J, H>, Global>,
-    pub pass: Pass<J>,
+    pub hub: Arc<TestHub<L, H>, Global>,
+    pub pass: Pass<L>,
     pub first: MockTask,
     pub second: MockTask,
 }
 
-impl<J: Naming, H: Wait + Drop, R: Wait + Copy + Drop> Bench<J, H, R> {
+impl<L: LogId, H: Wait + Drop, R: Wait + Copy + Drop> Bench<L, H, R> {
     /// Returns one of the tasks.
     pub fn task(&self, task: Task) -> &MockTask {
         match task {
@@ -145,7 +145,7 @@ impl<J: Naming, H: Wait + Drop, R: Wait + Copy + Drop> Bench<J, H, R> {
     /// # Errors
     ///
     /// If the pass has not seen the entry of `ticket`.
-    pub fn wait(&self, ticket: Ticket) -> Result<PendingAnswer<J>, Fail> {
+    pub fn wait(&self, ticket: Ticket) -> Result<PendingAnswer<L>, Fail> {
         let pass = self.pass.again();
         if ticket.place >= pass.len() {
             return Err(Fail::from("the ticket is beyond the list"));
@@ -157,7 +157,7 @@ impl<J: Naming, H: Wait + Drop, R: Wait + Copy + Drop> Bench<J, H, R> {
     pub fn poll(
         &self,
         task: Task,
-        held: &mut PendingAnswer<J>,
+        held: &mut PendingAnswer<L>,
     ) -> Poll<Result<Option<Answer>, HubFault>> {
         let (polled, _left) = self
             .task(task)

@@ -12,7 +12,7 @@ publish-requires-clause-continues g c =
     let w = c.args.self.now in
     let b = c.args.bundle in
     let some : 0 < c.args.count = omega (arith, c.if-count-eq0.false) in
-    subst (λ (l : List Listed). Continues g.J.Naming.config l b) (sym w.ticks) (ticks_continue g.J.Naming.config w.end c.args.count b some c.requires.first c.requires.entries c.requires.elements)
+    subst (λ (l : List Listed). Continues g.L.LogId.config l b) (sym w.ticks) (ticks_continue g.L.LogId.config w.end c.args.count b some c.requires.first c.requires.entries c.requires.elements)
 
 pub publish-requires-clause-places : goal.publish-requires-clause-places
 publish-requires-clause-places g c =

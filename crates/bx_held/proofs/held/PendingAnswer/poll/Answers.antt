@@ -12,30 +12,30 @@ use Rattle.bx_held.proofs.held.PendingAnswer.poll.Goals as goal
 
 pub returns-in-Some-ask-clause-value : goal.returns-in-Some-ask-clause-value
 returns-in-Some-ask-clause-value g c done =
-    let config = g.J.Naming.config in
+    let config = g.L.LogId.config in
     let end = c.ask-2.new.self.pass in
     let before = prefix_trans c.args.self.now.pass c.ask.new.self.pass end c.ask.ensures.seen c.ask-2.ensures.seen in
-    let given = subst (λ (t : Ticket). IsGiven (setup_of config g.J.Naming.placing) t end (output_of c.in-Some-ask.output))
+    let given = subst (λ (t : Ticket). IsGiven (setup_of config g.L.LogId.placing) t end (output_of c.in-Some-ask.output))
     (c.ask-2.ensures.same.0 ∙ c.ask.ensures.same.0) c.in-Some-ask.ensures.given in
     (end, before, given)
 
 pub returns-in-Stored-clause-left : goal.returns-in-Stored-clause-left
 returns-in-Stored-clause-left g c =
-    let shards = g.J.Naming.config.shards in
+    let shards = g.L.LogId.config.shards in
     let ticket = c.ask.new.self.ticket in
     let waker = c.in-Some-take.waker in
-    let watching = c.watch-said.result.1 in
-    let told = subst (λ (said : Watch). IsToldOf shards ticket waker said watching) c.in-Stored.is c.watch-said.ensures.told in
+    let evidence = c.watch-said.result.1 in
+    let told = subst (λ (said : Watch). IsToldOf shards ticket waker said evidence) c.in-Stored.is c.watch-said.ensures.told in
     on_pending c.register-pending.result (waited_for shards c.register-pending.new.slot waker c.in-Stored.older ticket
-    watching c.args.cx.now c.register-pending.new.self (cc (c.in-Some-take.ensures.value))
+    evidence c.args.cx.now c.register-pending.new.self (cc (c.in-Some-take.ensures.value))
     c.register-pending.ensures.left told)
 
 pub returns-in-Unknown-clause-unknown : goal.returns-in-Unknown-clause-unknown
 returns-in-Unknown-clause-unknown g c done none =
-    let shards = g.J.Naming.config.shards in
+    let shards = g.L.LogId.config.shards in
     let waker = c.in-Some-take.waker in
-    let watching = c.watch-said.result.1 in
+    let evidence = c.watch-said.result.1 in
     let back = subst (λ (said : Watch). IsBack waker said) c.in-Unknown.is c.watch-said.ensures.back in
     let is = c.in-Unknown.is ∙ ap Unknown back in
-    let told = subst (λ (said : Watch). IsToldOf shards c.ask.new.self.ticket waker said watching) is c.watch-said.ensures.told in
-    subst (λ (t : Ticket). IsUnknown shards t watching) c.ask.ensures.same.0 (record { waker = waker; told = told })
+    let told = subst (λ (said : Watch). IsToldOf shards c.ask.new.self.ticket waker said evidence) is c.watch-said.ensures.told in
+    subst (λ (t : Ticket). IsUnknown shards t evidence) c.ask.ensures.same.0 (record { waker = waker; told = told })

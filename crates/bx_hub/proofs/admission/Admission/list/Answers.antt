@@ -7,7 +7,7 @@ use Rattle.bx_entry.specs.declared.input.Input.{Input}
 use Rattle.bx_window.specs.Steps.{inputs_of, list_of, setup_of}
 use Rattle.bx_window.specs.declared.law.LogStep.{LogStep}
 use Rattle.bx_registry.specs.Slots.{admitted_slots}
-use Rattle.bx_hub.specs.Listables.{input_of}
+use Rattle.bx_hub.specs.Submissions.{input_of}
 use Rattle.bx_hub.specs.Records.{inputs_by}
 use Rattle.bx_hub.specs.Posts.{AreSlotsAt, IsAdmittedAt}
 use Rattle.bx_entry.specs.declared.entry.Admitted.{Admitted}
@@ -66,7 +66,7 @@ returns-clause-slots g c =
     let p = c.in_ok-plan.plan in
     let pass : List LogStep = c.tell_beyond.result in
     let new : List LogStep = c.publish.new.pass in
-    let setup : Setup = setup_of g.J.Naming.config g.J.Naming.placing in
+    let setup : Setup = setup_of g.L.LogId.config g.L.LogId.placing in
     let input : ReadInput = input_of c.args.wanted.now in
     let seen : list_of d.writer ≡ list_of pass = ap list_of
     (c.plan.ensures.same.0 ∙ c.tell_beyond.ensures.same ∙ sym c.tell_beyond.ensures.whole) in

@@ -13,7 +13,7 @@ use Rattle.bx_hub.proofs.admission.Admission.publish.Goals as goal
 pub publish-requires-clause-continues : goal.publish-requires-clause-continues
 publish-requires-clause-continues g c =
     let d = c.args.self.now in
-    continues g.J.Naming.config (list_of d.writer) d.registry c.args.plan c.args.inputs d.config d.listed c.requires.continues c.requires.some
+    continues g.L.LogId.config (list_of d.writer) d.registry c.args.plan c.args.inputs d.config d.listed c.requires.continues c.requires.some
 
 pub publish-requires-clause-places : goal.publish-requires-clause-places
 publish-requires-clause-places g c =
@@ -32,7 +32,7 @@ invariant_of-self g c =
       counted = ap (λ (l : Standing). l.shards) made ∙ d.counted;
       listed = ap (λ (l : Standing). l.list) made ∙ ap (λ (xs : List Listed). d.registry.list ++ xs) c.again-added.ensures ∙ ap (λ (xs : List Listed). xs ++ p.elements) d.listed ∙ sym grown;
       of_inputs = ap list_by told ∙ list_by-append (inputs_of d.writer) c.args.inputs ∙ ap₂ (λ (xs ys : List Listed). xs ++ ys) d.of_inputs c.requires.inputs ∙ sym grown;
-      recorded = subst (λ o. ForSome o (λ (r : Recording g.row.J.Denot g.J.Naming). r.inputs ≡ inputs_of c.publish.new.self)) (sym c.requires.unrecorded) (λ r is. absurd (cc is));
+      recorded = subst (λ o. ForSome o (λ (r : Recording g.row.L.Denot g.L.LogId). r.inputs ≡ inputs_of c.publish.new.self)) (sym c.requires.unrecorded) (λ r is. absurd (cc is));
     }
 
 pub returns-in-Ok-clause-inputs : goal.returns-in-Ok-clause-inputs

@@ -8,9 +8,9 @@ use Rattle.bx_service.proofs.gathering.Gathering.gather.Given as goal
 
 abbrev pub invariant-loop-slot : goal.invariant-loop-slot
 invariant-loop-slot g l =
-    ((all : List Item) → AreAll (setup_of g.J.Naming.config g.J.Naming.placing) l.self.pass l.self.items.items
+    ((all : List Item) → AreAll (setup_of g.L.LogId.config g.L.LogId.placing) l.self.pass l.self.items.items
     (option_map (λ h. awaited_as h.ticket h.pass h.is_done) l.self.held) (into_iter_items l.self.slots) all
-    → AreAll (setup_of g.J.Naming.config g.J.Naming.placing) l.initial.self.pass l.initial.self.items.items
+    → AreAll (setup_of g.L.LogId.config g.L.LogId.placing) l.initial.self.pass l.initial.self.items.items
     (option_map (λ h. awaited_as h.ticket h.pass h.is_done) l.initial.self.held)
     (into_iter_items l.initial.self.slots) all)
     × (l.self.held ≡ None) × Keeps l.initial.cx l.cx

@@ -9,16 +9,16 @@ use Rattle.bx_service.proofs.gathering.Gathering.take.Goals as goal
 
 pub returns-in_ok-add_reply-in-Ready-clause-same : goal.returns-in_ok-add_reply-in-Ready-clause-same
 returns-in_ok-add_reply-in-Ready-clause-same g c =
-    let config = g.J.Naming.config in
-    let setup = setup_of config g.J.Naming.placing in
+    let config = g.L.LogId.config in
+    let setup = setup_of config g.L.LogId.placing in
     let old = c.args.self.now in
     rw c.requires.free (rw c.in-Ready.is (λ all given. all_replied setup old.pass old.items.items (into_iter_items old.slots) all c.in-Ready.reply
     (subst (λ (items : List Item). AreAll setup old.pass items None (into_iter_items old.slots) all) c.in_ok-add_reply-in-Ready.ensures given)))
 
 pub returns-in-Waiting-clause-same : goal.returns-in-Waiting-clause-same
 returns-in-Waiting-clause-same g c =
-    let config = g.J.Naming.config in
-    let setup = setup_of config g.J.Naming.placing in
+    let config = g.L.LogId.config in
+    let setup = setup_of config g.L.LogId.placing in
     let old = c.args.self.now in
     let mid = c.wait_for.new.self in
     let same = c.wait_for.ensures.same in

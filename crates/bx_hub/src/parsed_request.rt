@@ -1,0 +1,70 @@
+//! Requests with their messages.
+ghost use Rattle.std.specs.Prelude.{◌≡◌, List, Ok, IfOk, IfErr};
+ghost use Rattle.bx_entry.specs.Requests.{arrival_messages};
+
+mod rejection;
+
+use bx_entry::Arrival;
+use bx_message::Message;
+use bx_window::LogId;
+pub use rejection::Rejection;
+use std::alloc::Global;
+
+/// A request with its messages, which its listener allows.
+///
+/// Admission consumes it, so it is appended to the list at most once.
+#[derive(Drop)]
+pub(crate) struct ParsedRequest {
+    arrival: Arrival,
+    messages: Vec<Message>,
+    ghost read: { arrival_messages arrival ≡ Ok messages.items },
+}
+
+impl ParsedRequest {
+    ghost use Rattle.bx_entry.specs.Requests.{read_input};
+    ghost use Rattle.bx_entry.specs.declared.input.Input.TheVariants as inputs;
+    ghost use Rattle.bx_hub.specs.Lags.{IsLagging};
+    ghost use Rattle.bx_hub.specs.Posts.{IsRefused};
+    ghost use Rattle.bx_window.specs.declared.law.LogStep.{LogStep};
+
+    /// Reads the messages of `arrival`.
+    ///
+    /// # Errors
+    ///
+    /// `arrival`, with the reason: its documents are not messages, its listener forbids the
+    /// messages, or memory ran out.
+    pub(crate) fn of<L: LogId>(
+        alloc: Global,
+        arrival: Arrival,
+    ) -> Result<ParsedRequest, (Arrival, Rejection<L>)>
+        ensures read { IfOk result (λ r. r.arrival ≡ arrival) }
+        ensures back { IfErr result (λ r. (r.0 ≡ arrival) × ((front : List LogStep) → IsLagging r.1.fault r.1.lag front)) }
+        ensures refused { IfErr result (λ r. (front : List LogStep) → IsRefused (read_input (inputs.Post arrival)) r.1.fault front) }
+    {
+        match arrival.read(alloc) {
+            Ok(messages) => Ok(ParsedRequest { arrival, messages }),
+            Err(fault) => Err((arrival, Rejection::unread(fault))),
+        }
+    }
+
+    /// Returns the request.
+    pub(crate) fn arrival(&self) -> &Arrival
+        ensures { result.now ≡ self.now.arrival }
+    {
+        &self.arrival
+    }
+
+    /// Returns the messages, in order.
+    pub(crate) fn messages(&self) -> &[Message]
+        ensures { result.now ≡ self.now.messages.items }
+    {
+        self.messages.as_slice()
+    }
+
+    /// Converts `self` back to the request.
+    pub(crate) fn into_arrival(self) -> Arrival
+        ensures { result ≡ self.arrival }
+    {
+        self.arrival
+    }
+}

@@ -1,0 +1,75 @@
+//! Why a request or a tick was not admitted.
+ghost use Rattle.std.specs.Prelude.{◌≡◌, None, true, false};
+ghost use Rattle.bx_hub.specs.Faults.{of_admission};
+ghost use Rattle.bx_hub.specs.declared.fault.PostFault.TheVariants as faults;
+
+use crate::admission::Admission;
+use crate::fault::PostFault;
+use crate::shard_state::ShardPosition;
+use bx_entry::AdmitFault;
+use bx_window::LogId;
+use std::fmt;
+use std::snapshot::Snapshot;
+use std::sync::Wait;
+
+/// Evidence of why a request or a tick was not admitted.
+///
+/// It is created while admission is locked, or before, if the request cannot be read. It records
+/// whether the hub was closed. With `Behind` or `Overrun`, it also records a shard that lagged.
+#[derive(Drop)]
+pub struct Rejection<L: LogId> {
+    fault: PostFault,
+    closed: Snapshot<bool>,
+    lag: Option<ShardPosition<L>>,
+    ghost shut: { fault ≡ faults.Closed → closed.value ≡ true },
+    ghost told: { closed.value ≡ true → fault ≡ faults.Closed },
+}
+
+impl<L: LogId> Rejection<L> {
+    ghost use Rattle.bx_hub.specs.Lags.{IsLagging};
+
+    /// Creates evidence that `admission` failed with `fault`.
+    ///
+    /// `fault` must be `Closed` if and only if `admission` is closed. `lag`: with `Behind`, a shard
+    /// that had not applied the whole oldest batch; with `Overrun`, the overrun shard.
+    pub(crate) fn of<R: Wait + Drop>(
+        admission: &Admission<L, R>,
+        fault: PostFault,
+        lag: Option<ShardPosition<L>>,
+    ) -> Rejection<L>
+        requires shut { fault ≡ faults.Closed → admission.now.closed ≡ true }
+        requires told { admission.now.closed ≡ true → fault ≡ faults.Closed }
+        requires lags { IsLagging fault lag admission.now.writer }
+        ensures { (result.fault ≡ fault) × (result.lag ≡ lag) × (result.closed.value ≡ admission.now.closed) }
+    {
+        Rejection {
+            fault,
+            closed: Snapshot::of(&admission.is_closed()),
+            lag,
+        }
+    }
+
+    /// Creates evidence that reading a request failed with `fault`.
+    pub(super) fn unread(fault: AdmitFault) -> Rejection<L>
+        ensures { (result.fault ≡ of_admission fault) × (result.lag ≡ None) × (result.closed.value ≡ false) }
+    {
+        Rejection {
+            fault: PostFault::from(fault),
+            closed: Snapshot::of(&false),
+            lag: None,
+        }
+    }
+
+    /// Returns why it was not admitted.
+    pub fn fault(&self) -> PostFault
+        ensures { result ≡ self.now.fault }
+    {
+        self.fault
+    }
+}
+
+impl<L: LogId> fmt::Debug for Rejection<L> {
+    fn fmt<W: fmt::Write>(&self, f: &mut fmt::Formatter<W>) -> fmt::Result {
+        fmt::Debug::fmt(&self.fault, f)
+    }
+}

@@ -1,0 +1,55 @@
+//! Requests and ticks that can be admitted.
+ghost use Rattle.std.specs.Prelude.{◌≡◌, ◌∷◌, [], MatchBool};
+
+use crate::parsed_request::ParsedRequest;
+use bx_entry::Arrival;
+
+/// A request with its messages, or a tick.
+///
+/// Admission consumes it, so it is appended to the list at most once.
+#[derive(Drop)]
+pub(crate) enum Submission {
+    Request(ParsedRequest),
+    /// The tick's moment, in milliseconds since the server started.
+    Tick(u64),
+}
+
+/// What is left of an admitted request or tick, to be dropped after unlocking.
+///
+/// It cannot be admitted again.
+#[derive(Drop)]
+pub(crate) struct ConsumedSubmission {
+    listed: Submission,
+}
+
+impl Submission {
+    ghost use Rattle.bx_hub.specs.Submissions.{arrival_of};
+    ghost use Rattle.bx_hub.specs.Records.{input_in, inputs_by};
+
+    /// Returns `true` unless `self` is a request without messages, which appends nothing.
+    pub(crate) fn adds(&self) -> bool
+        ensures { MatchBool result (inputs_by self.now ≡ input_in self.now ∷ []) (inputs_by self.now ≡ []) }
+    {
+        match self {
+            Submission::Request(request) => !request.messages().is_empty(),
+            Submission::Tick(_) => true,
+        }
+    }
+
+    /// Converts `self` after its admission.
+    pub(crate) fn into_consumed(self) -> ConsumedSubmission
+        ensures { result.listed ≡ self }
+    {
+        ConsumedSubmission { listed: self }
+    }
+
+    /// Returns the request, or `None` for a tick.
+    pub(crate) fn into_arrival(self) -> Option<Arrival>
+        ensures { result ≡ arrival_of self }
+    {
+        match self {
+            Submission::Request(request) => Some(request.into_arrival()),
+            Submission::Tick(_) => None,
+        }
+    }
+}

@@ -1,0 +1,32 @@
+-- The responses of the metrics listener.
+use Rattle.std.specs.Prelude.{ℕ, List, [], ◌++◌, Bool, true, false, codes, decimal, length, nat_eq, if◌then◌else◌}
+use Rattle.std.specs.{List.starts_with}
+use Rattle.bx_metrics.specs.declared.response.Asked.{Asked}
+use Rattle.bx_metrics.specs.declared.response.Asked.TheVariants.{Metrics, Health, Other, NoGet}
+
+-- What a request asks for, by how its head begins.
+abbrev pub asked_of : List ℕ → Asked
+asked_of head =
+    if starts_with nat_eq head (codes "GET /metrics ") then Metrics
+    else (if starts_with nat_eq head (codes "GET /healthz ") then Health
+    else (if starts_with nat_eq head (codes "GET ") then Other else NoGet))
+
+-- A number between two texts.
+abbrev pub with_number : List ℕ → ℕ → List ℕ → List ℕ
+with_number before number behind = before ++ decimal number ++ behind
+
+-- The fields that end the head of every response. `size`: the body's length in bytes.
+abbrev pub fields_text : ℕ → List ℕ
+fields_text size = with_number (codes "\r\ncontent-length: ") size (codes "\r\nconnection: close\r\n\r\n")
+
+-- A response. `status`: the code and reason phrase, and possibly another field. `body`: its body.
+abbrev pub message_text : List ℕ → List ℕ → List ℕ
+message_text status body = codes "HTTP/1.1 " ++ status ++ fields_text (length body) ++ body
+
+-- The response to a request. `listens`: whether the server listens. `page`: the page of metrics.
+abbrev pub response_text : Asked → Bool → List ℕ → List ℕ
+response_text Metrics listens page = message_text (codes "200 OK\r\ncontent-type: text/plain; version=0.0.4; charset=utf-8") page
+response_text Health true page = message_text (codes "200 OK") (codes "listening\n")
+response_text Health false page = message_text (codes "503 Service Unavailable") (codes "not listening\n")
+response_text Other listens page = message_text (codes "404 Not Found") []
+response_text NoGet listens page = message_text (codes "405 Method Not Allowed\r\nallow: GET") []

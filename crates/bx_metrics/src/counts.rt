@@ -1,0 +1,146 @@
+//! The current values of the metrics, and copies of them.
+ghost use Rattle.std.specs.Prelude.{◌≡◌, slice_get, unwrap_or};
+
+use crate::metric::{METRICS, Metric};
+use std::alloc::{AllocError, Global};
+use std::sync::atomic::{AtomicBool, AtomicU64, Ordering};
+
+/// The current metrics, the lag of each shard, and whether the server listens.
+///
+/// Any thread can read and change them without a lock.
+#[derive(Drop)]
+pub struct Counts {
+    counts: Vec<AtomicU64>,
+    lags: Vec<AtomicU64>,
+    listens: AtomicBool,
+}
+
+impl Counts {
+    /// Creates metrics for `shards` shards, all 0, of a server that does not listen.
+    ///
+    /// # Errors
+    ///
+    /// `AllocError` if memory runs out.
+    pub fn new(alloc: Global, shards: usize) -> Result<Counts, AllocError> {
+        Ok(Counts {
+            counts: zeros(alloc, METRICS.len())?,
+            lags: zeros(alloc, shards)?,
+            listens: AtomicBool::new(false),
+        })
+    }
+
+    /// Adds `more` to `metric`.
+    pub fn add(&self, metric: Metric, more: u64) {
+        if let Some(count) = self.counts.get(metric.place()) {
+            count.fetch_add(more, Ordering::SeqCst);
+        }
+    }
+
+    /// Subtracts 1 from `metric`, which wraps around at 0.
+    pub fn remove_one(&self, metric: Metric) {
+        if let Some(count) = self.counts.get(metric.place()) {
+            count.fetch_sub(1, Ordering::SeqCst);
+        }
+    }
+
+    /// Sets `metric` to `value`.
+    pub fn set(&self, metric: Metric, value: u64) {
+        if let Some(count) = self.counts.get(metric.place()) {
+            count.store(value, Ordering::SeqCst);
+        }
+    }
+
+    /// Returns the number of shards.
+    pub fn shards(&self) -> usize {
+        self.lags.len()
+    }
+
+    /// Records that `shard` has applied the first `place` of `entries` entries.
+    pub fn set_lag(&self, shard: usize, entries: u64, place: u64) {
+        if let Some(lag) = self.lags.get(shard) {
+            lag.store(entries.saturating_sub(place), Ordering::SeqCst);
+        }
+    }
+
+    /// Returns the value of `metric`.
+    pub fn get(&self, metric: Metric) -> u64 {
+        match self.counts.get(metric.place()) {
+            Some(count) => count.load(Ordering::SeqCst),
+            None => 0,
+        }
+    }
+
+    /// Records whether the server listens.
+    pub fn set_listens(&self, listens: bool) {
+        self.listens.store(listens, Ordering::SeqCst);
+    }
+
+    /// Returns `true` if the server listens, as [`set_listens`](Self::set_listens) recorded.
+    pub fn listens(&self) -> bool {
+        self.listens.load(Ordering::SeqCst)
+    }
+
+    /// Copies all values.
+    ///
+    /// The values are read one after the other, and may change meanwhile.
+    ///
+    /// # Errors
+    ///
+    /// `AllocError` if memory runs out.
+    pub fn read(&self, alloc: Global) -> Result<MetricValues, AllocError> {
+        Ok(MetricValues {
+            values: loaded(alloc, &self.counts)?,
+            lags: loaded(alloc, &self.lags)?,
+        })
+    }
+}
+
+// Creates `count` values of 0.
+fn zeros(alloc: Global, count: usize) -> Result<Vec<AtomicU64>, AllocError> {
+    let mut zeros = Vec::with_capacity(alloc, count)?;
+    for _ in 0..count {
+        zeros.push(AtomicU64::new(0))?;
+    }
+    Ok(zeros)
+}
+
+// Returns the current value of each of `counts`.
+fn loaded(alloc: Global, counts: &Vec<AtomicU64>) -> Result<Vec<u64>, AllocError> {
+    let mut values = Vec::with_capacity(alloc, counts.len())?;
+    for count in counts {
+        values.push(count.load(Ordering::SeqCst))?;
+    }
+    Ok(values)
+}
+
+/// A copy of all metrics, with each shard's lag in entries.
+#[derive(Drop)]
+pub struct MetricValues {
+    values: Vec<u64>,
+    lags: Vec<u64>,
+}
+
+impl MetricValues {
+    /// Creates a copy from `values`, in the order of the page, and `lags`, by shard.
+    ///
+    /// A missing value counts as 0.
+    pub fn of(values: Vec<u64>, lags: Vec<u64>) -> MetricValues
+        ensures { (result.values ≡ values) × (result.lags ≡ lags) }
+    {
+        MetricValues { values, lags }
+    }
+
+    /// Returns the lag of each shard, in entries.
+    pub(crate) fn lags(&self) -> &[u64]
+        ensures { result.now ≡ self.now.lags.items }
+    {
+        self.lags.as_slice()
+    }
+
+    /// Returns the value at `place`, or 0 if it is missing.
+    pub(crate) fn value(&self, place: usize) -> u64
+        ensures { result ≡ unwrap_or (slice_get self.now.values.items place) 0 }
+    {
+        self.values.get(place).copied().unwrap_or(0)
+    }
+}

@@ -1,0 +1,83 @@
+//! The observer that counts connections, requests and answers.
+ghost use Rattle.std.specs.Prelude.{◌≡◌};
+ghost use Rattle.bx_metrics.specs.Outcomes.{metric_of, reason_of};
+
+use crate::counts::Counts;
+use crate::metric::{Metric, Reason};
+use bx_advice::Outcome;
+use bx_entry::{BodyError, Refusal};
+use bx_hub::PostFault;
+use bx_message::{Item, Reply};
+use bx_service::{Observer, ServiceEvent};
+
+impl Observer for Counts {
+    fn see(&self, event: ServiceEvent<'_>) {
+        match event {
+            ServiceEvent::Opened => {
+                self.add(Metric::Accepted, 1);
+                self.add(Metric::Connections, 1);
+            }
+            ServiceEvent::Closed => self.remove_one(Metric::Connections),
+            ServiceEvent::Asked => self.add(Metric::Requests, 1),
+            ServiceEvent::Admitted(_) => {
+                self.add(Metric::Admitted, 1);
+                self.add(Metric::Held, 1);
+            }
+            ServiceEvent::Refused(fault) => self.add(Metric::Refused(reason_of(fault)), 1),
+            ServiceEvent::Answered { place: _, items } => count_all(self, items),
+            ServiceEvent::Responded(Some(status)) => self.add(Metric::Responses(status), 1),
+            ServiceEvent::Responded(None) => self.add(Metric::Missing, 1),
+            ServiceEvent::Left { was_admitted } => {
+                self.remove_one(Metric::Requests);
+                if was_admitted {
+                    self.remove_one(Metric::Held);
+                }
+            }
+        }
+    }
+}
+
+// Counts the events and replies in `items`, or that they are unavailable.
+fn count_all(counts: &Counts, items: Option<&[Item]>) {
+    let Some(items) = items else {
+        counts.add(Metric::Unanswered, 1);
+        return;
+    };
+    let mut events: u64 = 0;
+    for item in items {
+        match item {
+            Item::EventItem(_) => events = events.saturating_add(1),
+            Item::ReplyItem(reply) => counts.add(metric_of(reply), 1),
+        }
+    }
+    if events > 0 {
+        counts.add(Metric::Events, events);
+    }
+}
+
+// Returns the reason under which `fault` is counted.
+fn reason_of(fault: PostFault) -> Reason
+    ensures { result ≡ reason_of fault }
+{
+    match fault {
+        PostFault::Refused(Refusal::Body(BodyError::Forbidden)) => Reason::Forbidden,
+        PostFault::Refused(Refusal::Body(_)) => Reason::Body,
+        PostFault::Refused(Refusal::BadMoment) => Reason::BadMoment,
+        PostFault::Refused(Refusal::Ended) => Reason::Ended,
+        PostFault::Closed => Reason::Closed,
+        PostFault::Behind { .. } => Reason::Behind,
+        PostFault::Overrun { .. } => Reason::Overrun,
+        PostFault::Misplaced { .. } => Reason::Misplaced,
+        PostFault::Memory => Reason::Memory,
+    }
+}
+
+// Returns the metric that counts `reply`: by its error, or by its kind if it succeeds.
+fn metric_of(reply: &Reply) -> Metric
+    ensures { result ≡ metric_of reply.now }
+{
+    match reply.outcome {
+        Outcome::Failed(error) => Metric::Errors(error),
+        _ => Metric::Replies(reply.message_kind),
+    }
+}

@@ -1,0 +1,77 @@
+//! The page of metrics, in Prometheus' text format 0.0.4.
+use crate::counts::MetricValues;
+use crate::metric::{METRICS, Metric};
+use bx_message::MessageKind;
+use std::alloc::{AllocError, Global};
+
+// Initial capacity in bytes: enough for 64 shards if each value has twenty digits.
+const ROOM: usize = 16384;
+
+// Name of the lag of each shard.
+const LAG: &str = "bayeux_shard_lag_entries";
+
+const LAG_HELP: &str = "Entries of the list that the shard has not applied.";
+
+/// Formats the page: a row for each metric and for each shard's lag.
+///
+/// The lines `# HELP` and `# TYPE` precede the first row of each name.
+///
+/// Prometheus' text format 0.0.4.
+///
+/// # Errors
+///
+/// `AllocError` if memory runs out.
+pub fn page_text(alloc: Global, metrics: &MetricValues) -> Result<String, AllocError> {
+    let mut page = String::with_capacity(alloc, ROOM)?;
+    for (place, metric) in METRICS.iter().enumerate() {
+        let name = metric.name();
+        if metric.is_first() {
+            push_head(alloc, &mut page, name, metric.type_name(), metric.help())?;
+        }
+        let label = label_of(alloc, *metric)?;
+        let value = metrics.value(place);
+        page.push_str(format!(in alloc; "{name}{label} {value}\n")?.as_str())?;
+    }
+    push_head(alloc, &mut page, LAG, "gauge", LAG_HELP)?;
+    for (shard, lag) in metrics.lags().iter().enumerate() {
+        page.push_str(format!(in alloc; "{LAG}{{shard=\"{shard}\"}} {lag}\n")?.as_str())?;
+    }
+    Ok(page)
+}
+
+// Appends the lines `# HELP` and `# TYPE` of a name.
+fn push_head(
+    alloc: Global,
+    page: &mut String,
+    name: &str,
+    type_name: &str,
+    help: &str,
+) -> Result<(), AllocError> {
+    let head = format!(in alloc; "# HELP {name} {help}\n# TYPE {name} {type_name}\n")?;
+    page.push_str(head.as_str())
+}
+
+// Returns the label that distinguishes `metric` from other metrics with the same name. The text is
+// empty if there are no others.
+fn label_of(alloc: Global, metric: Metric) -> Result<String, AllocError> {
+    match metric {
+        Metric::Responses(status) => format!(in alloc; "{{status=\"{}\"}}", status.code()),
+        Metric::Refused(reason) => format!(in alloc; "{{reason=\"{}\"}}", reason.name()),
+        Metric::Replies(kind) => format!(in alloc; "{{kind=\"{}\"}}", kind_name(kind)),
+        Metric::Errors(error) => format!(in alloc; "{{error=\"{}\"}}", error.text()),
+        _ => Ok(String::new(alloc)),
+    }
+}
+
+// Returns the name of a kind of message.
+fn kind_name(kind: MessageKind) -> &'static str {
+    match kind {
+        MessageKind::Handshake => "handshake",
+        MessageKind::Connect => "connect",
+        MessageKind::Subscribe => "subscribe",
+        MessageKind::Unsubscribe => "unsubscribe",
+        MessageKind::Disconnect => "disconnect",
+        MessageKind::Publish => "publish",
+        MessageKind::UnknownMeta => "unknown_meta",
+    }
+}

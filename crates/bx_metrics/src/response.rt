@@ -1,0 +1,122 @@
+//! The responses of the metrics listener.
+ghost use Rattle.std.specs.Prelude.{◌≡◌, ◌++◌, List, ℕ, IfOk, OnOk};
+ghost use Rattle.bx_metrics.specs.Responses.{asked_of, fields_text, message_text, response_text, with_number};
+
+use crate::counts::MetricValues;
+use crate::page::page_text;
+use itoa::Buffer;
+use std::alloc::{AllocError, Global};
+
+/// What a request asks for.
+#[derive(Clone, Copy, Debug, PartialEq, Eq)]
+pub enum Asked {
+    /// The page of metrics: `GET /metrics`.
+    Metrics,
+    /// Whether the server listens: `GET /healthz`.
+    Health,
+    /// An unknown target of a GET.
+    Other,
+    /// A method other than GET, or none.
+    NoGet,
+}
+
+impl Asked {
+    /// Returns what the request with this `head` asks for.
+    ///
+    /// Only the method and the target matter.
+    pub fn of(head: &[u8]) -> Asked
+        ensures { result ≡ asked_of head.now }
+    {
+        if head.starts_with(b"GET /metrics ") {
+            Asked::Metrics
+        } else if head.starts_with(b"GET /healthz ") {
+            Asked::Health
+        } else if head.starts_with(b"GET ") {
+            Asked::Other
+        } else {
+            Asked::NoGet
+        }
+    }
+}
+
+/// Creates the response to `asked`, with the field `connection: close`.
+///
+/// - `Metrics`: 200 with the page of `metrics`
+/// - `Health`: 200 if `listens`, otherwise 503
+/// - `Other`: 404
+/// - `NoGet`: 405
+///
+/// # Errors
+///
+/// `AllocError` if memory runs out.
+pub fn response_text(
+    alloc: Global,
+    asked: Asked,
+    listens: bool,
+    metrics: &MetricValues,
+) -> Result<Vec<u8>, AllocError>
+    ensures { IfOk result (λ text. (page : List ℕ) × (text.items ≡ response_text asked listens page)) }
+{
+    let page = match asked {
+        Asked::Metrics => page_text(alloc, metrics)?,
+        _ => String::new(alloc),
+    };
+    respond(alloc, asked, listens, page.as_str())
+}
+
+// Creates the response to `asked`. `page`: the page of metrics, used only if it is asked for.
+fn respond(alloc: Global, asked: Asked, listens: bool, page: &str) -> Result<Vec<u8>, AllocError>
+    ensures { IfOk result (λ text. text.items ≡ response_text asked listens page.now) }
+{
+    match asked {
+        Asked::Metrics => message(
+            alloc,
+            "200 OK\r\ncontent-type: text/plain; version=0.0.4; charset=utf-8",
+            page.as_bytes(),
+        ),
+        Asked::Health if listens => message(alloc, "200 OK", b"listening\n"),
+        Asked::Health => message(alloc, "503 Service Unavailable", b"not listening\n"),
+        Asked::Other => message(alloc, "404 Not Found", b""),
+        Asked::NoGet => message(alloc, "405 Method Not Allowed\r\nallow: GET", b""),
+    }
+}
+
+// Creates a response with `body`. `status`: the code and reason phrase, optionally followed by a
+// line break and another field.
+fn message(alloc: Global, status: &str, body: &[u8]) -> Result<Vec<u8>, AllocError>
+    ensures { IfOk result (λ text. text.items ≡ message_text status.now body.now) }
+{
+    let mut text = Vec::new(alloc);
+    text.extend_from_slice(b"HTTP/1.1 ")?;
+    text.extend_from_slice(status.as_bytes())?;
+    push_fields(&mut text, body.len())?;
+    text.extend_from_slice(body)?;
+    Ok(text)
+}
+
+// Appends the fields that end the head of every response. `length`: the body's length in bytes.
+fn push_fields(text: &mut Vec<u8>, length: usize) -> Result<(), AllocError>
+    ensures { OnOk result (text.new.items ≡ text.old.items ++ fields_text length) }
+{
+    push_number(
+        text,
+        "\r\ncontent-length: ",
+        length,
+        "\r\nconnection: close\r\n\r\n",
+    )
+}
+
+// Appends `number` between two texts.
+fn push_number(
+    text: &mut Vec<u8>,
+    before: &str,
+    number: usize,
+    behind: &str,
+) -> Result<(), AllocError>
+    ensures { OnOk result (text.new.items ≡ text.old.items ++ with_number before.now number behind.now) }
+{
+    let mut buffer = Buffer::new();
+    text.extend_from_slice(before.as_bytes())?;
+    text.extend_from_slice(buffer.format(number).as_bytes())?;
+    text.extend_from_slice(behind.as_bytes())
+}

@@ -1,9 +1,0 @@
-use Rattle.std.proofs.Common.{subst, sym}
-use Rattle.tokio.specs.Io.Moved.{IfReadyErr}
-use Rattle.bx_serve.specs.Patience.{OrLate}
-use Rattle.bx_serve.proofs.PatienceLemmas.{in_time}
-use Rattle.bx_serve.proofs.peer.PeerAsyncWrite.poll_shutdown.Goals as goal
-
-pub returns-clause-failed : goal.returns-clause-failed
-returns-clause-failed g c = subst (λ (p : _). IfReadyErr c.poll_taken.result (OrLate (g.I.AsyncWrite.fails p)))
-    (sym c.poll_taken.ensures.io) (in_time (g.I.AsyncWrite.fails c.poll_shutdown-shut.new.self) c.poll_shutdown-shut.result c.poll_taken.result c.poll_taken.ensures.given c.poll_shutdown-shut.ensures.failed)

@@ -1,0 +1,103 @@
+//! The task that serves one connection, and how it is made.
+ghost use Rattle.std.specs.Prelude.{⊤, IfSome};
+
+use crate::timeout_body::{TimeoutBody, TimeoutService};
+use crate::timeout_io::TimeoutIo;
+use crate::timeouts::Timeouts;
+use bx_pieces::Pieces;
+use bytes::Bytes;
+use futures::Future;
+use futures::task::{Context, Poll};
+use http::{Request, Response};
+use hyper::body::Incoming;
+use hyper::rt::TokioTimer;
+use hyper::server::conn::http1;
+use hyper::server::conn::http1::Connection;
+use hyper::service::Service;
+use std::time::{Clock, Duration};
+use tokio::net::TcpStream;
+
+/// A future that runs another future and drops its output.
+#[derive(Drop)]
+pub struct IgnoreOutput<F> {
+    inner: F,
+}
+
+impl<F: Future<Output = T>, T: Drop> Future for IgnoreOutput<F> {
+    type Output = ();
+
+    ghost can_poll = { λ q. F.can_poll q.inner };
+
+    ghost needs = { λ q. F.needs q.inner };
+
+    fn poll(&mut self, cx: &mut Context<'_>) -> Poll<()> {
+        match self.inner.poll(cx) {
+            Poll::Ready(_) => Poll::Ready(()),
+            Poll::Pending => Poll::Pending,
+        }
+    }
+}
+
+/// A factory for the tasks of connections.
+pub trait MakeTask: Drop {
+    type Task: Future<Output = ()>;
+
+    // Ghost: what must be true for `make` to be called.
+    ghost can_make: { Self → Type 0 } = { λ _. ⊤ };
+
+    /// Creates the task that serves `socket`, or returns `None` if memory runs out.
+    fn make(&self, socket: TcpStream) -> Option<Self::Task>
+        requires { can_make self.now }
+        ensures { IfSome result Self.Task.can_poll };
+}
+
+/// A TCP connection with a limit on each wait for the peer to take data.
+pub type Served<R> = TimeoutIo<TcpStream, TokioTimer<R>>;
+
+/// The body of a request, as the service gets it.
+///
+/// Its timer is `None` if memory ran out. The body then fails as soon as it would wait.
+pub type RequestBody<R> = TimeoutBody<Incoming<Served<R>>, Option<TokioTimer<R>>>;
+
+/// A [`MakeTask`] that serves each connection over HTTP with a clone of a service.
+#[derive(Drop)]
+pub struct Server<R, S> {
+    /// The HTTP settings, with a timer for the heads of requests.
+    pub http: http1::Builder<TokioTimer<R>>,
+    /// The service, cloned for each connection.
+    pub service: S,
+    /// The timer for bodies and peers.
+    pub timer: TokioTimer<R>,
+    /// The longest wait for more of a body, or for the peer to take data.
+    pub limit: Duration,
+    /// The longest time for a complete body, from the first wait for more of it.
+    pub whole: Duration,
+}
+
+impl<R, S, E> MakeTask for Server<R, S>
+where
+    R: Clock + Copy + Drop,
+    S: Service<Request<RequestBody<R>>, Response = Response<Pieces<Bytes>>, Error = E> + Clone,
+    E: Into<anyhow::Error> + Drop,
+{
+    type Task = IgnoreOutput<
+        Connection<Served<R>, TimeoutService<S, TokioTimer<R>>, Pieces<Bytes>, TokioTimer<R>>,
+    >;
+
+    ghost can_make = { λ _. (service : S) → S.can_call service };
+
+    fn make(&self, socket: TcpStream) -> Option<Self::Task> {
+        let _ = socket.set_nodelay(true);
+        let service = TimeoutService {
+            service: self.service.clone().ok()?,
+            timer: self.timer.clone().ok()?,
+            limit: self.limit,
+            whole: self.whole,
+        };
+        let timeouts = Timeouts::new(self.timer.clone().ok()?, self.limit, None);
+        let io = TimeoutIo::new(socket, timeouts);
+        Some(IgnoreOutput {
+            inner: self.http.serve_connection(io, service),
+        })
+    }
+}

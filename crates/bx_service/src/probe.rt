@@ -1,0 +1,156 @@
+//! Handles on an observer that report the events of connections and requests.
+ghost use Rattle.std.specs.Prelude.{◌≡◌};
+ghost use Rattle.bx_service.specs.declared.service.ServiceFault.TheVariants.{Memory};
+
+use crate::backend::Unanswered;
+use crate::observer::{Observer, ServiceEvent};
+use crate::service::ServiceFault;
+use bx_hub::PostFault;
+use bx_message::{Item, Status};
+use std::alloc::{AllocError, Global};
+use std::sync::Arc;
+
+/// A service's handle on its observer.
+///
+/// Dropping a connection's handle reports its end.
+pub(crate) struct ConnectionProbe<O: Observer> {
+    observer: Arc<O, Global>,
+    is_connection: bool,
+}
+
+impl<O: Observer> ConnectionProbe<O> {
+    /// Creates a handle that belongs to no connection.
+    ///
+    /// # Errors
+    ///
+    /// `AllocError` if memory runs out.
+    pub(crate) fn new(alloc: Global, observer: O) -> Result<ConnectionProbe<O>, AllocError> {
+        Ok(ConnectionProbe {
+            observer: Arc::new(alloc, observer)?,
+            is_connection: false,
+        })
+    }
+
+    /// Reports a new connection and returns its handle.
+    ///
+    /// # Errors
+    ///
+    /// `AllocError` if memory runs out; nothing is reported.
+    pub(crate) fn open(&self) -> Result<ConnectionProbe<O>, AllocError> {
+        let observer = Arc::try_clone(&self.observer)?;
+        observer.see(ServiceEvent::Opened);
+        Ok(ConnectionProbe {
+            observer,
+            is_connection: true,
+        })
+    }
+
+    /// Reports a new request. Dropping the result reports the request's end.
+    ///
+    /// If the observer cannot be cloned, reports at once that the request ended without a response.
+    /// The caller then must not answer it.
+    pub(crate) fn ask(&self) -> RequestProbe<O> {
+        self.observer.see(ServiceEvent::Asked);
+        let observer = Arc::try_clone(&self.observer).ok();
+        if observer.is_none() {
+            self.observer.see(ServiceEvent::Responded(None));
+            self.observer.see(ServiceEvent::Left {
+                was_admitted: false,
+            });
+        }
+        RequestProbe {
+            observer,
+            is_admitted: false,
+            place: None,
+        }
+    }
+}
+
+impl<O: Observer> Drop for ConnectionProbe<O> {
+    fn drop(self) {
+        let ConnectionProbe {
+            observer,
+            is_connection,
+        } = self;
+        if is_connection {
+            observer.see(ServiceEvent::Closed);
+        }
+    }
+}
+
+/// A request's handle on the observer.
+///
+/// Dropping it reports the request's end.
+pub(crate) struct RequestProbe<O: Observer> {
+    // `None` if the handle could not be cloned.
+    observer: Option<Arc<O, Global>>,
+    is_admitted: bool,
+    // The place of the first message, once the request is admitted.
+    place: Option<u64>,
+}
+
+impl<O: Observer> RequestProbe<O> {
+    /// Returns `true` if the handle reports to an observer.
+    pub(crate) fn is_told(&self) -> bool {
+        self.observer.is_some()
+    }
+
+    // Reports `event`.
+    fn tell(&self, event: ServiceEvent<'_>) {
+        if let Some(observer) = &self.observer {
+            observer.see(event);
+        }
+    }
+
+    /// Reports that the documents were admitted.
+    pub(crate) fn admit(&mut self, place: Option<u64>)
+        ensures { self.new.place ≡ place }
+    {
+        self.is_admitted = true;
+        self.place = place;
+        self.tell(ServiceEvent::Admitted(place));
+    }
+
+    /// Reports that the documents were not admitted, because of `fault`.
+    pub(crate) fn refuse(&self, fault: PostFault) {
+        self.tell(ServiceEvent::Refused(fault));
+    }
+
+    /// Reports the items, or that they are unavailable.
+    pub(crate) fn answer(&self, gathered: &Result<Vec<Item>, Unanswered>) {
+        let items = match gathered {
+            Ok(items) => Some(items.as_slice()),
+            Err(_) => None,
+        };
+        let place = self.place;
+        self.tell(ServiceEvent::Answered { place, items });
+    }
+
+    /// Reports the response's status.
+    pub(crate) fn respond(&self, status: Status) {
+        self.tell(ServiceEvent::Responded(Some(status)));
+    }
+
+    /// Reports that memory ran out for a response, and returns that fault.
+    pub(crate) fn give_up(&self) -> ServiceFault
+        ensures { result ≡ Memory }
+    {
+        self.tell(ServiceEvent::Responded(None));
+        ServiceFault::Memory
+    }
+}
+
+impl<O: Observer> Drop for RequestProbe<O> {
+    fn drop(self) {
+        let RequestProbe {
+            observer,
+            is_admitted,
+            place: _,
+        } = self;
+        if let Some(observer) = observer {
+            observer.see(ServiceEvent::Left {
+                was_admitted: is_admitted,
+            });
+        }
+    }
+}
