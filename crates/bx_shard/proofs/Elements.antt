@@ -10,7 +10,7 @@ use Rattle.bx_entry.specs.Listing as messages
 use Rattle.bx_entry.specs.declared.entry.{Entry.Entry, EntryKind.EntryKind, Rider.Rider}
 use Rattle.bx_entry.specs.declared.entry.EntryKind.TheVariants.{Opened, Tick}
 use Rattle.bx_theory.specs.Readings.{moment_of, opens_by}
-use Rattle.bx_theory.proofs.Dues.{Mapped, Same, named_session, numbered, numbered_below, served_sessions, swept_sessions, unchanged}
+use Rattle.bx_theory.proofs.Dues.{Mapped, Same, named_session, numbered, numbered_below, served_sessions, overdue_closed_sessions, unchanged}
 use Rattle.bx_theory.proofs.{Lives.none_opened, Lives.served_opens}
 use Rattle.bx_theory.proofs.Verdicts.{each_registry, each_verdict, entries_after, entry_of_place, judge_is, next_found, registry_next, verdict_of}
 
@@ -93,7 +93,7 @@ adds config ys x =
           let below : s.number < 1 + length r.sessions = named_session (λ q. q.number < 1 + length r.sessions) r.sessions c p.message s e (numbered_below 1 r.sessions (numbered config ys)) in
           opens_none config r (Post p) _ _ (served_sessions c s.number _ r.sessions) (served_opens c p s (hold_of config p))
           (λ place moment n l. served_fresh config place moment c p s (hold_of config p) n (ne_eqb s.number n (λ same. omega (arith, same, below, l))));
-      ticks = λ moment. opens_none config r (messages.Tick moment) _ _ (swept_sessions _ r.sessions) (λ n. refl) (λ place now n l. tick_fresh config place now _ n);
+      ticks = λ moment. opens_none config r (messages.Tick moment) _ _ (overdue_closed_sessions _ r.sessions) (λ n. refl) (λ place now n l. tick_fresh config place now _ n);
     }) x
 
 -- ---- one more element of the list
