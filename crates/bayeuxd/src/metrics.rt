@@ -1,7 +1,7 @@
 //! The metrics listener.
 ghost use Rattle.std.specs.Prelude.{◌≤◌, length, IfOk};
 
-use bx_metrics::{Asked, Counts, Metric, response_text};
+use bx_metrics::{Counts, Metric, MetricsRequest, response_text};
 use log::{Log, info};
 use std::alloc::{AllocGlobal, Global};
 use std::io::{Read, Write};
@@ -87,7 +87,7 @@ fn answer<R: Clock>(
     let metrics = counts.read(alloc)?;
     let text = response_text(
         alloc,
-        Asked::of(&head[..length]),
+        MetricsRequest::of(&head[..length]),
         counts.listens(),
         &metrics,
     )?;

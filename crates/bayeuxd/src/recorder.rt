@@ -4,7 +4,7 @@ use bx_answers::{AnswerLog, TakenAnswers};
 use bx_entry::ByRemainder;
 use bx_hub::{Hub, OpenGate, RecordFront};
 use bx_record::{
-    CountedFile, End, Out, RecordFault, Source, Taken, Written, config_text, write_out,
+    CountedFile, End, RecordFault, RecordFile, Source, Taken, Written, config_text, write_out,
 };
 use bx_window::LogId;
 use log::{Log, info, warn};
@@ -104,7 +104,7 @@ impl Recorder {
         let Ok(start) = hub.start_record(&rt, alloc) else {
             return Err(io::ErrorKind::InvalidInput.into());
         };
-        let out = Out::new(file, start);
+        let out = RecordFile::new(file, start);
         let thread = thread::spawn(
             &rt,
             move || tell(&rt, &write_out(&rt, alloc, record, out, &*over)),

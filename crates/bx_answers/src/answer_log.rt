@@ -2,7 +2,7 @@
 ghost use Rattle.std.specs.Prelude.{◌≡◌, []};
 
 use crate::line::answer_line;
-use crate::lines::{Lines, TakenAnswers};
+use crate::lines::{AnswerLines, TakenAnswers};
 use bx_message::Item;
 use bx_record::RecordFault;
 use std::alloc::Global;
@@ -14,14 +14,14 @@ use std::sync::{Mutex, Wait};
 /// no more lines.
 #[derive(Drop)]
 pub struct AnswerLog {
-    lines: Mutex<Lines>,
+    lines: Mutex<AnswerLines>,
 }
 
 impl AnswerLog {
     /// Creates an empty log.
     pub fn new(alloc: Global) -> AnswerLog {
         AnswerLog {
-            lines: Mutex::new(Lines::new(alloc)),
+            lines: Mutex::new(AnswerLines::new(alloc)),
         }
     }
 

@@ -30,18 +30,18 @@ pub struct TakenAnswers {
 
 /// The waiting lines, and whether more are accepted.
 #[derive(Drop)]
-pub(crate) struct Lines {
+pub(crate) struct AnswerLines {
     waiting: Waiting,
     noting: Noting,
 }
 
-impl Lines {
+impl AnswerLines {
     /// Creates an empty, open log.
-    pub(crate) fn new(alloc: Global) -> Lines
+    pub(crate) fn new(alloc: Global) -> AnswerLines
         ensures lines { result.waiting ≡ [] }
         ensures noting { result.noting ≡ Open }
     {
-        Lines {
+        AnswerLines {
             waiting: Waiting::new(alloc),
             noting: Noting::Open,
         }

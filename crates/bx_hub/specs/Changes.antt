@@ -3,26 +3,26 @@ use Rattle.std.specs.Prelude.{ℕ, ◌≡◌, ◌≢◌, true, length}
 use Rattle.bx_connects.specs.Connects.{unswept}
 use Rattle.bx_shard.specs.States.{State, Swept, WasShut, connect_in}
 use Rattle.bx_hub.specs.Faults.{paused, resumed}
-use Rattle.bx_hub.specs.declared.{activity.Activity.Activity, shard_state.evidence.Change.Change, shard_state.evidence.ChangeEvidence.ChangeEvidence, walk.ChangeReport.ChangeReport}
+use Rattle.bx_hub.specs.declared.{activity.Activity.Activity, shard_state.evidence.ShardChange.ShardChange, shard_state.evidence.ChangeEvidence.ChangeEvidence, walk.ChangeReport.ChangeReport}
 use Rattle.bx_hub.specs.declared.activity.Activity.TheVariants.{Active, Paused, Closed}
-use Rattle.bx_hub.specs.declared.shard_state.evidence.Change.TheVariants.{Pause, Resume, Shut, Sweep}
+use Rattle.bx_hub.specs.declared.shard_state.evidence.ShardChange.TheVariants.{Pause, Resume, Shut, Sweep}
 
 -- The activity of a shard after a change.
-abbrev pub activity_after : Change → Activity → Activity
+abbrev pub activity_after : ShardChange → Activity → Activity
 activity_after Pause activity = paused activity
 activity_after Resume activity = resumed activity
 activity_after Shut activity = Closed
 activity_after (Sweep before) activity = activity
 
 -- What a change does to a shard's state.
-abbrev pub MakesOf : Change → State → State → Type 0
+abbrev pub MakesOf : ShardChange → State → State → Type 0
 MakesOf Pause old new = new ≡ old
 MakesOf Resume old new = new ≡ old
 MakesOf Shut old new = WasShut old new
 MakesOf (Sweep before) old new = Swept before old new
 
 -- What holds of a shard after a change.
-abbrev pub IsAfter : Change → Activity → State → Type 0
+abbrev pub IsAfter : ShardChange → Activity → State → Type 0
 IsAfter Pause activity s = activity ≢ Active
 IsAfter Resume activity s = activity ≢ Paused
 IsAfter Shut activity s = (activity ≡ Closed) × (s.shut ≡ true)
@@ -30,9 +30,9 @@ IsAfter (Sweep before) activity s = (place : ℕ) → unswept before (connect_in
 
 module _ {L : Type 0} where
   -- `change` was applied to shard `shard`.
-  abbrev pub IsChanged : ℕ → Change → ChangeEvidence L → Type 0
+  abbrev pub IsChanged : ℕ → ShardChange → ChangeEvidence L → Type 0
   IsChanged shard change changed = (changed.shard.value ≡ shard) × (changed.change.value ≡ change)
 
   -- `change` was applied to each of `shards` shards.
-  abbrev pub AreAllChanged : ℕ → Change → ChangeReport L → Type 0
+  abbrev pub AreAllChanged : ℕ → ShardChange → ChangeReport L → Type 0
   AreAllChanged shards change all = (length all.done ≡ shards) × (all.change.value ≡ change)

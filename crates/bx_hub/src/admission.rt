@@ -7,7 +7,7 @@ ghost use Rattle.bx_registry.specs.Slots.{admitted_slots};
 ghost use Rattle.bx_registry.specs.Standings.{Continues};
 ghost use Rattle.bx_entry.specs.Inputs.{IsFault, added_by, refusal_of};
 ghost use Rattle.bx_window.specs.Steps.{below, firsts_of, inputs_of, list_of, setup_of};
-ghost use Rattle.bx_hub.specs.declared.shard_state.evidence.Change.TheVariants as changes;
+ghost use Rattle.bx_hub.specs.declared.shard_state.evidence.ShardChange.TheVariants as changes;
 ghost use Rattle.bx_hub.specs.declared.fault.PostFault.TheVariants as faults;
 ghost use Rattle.bx_hub.specs.Submissions.{input_of};
 ghost use Rattle.bx_hub.specs.Records.{inputs_by, list_by};

@@ -12,7 +12,7 @@ use crate::fault::{PostFault, PostReceipt, TickReceipt};
 use crate::parsed_request::{ParsedRequest, Rejection};
 use crate::recording::{RecordFront, Unrecorded};
 use crate::shard_state::{
-    AddedWakers, Change, ChangeEvidence, NoAnswer, ShardAdvance, ShardPosition, ShardState,
+    AddedWakers, ChangeEvidence, NoAnswer, ShardAdvance, ShardChange, ShardPosition, ShardState,
     WatchEvidence,
 };
 use crate::submission::{ConsumedSubmission, Submission};
@@ -71,7 +71,7 @@ impl<L: LogId, P: Placing, G: Gate + Drop, R: Wait + Drop> Hub<L, P, G, R> {
     ghost use Rattle.bx_hub.specs.Changes.{AreAllChanged, IsChanged};
     ghost use Rattle.bx_connects.specs.declared.watch.Watch.TheVariants as watches;
     ghost use Rattle.bx_hub.specs.Watches.{IsBack, IsToldOf};
-    ghost use Rattle.bx_hub.specs.declared.shard_state.evidence.Change.TheVariants as changes;
+    ghost use Rattle.bx_hub.specs.declared.shard_state.evidence.ShardChange.TheVariants as changes;
 
     /// Creates a hub with an empty list and `config.shards` shards.
     ///
@@ -621,7 +621,7 @@ impl<L: LogId, P: Placing, G: Gate + Drop, R: Wait + Drop> Hub<L, P, G, R> {
         ensures { AreAllChanged L.config.shards (changes.Sweep before) result }
     {
         let mut all = ChangeReport::sweeping(before);
-        self.change_all(rt, Change::Sweep { before }, &mut all);
+        self.change_all(rt, ShardChange::Sweep { before }, &mut all);
         all
     }
 
@@ -639,7 +639,7 @@ impl<L: LogId, P: Placing, G: Gate + Drop, R: Wait + Drop> Hub<L, P, G, R> {
         if shard >= self.shards.len() {
             return None;
         }
-        Some(self.change(rt, shard, Change::Pause))
+        Some(self.change(rt, shard, ShardChange::Pause))
     }
 
     /// Resumes a shard, or returns `None` if it does not exist.
@@ -656,7 +656,7 @@ impl<L: LogId, P: Placing, G: Gate + Drop, R: Wait + Drop> Hub<L, P, G, R> {
         if shard >= self.shards.len() {
             return None;
         }
-        Some(self.change(rt, shard, Change::Resume))
+        Some(self.change(rt, shard, ShardChange::Resume))
     }
 
     /// Closes the hub: no entry is appended or applied any more.
@@ -671,12 +671,12 @@ impl<L: LogId, P: Placing, G: Gate + Drop, R: Wait + Drop> Hub<L, P, G, R> {
         ensures { AreAllChanged L.config.shards changes.Shut result }
     {
         let mut all = self.admission.lock(rt).close();
-        self.change_all(rt, Change::Shut, &mut all);
+        self.change_all(rt, ShardChange::Shut, &mut all);
         all
     }
 
     // Applies `change` to each shard in turn.
-    fn change_all<W: Wait>(&self, rt: &W, change: Change, all: &mut ChangeReport<L>)
+    fn change_all<W: Wait>(&self, rt: &W, change: ShardChange, all: &mut ChangeReport<L>)
         requires none { all.old.done ≡ [] }
         requires change { all.old.change.value ≡ change }
         ensures { AreAllChanged L.config.shards change all.new }
@@ -687,7 +687,7 @@ impl<L: LogId, P: Placing, G: Gate + Drop, R: Wait + Drop> Hub<L, P, G, R> {
     }
 
     // Applies `change` to a shard.
-    fn change<W: Wait>(&self, rt: &W, index: usize, change: Change) -> ChangeEvidence<L>
+    fn change<W: Wait>(&self, rt: &W, index: usize, change: ShardChange) -> ChangeEvidence<L>
         requires { index < length self.now.shards.items }
         ensures { IsChanged index change result }
     {

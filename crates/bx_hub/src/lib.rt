@@ -20,6 +20,6 @@ pub use fault::{HubFault, Lagging, PostFault, PostReceipt, TickReceipt};
 pub use hub::{Hub, Pass};
 pub use parsed_request::Rejection;
 pub use recording::{RecordFront, Unrecorded};
-pub use shard_state::{Change, ChangeEvidence, NoAnswer, WatchEvidence};
+pub use shard_state::{ChangeEvidence, NoAnswer, ShardChange, WatchEvidence};
 pub use survey::{ShardSurvey, Survey};
 pub use walk::{AdvanceReport, ChangeReport};

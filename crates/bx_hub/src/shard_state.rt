@@ -30,7 +30,7 @@ use bx_window::{Front, LogId, LogReader, Next, entry_of};
 use bx_workers::Gate;
 use evidence::listed;
 pub(crate) use evidence::{AddedWakers, ShardAdvance, ShardPosition};
-pub use evidence::{Change, ChangeEvidence, NoAnswer, WatchEvidence};
+pub use evidence::{ChangeEvidence, NoAnswer, ShardChange, WatchEvidence};
 use futures::task::Waker;
 use std::alloc::Global;
 use std::snapshot::Snapshot;
@@ -422,7 +422,7 @@ impl<L: LogId, P: Placing> ShardState<L, P> {
 
     /// Applies `change` to the shard, and returns evidence of that.
     #[tactic(auto, using(crate::proofs::Changes::unswept_twice, crate::proofs::Changes::paused_stands, crate::proofs::Changes::resumed_goes))]
-    pub(crate) fn change(&mut self, change: Change) -> ChangeEvidence<L>
+    pub(crate) fn change(&mut self, change: ShardChange) -> ChangeEvidence<L>
         ensures shard { result.shard.value ≡ self.old.shard.index }
         ensures change { result.change.value ≡ change }
         ensures activity { self.new.activity ≡ activity_after change self.old.activity }
@@ -430,19 +430,19 @@ impl<L: LogId, P: Placing> ShardState<L, P> {
         ensures same { (self.new.prefix ≡ self.old.prefix) × (self.new.reader ≡ self.old.reader) }
     {
         let dropped = match change {
-            Change::Pause => {
+            ShardChange::Pause => {
                 self.pause();
                 0
             }
-            Change::Resume => {
+            ShardChange::Resume => {
                 self.resume();
                 0
             }
-            Change::Shut => {
+            ShardChange::Shut => {
                 self.close();
                 0
             }
-            Change::Sweep { before } => self.sweep(before),
+            ShardChange::Sweep { before } => self.sweep(before),
         };
         ChangeEvidence::of(self, change, dropped)
     }

@@ -4,11 +4,11 @@ ghost use Rattle.std.specs.List.{All};
 ghost use Rattle.std.proofs.Props.{props};
 ghost use Rattle.bx_hub.specs.Lagging.{lagging_of};
 ghost use Rattle.bx_hub.specs.Walks.{walked_at};
-ghost use Rattle.bx_hub.specs.declared.shard_state.evidence.Change.TheVariants as changes;
+ghost use Rattle.bx_hub.specs.declared.shard_state.evidence.ShardChange.TheVariants as changes;
 
 use crate::admission::Admission;
 use crate::fault::{HubFault, Lagging};
-use crate::shard_state::{Change, ChangeEvidence, ShardAdvance, ShardPosition};
+use crate::shard_state::{ChangeEvidence, ShardAdvance, ShardChange, ShardPosition};
 use bx_history::History;
 use bx_window::{Front, LogId};
 use std::marker::PhantomData;
@@ -133,10 +133,10 @@ impl<L: LogId> AdvanceReport<L> {
 
 /// Evidence that a change was applied to all shards in turn, as [`ChangeEvidence`] is for one.
 ///
-/// For [`Change::Shut`], admission was closed before.
+/// For [`ShardChange::Shut`], admission was closed before.
 #[derive(Drop)]
 pub struct ChangeReport<L: LogId> {
-    change: Snapshot<Change>,
+    change: Snapshot<ShardChange>,
     // Ghost: how many answers each shard dropped, in the order of the shards.
     done: History<usize>,
     dropped: usize,
@@ -149,7 +149,7 @@ impl<L: LogId> ChangeReport<L> {
         ensures { (result.change.value ≡ changes.Sweep before) × (result.done ≡ []) × (result.dropped ≡ 0) }
     {
         ChangeReport {
-            change: Snapshot::of(&Change::Sweep { before }),
+            change: Snapshot::of(&ShardChange::Sweep { before }),
             done: History::new(),
             dropped: 0,
             of: PhantomData,
@@ -163,7 +163,7 @@ impl<L: LogId> ChangeReport<L> {
     {
         let _ = admission;
         ChangeReport {
-            change: Snapshot::of(&Change::Shut),
+            change: Snapshot::of(&ShardChange::Shut),
             done: History::new(),
             dropped: 0,
             of: PhantomData,

@@ -1,11 +1,11 @@
 -- The responses of the metrics listener.
 use Rattle.std.specs.Prelude.{ℕ, List, [], ◌++◌, Bool, true, false, codes, decimal, length, nat_eq, if◌then◌else◌}
 use Rattle.std.specs.{List.starts_with}
-use Rattle.bx_metrics.specs.declared.response.Asked.{Asked}
-use Rattle.bx_metrics.specs.declared.response.Asked.TheVariants.{Metrics, Health, Other, NoGet}
+use Rattle.bx_metrics.specs.declared.response.MetricsRequest.{MetricsRequest}
+use Rattle.bx_metrics.specs.declared.response.MetricsRequest.TheVariants.{Metrics, Health, Other, NoGet}
 
 -- What a request asks for, by how its head begins.
-abbrev pub asked_of : List ℕ → Asked
+abbrev pub asked_of : List ℕ → MetricsRequest
 asked_of head =
     if starts_with nat_eq head (codes "GET /metrics ") then Metrics
     else (if starts_with nat_eq head (codes "GET /healthz ") then Health
@@ -24,7 +24,7 @@ abbrev pub message_text : List ℕ → List ℕ → List ℕ
 message_text status body = codes "HTTP/1.1 " ++ status ++ fields_text (length body) ++ body
 
 -- The response to a request. `listens`: whether the server listens. `page`: the page of metrics.
-abbrev pub response_text : Asked → Bool → List ℕ → List ℕ
+abbrev pub response_text : MetricsRequest → Bool → List ℕ → List ℕ
 response_text Metrics listens page = message_text (codes "200 OK\r\ncontent-type: text/plain; version=0.0.4; charset=utf-8") page
 response_text Health true page = message_text (codes "200 OK") (codes "listening\n")
 response_text Health false page = message_text (codes "503 Service Unavailable") (codes "not listening\n")

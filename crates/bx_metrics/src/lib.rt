@@ -12,4 +12,4 @@ mod tests;
 pub use counts::{Counts, MetricValues};
 pub use metric::{Metric, Reason};
 pub use page::page_text;
-pub use response::{Asked, response_text};
+pub use response::{MetricsRequest, response_text};

@@ -9,7 +9,7 @@ use std::alloc::{AllocError, Global};
 
 /// What a request asks for.
 #[derive(Clone, Copy, Debug, PartialEq, Eq)]
-pub enum Asked {
+pub enum MetricsRequest {
     /// The page of metrics: `GET /metrics`.
     Metrics,
     /// Whether the server listens: `GET /healthz`.
@@ -20,21 +20,21 @@ pub enum Asked {
     NoGet,
 }
 
-impl Asked {
+impl MetricsRequest {
     /// Returns what the request with this `head` asks for.
     ///
     /// Only the method and the target matter.
-    pub fn of(head: &[u8]) -> Asked
+    pub fn of(head: &[u8]) -> MetricsRequest
         ensures { result ≡ asked_of head.now }
     {
         if head.starts_with(b"GET /metrics ") {
-            Asked::Metrics
+            MetricsRequest::Metrics
         } else if head.starts_with(b"GET /healthz ") {
-            Asked::Health
+            MetricsRequest::Health
         } else if head.starts_with(b"GET ") {
-            Asked::Other
+            MetricsRequest::Other
         } else {
-            Asked::NoGet
+            MetricsRequest::NoGet
         }
     }
 }
@@ -51,33 +51,38 @@ impl Asked {
 /// `AllocError` if memory runs out.
 pub fn response_text(
     alloc: Global,
-    asked: Asked,
+    asked: MetricsRequest,
     listens: bool,
     metrics: &MetricValues,
 ) -> Result<Vec<u8>, AllocError>
     ensures { IfOk result (λ text. (page : List ℕ) × (text.items ≡ response_text asked listens page)) }
 {
     let page = match asked {
-        Asked::Metrics => page_text(alloc, metrics)?,
+        MetricsRequest::Metrics => page_text(alloc, metrics)?,
         _ => String::new(alloc),
     };
     respond(alloc, asked, listens, page.as_str())
 }
 
 // Creates the response to `asked`. `page`: the page of metrics, used only if it is asked for.
-fn respond(alloc: Global, asked: Asked, listens: bool, page: &str) -> Result<Vec<u8>, AllocError>
+fn respond(
+    alloc: Global,
+    asked: MetricsRequest,
+    listens: bool,
+    page: &str,
+) -> Result<Vec<u8>, AllocError>
     ensures { IfOk result (λ text. text.items ≡ response_text asked listens page.now) }
 {
     match asked {
-        Asked::Metrics => message(
+        MetricsRequest::Metrics => message(
             alloc,
             "200 OK\r\ncontent-type: text/plain; version=0.0.4; charset=utf-8",
             page.as_bytes(),
         ),
-        Asked::Health if listens => message(alloc, "200 OK", b"listening\n"),
-        Asked::Health => message(alloc, "503 Service Unavailable", b"not listening\n"),
-        Asked::Other => message(alloc, "404 Not Found", b""),
-        Asked::NoGet => message(alloc, "405 Method Not Allowed\r\nallow: GET", b""),
+        MetricsRequest::Health if listens => message(alloc, "200 OK", b"listening\n"),
+        MetricsRequest::Health => message(alloc, "503 Service Unavailable", b"not listening\n"),
+        MetricsRequest::Other => message(alloc, "404 Not Found", b""),
+        MetricsRequest::NoGet => message(alloc, "405 Method Not Allowed\r\nallow: GET", b""),
     }
 }
 

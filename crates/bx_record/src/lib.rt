@@ -8,7 +8,7 @@ mod counted;
 mod form;
 mod laws;
 mod nonce;
-mod out;
+mod record_file;
 mod source;
 #[cfg(test)]
 mod tests;
@@ -24,7 +24,7 @@ pub use laws::{
     answers_are_skipped, answers_break_off, answers_change_nothing, configs_read_back,
     records_answer_alike, records_break_off, records_read_back,
 };
-pub use out::{Out, Torn};
+pub use record_file::{RecordFile, Torn};
 pub use source::{Source, Taken};
 pub use text::{request_text, tick_text};
 pub use waiting::{MOST_WAITING, RecordFault, Waiting};

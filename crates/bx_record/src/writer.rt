@@ -1,7 +1,7 @@
 //! The loop that writes a growing text and its answers to a file.
 ghost use Rattle.std.specs.Prelude.{◌≡◌, [], IfOk};
 
-use crate::out::{Out, Torn};
+use crate::record_file::{RecordFile, Torn};
 use crate::source::{Source, Taken};
 use std::alloc::Global;
 use std::io::Write;
@@ -55,7 +55,7 @@ pub fn write_out<R, S, W>(
     rt: &R,
     alloc: Global,
     mut source: S,
-    out: Out<S::Extent, W>,
+    out: RecordFile<S::Extent, W>,
     stop: &AtomicBool,
 ) -> Written<S::Fault>
 where
@@ -98,10 +98,10 @@ where
 // If the text ends, the answers are dropped, since the text that they refer to may be missing.
 fn write_once<S: Source, W: Write + Drop>(
     source: &mut S,
-    out: Out<S::Extent, W>,
+    out: RecordFile<S::Extent, W>,
     text: Vec<u8>,
     answers: Vec<u8>,
-) -> Result<(Out<S::Extent, W>, Vec<u8>, Vec<u8>), Written<S::Fault>>
+) -> Result<(RecordFile<S::Extent, W>, Vec<u8>, Vec<u8>), Written<S::Fault>>
     requires { (text.items ≡ []) × (answers.items ≡ []) }
     ensures { IfOk result (λ next. (next.1.items ≡ []) × (next.2.items ≡ [])) }
 {

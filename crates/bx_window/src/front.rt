@@ -6,7 +6,7 @@ ghost use Rattle.logbook.specs.Pages.{may_write};
 ghost use Rattle.bx_window.specs.Steps.{adding, trimming, stepping, list_of, begin_of, before};
 ghost use Rattle.bx_window.specs.Rules.{head_of};
 
-use crate::law::{Add, Asked, Law, LogId, Logged, NoGain, Open, Spare, Whole};
+use crate::law::{Add, Law, LogId, Logged, NoGain, Open, Spare, StepRequest, Whole};
 use bx_entry::{Input, Listing};
 use bx_history::History;
 use logbook::{Offer, Pen, Seen, Start, Word};
@@ -40,13 +40,13 @@ impl Opened {
         let Opened { head, mut seen } = self;
         let pen = spare(&head, &seen);
         let (elements, inputs) = (Listing::new(), History::new());
-        let asked = Asked {
+        let asked = StepRequest {
             elements: &elements,
             inputs: &inputs,
             dropped: 0,
             next: &pen,
         };
-        let mut offer: Offer<Logged, u64, Law, NoGain> = seen.plain::<NoGain, Asked<'_>, Add>(
+        let mut offer: Offer<Logged, u64, Law, NoGain> = seen.plain::<NoGain, StepRequest<'_>, Add>(
             &asked,
         );
         let mut none = seen.no_pen();
@@ -157,14 +157,14 @@ impl<L: LogId> Book<L> {
         ensures { self.new ≡ self.old ++ stepping elements.now inputs.now dropped ∷ [] }
     {
         let next = spare(&self.head, &self.seen);
-        let asked = Asked {
+        let asked = StepRequest {
             elements,
             inputs,
             dropped,
             next: &next,
         };
         let mut seen = self.seen.again();
-        let mut offer: Offer<Logged, u64, Law, NoGain> = seen.plain::<NoGain, Asked<'_>, Add>(
+        let mut offer: Offer<Logged, u64, Law, NoGain> = seen.plain::<NoGain, StepRequest<'_>, Add>(
             &asked,
         );
         let old = self.steps + 1;

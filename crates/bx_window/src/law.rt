@@ -96,7 +96,7 @@ impl Play<Logged, u64> for Whole {
 
 /// A step to append, with the pen for the step after it.
 #[derive(Drop)]
-pub struct Asked<'a> {
+pub struct StepRequest<'a> {
     /// The elements to append to the list, in order.
     pub elements: &'a Listing,
     /// The requests and ticks that they result from, in order.
@@ -107,7 +107,7 @@ pub struct Asked<'a> {
     pub next: &'a Pen,
 }
 
-impl<'a> Plain<Asked<'a>, Logged, u64> for Add {
+impl<'a> Plain<StepRequest<'a>, Logged, u64> for Add {
     ghost use Rattle.std.specs.Prelude.{None};
 
     ghost ask = { λ a. record { step = record { elements = a.elements.now; inputs = a.inputs.now; dropped = a.dropped }; next = a.next.now.nib.key } };

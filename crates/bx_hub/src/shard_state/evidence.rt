@@ -268,7 +268,7 @@ impl<L: LogId> WatchEvidence<L> {
 
 /// A change to a shard, other than by entries, polls and wakers.
 #[derive(Clone, Copy)]
-pub enum Change {
+pub enum ShardChange {
     /// The shard applies nothing until it is resumed.
     Pause,
     /// The shard continues after a pause.
@@ -285,7 +285,7 @@ pub enum Change {
 #[derive(Drop)]
 pub struct ChangeEvidence<L: LogId> {
     shard: Snapshot<usize>,
-    change: Snapshot<Change>,
+    change: Snapshot<ShardChange>,
     dropped: usize,
     of: PhantomData<L>,
 }
@@ -298,7 +298,7 @@ impl<L: LogId> ChangeEvidence<L> {
     /// answers.
     pub(super) fn of<P: Placing>(
         shard_state: &ShardState<L, P>,
-        change: Change,
+        change: ShardChange,
         dropped: usize,
     ) -> ChangeEvidence<L>
         requires { IsAfter change shard_state.now.activity (state P.place_of shard_state.now.shard) }
@@ -317,7 +317,7 @@ impl<L: LogId> ChangeEvidence<L> {
     pub(crate) fn misplaced<P: Placing>(
         shard_state: &ShardState<L, P>,
         index: &usize,
-        change: Change,
+        change: ShardChange,
     ) -> ChangeEvidence<L>
         requires { shard_state.now.shard.index ≢ index.now }
         ensures shard { result.shard.value ≡ index.now }

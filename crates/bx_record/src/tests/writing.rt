@@ -2,7 +2,7 @@
 ghost use Rattle.std.specs.Prelude.{◌≡◌, ◌==◌, [], codes, if◌then◌else◌};
 
 use crate::writer::SOON;
-use crate::{Chunk, CountedFile, End, Extent, Out, Source, Taken, Written, write_out};
+use crate::{Chunk, CountedFile, End, Extent, RecordFile, Source, Taken, Written, write_out};
 use std::io;
 use std::io::Write;
 use std::sync::atomic::{AtomicBool, Ordering};
@@ -139,7 +139,7 @@ fn ends_at_each_write(rt: HostRuntime) -> Result<(), Fail> {
             left,
             got: Vec::new(rt.alloc()),
         };
-        let out = Out::new(CountedFile::new(&mut file), Stage { count: 0 });
+        let out = RecordFile::new(CountedFile::new(&mut file), Stage { count: 0 });
         let written = write_out(&rt, rt.alloc(), lines, out, &over);
         let (count, ending) = (written.count, ending_of(&written));
         assert_eq!(rt; file.got.as_slice(), &text[..left.min(17)]);
@@ -168,7 +168,7 @@ fn ends_as_it_is_told(rt: HostRuntime) -> Result<(), Fail> {
             waiting: 0,
             stopped: &stopped,
         };
-        let out = Out::new(CountedFile::new(Vec::new(rt.alloc())), Stage { count: 0 });
+        let out = RecordFile::new(CountedFile::new(Vec::new(rt.alloc())), Stage { count: 0 });
         let written = write_out(&rt, rt.alloc(), lines, out, &over);
         assert_eq!(rt; (written.count, ending_of(&written)), (count, wanted));
         assert_eq!(rt; stopped.load(Ordering::SeqCst), wanted != Ending::Told);
@@ -186,7 +186,7 @@ fn few_bytes_are_written_too(rt: HostRuntime) -> Result<(), Fail> {
         stopped: &stopped,
     };
     let mut got = Vec::new(rt.alloc());
-    let out = Out::new(CountedFile::new(&mut got), Stage { count: 0 });
+    let out = RecordFile::new(CountedFile::new(&mut got), Stage { count: 0 });
     let written = write_out(&rt, rt.alloc(), lines, out, &over);
     assert_eq!(rt; ending_of(&written), Ending::Fault(7));
     assert!(rt; got.as_slice() == b"one\ntwo\nn1\nthree\n".as_slice());

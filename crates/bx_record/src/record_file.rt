@@ -19,9 +19,9 @@ pub struct Torn {
 
 /// A file with the text up to a position, and other lines between its lines.
 ///
-/// A write that fails consumes the `Out`, so nothing can be written after a gap.
+/// A write that fails consumes the `RecordFile`, so nothing can be written after a gap.
 #[derive(Drop)]
-pub struct Out<F: Extent, W> {
+pub struct RecordFile<F: Extent, W> {
     file: CountedFile<W>,
     // Ghost: the text written so far.
     written: History<u8>,
@@ -29,15 +29,15 @@ pub struct Out<F: Extent, W> {
     ghost whole: { written ≡ F.text upto },
 }
 
-impl<F: Extent, W: Write + Drop> Out<F, W> {
-    /// Creates an `Out` for a text that begins at `start`.
+impl<F: Extent, W: Write + Drop> RecordFile<F, W> {
+    /// Creates an `RecordFile` for a text that begins at `start`.
     ///
     /// The text up to `start` must be empty. Writes nothing.
-    pub fn new(file: CountedFile<W>, start: F) -> Out<F, W>
+    pub fn new(file: CountedFile<W>, start: F) -> RecordFile<F, W>
         requires { F.text start ≡ [] }
         ensures { (result.file ≡ file) × (result.written ≡ []) × (result.upto ≡ start) }
     {
-        Out {
+        RecordFile {
             file,
             written: History::new(),
             upto: start,
@@ -57,12 +57,12 @@ impl<F: Extent, W: Write + Drop> Out<F, W> {
     ///
     /// - `InvalidInput`: `chunk` does not follow the text written so far; nothing is written.
     /// - Any error of the file, which may then have a prefix of `chunk`.
-    pub fn write(self, chunk: &Chunk<F>) -> Result<Out<F, W>, Torn>
+    pub fn write(self, chunk: &Chunk<F>) -> Result<RecordFile<F, W>, Torn>
         ensures written { IfOk result (λ out. out.written ≡ self.written ++ chunk.now.bytes.items) }
         ensures file { IfOk result (λ out. Appends (W.contents self.file.file) (W.contents out.file.file) chunk.now.bytes.items) }
         ensures upto { IfOk result (λ out. F.is_copy chunk.now.to out.upto) }
     {
-        let Out {
+        let RecordFile {
             mut file,
             mut written,
             upto,
@@ -80,7 +80,7 @@ impl<F: Extent, W: Write + Drop> Out<F, W> {
             });
         }
         written.append(chunk.bytes.as_slice());
-        Ok(Out {
+        Ok(RecordFile {
             file,
             written,
             upto: chunk.to.again(),
@@ -92,7 +92,7 @@ impl<F: Extent, W: Write + Drop> Out<F, W> {
     /// # Errors
     ///
     /// Any error of the file, which may then have a prefix of `lines`.
-    pub fn write_aside(self, lines: &[u8]) -> Result<Out<F, W>, Torn>
+    pub fn write_aside(self, lines: &[u8]) -> Result<RecordFile<F, W>, Torn>
         ensures written { IfOk result (λ out. (out.written ≡ self.written) × (out.upto ≡ self.upto)) }
         ensures file { IfOk result (λ out. Appends (W.contents self.file.file) (W.contents out.file.file) lines.now) }
     {
