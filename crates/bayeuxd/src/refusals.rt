@@ -41,7 +41,9 @@ const CAUSES: [(Metric, &str); 10] = [
     (Metric::Missing, "out of memory for a response"),
 ];
 
-/// How many requests are already logged, by cause.
+/// How many rejected or unanswered requests are already logged, by cause.
+///
+/// With these counts, [`tell`](Self::tell) logs only new ones.
 #[derive(Clone, Copy)]
 pub struct Refusals {
     logged: [u64; 10],

@@ -310,7 +310,9 @@ impl Connects {
         Some((filed.session, None))
     }
 
-    /// Takes the last filed answer, with the place of its connect or rider.
+    /// Takes the last of [`filed_places`](Self::filed_places), with its answer.
+    ///
+    /// This need not be the answer that was filed last. Returns `None` if no answer is filed.
     pub fn pop_filed(&mut self) -> Option<(u64, FiledAnswer)>
         ensures filed { self.old.filed ≡ self.new.filed ++ option_to_list result }
         ensures held { self.new.held ≡ self.old.held }

@@ -2,8 +2,10 @@
 //!
 //! Some suppose that a batch may have at least one event: `limits.batch` is not 0.
 //!
-//! A plain session does not acknowledge. An event is done if it is acknowledged, or sent by a plain
-//! session.
+//! - A plain session does not acknowledge.
+//! - An event is done if it is acknowledged, or sent by a plain session.
+//! - A rider is the last message of a request, if its reply also carries the session's waiting events.
+//! - An input is open until all its messages are answered.
 ghost use Rattle.bx_theory.specs.Laws.{DoneNeverFalls, CountsAgree, EntriesInOrder, AnswersStay, BatchRepeats, NeverGivenAgain, NoEventTwice, GivenOnce, NoRidersUnasked, RidersArePlain};
 ghost use Rattle.bx_theory.specs.Readings.{LiveReading, InForceReading, HeldReading, EndingReading, OverflowReading, QueueBounded, DueReading, ClockReading, SameLive, AcceptedWhileLive, PublishesOfNone, ClosedIsOver};
 ghost use Rattle.bx_theory.specs.Riding.{RiderReading, NothingRidesBeside, OthersNeverRide, RiderGiven};
@@ -80,7 +82,7 @@ pub fn rider_reading()
     ensures { RiderReading }
 {}
 
-/// Proves that a request with a rejected or sessionless message has no rider.
+/// Proves that a request has no rider if one of its messages is rejected or sessionless.
 pub fn nothing_rides_beside()
     ensures { NothingRidesBeside }
 {}

@@ -19,7 +19,8 @@ pub fn shards_file()
     ensures { ShardsFile }
 {}
 
-/// Proves that a shard's sessions are live, and have at most one batch for each applied entry.
+/// Proves that a shard's sessions are live, and that none has formed more batches than entries were
+/// applied.
 pub fn sessions_are_reached()
     ensures { SessionsReached }
 {}

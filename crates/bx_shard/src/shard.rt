@@ -244,7 +244,7 @@ impl<P: Placing> Shard<P> {
         &self.sessions
     }
 
-    /// Returns `true` if the shard was shut.
+    /// Returns `true` if the shard was [`shut`](Self::shut), so that it stores no wakers.
     pub fn is_shut(&self) -> bool
         ensures { result ≡ self.now.is_shut }
     {

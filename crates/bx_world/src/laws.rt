@@ -1,4 +1,6 @@
 //! Laws of a world, for every configuration, placing and schedule.
+//!
+//! "What one thread gives": the results of a server that handles one message after another.
 ghost use Rattle.bx_world.specs.Schedules.{AnswersAreFiled, AnswersCanBeTaken, ListIsAdmitted, NoneTakenTwice, SchedulesCompose, TakesAreAnswers};
 ghost use Rattle.bx_world.specs.Headline.{BatchesRepeat, Headline, NoneGivenAgain, PlainGivenOnce, RepliesAreAnswers};
 
@@ -32,7 +34,7 @@ pub fn schedules_compose()
     ensures { SchedulesCompose }
 {}
 
-/// Proves that each reply that an admission returns at once is what one thread gives.
+/// Proves that each reply that [`World::admit`](crate::World::admit) returns is what one thread gives.
 pub fn replies_are_answers()
     ensures { RepliesAreAnswers }
 {}
