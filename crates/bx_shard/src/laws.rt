@@ -19,8 +19,9 @@ pub fn shards_file()
     ensures { ShardsFile }
 {}
 
-/// Proves that a shard's sessions are live, and that none has formed more batches than entries were
-/// applied.
+/// Proves that a shard's sessions are live.
+///
+/// None has formed more batches than the shard has applied entries.
 pub fn sessions_are_reached()
     ensures { SessionsReached }
 {}

@@ -34,7 +34,7 @@ pub fn schedules_compose()
     ensures { SchedulesCompose }
 {}
 
-/// Proves that each reply that [`World::admit`](crate::World::admit) returns is what one thread gives.
+/// Proves that each reply that an admission returns at once is what one thread gives.
 pub fn replies_are_answers()
     ensures { RepliesAreAnswers }
 {}
