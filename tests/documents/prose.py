@@ -53,7 +53,7 @@ def without_code(texts):
         if text.strip().startswith("```"):
             is_code = not is_code
         elif not is_code:
-            found.append(re.sub(r"`[^`]*`", "``", text))
+            found.append(re.sub(r"`[^`]*`|\]\([^)]*\)", "``", text))
     return found
 
 

@@ -4,7 +4,8 @@
 //!
 //! - A plain session does not acknowledge.
 //! - An event is done if it is acknowledged, or sent by a plain session.
-//! - A rider is the last message of a request, if its reply also carries the session's waiting events.
+//! - A rider is the last message of a request, if its reply also carries the session's waiting
+//!   events.
 //! - An input is open until all its messages are answered.
 ghost use Rattle.bx_theory.specs.Laws.{DoneNeverFalls, CountsAgree, EntriesInOrder, AnswersStay, BatchRepeats, NeverGivenAgain, NoEventTwice, GivenOnce, NoRidersUnasked, RidersArePlain};
 ghost use Rattle.bx_theory.specs.Readings.{LiveReading, InForceReading, HeldReading, EndingReading, OverflowReading, QueueBounded, DueReading, ClockReading, SameLive, AcceptedWhileLive, PublishesOfNone, ClosedIsOver};
