@@ -8,7 +8,7 @@ use serve::serve;
 use std::process::ExitCode;
 use std::{env, io};
 
-/// Usage text, printed if the arguments are not valid.
+/// The usage text, which is printed if the arguments are not valid.
 const USAGE: &str = "usage: bare_hyper address connections";
 
 fn main(rt: HostRuntime) -> ExitCode {

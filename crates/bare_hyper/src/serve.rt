@@ -62,11 +62,12 @@ impl MakeTask for BareServer {
 
 /// Serves with the arguments `args`: an address and a number of connections, or 0 for no limit.
 ///
-/// Prints the address once it listens. Returns `false` if `args` are not valid.
+/// Prints the address to `writer` once the server listens. Returns `false`, without serving, if
+/// `args` are not valid, and `true` once the given number of connections has ended.
 ///
 /// # Errors
 ///
-/// The error of a system call, or of memory that runs out.
+/// The error of a system call, or of an allocation that fails.
 ///
 /// # Blocking
 ///
@@ -86,7 +87,8 @@ where
     Ok(true)
 }
 
-// Serves `count` connections, or connections without a limit if it is 0.
+// Listens on `address`, prints it, and serves `count` connections, or any number if `count` is 0.
+// Returns when they have ended.
 fn run<R, W>(rt: R, address: SocketAddr, count: u64, writer: &mut W) -> io::Result<()>
 where
     R: Wait + Threads + Clock + RandomSource + AllocGlobal + Net + Sync + Send + Copy + Drop,
@@ -98,13 +100,14 @@ where
     serve_connections(rt, &mut runtime, listener, count)
 }
 
-// Prints the address on which `listener` listens.
+// Writes a line with the address on which `listener` listens to `writer`.
 fn told<W: Write>(listener: &TcpListener, writer: &mut W) -> io::Result<()> {
     writeln!(writer, "listening {}", listener.local_addr()?)?;
     writer.flush()
 }
 
-// Serves `count` connections of `listener`, or connections without a limit if it is 0.
+// Serves `count` connections of `listener`, or any number if `count` is 0. Returns when they have
+// ended.
 fn serve_connections<R>(
     rt: R,
     runtime: &mut Runtime,

@@ -9,7 +9,8 @@ use std::alloc::{AllocError, Global};
 pub struct Tally {
     /// The latencies of events.
     pub latencies: Latencies,
-    /// Number of clients of the thread that are ready.
+    /// Number of the thread's clients that have opened a session and, if subscribers, have
+    /// subscribed.
     pub ready: usize,
     /// When all clients were ready and the publishers started.
     pub begun: u64,

@@ -10,8 +10,8 @@ use std::sync::{Mutex, Wait};
 
 /// The lines of answers that wait to be written.
 ///
-/// Any thread can add lines, and one takes them. At most 64 MiB wait. A log that has ended accepts
-/// no more lines.
+/// Any thread can add lines, and one thread takes them. At most 64 MiB wait. A log that has ended
+/// accepts no more lines.
 #[derive(Drop)]
 pub struct AnswerLog {
     lines: Mutex<AnswerLines>,
@@ -27,8 +27,8 @@ impl AnswerLog {
 
     /// Appends the line for the items that answer a request, unless the log has ended.
     ///
-    /// `place`: the place of the request's first message. The log ends if more than 64 MiB would
-    /// wait, or if memory runs out.
+    /// `place`: the place of the request's first message. The log ends without the line if more than
+    /// 64 MiB would wait, or if memory runs out.
     ///
     /// # Blocking
     ///
@@ -74,8 +74,8 @@ impl AnswerLog {
 
     /// Takes all waiting lines. The empty buffer `empty` replaces them.
     ///
-    /// A request is in the list before its line is added. Take the hub's record after these lines
-    /// and write it before them, so that each line follows its request.
+    /// A request is in the list before its line is added. To let each line follow its request, take
+    /// the lines before the hub's record, and write them after it.
     ///
     /// # Blocking
     ///

@@ -10,11 +10,11 @@ use std::alloc::Global;
 /// Whether the log accepts lines.
 #[derive(Clone, Copy, Debug, PartialEq, Eq)]
 pub(crate) enum Noting {
-    /// Lines are accepted.
+    /// The log accepts lines.
     Open,
     /// The log ended because of this fault, which is not reported yet.
     Ended(RecordFault),
-    /// The log ended, and there is nothing to report.
+    /// The log ended, and its fault, if any, was reported.
     Over,
 }
 
@@ -28,7 +28,7 @@ pub struct TakenAnswers {
     pub ghost bounded: { length bytes.items ≤ MOST_WAITING },
 }
 
-/// The waiting lines, and whether more are accepted.
+/// The waiting lines, and whether the log accepts more.
 #[derive(Drop)]
 pub(crate) struct AnswerLines {
     waiting: Waiting,
@@ -47,7 +47,7 @@ impl AnswerLines {
         }
     }
 
-    /// Returns `true` if lines are accepted.
+    /// Returns `true` if the log accepts lines.
     pub(crate) fn is_open(&self) -> bool
         ensures { IsTrue result ↔ (self.now.noting ≡ Open) }
     {
@@ -56,7 +56,7 @@ impl AnswerLines {
 
     /// Appends `line`, unless the log has ended.
     ///
-    /// If too many bytes would wait, or memory runs out, the log ends without `line`.
+    /// If more than 64 MiB would wait, or memory runs out, the log ends without `line`.
     pub(crate) fn add(&mut self, line: &[u8])
         ensures { IsAdded self.old.noting self.new.noting line.now self.old.waiting self.new.waiting }
     {

@@ -6,7 +6,7 @@ use bx_service::{Observer, ServiceEvent};
 use std::alloc::Global;
 use std::sync::{Arc, Wait};
 
-/// An observer that logs the items of each answered request, unless it has no messages.
+/// An observer that logs a line for each answered request that has messages.
 ///
 /// Without a log it does nothing.
 #[derive(Drop)]
@@ -17,7 +17,7 @@ pub struct AnswerLogger<R> {
 }
 
 impl<R> AnswerLogger<R> {
-    /// Creates an observer that appends to `log`.
+    /// Creates an observer that appends to `log`, if given.
     pub fn new(rt: R, alloc: Global, log: Option<Arc<AnswerLog, Global>>) -> AnswerLogger<R>
         ensures { result.log ≡ log }
     {

@@ -1,4 +1,4 @@
-//! Tests with digests that `sha256sum` computed.
+//! Tests of the log of answers, with digests that `sha256sum` computed.
 use crate::{AnswerLog, AnswerLogger, TakenAnswers, answer_line};
 use bx_advice::{Config, Outcome};
 use bx_entry::Refusal;
@@ -11,10 +11,10 @@ use std::process::Abort;
 use std::sync::{Arc, Wait};
 use std::test::Fail;
 
-// The digest of `[]`.
+// The SHA-256 digest of `[]`, in hexadecimal.
 const NO_ITEMS: &str = "4f53cda18c2baa0c0354bb5f9a3ecbe5ed12ab4d8e11ba873c2f11161202b945";
 
-// The digest of the array with the reply to a connect.
+// The SHA-256 digest of the array with the reply that `connected` returns, in hexadecimal.
 const CONNECTED: &str = "c05f57690a6736a0d8e981284e720d1734dfbc50c79b53ef7be450dc98159062";
 
 fn connected(alloc: Global, config: &Config) -> Result<Vec<Item>, AllocError> {
@@ -113,7 +113,7 @@ fn a_full_log_ends(rt: HostRuntime) -> Result<(), Fail> {
     Ok(())
 }
 
-// Checks, when compiled, that threads can share `value`.
+// Returns `value`. This compiles only if threads can share `value`.
 fn shared<T: Send + Sync>(value: T) -> T {
     value
 }

@@ -16,38 +16,38 @@ use std::alloc::{AllocError, Global};
 use std::sync::Wait;
 pub use ticker::{Taken, Ticker};
 
-/// A handshake.
+/// The body of a request with one handshake.
 pub const HANDSHAKE: &str =
     r#"[{"channel":"/meta/handshake","version":"1.0","supportedConnectionTypes":["long-polling"]}]"#;
 
-/// A subscription of the first session to `/a/*`.
+/// The body of a request with a subscription of the first session to `/a/*`.
 pub const SUBSCRIBE: &str =
     r#"[{"channel":"/meta/subscribe","clientId":"000000000000000000000000000000000000000000000001","subscription":"/a/*"}]"#;
 
-/// A connect of the first session.
+/// The body of a request with a connect of the first session.
 pub const CONNECT: &str =
     r#"[{"channel":"/meta/connect","clientId":"000000000000000000000000000000000000000000000001","connectionType":"long-polling"}]"#;
 
-/// A subscription of the third session to `/a/*`.
+/// The body of a request with a subscription of the third session to `/a/*`.
 pub const SUBSCRIBE_THIRD: &str =
     r#"[{"channel":"/meta/subscribe","clientId":"000000000000000000000000000000000000000000000003","subscription":"/a/*"}]"#;
 
-/// A connect of the third session.
+/// The body of a request with a connect of the third session.
 pub const CONNECT_THIRD: &str =
     r#"[{"channel":"/meta/connect","clientId":"000000000000000000000000000000000000000000000003","connectionType":"long-polling"}]"#;
 
-/// A message that fails, and only adds an entry to the list.
+/// The body of a request with a message that fails, and only adds an entry to the list.
 pub const PING: &str = r#"[{"channel":"/meta/ping"}]"#;
 
-/// A connect of the second session.
+/// The body of a request with a connect of the second session.
 pub const CONNECT_OTHER: &str =
     r#"[{"channel":"/meta/connect","clientId":"000000000000000000000000000000000000000000000002","connectionType":"long-polling"}]"#;
 
-/// A publish of 7 to `/a/b` by the second session.
+/// The body of a request with a publish of 7 to `/a/b` by the second session.
 pub const PUBLISH: &str =
     r#"[{"channel":"/a/b","clientId":"000000000000000000000000000000000000000000000002","data":7}]"#;
 
-/// A publish of 8 to `/a/c` by the first session, which subscribes to it.
+/// The body of a request with a publish of 8 to `/a/c` by the first session, a subscriber.
 pub const PUBLISH_OWN: &str =
     r#"[{"channel":"/a/c","clientId":"000000000000000000000000000000000000000000000001","data":8}]"#;
 
@@ -55,7 +55,7 @@ pub const PUBLISH_OWN: &str =
 pub const ANSWER: &str =
     r#"[{"channel":"/a/b","data":7},{"advice":{"interval":0,"reconnect":"retry","timeout":30000},"channel":"/meta/connect","clientId":"000000000000000000000000000000000000000000000001","successful":true}]"#;
 
-/// The response to the third session's connect with the same event.
+/// The response to the third session's connect with the event of [`PUBLISH`].
 pub const ANSWER_THIRD: &str =
     r#"[{"channel":"/a/b","data":7},{"advice":{"interval":0,"reconnect":"retry","timeout":30000},"channel":"/meta/connect","clientId":"000000000000000000000000000000000000000000000003","successful":true}]"#;
 
@@ -63,7 +63,7 @@ pub const ANSWER_THIRD: &str =
 pub const TICKED: &str =
     r#"[{"advice":{"interval":0,"reconnect":"retry","timeout":30000},"channel":"/meta/connect","clientId":"000000000000000000000000000000000000000000000001","successful":true}]"#;
 
-/// The response to the first session's rider, [`PUBLISH_OWN`], with the event of [`PUBLISH`].
+/// The answer to the first session's rider [`PUBLISH_OWN`], with its and [`PUBLISH`]'s events.
 pub const RIDDEN: &str =
     r#"[{"channel":"/a/b","data":7},{"channel":"/a/c","data":8},{"channel":"/a/c","successful":true}]"#;
 
@@ -76,11 +76,11 @@ pub enum Found {
     Wanted,
     /// An answer with another text was taken.
     Other,
-    /// The poll failed with this fault.
+    /// The poll failed, with this fault of the hub.
     Stopped(HubFault),
 }
 
-/// A call failed, or memory ran out.
+/// Evidence that a call failed, or that memory ran out.
 #[derive(Clone, Copy, Debug)]
 pub struct Refused;
 
@@ -100,7 +100,7 @@ fn arrival_of(body: Vec<u8>) -> Arrival {
     }
 }
 
-/// Creates a request with `body`, at moment 0.
+/// Creates a request with `body`, at moment 0 and with nonce 0.
 ///
 /// # Errors
 ///
@@ -130,7 +130,7 @@ pub fn is_of(arrival: &Arrival, body: &str) -> bool {
     }
 }
 
-// Returns the ticket of the first connect or rider with a pending answer.
+// Returns the ticket of the first connect or rider with a pending answer, if there is one.
 fn ticket_of(slots: &[Slot]) -> Option<Ticket> {
     for slot in slots {
         if let Slot::Waiting(ticket) = slot {
@@ -140,7 +140,7 @@ fn ticket_of(slots: &[Slot]) -> Option<Ticket> {
     None
 }
 
-/// Posts `body`, and returns its first message's place and the first pending ticket.
+/// Posts `body`, and returns the place of its first message and the first pending ticket, if any.
 ///
 /// # Errors
 ///
@@ -159,7 +159,7 @@ pub fn post<L: LogId, P: Placing, G: Gate + Drop, H: Wait + Drop, R: Wait>(
     }
 }
 
-// Formats an answer: its events, then its reply.
+// Returns the text of a response with the events of `answer` and then its reply.
 fn text_of(alloc: Global, answer: Answer) -> Result<Vec<u8>, AllocError> {
     let Answer { events, reply } = answer;
     let mut items = Vec::new(alloc);
@@ -170,7 +170,7 @@ fn text_of(alloc: Global, answer: Answer) -> Result<Vec<u8>, AllocError> {
     body_text(alloc, items.as_slice())
 }
 
-// Compares an answer's text with `wanted`.
+// Returns `Wanted` if the text of `answer` is `wanted`, and `Other` if not.
 fn found_in(alloc: Global, answer: Answer, wanted: &str) -> Result<Found, AllocError> {
     if text_of(alloc, answer)?.as_slice() == wanted.as_bytes() {
         Ok(Found::Wanted)
@@ -179,7 +179,7 @@ fn found_in(alloc: Global, answer: Answer, wanted: &str) -> Result<Found, AllocE
     }
 }
 
-/// Polls for the answer to a connect or rider, and compares it with `wanted`.
+/// Polls for the answer under `ticket`, and returns whether it was found and its text is `wanted`.
 ///
 /// # Errors
 ///
@@ -199,7 +199,9 @@ pub fn find<L: LogId, P: Placing, G: Gate + Drop, H: Wait + Drop, R: Wait>(
     }
 }
 
-/// Polls for an answer, and returns its number of events plus 1, or 0 if none is filed.
+/// Polls for the answer under `ticket`, and returns its number of events plus 1.
+///
+/// Returns 0 if no answer is filed.
 ///
 /// # Errors
 ///

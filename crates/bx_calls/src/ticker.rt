@@ -10,7 +10,8 @@ use bx_window::{Bundle, Front, LogId, LogWriter, PublishFault};
 use std::alloc::{AllocError, Global};
 use std::sync::Wait;
 
-// A writer publishes only while its log, its list and the batch are each shorter than this.
+// The ticker publishes only if the number of its steps, the length of its list and the length of
+// the batch are each below this number.
 const MOST: u64 = 1_000_000;
 
 /// The result of publishing a batch.
@@ -33,7 +34,7 @@ pub enum Taken {
 #[derive(Drop)]
 pub struct Ticker<L: LogId, R: Wait + Drop> {
     writer: LogWriter<L, R>,
-    /// Number of ticks published.
+    /// The number of published ticks.
     pub end: u64,
     ghost ticks: { list_of writer ≡ ticks end },
 }
@@ -56,11 +57,12 @@ impl<L: LogId, R: Wait + Drop> Ticker<L, R> {
         self.writer.tell_beyond(front)
     }
 
-    /// Publishes a batch of `count` ticks.
+    /// Publishes a batch of `count` ticks, and returns whether the window accepted it.
     ///
     /// # Errors
     ///
-    /// As for [`bundle`](Self::bundle); nothing has changed.
+    /// `AllocError` if `count` or the list's length is at least 1,000,000, or if memory runs out
+    /// for the batch; nothing has changed.
     pub fn publish(&mut self, alloc: Global, count: u64) -> Result<Taken, AllocError> {
         let bundle = self.bundle(alloc, count)?;
         match self.publish_bundle(alloc, bundle, count) {
@@ -93,7 +95,7 @@ impl<L: LogId, R: Wait + Drop> Ticker<L, R> {
     ///
     /// # Errors
     ///
-    /// `bundle`, and one of these; the list is unchanged:
+    /// `bundle`, and one of the following faults; the list is unchanged:
     ///
     /// - `Full`, if `count` is 0, or `count`, the list's length or the number of steps is at least
     ///   1,000,000.

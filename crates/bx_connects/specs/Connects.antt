@@ -8,7 +8,8 @@ use Rattle.bx_connects.specs.declared.{connects.ConnectState.ConnectState, conne
 use Rattle.bx_connects.specs.declared.connects.ConnectState.TheVariants.{Held, Filed}
 use Rattle.bx_connects.specs.declared.watch.Watch.TheVariants.{Stored, Ready, Unknown, Shut}
 
--- The held connects and the filed answers, each with the place of its connect or rider.
+-- The connects of a shard: the held connects (`held`) and the filed answers (`filed`), each with
+-- the place of its connect or rider.
 pub record KnownConnects : Type 0 where
   pub held : List (ℕ × HeldConnect)
   pub filed : List (ℕ × FiledAnswer)
@@ -21,7 +22,7 @@ hold_at held place = lookup (nat_eq place) held
 abbrev pub filing_at : List (ℕ × FiledAnswer) → ℕ → Option FiledAnswer
 filing_at filed place = lookup (nat_eq place) filed
 
--- The state of a connect: its hold or, if it is not held, its filed answer.
+-- The state of a connect: held, or answered if it is not held. `None` if it is neither.
 abbrev pub state_by : Option HeldConnect → Option FiledAnswer → Option ConnectState
 state_by (Some h) filed = Some (Held h.session h.deadline h.waker)
 state_by None (Some f) = Some (Filed f.session f.place f.answer)
@@ -44,7 +45,8 @@ AreApart held filed = (place : ℕ) → is_both (hold_at held place) (filing_at 
 abbrev pub held_for : ℕ → Option ℕ → Option HeldConnect
 held_for session deadline = Some (record { session = session; deadline = deadline; waker = None })
 
--- The result of registering a waker with a held connect, if there is one.
+-- The result of registering a waker with a connect: `Unknown` if it is not held, `Shut` if the
+-- shard is shut, otherwise `Stored` with the waker that is replaced, if any.
 abbrev pub watched_hold : Bool → Waker → Option HeldConnect → Watch
 watched_hold shut waker None = Unknown waker
 watched_hold true waker (Some h) = Shut waker
@@ -73,24 +75,26 @@ session_at None = None
 session_at (Some (Held session deadline waker)) = Some session
 session_at (Some (Filed session place answer)) = Some session
 
--- The session and the deadline of a known connect; one that is answered has no deadline.
+-- The session and the deadline of a connect, if it is known. An answered connect has no deadline.
 abbrev pub known_as : Option ConnectState → Option (ℕ × Option ℕ)
 known_as None = None
 known_as (Some (Held session deadline waker)) = Some (session, deadline)
 known_as (Some (Filed session place answer)) = Some (session, None)
 
--- A known connect after it was answered by the entry at `place`.
+-- A connect after the entry at `place` gave `answer` to it. An unknown connect stays unknown.
 abbrev pub filed_as : ℕ → Answer → Option ConnectState → Option ConnectState
 filed_as place answer None = None
 filed_as place answer (Some (Held session deadline waker)) = Some (Filed session place answer)
 filed_as place answer (Some (Filed session earlier replaced)) = Some (Filed session place answer)
 
--- A filed answer with `events` instead of its own.
+-- A connect after `events` replaced the events of its filed answer. A connect without a filed
+-- answer is unchanged.
 abbrev pub completed : List Event → Option ConnectState → Option ConnectState
 completed events (Some (Filed session place answer)) = Some (Filed session place (record answer { events = events }))
 completed events state = state
 
--- The connects after the entry at `place` gives this answer, if any.
+-- The connects after the entry at `place` gives an answer, if it gives one. An answer to an unknown
+-- connect changes nothing.
 abbrev pub filing : ℕ → Option Answered → (ℕ → Option ConnectState) → ℕ → Option ConnectState
 filing place None connects p = connects p
 filing place (Some a) connects p = if nat_eq a.place p then filed_as place a.answer (connects a.place) else connects p
@@ -100,12 +104,15 @@ abbrev pub filed_answer : Option ConnectState → Option Answer
 filed_answer (Some (Filed session place answer)) = Some answer
 filed_answer _ = None
 
--- A connect becomes unknown when its filed answer is taken.
+-- A connect after its filed answer, if any, was taken. It is then unknown. A connect without a
+-- filed answer is unchanged.
 abbrev pub taken_from : Option ConnectState → Option ConnectState
 taken_from (Some (Filed session place answer)) = None
 taken_from state = state
 
--- The result of registering a waker with a connect; a shard that is shut stores none.
+-- The result of registering a waker with a connect: `Unknown` if the connect is unknown, `Ready` if
+-- its answer is filed, `Shut` if the shard is shut, otherwise `Stored` with the waker that is
+-- replaced, if any.
 abbrev pub watched : Bool → Waker → Option ConnectState → Watch
 watched shut waker None = Unknown waker
 watched true waker (Some (Held session deadline older)) = Shut waker
@@ -127,12 +134,13 @@ abbrev pub is_filed_below : ℕ → ConnectState → Bool
 is_filed_below before (Held session deadline waker) = false
 is_filed_below before (Filed session place answer) = nat_lt place before
 
--- A connect becomes unknown if it was answered by an entry before place `before`.
+-- A connect after a sweep: unknown if it was answered by an entry before place `before`, otherwise
+-- unchanged.
 abbrev pub unswept : ℕ → Option ConnectState → Option ConnectState
 unswept before None = None
 unswept before (Some state) = if not (is_filed_below before state) then Some state else None
 
--- The answers that were given by the entry at place `before` or a later one.
+-- The filed answers that were given by the entry at place `before` or by a later one.
 abbrev pub kept_from : ℕ → List (ℕ × FiledAnswer) → List (ℕ × FiledAnswer)
 kept_from before filed = filter (λ (f : ℕ × FiledAnswer). not (nat_lt f.1.place before)) filed
 
@@ -144,12 +152,13 @@ swept before connects = record { held = connects.held; filed = kept_from before 
 abbrev pub count_held : KnownConnects → ℕ
 count_held connects = length connects.held
 
--- `session` holds the connect at `place` until `deadline`.
+-- `session` holds the connect at `place` until `deadline`. `waker` is stored with it, if any.
 pub record IsHeldUntil (connects : KnownConnects) (place session : ℕ) (deadline : Option ℕ) : Type 0 where
   pub waker : Option Waker
   pub held : connect_at connects place ≡ Some (Held session deadline waker)
 
--- Some connect of `session` is held until `moment` at the latest.
+-- `session` holds the connect at `place`, and `deadline`, the end of the hold, is at or before
+-- `moment`.
 pub record IsDue (connects : KnownConnects) (session moment : ℕ) : Type 0 where
   pub place : ℕ
   pub deadline : ℕ

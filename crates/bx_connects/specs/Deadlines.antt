@@ -17,16 +17,16 @@ same_hold x y = nat_eq x.0 y.0 && nat_eq x.1 y.1 && nat_eq x.2 y.2
 abbrev pub is_noted : Deadlines → ℕ × ℕ × ℕ → Bool
 is_noted deadlines hold = contains hold_cmp deadlines.holds hold
 
--- Whether there is a deadline and it is `moment`.
+-- Whether a deadline exists and is equal to `moment`.
 abbrev pub ends_at : Option ℕ → ℕ → Bool
 ends_at None moment = false
 ends_at (Some deadline) moment = nat_eq deadline moment
 
--- Whether `session` holds a connect until `deadline`.
+-- Whether a connect is held, by `session` and until `deadline`.
 abbrev pub is_held_until : Option HeldConnect → ℕ → ℕ → Bool
 is_held_until None session deadline = false
 is_held_until (Some h) session deadline = ends_at h.deadline deadline && nat_eq h.session session
 
--- Exactly the holds with a deadline are in `deadlines`.
+-- `deadlines` has exactly those holds in `held` that have a deadline.
 abbrev pub AreNoted : List (ℕ × HeldConnect) → Deadlines → Type 0
 AreNoted held deadlines = (place session deadline : ℕ) → is_noted deadlines (deadline, place, session) ≡ is_held_until (hold_at held place) session deadline

@@ -14,12 +14,13 @@ waker_of (Some (Filed session place answer)) = None
 abbrev pub without : ℕ → (ℕ → Option Waker) → ℕ → Option Waker
 without place wakers p = if nat_eq place p then None else wakers p
 
--- These wakers were removed from their places, one after another, and all others are unchanged.
+-- Removing the wakers of the list from `before`, one after another, gives `after`.
 abbrev pub AreTaken : List Waker → (ℕ → Option Waker) → (ℕ → Option Waker) → Type 0
 AreTaken [] before after = (p : ℕ) → after p ≡ before p
 AreTaken (waker ∷ rest) before after = (place : ℕ) × (before place ≡ Some waker) × AreTaken rest (without place before) after
 
--- The wakers that were removed from connects, and no others, are appended to the list.
+-- `new` is `old` followed by `added`: exactly the wakers that the connects have in `before` and no
+-- longer in `after`.
 pub record AreWoken (before after : ℕ → Option ConnectState) (old new : List Waker) : Type 0 where
   pub added : List Waker
   pub behind : new ≡ old ++ added

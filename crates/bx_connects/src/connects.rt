@@ -25,9 +25,10 @@ use std::marker::Model;
 pub enum ConnectState {
     /// Held until it is answered, at the latest by a tick at or after the deadline.
     Held {
-        /// The number of the session that holds it.
+        /// The number of the session that holds the connect.
         session: u64,
-        /// The deadline, in milliseconds, or `None` if no tick can be that late.
+        /// The deadline, in milliseconds since the server started, or `None` if no tick can be that
+        /// late.
         deadline: Option<u64>,
         /// The waker of the task that waits for the answer, if any. Dropping it wakes the task.
         waker: Option<Waker>,
@@ -114,7 +115,9 @@ impl Connects {
         self.held.hold(place, session, deadline)
     }
 
-    /// Removes the connect at `place`, held or answered, and appends its waker to `wakers`.
+    /// Removes the connect at `place`, held or answered, if it is known.
+    ///
+    /// Appends its waker, if any, to `wakers`.
     pub fn forget(&mut self, place: u64, wakers: &mut Wakers)
         ensures forgotten { (p : ℕ) → connect_at self.new p ≡ (if nat_eq place p then None else connect_at self.old p) }
         ensures woken { wakers.new ≡ wakers.old ++ option_to_list (waker_of (connect_at self.old place)) }
@@ -125,10 +128,11 @@ impl Connects {
         }
     }
 
-    /// Files the answer to a known connect, given by the entry at `place`.
+    /// Files `answered`, the answer that the entry at `place` gives to a known connect.
     ///
-    /// Appends the connect's waker to `wakers`. If an answer is already filed, replaces it. Does
-    /// nothing if the connect is not known.
+    /// Appends the connect's waker, if any, to `wakers`. If an answer is already filed, replaces
+    /// it.
+    /// Does nothing if the connect is not known.
     pub fn file(&mut self, place: u64, answered: Answered, wakers: &mut Wakers)
         ensures filed { (p : ℕ) → connect_at self.new p
             ≡ (if nat_eq answered.place p then filed_as place answered.answer (connect_at self.old answered.place)
@@ -225,7 +229,7 @@ impl Connects {
         Some(answer)
     }
 
-    /// Takes some filed answer, or returns `None` if no answer is filed.
+    /// Takes any one filed answer, or returns `None` if no answer is filed.
     pub fn take_any(&mut self) -> Option<Filing>
         ensures filed { IfSome result (λ f. (session : ℕ) × (connect_at self.old f.connect ≡ Some (Filed session f.place f.answer))) }
         ensures taken { IfSome result (λ f. (p : ℕ) → connect_at self.new p
@@ -256,7 +260,7 @@ impl Connects {
         self.held.watch(place, waker, is_shut)
     }
 
-    /// Drops the answers filed by entries before place `before`, and returns how many.
+    /// Drops the answers given by entries before place `before`, and returns their number.
     ///
     /// The cost depends on how many answers are filed, not on how many connects are held.
     pub fn sweep(&mut self, before: u64) -> usize
@@ -310,7 +314,7 @@ impl Connects {
         Some((filed.session, None))
     }
 
-    /// Takes the last of [`filed_places`](Self::filed_places), with its answer.
+    /// Takes the answer at the last of [`filed_places`](Self::filed_places), with that place.
     ///
     /// This need not be the answer that was filed last. Returns `None` if no answer is filed.
     pub fn pop_filed(&mut self) -> Option<(u64, FiledAnswer)>

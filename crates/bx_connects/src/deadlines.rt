@@ -26,7 +26,7 @@ impl Deadlines {
         }
     }
 
-    /// Adds a hold.
+    /// Adds `hold`.
     ///
     /// # Errors
     ///
@@ -40,7 +40,7 @@ impl Deadlines {
         Ok(())
     }
 
-    /// Removes a hold.
+    /// Removes `hold`, if it is in the set.
     pub(crate) fn forget(&mut self, hold: Hold)
         ensures { (q : ℕ × ℕ × ℕ) → is_noted self.new q
             ≡ (if same_hold hold q then false else is_noted self.old q) }

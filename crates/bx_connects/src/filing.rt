@@ -6,7 +6,7 @@ use bx_message::Answer;
 pub struct Filing {
     /// The place of the connect or rider.
     pub connect: u64,
-    /// The place of the entry that gave the answer. For a rider, it is the rider's own.
+    /// The place of the entry that gave the answer. For a rider, this is equal to `connect`.
     pub place: u64,
     /// The answer: its events and its reply.
     pub answer: Answer,

@@ -12,7 +12,7 @@ use indexmap::IndexMap;
 use std::alloc::{AllocError, Global};
 use std::marker::Model;
 
-/// A connect held by `session`, and the waker of the task that waits for its answer.
+/// A connect held by `session`, and the waker of the task that waits for its answer, if any.
 ///
 /// A tick at or after `deadline` ends the hold. Dropping `waker` wakes the task.
 #[derive(Drop)]
@@ -134,7 +134,7 @@ impl HeldConnects {
 
     /// Registers `waker` with the connect at `place`, and returns the waker that it replaces.
     ///
-    /// Returns `waker` itself if no connect is held there (`Unknown`), or `is_shut` is `true`
+    /// Returns `waker` itself if no connect is held at `place` (`Unknown`), or `is_shut` is `true`
     /// (`Shut`).
     pub(crate) fn watch(&mut self, place: u64, waker: Waker, is_shut: bool) -> Watch
         ensures watch { result ≡ watched_hold is_shut waker (hold_at self.old place) }

@@ -15,7 +15,8 @@ use std::marker::Model;
 #[derive(Drop)]
 pub struct Wakers {
     list: Vec<Waker>,
-    // Ghost: the wakers that were appended, and those of them that were woken at once.
+    // Ghost: all wakers that were appended (`given`), and those that were woken at once
+    // (`at_once`).
     given: History<Waker>,
     at_once: History<Waker>,
 }
@@ -29,7 +30,7 @@ impl Model for Wakers {
 
     ghost view = { λ w. w.given };
 
-    // Each waker that was appended is in the list or was woken at once. There are no others.
+    // The appended wakers are exactly those in the list and those that were woken at once.
     ghost invariant = { λ w. IsPermutation w.given (w.at_once ++ w.list.items) };
 }
 
@@ -56,7 +57,7 @@ impl Wakers {
         }
     }
 
-    /// Appends `waker`, if there is one.
+    /// Appends `waker`, if there is one, or wakes its task at once if memory runs out.
     pub(crate) fn push_if(&mut self, waker: Option<Waker>)
         ensures { self.new ≡ self.old ++ option_to_list waker }
     {

@@ -14,11 +14,12 @@ use Rattle.bx_world.specs.Words.{EachSlot, WorldState}
 abbrev pub IsLevel : WorldState → Type 0
 IsLevel w = (k n : ℕ) → slice_get w.applied k ≡ Some n → length w.list ≤ n
 
--- The answer to the message at `place` as its client gets it, if the list has it.
+-- The answer to the message at `place` in the form that its client gets, or `None` if the list does
+-- not answer it yet.
 abbrev pub given_at : Config → List Listed → ℕ → Option Answer
 given_at config list place = option_map given_of (answer config list place)
 
--- These are the answers to messages from `place` on, in order.
+-- `answers` are the answers that the list gives to the messages from `place` on, in order.
 abbrev pub AreAnswers : Config → List Listed → ℕ → List Answer → Type 0
 AreAnswers config list place [] = ⊤
 AreAnswers config list place (a ∷ answers) = (given_at config list place ≡ Some a) × AreAnswers config list (place + 1) answers
@@ -27,7 +28,8 @@ AreAnswers config list place (a ∷ answers) = (given_at config list place ≡ S
 abbrev pub NoneTakenFrom : ℕ → List ℕ → Type 0
 NoneTakenFrom place taken = (p : ℕ) → place ≤ p → is_taken taken p ≡ false
 
--- The world is unchanged, except for answers taken to messages at `place` or later.
+-- From `old` to `new`, only answers to messages at `place` or later were taken. The list and what
+-- each shard has applied are unchanged.
 pub record Keeps (place : ℕ) (old new : WorldState) : Type 0 where
   pub list : new.list ≡ old.list
   pub applied : new.applied ≡ old.applied
@@ -35,18 +37,21 @@ pub record Keeps (place : ℕ) (old new : WorldState) : Type 0 where
 
 -- ---- One answer
 
--- The list has no answer to the message at `place`, or that answer was taken and its slot removed.
+-- The result is the answer to the message at `place`, which was taken, and the first slot was
+-- removed. Or it is `None` because the list has no such answer yet, and nothing changed.
 abbrev pub NextBy : Setup → WorldState → ℕ → List Slot → List Slot → WorldState → Option Answer → Type 0
 NextBy setup old place before after new None = (given_at setup.config old.list place ≡ None) × (after ≡ before) × (new ≡ old)
 NextBy setup old place before after new (Some a) =
     (given_at setup.config old.list place ≡ Some a) × EachSlot setup old.list (place + 1) after × (length before ≡ length after + 1) × NoneTakenFrom (place + 1) new.taken × Keeps place old new
 
--- `NextBy` holds if all shards have applied the list and no answer from `place` on was taken.
+-- Let `before` be the slots of the messages from some place on, at least one. If all shards have
+-- applied the list and no answer from that place on was taken, `NextBy` holds there.
 abbrev pub Next : Setup → WorldState → List Slot → List Slot → WorldState → Option Answer → Type 0
 Next setup old before after new result =
     (place : ℕ) → IsLevel old → EachSlot setup old.list place before → NoneTakenFrom place old.taken → 0 < length before → NextBy setup old place before after new result
 
--- The first slot's reply was returned and the slot removed, or the slots are unchanged.
+-- The result is the reply of the first slot, as an answer without events, and that slot was
+-- removed. Or the result is `None`, and the slots are unchanged.
 abbrev pub NextReady : List Slot → List Slot → Option Answer → Type 0
 NextReady before after None = after ≡ before
 NextReady before after (Some a) = (before ≡ Ready a.reply ∷ after) × (a.events ≡ [])
@@ -57,19 +62,21 @@ NextReady before after (Some a) = (before ≡ Ready a.reply ∷ after) × (a.eve
 abbrev pub next_place : CurrentInput → ℕ
 next_place n = n.first + length n.answers.items
 
--- The answers to the first messages are collected. The slots are those of the other messages, and
--- no answer to these was taken.
+-- `n` holds the answers to the first messages of its input, and the slots of its other messages. No
+-- answer to a message with a slot, or to a later message, was taken.
 pub record IsCollected (setup : Setup) (w : WorldState) (n : CurrentInput) : Type 0 where
   pub answers : AreAnswers setup.config w.list n.first n.answers.items
   pub slots : EachSlot setup w.list (next_place n) n.slots.items
   pub fresh : NoneTakenFrom (next_place n) w.taken
 
--- All answers are collected (`true`), or the next one is missing (`false`).
+-- If the flag is `true`, all answers to the input are collected. If it is `false`, the list has no
+-- answer yet to the input's next message.
 abbrev pub IsWhole : Config → List Listed → CurrentInput → Bool → Type 0
 IsWhole config list n true = n.slots.items ≡ []
 IsWhole config list n false = (0 < length n.slots.items) × (given_at config list (next_place n) ≡ None)
 
--- Some slots may have been replaced by collected answers; the rest is unchanged.
+-- From `old` to `new`, slots may have been replaced by collected answers, one for each. The input's
+-- number, place, refusal and items are unchanged.
 pub record Collects (old new : CurrentInput) : Type 0 where
   pub number : new.number ≡ old.number
   pub first : new.first ≡ old.first
@@ -79,11 +86,13 @@ pub record Collects (old new : CurrentInput) : Type 0 where
 
 -- ---- The response
 
--- The items so far, and then those of the other collected answers.
+-- The response to an input: the items already converted, followed by those of its collected
+-- answers.
 abbrev pub response_of : CurrentInput → List Item
 response_of n = n.items.items ++ flat_map items_of n.answers.items
 
--- The response, or why the input was rejected.
+-- `Ok` with the response `items`, or `Err` with the reason for which the input was rejected, if it
+-- was.
 abbrev pub result_of : List Item → Option Refusal → Result (List Item) Refusal
 result_of items None = Ok items
 result_of items (Some refusal) = Err refusal
@@ -91,7 +100,7 @@ result_of items (Some refusal) = Err refusal
 abbrev pub out_of : CurrentInput → Out
 out_of n = record { input = n.number; result = result_of (response_of n) n.refusal }
 
--- Only the items and the answers may change.
+-- From `old` to `new`, only the items and the collected answers of the input may have changed.
 pub record OthersStay (old new : CurrentInput) : Type 0 where
   pub number : new.number ≡ old.number
   pub first : new.first ≡ old.first

@@ -9,25 +9,27 @@ use Rattle.bx_world.specs.Words.{slot_at, WorldState}
 use Rattle.bx_fanout.specs.HeldInputs.{Row}
 use Rattle.bx_fanout.specs.CurrentInputs.{IsLevel, NoneTakenFrom, given_at}
 
--- The connect has no answer yet, and none was taken for it.
+-- The message at the place of `row` is answered under a ticket. The row has no answer yet, and none
+-- was taken for it.
 pub record Waits (setup : Setup) (w : WorldState) (row : Row) : Type 0 where
   pub session : ℕ
   pub slot : slot_at setup.config w.list row.0 ≡ Some (Waiting session)
   pub bare : row.1.answer ≡ None
   pub untaken : is_taken w.taken row.0 ≡ false
 
--- All connects wait, every shard has applied the list, and no answer past its end was taken.
+-- Each connect of `rows` waits, every shard has applied the whole list, and no answer to a place
+-- after the end of the list was taken.
 pub record CanDrain (setup : Setup) (w : WorldState) (rows : List Row) : Type 0 where
   pub level : IsLevel w
   pub each : AllByRecursion (Waits setup w) rows
   pub fresh : NoneTakenFrom (length w.list) w.taken
 
--- A connect with its answer, if the list has it.
+-- The held connect with the answer that the list gives to it, or without one if the list has none.
 abbrev pub filled : Config → List Listed → Row → Row
 filled config list row = (row.0, record { number = row.1.number; answer = given_at config list row.0 })
 
--- Each connect has its answer if the list has it. No answer to the other connects was taken, and
--- none past the end of the list.
+-- In `after`, each connect of `before` has its answer if the list has it. No answer was taken for
+-- the other connects, nor for a place after the end of the list. The list is unchanged.
 pub record Drained (setup : Setup) (old : WorldState) (before : List Row) (new : WorldState) (after : List Row) : Type 0 where
   pub list : new.list ≡ old.list
   pub applied : new.applied ≡ old.applied
@@ -37,7 +39,7 @@ pub record Drained (setup : Setup) (old : WorldState) (before : List Row) (new :
 
 -- ---- One shard after another
 
--- A connect with its answer, if that was taken.
+-- The held connect with its answer if that answer was taken, and otherwise without one.
 abbrev pub put_if : Config → List Listed → List ℕ → Row → Row
 put_if config list taken row = (row.0, record { number = row.1.number; answer = if is_taken taken row.0 then given_at config list row.0 else None })
 
@@ -46,7 +48,8 @@ abbrev pub IsEmptied : Setup → List Listed → List ℕ → ℕ → Type 0
 IsEmptied setup list taken shard = (place session : ℕ) → slot_at setup.config list place ≡ Some (Waiting session) → setup.placing session setup.shards ≡ shard → is_taken taken place ≡ false →
     given_at setup.config list place ≡ None
 
--- The first `shard` shards have no more answers, and each connect has its answer if that was taken.
+-- All answers that the first `shard` shards have filed were taken. `rows` are the connects of
+-- `before`, each with its answer if that was taken. Every shard has applied the whole list.
 pub record Draining (setup : Setup) (before : List Row) (w : WorldState) (rows : List Row) (shard : ℕ) : Type 0 where
   pub level : IsLevel w
   pub put : rows ≡ map (put_if setup.config w.list w.taken) before

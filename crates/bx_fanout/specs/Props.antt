@@ -1,4 +1,5 @@
--- The invariant of a round's state is a proposition: the state determines all data in it.
+-- The invariant of a round's state is a proposition, since the state determines all data in the
+-- invariant.
 use Rattle.std.specs.Prelude.{ℕ, ◌+◌, ◌≡◌, List, [], ◌∷◌, ◌++◌, Some}
 use Rattle.std.specs.Coded.{×_prop, Unit-prop}
 use Rattle.std.proofs.Common.{refl, sym, ap, ◌∙◌}
@@ -22,11 +23,12 @@ use Rattle.bx_fanout.specs.declared.stage.Stage.TheVariants.{Collecting, Complet
 
 -- ---- Determined data
 
--- Data with a fact that determines them form a proposition.
+-- If `P x` is a proposition for each `x`, and `P` holds for at most one `x`, then the pairs of an
+-- `x` and a proof of `P x` are a proposition.
 one-prop : {A : Type 0} (P : A → Type 0) → ((x : A) → IsProp (P x)) → ((x y : A) → P x → P y → x ≡ y) → IsProp ((x : A) × P x)
 one-prop P each same u v = Σ_prop_path each (same u.0 v.0 u.1 v.1)
 
--- A type is a proposition if it maps to one and back unchanged.
+-- `A` is a proposition if `B` is one, and each value of `A`, mapped to `B` and back, is unchanged.
 back-prop : {A B : Type 0} (to : A → B) (from : B → A) → ((x : A) → from (to x) ≡ x) → IsProp B → IsProp A
 back-prop to from back fact x y = sym (back x) ∙ ap from (fact (to x) (to y)) ∙ back y
 
@@ -36,7 +38,7 @@ answers-prop : (config : Config) (list : List Listed) (place : ℕ) (answers : L
 answers-prop config list place [] = Unit-prop
 answers-prop config list place (a ∷ answers) = ×_prop (hlevel props) (answers-prop config list (place + 1) answers)
 
--- A ticket of `session`.
+-- The message at `here` waits for an answer from the shard of `session`, under the ticket `t`.
 abbrev Tickets : Setup → List Listed → ℕ → Ticket → ℕ → Type 0
 Tickets setup list here t session = (slot_at setup.config list here ≡ Some (Waiting session)) × (t.place ≡ here) × (t.shard ≡ setup.placing session setup.shards)
 
@@ -60,7 +62,7 @@ slots-prop setup list place (slot ∷ slots) = ×_prop (slot-prop setup list pla
 
 -- ---- The last input
 
--- A list determines its last element and the elements before it.
+-- A list of inputs determines its last input and the inputs before the last one.
 same-ends : (xs ys : List ReadInput) (x y : ReadInput) → xs ++ x ∷ [] ≡ ys ++ y ∷ [] → ◌≡◌ {A = List ReadInput × ReadInput} (xs, x) (ys, y)
 same-ends xs ys x y e = let same = same_from_push xs ys x y e in λ i. (same.0 i, same.1 i)
 

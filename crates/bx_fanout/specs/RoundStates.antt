@@ -10,7 +10,8 @@ use Rattle.bx_fanout.specs.declared.{out.Out.Out, round_state.RoundState.RoundSt
 use Rattle.bx_fanout.specs.declared.stage.Stage.TheVariants.{Idle}
 
 module _ {P : Type 0} {g : Ghosts P} where
-  -- The invariant: `intake` counts the inputs, and the stage is that of the last one.
+  -- In the state `p` of a round, `intake` is the number of inputs started, and the shards, the held
+  -- connects and the appended outs are as the stage requires (`IsStaged`).
   pub record IsConsistent (p : RoundState P g) : Type 0 where
     pub counted : p.intake ≡ length p.inputs
     pub staged : IsStaged (setup_of p.world) (map read_input p.inputs) (world_of p.world) p.held p.stage (map seen_out p.added)
@@ -21,18 +22,19 @@ module _ {P : Type 0} {g : Ghosts P} where
     pub level : IsLevel (world_of p.world)
     pub within : (k n : ℕ) → slice_get (world_of p.world).applied k ≡ Some n → n ≤ length (world_of p.world).list
 
-  -- No answer is left to collect, and no out to append. The shards may lag.
+  -- No answer is left to collect, and no out to append. Shards may still lack entries.
   pub record IsCalm (p : RoundState P g) : Type 0 where
     pub idle : p.stage ≡ Idle
     pub held : p.held ≡ filter waits p.held
 
-  -- The state is calm, and every shard is at the end of the list.
+  -- No answer is left to collect, no out to append, and every shard is at the end of the list.
   pub record IsSettled (p : RoundState P g) : Type 0 where
     pub calm : IsCalm p
     pub level : IsLevel (world_of p.world)
     pub within : (k n : ℕ) → slice_get (world_of p.world).applied k ≡ Some n → n ≤ length (world_of p.world).list
 
-  -- Outs were appended; the setup is unchanged.
+  -- From the state `old` to `new`, outs were appended to `before`, resulting in `after`, and
+  -- recorded in `added`. The setup is unchanged.
   pub record AddsOuts (old : RoundState P g) (before after : List Out) (new : RoundState P g) : Type 0 where
     pub more : List Out
     pub behind : after ≡ before ++ more

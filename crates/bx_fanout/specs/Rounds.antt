@@ -8,19 +8,19 @@ use Rattle.bx_fanout.specs.declared.{out.Out.Out, out.RoundFault.RoundFault, rou
 use Rattle.bx_entry.specs.Placings.{Setup}
 
 module _ {P : Type 0} {g : Ghosts P} where
-  -- The configuration, the number of shards and the placing.
+  -- The configuration, the number of shards and the placing of the round.
   abbrev pub setup_in : Round P g → Setup
   setup_in r = state.setup_in r.state
 
-  -- The number of workers.
+  -- The number of workers that the round may use.
   abbrev pub workers_in : Round P g → ℕ
   workers_in r = r.workers
 
-  -- The inputs started in all runs.
+  -- The inputs that the round has started in all its runs, in order.
   abbrev pub inputs_of : Round P g → List ReadInput
   inputs_of r = state.inputs_of r.state
 
-  -- The outs appended in all runs.
+  -- The outs that the round has appended in all its runs, in order.
   abbrev pub added_by : Round P g → List runs.Out
   added_by r = state.added_by r.state
 
@@ -28,11 +28,13 @@ module _ {P : Type 0} {g : Ghosts P} where
   abbrev pub is_collecting : Round P g → Bool
   is_collecting r = state.is_collecting r.state
 
-  -- Every shard has applied the whole list, and has the state that the definitions give it.
+  -- The list has the entries of all inputs. Every shard has applied all of it, and has the state
+  -- that the definitions give it.
   abbrev pub IsLevel : Round P g → Type 0
   IsLevel r = state.IsLevel r.state
 
-  -- A run started all inputs, appended all outs and advanced every shard, or memory ran out after
-  -- `admitted` inputs were started.
+  -- On `Ok`, the run started all `inputs`, appended the outs of all complete inputs, and advanced
+  -- every shard. On `Err`, memory ran out after `admitted` of the `inputs` were started. In both
+  -- cases, `before` with the run's outs appended is `after`.
   abbrev pub IsRun : Round P g → List Input → List Out → List Out → Round P g → Result (Unit {0}) RoundFault → Type 0
   IsRun old inputs before after new result = state.IsRun old.state inputs before after new.state result

@@ -12,7 +12,7 @@ use Rattle.bx_theory.specs.Opens.{Numbered, newest, open_after}
 use Rattle.bx_fanout.specs.declared.{current_input.CurrentInput.CurrentInput, out.Out.Out, stage.Stage.Stage}
 use Rattle.bx_fanout.specs.declared.stage.Stage.TheVariants.{Collecting, Complete, Idle}
 
--- An out in the definitions' form.
+-- The out of the code in the form of `Out` of the definitions in `bx_entry`.
 abbrev pub seen_out : Out → runs.Out
 seen_out o = record { input = o.input; result = o.result }
 
@@ -20,12 +20,13 @@ seen_out o = record { input = o.input; result = o.result }
 abbrev pub bare : Numbered → Row
 bare o = (o.intake.first, record { number = o.number; answer = None })
 
--- No answer to the first message of any of these inputs was taken.
+-- No answer to the first message of an input in `os` was taken.
 abbrev pub AllUntaken : List ℕ → List Numbered → Type 0
 AllUntaken taken os = AllByRecursion (λ (o : Numbered). is_taken taken o.intake.first ≡ false) os
 
--- The last input's answers are being collected. Earlier incomplete inputs are held, and the outs of
--- the others were appended.
+-- The answers to `input`, which comes after `inputs`, are being collected in `n`. `rows` are the
+-- incomplete inputs among `inputs`, held without an answer. `added` are the outs of the complete
+-- ones.
 pub record IsCollecting (setup : Setup) (inputs : List ReadInput) (input : ReadInput) (w : WorldState) (rows : List Row) (n : CurrentInput) (added : List runs.Out) : Type 0 where
   pub list : w.list ≡ (taken_in (inputs ++ input ∷ [])).list
   pub number : n.number ≡ length inputs
@@ -38,8 +39,9 @@ pub record IsCollecting (setup : Setup) (inputs : List ReadInput) (input : ReadI
   pub untaken : AllUntaken w.taken (open_after setup.config inputs)
   pub outs_before : added ≡ outs setup.config inputs
 
--- All answers are collected. The outs of answered held connects, and then `own`, are left to
--- append.
+-- All answers that the list gives to `inputs` are collected. The outs of the answered connects in
+-- `rows`, followed by `own`, are left to append to `added`. The other connects in `rows` are the
+-- incomplete inputs.
 pub record IsGiving (setup : Setup) (inputs : List ReadInput) (w : WorldState) (rows : List Row) (own : List runs.Out) (added : List runs.Out) : Type 0 where
   pub list : w.list ≡ (taken_in inputs).list
   pub rest : filter waits rows ≡ map bare (open_after setup.config inputs)
@@ -47,7 +49,7 @@ pub record IsGiving (setup : Setup) (inputs : List ReadInput) (w : WorldState) (
   pub fresh : NoneTakenFrom (length w.list) w.taken
   pub left : added ++ map seen_out (outs_of rows) ++ own ≡ outs setup.config inputs
 
--- The answers to the last of `inputs` are being collected.
+-- The answers to the last of `inputs` are being collected in `n`.
 pub record IsTakenIn (setup : Setup) (inputs : List ReadInput) (w : WorldState) (rows : List Row) (n : CurrentInput) (added : List runs.Out) : Type 0 where
   pub earlier : List ReadInput
   pub last : ReadInput
@@ -66,13 +68,14 @@ is_complete Idle = false
 is_complete (Collecting n) = false
 is_complete (Complete n) = true
 
--- The last input's out, if it is left to append.
+-- The last input's out if it is left to append, and otherwise no out.
 abbrev pub own : Stage → List Out
 own Idle = []
 own (Collecting n) = []
 own (Complete n) = out_of n ∷ []
 
--- A prefix of the outs that were left was appended. The waiting connects are unchanged.
+-- The first of the outs that were left to append were appended to `before`, resulting in `after`.
+-- The others are still left. The waiting connects are unchanged.
 pub record GivesOut (rows : List Row) (stage : Stage) (before after : List Out) (rows' : List Row) (stage' : Stage) : Type 0 where
   pub more : List Out
   pub behind : after ≡ before ++ more
@@ -80,8 +83,8 @@ pub record GivesOut (rows : List Row) (stage : Stage) (before after : List Out) 
   pub others : filter waits rows' ≡ filter waits rows
   pub collecting : is_collecting stage' ≡ is_collecting stage
 
--- What each stage means: answers are left to collect, or all are collected and outs may be left to
--- append.
+-- In the stage `Collecting`, answers to the last of `inputs` are left to collect. In `Idle` and in
+-- `Complete`, all are collected. In `Complete`, the last input's own out is left to append.
 abbrev pub IsStaged : Setup → List ReadInput → WorldState → List Row → Stage → List runs.Out → Type 0
 IsStaged setup inputs w rows Idle added = IsGiving setup inputs w rows [] added
 IsStaged setup inputs w rows (Collecting n) added = IsTakenIn setup inputs w rows n added

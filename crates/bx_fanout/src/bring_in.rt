@@ -16,8 +16,8 @@ use std::alloc::{AllocError, Global};
 
 /// Collects the answers to `current`, the last input, and to held connects.
 ///
-/// Returns `true` if `current` is complete, and otherwise holds it. Every shard must be at the end
-/// of the list.
+/// Returns `true` if all answers to `current` are collected. Otherwise holds `current` and returns
+/// `false`. Every shard must be at the end of the list.
 ///
 /// # Errors
 ///

@@ -20,7 +20,7 @@ pub(crate) struct CurrentInput {
     pub(crate) first: u64,
     /// Why the input was rejected, if it was.
     pub(crate) refusal: Option<Refusal>,
-    /// The first items of the response.
+    /// The items that were converted from answers so far: the first items of the response.
     pub(crate) items: Vec<Item>,
     /// The collected answers that are not converted to items yet, in order.
     pub(crate) answers: VecDeque<Answer>,
@@ -29,9 +29,11 @@ pub(crate) struct CurrentInput {
 }
 
 impl CurrentInput {
-    /// Collects answers in order, and returns `true` if none is missing.
+    /// Collects the answers to the input's messages in order, and returns `true` if none is
+    /// missing.
     ///
-    /// Stops at the first missing answer. Every shard must be at the end of the list.
+    /// Stops at the first missing answer and returns `false`. Every shard must be at the end of the
+    /// list.
     ///
     /// # Errors
     ///
@@ -59,7 +61,7 @@ impl CurrentInput {
         Ok(true)
     }
 
-    /// Converts the collected answers to items of the response.
+    /// Converts the collected answers to items, and appends these to the items of the response.
     ///
     /// # Errors
     ///
@@ -99,7 +101,7 @@ impl CurrentInput {
     }
 }
 
-// Takes the answer to the first slot's message, and drops the slot. Returns `None` and keeps the
+// Takes the answer to the first slot's message, and removes the slot. Returns `None` and keeps the
 // slot if the answer is missing.
 fn next_answer<P: Placing>(
     alloc: Global,

@@ -8,7 +8,7 @@ use crate::held_inputs::HeldInputs;
 use bx_entry::Placing;
 use bx_world::World;
 
-/// Takes all filed answers, and assigns each to the held connect that waits for it.
+/// Takes all filed answers, and assigns each to the held connect that waits for it, if any.
 ///
 /// Every shard must be at the end of the list.
 pub(crate) fn drain<P: Placing>(world: &mut World<P>, held: &mut HeldInputs)
@@ -21,7 +21,8 @@ pub(crate) fn drain<P: Placing>(world: &mut World<P>, held: &mut HeldInputs)
     }
 }
 
-// Takes the filed answers of one shard, as `drain` does.
+// Takes the filed answers of `shard`, and assigns each to the held connect that waits for it. Drops
+// an answer for which no connect waits.
 fn drain_shard<P: Placing>(world: &mut World<P>, shard: usize, held: &mut HeldInputs)
     ensures draining { (before : List Row) → Draining (setup_of world.old) before (world_of world.old) held.old shard
         → Draining (setup_of world.old) before (world_of world.new) held.new (shard + 1) }

@@ -1,4 +1,4 @@
-//! Appending the outs that are ready.
+//! Appending the outs of answered connects and of the complete input.
 ghost use Rattle.std.specs.Prelude.{◌≡◌, ◌++◌, [], filter, IfOk, OnErr};
 ghost use Rattle.bx_fanout.specs.HeldInputs.{waits};
 ghost use Rattle.bx_fanout.specs.Stages.{GivesOut, is_collecting, own};
@@ -8,7 +8,9 @@ use crate::out::Out;
 use crate::stage::Stage;
 use std::alloc::{AllocError, Global};
 
-/// Appends the outs of answered held connects, and then that of the complete input, if any.
+/// Appends the outs of answered held connects, and then that of the complete input, to `outs`.
+///
+/// The answered connects and the complete input are removed.
 ///
 /// # Errors
 ///
@@ -27,7 +29,8 @@ pub(crate) fn give_out(
     give_own(stage, outs)
 }
 
-// Appends the out of the complete input, if any.
+// Appends the out of the complete input to `outs`, and removes the input from `stage`. Does nothing
+// in another stage. On error `outs` is unchanged; the next call continues.
 fn give_own(stage: &mut Stage, outs: &mut Vec<Out>) -> Result<(), AllocError>
     ensures all { IfOk result (λ _. own stage.new ≡ []) }
     ensures added { IfOk result (λ _. outs.new.items ≡ outs.old.items ++ own stage.old) }

@@ -13,10 +13,12 @@ use std::alloc::{AllocError, Global};
 use std::collections::BTreeMap;
 use std::marker::Model;
 
-/// A held connect, and its answer until the out is appended.
+/// A connect that was held, with its answer once there is one.
+///
+/// It is removed when its input's out is appended.
 #[derive(Drop)]
 pub(crate) struct HeldInput {
-    /// The number of the connect's input.
+    /// The number of the connect's input among all inputs of the round, from 0.
     pub(crate) number: usize,
     /// The answer, or `None` while the connect waits.
     pub(crate) answer: Option<Answer>,
@@ -30,7 +32,8 @@ pub(crate) struct HeldInput {
 #[derive(Drop)]
 pub(crate) struct HeldInputs {
     held: BTreeMap<u64, HeldInput>,
-    // The places of the answered connects, in any order. Has room for the places of all connects.
+    // The places of the answered connects, in any order. Its capacity is enough for the places of
+    // all connects.
     answered: Vec<u64>,
 }
 
@@ -86,7 +89,8 @@ impl HeldInputs {
         }
     }
 
-    /// Removes the answered connects, and appends their outs in the order of their places.
+    /// Removes the answered connects, and appends their outs to `outs` in the order of their
+    /// places.
     ///
     /// # Errors
     ///
@@ -127,7 +131,8 @@ impl HeldInputs {
 }
 
 impl HeldInput {
-    // Sets the answer and returns `true`, or returns `false` if there is one already.
+    // Sets the answer and returns `true`. If there is one already, drops `answer` and returns
+    // `false`.
     fn put(&mut self, answer: Answer) -> bool
         ensures number { self.new.number ≡ self.old.number }
         ensures answer { self.new.answer ≡ (if is_none self.old.answer then Some answer else self.old.answer) }
@@ -141,7 +146,8 @@ impl HeldInput {
     }
 }
 
-// Sets the answer to the connect that waits at `place`. Returns `false` if none waits there.
+// Sets the answer of the connect that waits at `place`, and returns `true`. If none waits there,
+// drops `answer` and returns `false`.
 fn put(held: &mut BTreeMap<u64, HeldInput>, place: u64, answer: Answer) -> bool
     requires { IsOrdered nat_cmp held.old }
     ensures put { held.new.entries ≡ answered_at place answer held.old.entries }
@@ -154,7 +160,8 @@ fn put(held: &mut BTreeMap<u64, HeldInput>, place: u64, answer: Answer) -> bool
     }
 }
 
-// Removes answered connects in the order of their places, and appends their outs.
+// Removes answered connects in the order of their places, and appends their outs to `outs`. On
+// error the connects without an appended out are still held.
 //
 // `answered`: the places of the answered connects, the lowest last. Each is removed with its
 // connect.
@@ -183,7 +190,8 @@ fn give_from(
     Ok(())
 }
 
-// Removes the connect at `place`, and returns its out if it is answered.
+// Removes the connect at `place`, if any, and returns its out. Returns `None` if there is no such
+// connect or it has no answer. On error `held` is unchanged.
 fn take_out(
     alloc: Global,
     held: &mut BTreeMap<u64, HeldInput>,
@@ -208,7 +216,8 @@ fn take_out(
     }))
 }
 
-// Returns how many items the response to the connect at `place` has, or 0 if it has no answer.
+// Returns how many items the response to the connect at `place` has. Returns 0 if there is no such
+// connect or it has no answer.
 fn room_at(held: &BTreeMap<u64, HeldInput>, place: u64) -> usize
     ensures { result ≡ room_by (get nat_cmp held.now place) }
 {

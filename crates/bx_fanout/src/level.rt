@@ -13,7 +13,7 @@ use std::thread::Threads;
 ///
 /// # Errors
 ///
-/// `AllocError` if memory runs out; some shards then lag.
+/// `AllocError` if memory runs out; some shards may then still lack entries.
 pub(crate) fn level<R: Threads + Sync, G: Gate + Sync, P: Placing + Send + Sync>(
     rt: &R,
     alloc: Global,

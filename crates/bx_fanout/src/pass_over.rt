@@ -18,11 +18,11 @@ const DEFERRED_LIMIT: u64 = 1_024;
 
 /// Completes the last input if it needs no shard.
 ///
-/// Returns `true` if no answer to it is left to collect.
+/// Returns `true` if no answer to the last input is left to collect.
 ///
 /// An input needs no shard if no connect is held, the slowest shard lacks at most `DEFERRED_LIMIT`
-/// entries, and all its messages are answered at once. Then no client waits for an answer that a
-/// shard would file.
+/// entries, and all messages of the input are answered at once. Then no client waits for an answer
+/// that a shard would file.
 ///
 /// # Errors
 ///
@@ -67,7 +67,7 @@ pub(crate) fn pass_over<P: Placing>(
 ///
 /// # Errors
 ///
-/// `AllocError` if memory runs out; some shards then lag.
+/// `AllocError` if memory runs out; some shards may then still lack entries.
 pub(crate) fn catch_up<R: Threads + Sync, G: Gate + Sync, P: Placing + Send + Sync>(
     rt: &R,
     alloc: Global,

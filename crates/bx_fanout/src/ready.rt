@@ -1,4 +1,4 @@
-//! Collecting the replies that an input has at once.
+//! Collecting the replies that are known once an input is admitted.
 ghost use Rattle.std.specs.Prelude.{◌≡◌, [], IsTrue, IfOk};
 ghost use Rattle.bx_fanout.specs.CurrentInputs.{Collects, IsCollected, NextReady};
 ghost use Rattle.bx_entry.specs.Placings.{Setup};
@@ -10,9 +10,10 @@ use bx_message::{Answer, Sequence};
 use std::alloc::{AllocError, Global};
 use std::collections::VecDeque;
 
-/// Collects replies up to the first slot that waits, and returns `true` if none waits.
+/// Collects the replies of slots up to the first `Waiting` slot, and returns `true` if there is
+/// none.
 ///
-/// Needs no shard.
+/// Shards need not have applied the input's entries.
 ///
 /// # Errors
 ///
@@ -32,8 +33,8 @@ pub(crate) fn collect_ready(alloc: Global, current: &mut CurrentInput) -> Result
     Ok(true)
 }
 
-// Takes the reply in the first slot, and drops the slot. Returns `None` and keeps the slot if it
-// waits.
+// Takes the reply in the first slot as an answer without events, and removes the slot. Returns
+// `None` if the first slot is `Waiting`, and keeps the slot.
 fn next_ready(alloc: Global, slots: &mut VecDeque<Slot>) -> Option<Answer>
     ensures { NextReady slots.old.items slots.new.items result }
 {

@@ -69,8 +69,8 @@ impl<P: Placing> Round<P> {
     /// - when the slowest shard lacks more than 1,024 entries,
     /// - at the end of a run that succeeds.
     ///
-    /// One worker does this alone if fewer than 1,024 deliveries are expected. Each worker calls
-    /// `gate` before and after.
+    /// One worker advances all shards if fewer than 1,024 deliveries are expected. Each worker
+    /// calls `gate` before and after it advances its shards.
     ///
     /// # Errors
     ///
@@ -157,8 +157,8 @@ impl<P: Placing> Round<P> {
 
     /// Returns the numbers of the incomplete inputs, in ascending order.
     ///
-    /// Usually each is a held connect. If memory ran out before all answers to the last input were
-    /// collected, they are the inputs that were incomplete before it, and the last input itself.
+    /// Usually each is that of a held connect. If memory ran out before all answers to the last
+    /// input were collected, the last input's number is included.
     ///
     /// # Errors
     ///

@@ -113,7 +113,7 @@ pub(crate) fn workers_for<P: Placing>(world: &World<P>, workers: WorkerCount) ->
 
 // Estimates how many deliveries the entry at `place` needs. A publish needs one for each live
 // session, a tick one for each session that it closes, and any other entry one. A tick may also
-// answer held connects; these are usually few.
+// answer held connects; these are usually few. Returns 0 if there is no entry at `place`.
 fn expected<P: Placing>(world: &World<P>, place: u64) -> u64 {
     match world.entry(place) {
         Some(entry) => match &entry.kind {
@@ -126,6 +126,8 @@ fn expected<P: Placing>(world: &World<P>, place: u64) -> u64 {
 }
 
 /// Collects the answers to the last input, and then completes or holds it.
+///
+/// Does nothing if no answer to the last input is left to collect.
 ///
 /// Every shard must be at the end of the list.
 ///
@@ -168,7 +170,7 @@ pub(crate) fn collect_last<P: Placing>(
     }
 }
 
-/// Appends the outs that are ready to `outs`.
+/// Appends the outs of answered held connects, and then that of the complete input, to `outs`.
 ///
 /// All answers to the last input must be collected.
 ///
@@ -193,7 +195,8 @@ pub(crate) fn add_outs<P: Placing>(
     given
 }
 
-/// Completes or holds the last input, and appends the outs that are ready to `outs`.
+/// Completes or holds the last input, and appends the outs of all inputs that it completes to
+/// `outs`.
 ///
 /// Does not advance the shards if the input needs none.
 ///

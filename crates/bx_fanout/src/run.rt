@@ -13,11 +13,12 @@ use std::thread::Threads;
 
 /// Finishes the previous run, answers `inputs` in order, and then advances every shard.
 ///
-/// All outs that an input makes ready are appended before the next input starts.
+/// The outs of all inputs that an input completes are appended before the next input starts.
 ///
 /// # Errors
 ///
-/// As [`Round::run`](crate::Round::run).
+/// `Memory` if memory runs out, with the number of `inputs` that were started. The next run
+/// continues.
 pub(crate) fn run<R: Threads + Sync, G: Gate + Sync, P: Placing + Send + Sync>(
     rt: &R,
     alloc: Global,

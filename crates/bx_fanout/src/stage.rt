@@ -9,11 +9,11 @@ use std::mem;
 /// The progress of the last input.
 #[derive(Drop)]
 pub(crate) enum Stage {
-    /// No input is in progress: the last one's out is appended, or it is held.
+    /// No input is in progress. The last input, if any, is held, or its out is appended.
     Idle,
-    /// The input's answers are being collected.
+    /// The answers to the last input are being collected.
     Collecting(CurrentInput),
-    /// All the input's answers are collected; its out is not appended yet.
+    /// All answers to the last input are collected; its out is not appended yet.
     Complete(CurrentInput),
 }
 

@@ -19,7 +19,8 @@ use std::collections::VecDeque;
 
 /// Admits or rejects `input`, and returns it with no answers collected.
 ///
-/// `number`: how many inputs were started before. All their outs that are ready must be appended.
+/// `number`: how many inputs were started before. The outs of those that are complete must be
+/// appended.
 ///
 /// # Errors
 ///
@@ -68,7 +69,7 @@ fn admit<P: Placing>(
     }
 }
 
-// Creates a `CurrentInput` with no answers collected.
+// Creates a `CurrentInput` with the given fields, and no answers collected.
 fn current_of(
     alloc: Global,
     number: usize,

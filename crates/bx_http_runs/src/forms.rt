@@ -10,13 +10,14 @@ use hyper::body::Incoming;
 use hyper::service::Service;
 use std::alloc::{AllocError, Global};
 
-// Marks the point after which bytes arrive only once the server has written something.
+// A mark in the bytes of a request. The bytes after it arrive once the server has written
+// something.
 const GO_ON: &str = "<goes on>";
 
-// Replaced by `BODY_LIMIT` spaces.
+// A mark in the bytes of a request that is replaced by `BODY_LIMIT` spaces.
 const BLANKS: &str = "<blanks>";
 
-// Names of the requests, and their bytes.
+// For each request, its name and its bytes, which may have the marks `GO_ON` and `BLANKS`.
 const FORMS: [(&str, &str); 20] = [
     (
         "in chunks",
@@ -97,7 +98,7 @@ const FORMS: [(&str, &str); 20] = [
     ),
 ];
 
-// Copies `bytes`, with spaces in place of `BLANKS`.
+// Returns a copy of `bytes`, with `BODY_LIMIT` spaces in place of the first `BLANKS`.
 fn filled(alloc: Global, bytes: &str) -> Result<String, AllocError> {
     match bytes.split_once(BLANKS) {
         Some((front, back)) => {
@@ -113,7 +114,7 @@ where
     S: Service<Request<Incoming<Wire>>, Response = Response<Pieces<Bytes>>, Error = E> + Clone,
     E: Into<anyhow::Error> + Drop,
 {
-    /// Serves each form, and appends its name and what the server wrote to `text`.
+    /// Serves each request of `FORMS`, and appends its name and what the server wrote to `text`.
     ///
     /// # Errors
     ///

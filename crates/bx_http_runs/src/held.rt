@@ -9,7 +9,7 @@ use hyper::body::Incoming;
 use hyper::service::Service;
 use std::alloc::{AllocError, Global};
 
-// Bodies of the second session: two that open and subscribe it, a connect, and a publish.
+// The bodies of the requests that open the second session and subscribe it to `/a/*`.
 const OPENING: [&str; 2] = [
     r#"[{"channel":"/meta/handshake","version":"1.0","supportedConnectionTypes":["long-polling"]}]"#,
     r#"[{"channel":"/meta/subscribe","clientId":"000000000000000000000000000000000000000000000002","subscription":"/a/*"}]"#,
@@ -21,7 +21,7 @@ const CONNECT: &str =
 const PUBLISH: &str =
     r#"[{"channel":"/a/b","clientId":"000000000000000000000000000000000000000000000002","data":7}]"#;
 
-// Formats the connect, followed by a request without messages.
+// Returns two POSTs as one text: the connect, and a request without messages.
 fn both(alloc: Global) -> Result<String, AllocError> {
     let mut both = post(alloc, CONNECT)?;
     both.push_str(post(alloc, "[]")?.as_str())?;
@@ -35,8 +35,9 @@ where
 {
     /// Publishes to a session while its connect is held, with another request after the connect.
     ///
-    /// Appends what the server wrote to `text`. The reply to the publish, on its own connection,
-    /// comes first, because the connect waits for the publish.
+    /// Appends what the server wrote to `text`. The reply to the publish, which has its own
+    /// connection, comes before the answer to the connect, because the connect waits for the
+    /// publish.
     ///
     /// # Errors
     ///

@@ -14,7 +14,7 @@ use hyper::server::conn::http1;
 use hyper::service::Service;
 use std::alloc::{AllocError, Global};
 
-// How often a task that wakes itself is polled at most.
+// The greatest number of polls of a task that wakes itself.
 const POLLS: u32 = 100;
 
 /// A service, and the tasks that serve its connections.
@@ -24,11 +24,11 @@ pub struct Host<'a, S> {
     pub alloc: Global,
     /// The service, which each connection clones.
     pub service: &'a S,
-    /// The HTTP settings.
+    /// The HTTP settings of all connections.
     pub http: &'a http1::Builder,
-    /// The task that serves a connection to its end.
+    /// The task that serves connections which must end without a wait.
     pub task: &'a MockTask,
-    /// The task that serves a connection that waits.
+    /// The task that serves a connection which must first wait.
     pub waiting: &'a MockTask,
 }
 
@@ -58,7 +58,8 @@ where
 
     /// Serves `wire` until it ends, and posts `body` on another connection while `wire` waits.
     ///
-    /// Returns what was written to `wire`. Appends what was written to the other one to `text`.
+    /// Returns what was written to `wire`. Appends what was written to the other connection to
+    /// `text`.
     ///
     /// # Errors
     ///
@@ -94,7 +95,7 @@ where
         }
     }
 
-    /// Posts `body` on its own connection, and appends what was written to it to `text`.
+    /// Posts `body` on its own connection, and appends what the server wrote to `text`.
     ///
     /// # Errors
     ///
@@ -109,7 +110,7 @@ where
     }
 }
 
-// Polls `future` while it wakes itself, up to `POLLS` times, and returns `true` if it completes.
+// Polls `future` as long as it wakes `task`, at most `POLLS` times. Returns `true` if it completes.
 fn ends<F>(task: &MockTask, future: &mut F) -> bool
 where
     F: Future,
@@ -142,11 +143,11 @@ pub fn post(alloc: Global, body: &str) -> Result<String, AllocError> {
     )
 }
 
-/// Appends the lines of `written` to `text`, and ends each with only a line feed.
+/// Appends the lines of `written` to `text`, each followed by only a line feed.
 ///
 /// # Errors
 ///
-/// `AllocError` if memory runs out.
+/// `AllocError` if memory runs out. Some of the lines may then be appended.
 pub fn add_written(text: &mut String, alloc: Global, written: &[u8]) -> Result<(), AllocError> {
     let written = String::from_utf8_lossy(alloc, written)?;
     add_lines(text, written.as_str())

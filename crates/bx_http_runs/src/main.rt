@@ -1,7 +1,7 @@
 //! Requests over connections in memory, and the responses to them.
 //!
-//! They include POSTs that end early, forms of HTTP that few clients send, a request after a held
-//! connect, and one to a closed hub.
+//! The requests are POSTs that end early, forms of HTTP that few clients send, a request after a
+//! held connect, and a request to a closed hub.
 #![tactic(auto)]
 
 mod forms;

@@ -17,7 +17,7 @@ use std::sync::Wait;
 const HANDSHAKE: &str =
     r#"[{"channel":"/meta/handshake","version":"1.0","supportedConnectionTypes":["long-polling"]}]"#;
 
-/// The hub that is served.
+/// A hub with the placing `ByRemainder` and a gate that is always open.
 pub type Served<L, R> = Hub<L, ByRemainder, OpenGate, R>;
 
 // Creates a request without messages.
@@ -30,7 +30,7 @@ fn nothing(alloc: Global) -> Result<Arrival, AllocError> {
     })
 }
 
-// Returns the length of the hub's list, in entries.
+// Returns the number of entries in the hub's list, by a request without messages.
 fn entries<L: LogId, H: Wait + Drop, R: Wait>(
     rt: &R,
     alloc: Global,
@@ -43,7 +43,7 @@ fn entries<L: LogId, H: Wait + Drop, R: Wait>(
     }
 }
 
-// Returns the body of a response.
+// Returns the body of the response `written`. Fails if `written` has no end of a response's head.
 fn body_of(alloc: Global, written: &[u8]) -> Result<String> {
     match String::from_utf8_lossy(alloc, written)?
         .as_str()
@@ -61,8 +61,8 @@ where
 {
     /// Sends each proper prefix of a handshake, starting with the empty one, and then all of it.
     ///
-    /// Returns a text: after how many prefixes the list was empty, the response's body, and the
-    /// list's length in entries.
+    /// Returns a text with the number of prefixes after which the hub's list was empty, the body of
+    /// the response to the whole handshake, and the number of entries in the list at the end.
     ///
     /// # Errors
     ///
@@ -86,7 +86,8 @@ where
         Ok(format!(in alloc; "empty behind {empty}\n{body}\n{entries} entries\n")?)
     }
 
-    // Sends each proper prefix of `bytes`, and returns after how many the list was empty.
+    // Sends each proper prefix of `bytes` on its own connection. Returns the number of prefixes
+    // after which the hub's list was empty.
     fn empty_behind<L, H, R>(&self, rt: &R, hub: &Served<L, H>, bytes: &[u8]) -> Result<usize>
     where
         L: LogId,
@@ -104,7 +105,8 @@ where
         Ok(empty)
     }
 
-    // Serves a connection that ends after `bytes`.
+    // Serves a connection that ends after `bytes`, and drops what the server writes or why it
+    // fails.
     fn break_off(&self, bytes: &[u8]) -> Result<(), AllocError>
         requires { (each : S) → S.can_call each }
     {
@@ -113,7 +115,7 @@ where
         Ok(())
     }
 
-    // Returns the body of the response to `bytes`.
+    // Serves a connection that ends after `bytes`, and returns the body of the response.
     fn body_for(&self, bytes: &[u8]) -> Result<String>
         requires { (each : S) → S.can_call each }
     {

@@ -44,11 +44,11 @@ impl Nonces for Zeros {
     }
 }
 
-/// Runs all requests and returns the text to print.
+/// Sends all requests to a new service, and returns the names of the requests with the responses.
 ///
 /// # Errors
 ///
-/// If memory runs out or a run fails.
+/// If memory runs out or a response is missing.
 pub fn run<R>(rt: R) -> Result<String>
 where
     R: Wait + RandomSource + AllocGlobal + Copy + Drop,
@@ -101,7 +101,8 @@ where
     serve_all(&rt, alloc, hub, &service, http)
 }
 
-// Runs all requests with two tasks.
+// Sends all requests to `service`, and returns the text to print. One task serves the connection
+// that must wait, and another task serves the others.
 fn serve_all<L, S, E, H, R>(
     rt: &R,
     alloc: Global,

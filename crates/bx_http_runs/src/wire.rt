@@ -9,7 +9,8 @@ use tokio::io::{AsyncRead, AsyncWrite};
 
 /// A connection in memory that keeps what is written to it.
 ///
-/// A read yields the first bytes, the later ones once something has been written, and then the end.
+/// Reads return the bytes `coming`. Once something has been written, they return the bytes `later`.
+/// Then they return the end.
 #[derive(Drop)]
 pub struct Wire {
     coming: Bytes,
@@ -18,7 +19,7 @@ pub struct Wire {
 }
 
 impl Wire {
-    /// Creates a connection that yields `coming`, and `later` once something has been written.
+    /// Creates a connection that returns `coming`, and `later` once something has been written.
     ///
     /// # Errors
     ///
@@ -31,7 +32,7 @@ impl Wire {
         })
     }
 
-    /// Returns what was written.
+    /// Returns all bytes that were written to the connection.
     pub fn into_written(self) -> Vec<u8> {
         let Wire { written, .. } = self;
         written

@@ -7,21 +7,24 @@ use Rattle.bx_hub.specs.declared.{activity.Activity.Activity, shard_state.eviden
 use Rattle.bx_hub.specs.declared.activity.Activity.TheVariants.{Active, Paused, Closed}
 use Rattle.bx_hub.specs.declared.shard_state.evidence.ShardChange.TheVariants.{Pause, Resume, Shut, Sweep}
 
--- The activity of a shard after a change.
+-- The activity of a shard after a change, from its activity before the change.
 abbrev pub activity_after : ShardChange → Activity → Activity
 activity_after Pause activity = paused activity
 activity_after Resume activity = resumed activity
 activity_after Shut activity = Closed
 activity_after (Sweep before) activity = activity
 
--- What a change does to a shard's state.
+-- The change turns the old state of a shard into the new one. A pause and a resume leave it
+-- unchanged.
 abbrev pub MakesOf : ShardChange → State → State → Type 0
 MakesOf Pause old new = new ≡ old
 MakesOf Resume old new = new ≡ old
 MakesOf Shut old new = WasShut old new
 MakesOf (Sweep before) old new = Swept before old new
 
--- What holds of a shard after a change.
+-- The shard has the activity and the state `s` after the change: `Pause` leaves it not active,
+-- `Resume` not paused, and `Shut` closed. After `Sweep`, no answer is left that an entry before
+-- `before` filed.
 abbrev pub IsAfter : ShardChange → Activity → State → Type 0
 IsAfter Pause activity s = activity ≢ Active
 IsAfter Resume activity s = activity ≢ Paused
@@ -29,10 +32,10 @@ IsAfter Shut activity s = (activity ≡ Closed) × (s.shut ≡ true)
 IsAfter (Sweep before) activity s = (place : ℕ) → unswept before (connect_in s place) ≡ connect_in s place
 
 module _ {L : Type 0} where
-  -- `change` was applied to shard `shard`.
+  -- The evidence is for shard `shard` and for `change`.
   abbrev pub IsChanged : ℕ → ShardChange → ChangeEvidence L → Type 0
   IsChanged shard change changed = (changed.shard.value ≡ shard) × (changed.change.value ≡ change)
 
-  -- `change` was applied to each of `shards` shards.
+  -- The report is for `change`, and has a result for each of `shards` shards.
   abbrev pub AreAllChanged : ℕ → ShardChange → ChangeReport L → Type 0
   AreAllChanged shards change all = (length all.done ≡ shards) × (all.change.value ≡ change)

@@ -1,4 +1,4 @@
--- Why posts are not admitted, and how many shards lag.
+-- The faults of posts and shards, and the number of shards that each fault stopped.
 use Rattle.std.specs.Prelude.{ℕ, ◌≡◌, ◌≢◌, ◌+◌, ◌<◌, List}
 use Rattle.bx_entry.specs.declared.input.AdmitFault.{AdmitFault}
 use Rattle.bx_entry.specs.declared.input.AdmitFault.TheVariants as admissions
@@ -9,16 +9,16 @@ use Rattle.bx_hub.specs.declared.activity.Activity.TheVariants.{Active, Paused, 
 use Rattle.bx_hub.specs.declared.fault.HubFault.TheVariants as stops
 use Rattle.bx_hub.specs.declared.fault.PostFault.TheVariants.{Refused, Memory}
 
--- The fault of a post, from the fault of its admission.
+-- The `AdmitFault`, as a `PostFault`.
 abbrev pub of_admission : AdmitFault → PostFault
 of_admission (admissions.Refused refusal) = Refused refusal
 of_admission admissions.Memory = Memory
 
--- How many shards lag.
+-- The number of stopped shards, for any fault: the sum of the counts.
 abbrev pub count_of : Lagging → ℕ
 count_of l = l.memory + l.overrun + l.paused + l.closed + l.misplaced
 
--- The counts with one more shard, which this fault stopped.
+-- The counts with one more shard, counted under the given fault.
 abbrev pub one_more : HubFault → Lagging → Lagging
 one_more stops.Closed l = record l { closed = l.closed + 1 }
 one_more stops.Paused l = record l { paused = l.paused + 1 }
@@ -26,14 +26,15 @@ one_more (stops.Overrun shard place) l = record l { overrun = l.overrun + 1 }
 one_more stops.Memory l = record l { memory = l.memory + 1 }
 one_more (stops.Misplaced found) l = record l { misplaced = l.misplaced + 1 }
 
--- What the fault of a shard claims, given the shard's index and a front of the window's log.
--- `Overrun` names that shard and a place before the window. `Misplaced` names another shard.
+-- The fault can stop shard `index` after its reader has seen `front`. `Overrun` names the shard and
+-- a place before the window of `front`. `Misplaced` names another shard. Other faults claim
+-- nothing.
 abbrev pub IsStopped : HubFault → ℕ → List LogStep → Type 0
 IsStopped (stops.Overrun shard place) index front = (shard ≡ index) × (place < begin_of front)
 IsStopped (stops.Misplaced found) index front = found ≢ index
 IsStopped _ index front = Unit {0}
 
--- `Overrun` reports the shard's position.
+-- If the fault is `Overrun`, it reports `position`, the position of the shard.
 abbrev pub IsAt : HubFault → ℕ → Type 0
 IsAt (stops.Overrun shard place) position = place ≡ position
 IsAt _ position = Unit {0}
@@ -44,13 +45,13 @@ IsStoppedIn Closed f = f ≡ stops.Closed
 IsStoppedIn Paused f = f ≡ stops.Paused
 IsStoppedIn Active f = (f ≡ stops.Closed → ⊥) × (f ≡ stops.Paused → ⊥)
 
--- The activity after a pause: an active shard is paused.
+-- The activity after a pause: `Paused` if it was `Active`, and otherwise unchanged.
 abbrev pub paused : Activity → Activity
 paused Active = Paused
 paused Paused = Paused
 paused Closed = Closed
 
--- The activity after a resume: a paused shard is active.
+-- The activity after a resume: `Active` if it was `Paused`, and otherwise unchanged.
 abbrev pub resumed : Activity → Activity
 resumed Active = Active
 resumed Paused = Active

@@ -13,35 +13,40 @@ use Rattle.bx_hub.specs.declared.shard_state.ShardState.{ShardState}
 use Rattle.bx_window.specs.declared.law.LogStep.{LogStep}
 use Rattle.bx_window.specs.Steps.{list_of}
 
--- The log that the reader has seen, the longest prefix, the places of taken answers, and the shard.
+-- What a shard's lock guards.
+-- `seen`: the log that the reader of the window has seen. `told`: the longest front of the log that
+-- the shard has learned. `taken`: the places of answers that were taken or swept. `state`: the
+-- shard.
 pub record Held : Type 0 where
   pub seen : List LogStep
   pub told : List LogStep
   pub taken : List ℕ
   pub state : State
 
--- The reader has seen the whole prefix, and the shard is not past the prefix's end. The shard's
--- state agrees with the definitions after the entries that the shard has applied.
+-- What `h.seen` has begins with `h.told`, and the shard has applied no entry after `h.told`. The
+-- shard's state agrees with the definitions for the entries that it has applied.
 pub record Stands (setup : Setup) (h : Held) : Type 0 where
   pub learnt : IsPrefix h.told h.seen
   pub within : h.state.place ≤ length (list_of h.told)
   pub holds : Refines setup (list_of h.seen) h.taken h.state.index h.state.place h.state
 
--- What a shard's lock guards, read from its shard state.
+-- The shard state, as a `Held`.
 abbrev pub held_of : {L P : Type 0} {g : LogId.Ghosts L} {h : Placing.Ghosts P} → ShardState L P g h → Held
 held_of {L} {P} {g} {h} d = record { seen = d.reader; told = d.prefix; taken = d.taken; state = state h.place_of d.shard }
 
--- The places of taken answers, with `place` if this poll took one.
+-- The places of taken answers after a poll at `place`: `taken`, with `place` if the poll took an
+-- answer.
 abbrev pub taken_by : {E : Type 0} → Result (Option Answer) E → ℕ → List ℕ → List ℕ
 taken_by (Ok (Some a)) place taken = taken ++ place ∷ []
 taken_by (Ok None) place taken = taken
 taken_by (Err e) place taken = taken
 
--- A single-threaded server's answer to the message at `place` in the list of a log.
+-- The answer, if any, of a single-threaded server with the list of `log` to the message at `place`.
 abbrev pub answer_over : Config → List LogStep → ℕ → Option Answer
 answer_over config log place = option_map given_of (answer config (list_of log) place)
 
--- A possible state of the ticket's shard: at the end of `front`, without an answer for the ticket.
+-- `held` is a possible state of the ticket's shard. The shard has applied all entries of `front`,
+-- and has filed no answer under `ticket`.
 pub record IsLevelWithout (setup : Setup) (ticket : Ticket) (front : List LogStep) : Type 0 where
   pub held : Held
   pub stands : Stands setup held

@@ -1,9 +1,9 @@
--- How many shards lag, by what stopped them.
+-- The number of shards that each fault stopped.
 use Rattle.std.specs.Prelude.{List, [], ◌∷◌, Option, Some, None}
 use Rattle.bx_hub.specs.Faults.{one_more}
 use Rattle.bx_hub.specs.declared.fault.{HubFault.HubFault, Lagging.Lagging}
 
--- The counts, from the fault of each shard, if it was stopped.
+-- The number of shards that each fault stopped, from the fault of each shard, if it was stopped.
 abbrev pub lagging_of : List (Option HubFault) → Lagging
 lagging_of [] = record { memory = 0; overrun = 0; paused = 0; closed = 0; misplaced = 0 }
 lagging_of (None ∷ stays) = lagging_of stays

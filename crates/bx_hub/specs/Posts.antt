@@ -12,15 +12,17 @@ use Rattle.bx_hub.specs.declared.fault.PostFault.{PostFault}
 use Rattle.bx_hub.specs.declared.fault.PostFault.TheVariants.{Refused, Closed, Behind, Overrun, Misplaced, Memory}
 use Rattle.bx_window.specs.declared.writer.TheConstants.{MAX_BATCHES}
 
--- The input is allowed at `first`, which is not before the end of what the pass had seen. The list
--- that the pass then sees has, from `first` on, exactly what the input adds.
+-- A call admitted `input` at place `first`, and extended its pass from `old` to `new`.
+-- No rule rejects `input` there. The list of `old` ends at `first` or before. From `first` on, the
+-- list of `new` has exactly the entries that `input` adds.
 pub record IsAdmittedAt (input : ReadInput) (first : ℕ) (old new : List LogStep) : Type 0 where
   pub allowed : refusal_of first input ≡ None
   pub fresh : length (list_of old) ≤ first
   pub there : drop first (list_of new) ≡ added_by input
   pub end : length (list_of new) ≡ first + length (added_by input)
 
--- The slots are those that a single-threaded server gives for the input at place `first`.
+-- `slots` are what a single-threaded server gives for `input` at place `first` of the list of
+-- `front`.
 abbrev pub AreSlotsAt : Setup → ReadInput → ℕ → List LogStep → List Slot → Type 0
 AreSlotsAt setup input first front slots = slots ≡ admitted_slots setup (take first (list_of front)) (added_by input)
 
@@ -28,31 +30,36 @@ AreSlotsAt setup input first front slots = slots ≡ admitted_slots setup (take 
 abbrev pub IsFull : ℕ → List LogStep → Type 0
 IsFull first front = (length (firsts_of front) ≡ MAX_BATCHES) × (begin_of front ≡ first) × (first + MAX_BATCHES ≤ length (list_of front))
 
--- The input is allowed at the end of `front` and adds entries, but the window is full.
+-- `input` is allowed at the end of `front` and adds entries, but the window is full, and begins at
+-- `first`.
 pub record IsFullFor (input : ReadInput) (first : ℕ) (front : List LogStep) : Type 0 where
   pub allowed : refusal_of (length (list_of front)) input ≡ None
   pub some : 0 < length (added_by input)
   pub full : IsFull first front
 
--- The window was full for the input at an earlier front.
+-- `before` is an earlier front than `front`. At its end, `input` could be appended, but the window
+-- was full, and began at `first`.
 pub record WasFullFor (input : ReadInput) (front : List LogStep) : Type 0 where
   pub before : List LogStep
   pub first : ℕ
   pub begins : IsPrefix before front
   pub full : IsFullFor input first before
 
--- Making room fails: a shard is before the window, a lock guards another shard, or memory runs out.
+-- Making room in the full window can fail with the fault. `Overrun`: `place` is before the window
+-- of `front`. `Misplaced`: a lock guards another shard. `Memory` claims nothing. Other faults
+-- cannot occur.
 abbrev pub IsWithoutRoom : PostFault → List LogStep → Type 0
 IsWithoutRoom (Overrun shard place) front = place < begin_of front
 IsWithoutRoom (Misplaced shard found) front = found ≢ shard
 IsWithoutRoom Memory front = Unit {0}
 IsWithoutRoom _ front = ⊥
 
--- What each fault claims about the input and the front that the pass has then seen.
--- `Body`: the documents are not messages, or the listener forbids them. `BadMoment`: the moment is
--- too large. `Ended`: the list, or the log of publishes and trims, is too long. `Behind`: the
--- window is full and begins at `first`. `Overrun`: it was full, and now begins after `place`.
--- `Misplaced`: it was full, and the lock guards another shard. `Closed` and `Memory` claim nothing.
+-- The fault can be the reason why `input` was not admitted, by a pass that has then seen `front`.
+-- `Body`: the documents are not messages, are more than 256 messages, or the listener forbids them.
+-- `BadMoment`: the moment is too large. `Ended`: the list, or the log of publishes and trims, is
+-- too long. `Behind`: `input` could be appended, but the window is full and begins at `first`.
+-- `Overrun`: the window was full, and now begins after `place`. `Misplaced`: the window was full,
+-- and the lock of `shard` guards another shard. `Closed` and `Memory` claim nothing.
 abbrev pub IsRefused : ReadInput → PostFault → List LogStep → Type 0
 IsRefused input (Refused (refusals.Body fault)) front = input ≡ Unread fault
 IsRefused input (Refused refusals.BadMoment) front = refusal_of (length (list_of front)) input ≡ Some refusals.BadMoment
@@ -63,14 +70,17 @@ IsRefused input (Overrun shard place) front = WasFullFor input front × (place <
 IsRefused input (Misplaced shard found) front = WasFullFor input front × (found ≢ shard)
 IsRefused input Memory front = Unit {0}
 
--- What each fault claims about the front if a planned batch is not published.
+-- The fault can be the reason why a planned batch is not published at the end of `front`. `Ended`:
+-- the log has no room for another step. `Behind`: the window is full and begins at `first`.
+-- `Memory` claims nothing. Other faults cannot occur.
 abbrev pub IsUnpublished : PostFault → List LogStep → Type 0
 IsUnpublished (Refused refusals.Ended) front = 2 ^ 62 ≤ length front
 IsUnpublished (Behind first) front = IsFull first front
 IsUnpublished Memory front = Unit {0}
 IsUnpublished _ front = ⊥
 
--- With `Behind`, `front` is the whole log and has room for another step; `Overrun` cannot occur.
+-- With `Behind`, `front` is the whole `log` and has room for another step. `Overrun` cannot occur.
+-- Other faults claim nothing.
 abbrev pub IsWhole : PostFault → List LogStep → List LogStep → Type 0
 IsWhole (Behind first) front log = (front ≡ log) × (length log < 2 ^ 62)
 IsWhole (Overrun shard place) front log = ⊥
@@ -80,6 +90,6 @@ IsWhole _ front log = Unit {0}
 abbrev pub IsUntrimmable : ℕ → List LogStep → Type 0
 IsUntrimmable place front = below place (length (list_of front)) (firsts_of front) ≡ 0
 
--- No batch is wholly before `place`, or the log has no room for another step.
+-- No batch in the window of `log` is wholly before `place`, or `log` has no room for another step.
 abbrev pub IsTrimmedTo : ℕ → List LogStep → Type 0
 IsTrimmedTo place log = IsUntrimmable place log ⊎ (2 ^ 62 ≤ length log)

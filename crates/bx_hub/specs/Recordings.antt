@@ -5,12 +5,12 @@ use Rattle.bx_window.specs.declared.law.LogId as LogId
 use Rattle.bx_hub.specs.declared.{admission.RecordEnd.RecordEnd, recording.Recording.Recording}
 
 module _ {L : Type 0} {g : LogId.Ghosts L} where
-  -- The record continues with `text`, after what waits to be written.
+  -- `new` is the record `old` with `text` appended to what waits to be written.
   pub record GoesOn (old : Recording L g) (text : List ℕ) (new : Recording L g) : Type 0 where
     pub from : new.from ≡ old.from
     pub waiting : new.waiting ≡ old.waiting ++ text
 
-  -- A record that ends keeps what waits to be written, up to `front`.
+  -- `end` has what waited to be written of the record `old`, which has ended at `front`.
   pub record EndsBefore (old : Recording L g) (front : List LogStep) (end : RecordEnd L g) : Type 0 where
     pub from : end.recording.from ≡ old.from
     pub waiting : end.recording.waiting ≡ old.waiting

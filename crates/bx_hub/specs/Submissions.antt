@@ -5,7 +5,7 @@ use Rattle.bx_entry.specs.declared.input.Arrival.{Arrival}
 use Rattle.bx_hub.specs.declared.submission.Submission.{Submission}
 use Rattle.bx_hub.specs.declared.submission.Submission.TheVariants as submission
 
--- A request with its messages, or a tick with its moment.
+-- The submission as a `ReadInput`: a request with its messages, or a tick with its moment.
 abbrev pub input_of : Submission → ReadInput
 input_of (submission.Request r) = Request r.arrival.moment r.arrival.nonce r.messages.items
 input_of (submission.Tick moment) = Tick moment

@@ -7,7 +7,8 @@ use Rattle.bx_window.specs.Steps.{firsts_of, list_of}
 use Rattle.bx_window.specs.declared.law.LogStep.{LogStep}
 use Rattle.bx_hub.specs.declared.survey.Survey.{Survey}
 
--- The counts of entries, live sessions, sessions ever opened and batches in the window.
+-- The counts of entries, live sessions, sessions ever opened and batches in the window, after
+-- `steps`.
 abbrev pub survey_of : Config → List LogStep → Survey
 survey_of config steps = record {
   entries = length (list_of steps);

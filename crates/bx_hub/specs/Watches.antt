@@ -8,16 +8,17 @@ use Rattle.bx_entry.specs.declared.entry.Ticket.{Ticket}
 use Rattle.bx_hub.specs.declared.shard_state.evidence.WatchEvidence.{WatchEvidence}
 use Rattle.futures.specs.declared.task.waker.Waker.{Waker}
 
--- What each result claims about the connect, and about the shard before the call.
--- `Stored`: the waker is registered with the connect. The others return it. `Ready`: an answer is
--- filed. `Unknown`: no connect is known. `Shut`: the shard is closed, and no answer is filed.
+-- The result agrees with `connect`, which is known under the ticket after the call, if any.
+-- `Stored`: `waker` is registered with the connect. The other results return `waker`. `Ready`: an
+-- answer is filed. `Unknown`: no connect is known. `Shut`: the shard is closed, as `shut` states,
+-- and no answer is filed.
 abbrev pub HoldsOf : Bool → Waker → Option ConnectState → Watch → Type 0
 HoldsOf shut waker connect (Stored older) = waker_of connect ≡ Some waker
 HoldsOf shut waker connect (Ready given) = (is_some (filed_answer connect) ≡ true) × (given ≡ waker)
 HoldsOf shut waker connect (Unknown given) = (connect ≡ None) × (given ≡ waker)
 HoldsOf shut waker connect (Shut given) = (shut ≡ true) × (filed_answer connect ≡ None) × (given ≡ waker)
 
--- A waker that is not stored is returned.
+-- If the result is not `Stored`, it returns `waker`.
 abbrev pub IsBack : Waker → Watch → Type 0
 IsBack waker (Stored older) = Unit {0}
 IsBack waker (Ready given) = given ≡ waker
@@ -30,13 +31,14 @@ IsShut (Shut given) = Unit {0}
 IsShut _ = ⊥
 
 module _ {L : Type 0} where
-  -- The evidence names this ticket, waker and result.
+  -- `evidence` records `ticket`, `waker` and the result `said`.
   pub record IsSaid (ticket : Ticket) (waker : Waker) (said : Watch) (evidence : WatchEvidence L) : Type 0 where
     pub ticket_is : evidence.ticket.value ≡ ticket
     pub waker_is : evidence.waker.value ≡ waker
     pub said_is : evidence.said.value ≡ said
 
-  -- One of `shards` shards gave the result, or the ticket names none and the result is `Unknown`.
+  -- The evidence records `ticket`, `waker` and the result `said`. Without evidence, the ticket
+  -- names none of `shards` shards, and the result is `Unknown`.
   abbrev pub IsToldOf : ℕ → Ticket → Waker → Watch → Option (WatchEvidence L) → Type 0
   IsToldOf shards ticket waker said (Some evidence) = IsSaid ticket waker said evidence
   IsToldOf shards ticket waker said None = (shards ≤ ticket.shard) × (said ≡ Unknown waker)

@@ -37,7 +37,7 @@ const MOST_STEPS: u64 = 1 << 62;
 #[derive(Drop)]
 struct RecordEnd<L: LogId> {
     recording: Recording<L>,
-    // Where the record ends.
+    // The front of the list at which the record ends.
     front: Front<L>,
     fault: RecordFault,
     ghost whole: { (recording.inputs ≡ inputs_of front) × (list_by recording.inputs ≡ list_of front) },
@@ -50,7 +50,7 @@ pub(crate) struct Admission<L: LogId, R: Wait + Drop> {
     closed: bool,
     writer: LogWriter<L, R>,
     recording: Option<Recording<L>>,
-    // Kept until it is taken.
+    // What a fault left of a record, until it is taken.
     record_end: Option<RecordEnd<L>>,
     ghost config: { registry.config ≡ L.config },
     ghost counted: { registry.shards ≡ L.config.shards },
@@ -141,7 +141,7 @@ impl<L: LogId, R: Wait + Drop> Admission<L, R> {
         }
     }
 
-    // Records what was just admitted. If that fails, the record ends at `before`.
+    // Records `listed`, which was just admitted. If that fails, the record ends at `before`.
     fn record(
         &mut self,
         alloc: Global,
@@ -175,6 +175,8 @@ impl<L: LogId, R: Wait + Drop> Admission<L, R> {
     }
 
     /// Starts to record what is appended to the list, which must be empty.
+    ///
+    /// Returns the front at which the record begins.
     ///
     /// # Errors
     ///
@@ -247,7 +249,8 @@ impl<L: LogId, R: Wait + Drop> Admission<L, R> {
         })
     }
 
-    // Appends `wanted` to the list. Without messages, appends nothing.
+    // Appends `wanted` to the list, and returns its first place and slots. A request without
+    // messages appends nothing.
     #[tactic(auto, using(crate::proofs::Posts::whole_planned))]
     fn list<P: Placing>(
         &mut self,
@@ -286,7 +289,7 @@ impl<L: LogId, R: Wait + Drop> Admission<L, R> {
         self.publish(alloc, pass, plan, inputs_by(wanted))
     }
 
-    // Plans the entries and slots of `wanted` at the end of the list.
+    // Returns a plan with the entries and slots that `wanted` gets at the end of the list.
     #[tactic(auto, using(crate::proofs::Posts::planning))]
     fn plan<P: Placing>(
         &mut self,
@@ -315,7 +318,8 @@ impl<L: LogId, R: Wait + Drop> Admission<L, R> {
         }
     }
 
-    // Publishes and commits a plan that was made under the same lock.
+    // Publishes `plan` and applies it to the registry. Returns its first place and slots. Admission
+    // must have been locked since `plan` was made.
     fn publish(
         &mut self,
         alloc: Global,

@@ -29,18 +29,18 @@ pub struct TickReceipt<L: LogId> {
     pub advanced: AdvanceReport<L>,
 }
 
-/// How many shards lag, by what stopped them.
+/// How many shards did not reach the end of a front, by what stopped them.
 #[derive(Clone, Copy, Debug, PartialEq, Eq)]
 pub struct Lagging {
-    /// Memory ran out.
+    /// Number of shards for which memory ran out.
     pub memory: usize,
-    /// The window begins after the shard's position.
+    /// Number of shards with a position before the window.
     pub overrun: usize,
-    /// The shard is paused.
+    /// Number of shards that are paused.
     pub paused: usize,
-    /// The hub is closed.
+    /// Number of shards that are closed with the hub.
     pub closed: usize,
-    /// The shard's lock guards another shard.
+    /// Number of shards that were not found, because their lock guards another shard.
     pub misplaced: usize,
 }
 
@@ -58,7 +58,7 @@ impl Lagging {
         }
     }
 
-    /// Counts one more shard, which `fault` stopped.
+    /// Returns the counts with one more shard, which `fault` stopped.
     pub(crate) fn with(self, fault: HubFault) -> Lagging
         requires { count_of self + 1 < 2 ^ 64 }
         ensures which { result ≡ one_more fault self }
@@ -94,7 +94,7 @@ impl Lagging {
 pub enum PostFault {
     /// The post or tick is rejected by a rule.
     ///
-    /// `Ended` also means that the window's log has no room for another step.
+    /// `Refused(Ended)` also means that the window's log has no room for another step.
     Refused(Refusal),
     /// The hub is closed.
     Closed,
@@ -104,7 +104,7 @@ pub enum PostFault {
     Behind { first: u64 },
     /// The window is full, and begins after `place`, the position of `shard`.
     Overrun { shard: usize, place: u64 },
-    /// The window is full, and the lock of `shard` guards `found`, as in [`HubFault::Misplaced`].
+    /// The window is full, and the lock of `shard` guards another shard, `found`.
     Misplaced { shard: usize, found: usize },
     /// Memory ran out.
     Memory,

@@ -31,13 +31,13 @@ use std::alloc::{AllocError, Global};
 use std::snapshot::Snapshot;
 use std::sync::{Arc, Mutex, MutexGuard, Wait};
 
-// Posts trim the window when the list's length reaches or passes a multiple of this. The window's
-// memory is then reused while it is in a processor's cache. Policy of this server.
+// Posts trim the window when the list's length reaches or passes a multiple of this number. The
+// memory of the window is then reused while it is in a processor's cache. Policy of this server.
 const TRIM_EVERY: u64 = 64;
 
 /// The part of a hub's list that a caller has seen.
 ///
-/// It only grows, by the caller's calls and by what others share.
+/// It only grows, by the caller's calls and by the passes of other callers.
 pub type Pass<L> = Front<L>;
 
 /// The server for any number of threads.
@@ -212,11 +212,11 @@ impl<L: LogId, P: Placing, G: Gate + Drop, R: Wait + Drop> Hub<L, P, G, R> {
     ///
     /// # Errors
     ///
-    /// As [`post`](Self::post), except `Body`; nothing is appended.
+    /// The faults of [`post`](Self::post), except `Body`; nothing is appended.
     ///
     /// # Blocking
     ///
-    /// As [`post`](Self::post).
+    /// Takes the locks and wakes tasks as [`post`](Self::post) does.
     pub fn tick<W: Wait>(
         &self,
         rt: &W,
@@ -244,8 +244,9 @@ impl<L: LogId, P: Placing, G: Gate + Drop, R: Wait + Drop> Hub<L, P, G, R> {
         })
     }
 
-    // Appends `wanted`, making room first if the window is full. On success, also returns what is
-    // left of `wanted`, to be dropped after admission is unlocked. On error, returns `wanted`.
+    // Appends `wanted`, making room first if the window is full. Returns its first place and slots,
+    // and what is left of `wanted`, to be dropped after admission is unlocked. On error, returns
+    // `wanted` and the reason.
     fn admit<W: Wait>(
         &self,
         rt: &W,
@@ -278,7 +279,8 @@ impl<L: LogId, P: Placing, G: Gate + Drop, R: Wait + Drop> Hub<L, P, G, R> {
         }
     }
 
-    // Advances every shard, trims the full window, and returns a shard at the lowest position.
+    // Advances every shard, trims the full window, and returns a shard at the lowest position. On
+    // error, returns the fault and, if a shard is overrun, its position.
     fn make_room<W: Wait>(
         &self,
         rt: &W,
@@ -298,7 +300,8 @@ impl<L: LogId, P: Placing, G: Gate + Drop, R: Wait + Drop> Hub<L, P, G, R> {
         }
     }
 
-    // Trims the entries that all shards have applied. If memory runs out, a later call does it.
+    // Drops the batches that all shards have applied. If memory runs out or a shard is not found, a
+    // later call drops them.
     fn let_go<W: Wait>(&self, rt: &W) {
         let mut least = LowestPosition::new();
         for index in 0..self.shards.len() {
@@ -312,8 +315,8 @@ impl<L: LogId, P: Placing, G: Gate + Drop, R: Wait + Drop> Hub<L, P, G, R> {
         let _ = self.admission.lock(rt).trim(least);
     }
 
-    // Advances every shard to the end of `pass` and returns the lowest position. Wakes tasks as in
-    // `post`.
+    // Advances every shard to the end of `pass` and returns the lowest position. Stops with an
+    // error at a shard that is overrun or not found. Wakes tasks as in `post`.
     fn advance_and_find_lowest<W: Wait>(
         &self,
         rt: &W,
@@ -333,8 +336,9 @@ impl<L: LogId, P: Placing, G: Gate + Drop, R: Wait + Drop> Hub<L, P, G, R> {
         Ok(least)
     }
 
-    // Advances a shard to the end of `pass` and returns its position. Adds the wakers of answered
-    // connects to `wakers`. Dropping that list, once the shard is unlocked, wakes their tasks.
+    // Advances a shard to the end of `pass` and returns its position, or an error if the shard is
+    // overrun or not found. Adds the wakers of answered connects to `wakers`, and returns evidence
+    // of them. When `wakers` is dropped, after the shard is unlocked, their tasks are woken.
     fn advance_one_to_end<W: Wait>(
         &self,
         rt: &W,
@@ -367,7 +371,7 @@ impl<L: LogId, P: Placing, G: Gate + Drop, R: Wait + Drop> Hub<L, P, G, R> {
         }
     }
 
-    // Advances every shard to the end of `prefix`, and reports how many lag and why.
+    // Advances every shard to the end of `prefix`, and reports how many did not reach it and why.
     #[tactic(auto, using(crate::proofs::Walks::all_walked))]
     fn advance_all<W: Wait>(&self, rt: &W, alloc: Global, prefix: &Front<L>) -> AdvanceReport<L>
         ensures { IsOfAll L.config.shards prefix.now result }
@@ -382,7 +386,8 @@ impl<L: LogId, P: Placing, G: Gate + Drop, R: Wait + Drop> Hub<L, P, G, R> {
         round
     }
 
-    // Advances a shard to the end of `prefix`. Adds wakers as `advance_one_to_end` does.
+    // Advances a shard to the end of `prefix`, and returns the result. Adds the wakers of answered
+    // connects to `wakers`.
     fn advance_one<W: Wait>(
         &self,
         rt: &W,
@@ -401,7 +406,7 @@ impl<L: LogId, P: Placing, G: Gate + Drop, R: Wait + Drop> Hub<L, P, G, R> {
         }
     }
 
-    // Locks a shard. Returns `Err` if the lock guards another one.
+    // Locks shard `index`. Returns `Err` if the lock guards another shard.
     //
     // Prover: no contract can state which shard a lock guards, so every call checks.
     fn lock_shard<W: Wait>(
@@ -461,7 +466,9 @@ impl<L: LogId, P: Placing, G: Gate + Drop, R: Wait + Drop> Hub<L, P, G, R> {
         answer
     }
 
-    // Polls a shard that exists, as `poll_answer` does. Adds wakers as `advance_one_to_end` does.
+    // Takes the answer under `ticket` from its shard, which must exist, as `poll_answer` does. Adds
+    // the wakers of answered connects to `wakers`, and returns evidence of them, or `None` if the
+    // shard was not found.
     fn poll_one<W: Wait>(
         &self,
         rt: &W,
@@ -552,6 +559,8 @@ impl<L: LogId, P: Placing, G: Gate + Drop, R: Wait + Drop> Hub<L, P, G, R> {
 
     /// Starts to record what is appended to the list, which must be empty.
     ///
+    /// Returns the front at which the record begins.
+    ///
     /// # Errors
     ///
     /// The front of the list, if it is not empty; nothing has changed.
@@ -566,7 +575,9 @@ impl<L: LogId, P: Placing, G: Gate + Drop, R: Wait + Drop> Hub<L, P, G, R> {
         self.admission.lock(rt).start_record(alloc)
     }
 
-    /// Returns how many bytes wait to be written to the record, or 0 once it has ended.
+    /// Returns how many bytes of the record wait to be written.
+    ///
+    /// Returns 0 if nothing is recorded or the record has ended.
     ///
     /// # Blocking
     ///
@@ -614,6 +625,8 @@ impl<L: LogId, P: Placing, G: Gate + Drop, R: Wait + Drop> Hub<L, P, G, R> {
 
     /// Drops the answers that were filed by entries before place `before` and never taken.
     ///
+    /// Returns evidence of that, with the number of dropped answers.
+    ///
     /// # Blocking
     ///
     /// Locks each shard in turn.
@@ -625,7 +638,9 @@ impl<L: LogId, P: Placing, G: Gate + Drop, R: Wait + Drop> Hub<L, P, G, R> {
         all
     }
 
-    /// Pauses a shard until [`resume`](Self::resume), or returns `None` if it does not exist.
+    /// Pauses a shard until [`resume`](Self::resume), and returns evidence of that.
+    ///
+    /// Returns `None` if the shard does not exist.
     ///
     /// The window keeps the entries that the shard has yet to apply.
     ///
@@ -642,9 +657,11 @@ impl<L: LogId, P: Placing, G: Gate + Drop, R: Wait + Drop> Hub<L, P, G, R> {
         Some(self.change(rt, shard, ShardChange::Pause))
     }
 
-    /// Resumes a shard, or returns `None` if it does not exist.
+    /// Resumes a shard, and returns evidence of that.
     ///
-    /// The next post, tick or poll for an answer advances it.
+    /// Returns `None` if the shard does not exist.
+    ///
+    /// The next post, tick or poll for an answer advances the shard.
     ///
     /// # Blocking
     ///
@@ -661,7 +678,7 @@ impl<L: LogId, P: Placing, G: Gate + Drop, R: Wait + Drop> Hub<L, P, G, R> {
 
     /// Closes the hub: no entry is appended or applied any more.
     ///
-    /// Filed answers can still be taken.
+    /// Filed answers can still be taken. Returns evidence that admission and all shards are closed.
     ///
     /// # Blocking
     ///
@@ -675,7 +692,7 @@ impl<L: LogId, P: Placing, G: Gate + Drop, R: Wait + Drop> Hub<L, P, G, R> {
         all
     }
 
-    // Applies `change` to each shard in turn.
+    // Applies `change` to each shard in turn, and adds the evidence of that to `all`.
     fn change_all<W: Wait>(&self, rt: &W, change: ShardChange, all: &mut ChangeReport<L>)
         requires none { all.old.done ≡ [] }
         requires change { all.old.change.value ≡ change }
@@ -686,7 +703,7 @@ impl<L: LogId, P: Placing, G: Gate + Drop, R: Wait + Drop> Hub<L, P, G, R> {
         }
     }
 
-    // Applies `change` to a shard.
+    // Applies `change` to shard `index`, and returns evidence of that.
     fn change<W: Wait>(&self, rt: &W, index: usize, change: ShardChange) -> ChangeEvidence<L>
         requires { index < length self.now.shards.items }
         ensures { IsChanged index change result }

@@ -27,7 +27,7 @@ impl ParsedRequest {
     ghost use Rattle.bx_hub.specs.Posts.{IsRefused};
     ghost use Rattle.bx_window.specs.declared.law.LogStep.{LogStep};
 
-    /// Reads the messages of `arrival`.
+    /// Reads the messages of `arrival`, and returns the request with them.
     ///
     /// # Errors
     ///

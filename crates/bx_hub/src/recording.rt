@@ -21,7 +21,8 @@ use std::sync::Wait;
 
 /// A front of the hub's list that a record has reached.
 ///
-/// Its requests and ticks result in exactly its list, and all of them can be recorded.
+/// The requests and ticks up to the front result in exactly the list up to it, and all of them can
+/// be recorded.
 #[derive(Drop)]
 pub struct RecordFront<L: LogId> {
     front: Front<L>,
@@ -39,7 +40,7 @@ impl<L: LogId> RecordFront<L> {
         RecordFront { front }
     }
 
-    /// Returns how many entries its list has.
+    /// Returns how many entries the front's list has.
     pub fn place(&self) -> u64
         ensures { result ≡ length (list_of self.now.front) }
     {
@@ -82,7 +83,7 @@ pub struct Unrecorded<L: LogId> {
 }
 
 impl<L: LogId> Unrecorded<L> {
-    /// Creates the evidence from `admission`, which records nothing.
+    /// Creates evidence that `admission` records nothing.
     pub(crate) fn of<R: Wait + Drop>(admission: &Admission<L, R>) -> Unrecorded<L>
         requires recording { admission.now.recording ≡ None }
         requires end { admission.now.record_end ≡ None }
@@ -94,7 +95,7 @@ impl<L: LogId> Unrecorded<L> {
 
 /// The lines of a record that wait to be written.
 ///
-/// They follow the record's text up to `from`, which was taken before.
+/// They follow the text of the record up to `from`, which was taken earlier.
 #[derive(Drop)]
 pub(crate) struct Recording<L: LogId> {
     from: RecordFront<L>,
@@ -150,8 +151,8 @@ impl<L: LogId> Recording<L> {
 
     /// Takes all bytes that wait, and leaves the empty buffer `empty` in their place.
     ///
-    /// They are the record's text from where the last call ended up to `upto`. Does not allocate or
-    /// copy.
+    /// Returns the text of the record between the front of the last call and `upto`. Does not
+    /// allocate or copy.
     pub(crate) fn take(&mut self, upto: Front<L>, empty: Vec<u8>) -> Chunk<RecordFront<L>>
         requires inputs { self.old.inputs ≡ inputs_of upto }
         requires listed { list_by self.old.inputs ≡ list_of upto }
@@ -175,7 +176,7 @@ pub(crate) fn inputs_by(wanted: &Submission) -> History<Input>
     History::of::<&Submission, Recorded>(&wanted)
 }
 
-// Returns the record's lines for `listed`.
+// Returns the record's lines for `listed`. Fails with `Unsayable` if no line can hold the request.
 fn text_of(alloc: Global, listed: &Submission) -> Result<Vec<u8>, RecordFault>
     ensures text { IfOk result (λ text. text.items ≡ input_text (input_in listed.now)) }
     ensures recordable { OnOk result (CanRecord (input_in listed.now)) }

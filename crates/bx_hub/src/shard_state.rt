@@ -36,11 +36,11 @@ use std::alloc::Global;
 use std::snapshot::Snapshot;
 use std::sync::Arc;
 
-/// A shard with its reader of the window and the longest prefix that it has learned.
+/// A shard, its reader of the window, and the longest front of the list that it has learned.
 ///
-/// A prefix is a front that a caller has seen. When the shard learns a prefix, its reader has then
-/// seen that front too, and the longest prefix is kept. The shard never advances past the end of
-/// the longest prefix. Its state is what the model gives for the entries that it has applied.
+/// When the shard learns a front from a caller, its reader has then seen that front too. The
+/// longest front is kept in `prefix`, and the shard never advances past its end. The shard's state
+/// is what the definitions give for the entries that it has applied.
 #[derive(Drop)]
 pub(crate) struct ShardState<L: LogId, P: Placing> {
     shard: Shard<P>,
@@ -95,7 +95,7 @@ impl<L: LogId, P: Placing> ShardState<L, P> {
         self.shard.place()
     }
 
-    /// Returns what the reader has seen. It begins with the longest prefix.
+    /// Returns the front that the reader has seen, which is or extends the longest front learned.
     pub(crate) fn front(&self) -> Front<L>
         ensures all { result ≡ self.now.reader }
         ensures longer { IsPrefix self.now.prefix result }
@@ -110,8 +110,8 @@ impl<L: LogId, P: Placing> ShardState<L, P> {
         self.shard.index()
     }
 
-    // Advances the shard as `advance_to` does. Fails if the shard is closed or paused, or if it
-    // stops before the end of the longest prefix.
+    // Learns `prefix`, and advances the shard to the end of the longest front learned. Fails if the
+    // shard is closed or paused, or if it stops before that end.
     fn advance<G: Gate>(
         &mut self,
         alloc: Global,
@@ -143,10 +143,11 @@ impl<L: LogId, P: Placing> ShardState<L, P> {
         }
     }
 
-    /// Learns `prefix`, and advances the shard to the end of the longest prefix.
+    /// Learns `prefix`, and advances the shard to the end of the longest front learned.
     ///
-    /// Passes the shard's gate before and after. A closed or paused shard only learns the prefix.
-    /// Adds the wakers of answered connects to `wakers`.
+    /// Calls `gate` before and after. A closed or paused shard only learns `prefix`. Adds the
+    /// wakers of answered connects to `wakers`. The result has a fault if the shard stops before
+    /// the end of `prefix`.
     #[tactic(auto, using(crate::proofs::Lists::list_length))]
     pub(crate) fn advance_to<G: Gate>(
         &mut self,
@@ -172,10 +173,11 @@ impl<L: LogId, P: Placing> ShardState<L, P> {
         ShardAdvance::of(self, prefix, stays, woken)
     }
 
-    /// Advances the shard as [`advance_to`](Self::advance_to) does, and returns its position.
+    /// Learns `pass`, advances the shard like [`advance_to`](Self::advance_to), and returns its
+    /// position.
     ///
-    /// `pass` is the prefix to learn. Also returns which wakers were added to `wakers`. Only an
-    /// overrun is an error. After any other fault, the position is where the shard stopped.
+    /// Also returns which wakers were added to `wakers`. Only an overrun is an error. After any
+    /// other fault, the position is where the shard stopped.
     ///
     /// # Errors
     ///
@@ -215,7 +217,8 @@ impl<L: LogId, P: Placing> ShardState<L, P> {
         }
     }
 
-    // Learns `prefix`, and stores it if it is the longest.
+    // Extends what the reader has seen to `prefix`, and stores `prefix` if it is the longest front
+    // learned.
     fn learn(&mut self, prefix: &Front<L>)
         ensures old { IsPrefix self.old.prefix self.new.prefix }
         ensures told { IsPrefix prefix.now self.new.prefix }
@@ -226,7 +229,8 @@ impl<L: LogId, P: Placing> ShardState<L, P> {
         self.prefix = self.prefix.longer(prefix);
     }
 
-    // Applies the entries up to the end of the longest prefix, batch by batch.
+    // Applies the entries up to the end of the longest front learned, batch by batch. Stops at the
+    // first fault and returns it.
     fn go_on(&mut self, alloc: Global, wakers: &mut Wakers) -> Result<(), HubFault>
         ensures told { self.new.prefix ≡ self.old.prefix }
         ensures woken { AreWoken (connect_in (state P.place_of self.old.shard)) (connect_in (state P.place_of self.new.shard)) wakers.old wakers.new }
@@ -243,7 +247,8 @@ impl<L: LogId, P: Placing> ShardState<L, P> {
         Ok(())
     }
 
-    // Returns the batch that has the next entry.
+    // Returns the batch that has the next entry. Fails with `Overrun` if the window begins after
+    // that entry, and with `Memory` if memory runs out.
     fn next_batch(&mut self) -> Result<Arc<Batch, Global>, HubFault>
         requires { self.old.shard.place < length (list_of self.old.prefix) }
         ensures same { (self.new.prefix ≡ self.old.prefix) × (self.new.shard ≡ self.old.shard) × (self.new.taken ≡ self.old.taken) × (self.new.activity ≡ self.old.activity) }
@@ -263,7 +268,8 @@ impl<L: LogId, P: Placing> ShardState<L, P> {
         }
     }
 
-    // Applies the rest of `batch`, up to place `end`.
+    // Applies the entries of `batch` that the shard lacks, up to place `end`. Fails if memory runs
+    // out.
     fn apply_batch(
         &mut self,
         alloc: Global,
@@ -291,7 +297,7 @@ impl<L: LogId, P: Placing> ShardState<L, P> {
         Ok(())
     }
 
-    // Applies the next entry, which is at `place`.
+    // Applies the next entry, which `batch` has at `place`. Fails if memory runs out.
     fn step(
         &mut self,
         alloc: Global,
@@ -338,9 +344,9 @@ impl<L: LogId, P: Placing> ShardState<L, P> {
 
     /// Takes the answer filed under `ticket`, if any.
     ///
-    /// If there is none, advances the shard to the end of the longest prefix, including `pass`, and
-    /// looks again. `pass` has then seen at least that prefix. Also returns which wakers were added
-    /// to `wakers`.
+    /// If there is none, learns `pass`, advances the shard to the end of the longest front learned,
+    /// and looks again. `pass` has then seen at least that front. Also returns which wakers were
+    /// added to `wakers`.
     ///
     /// # Errors
     ///
@@ -408,7 +414,7 @@ impl<L: LogId, P: Placing> ShardState<L, P> {
         (said, evidence)
     }
 
-    // Registers `waker` with a held connect of this shard.
+    // Registers `waker` with the connect held under `ticket`, and returns the result.
     fn leave(&mut self, ticket: Ticket, waker: Waker) -> Watch
         requires own { ticket.shard ≡ self.old.shard.index }
         ensures watch { result ≡ watched self.old.shard.is_shut waker

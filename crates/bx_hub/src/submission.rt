@@ -36,7 +36,7 @@ impl Submission {
         }
     }
 
-    /// Converts `self` after its admission.
+    /// Converts `self`, once it is admitted, so that it cannot be admitted again.
     pub(crate) fn into_consumed(self) -> ConsumedSubmission
         ensures { result.listed ≡ self }
     {

@@ -61,7 +61,7 @@ impl<L: LogId> LowestPosition<L> {
     }
 }
 
-/// The result of advancing all shards to a prefix.
+/// The result of advancing all shards to a front of the list, `prefix`.
 ///
 /// The first shard to advance is `first`. After the last shard, shard 0 follows.
 #[derive(Drop)]
@@ -79,8 +79,9 @@ pub struct AdvanceReport<L: LogId> {
 impl<L: LogId> AdvanceReport<L> {
     /// Creates the result before any of `shards` shards has advanced to `prefix`.
     ///
-    /// The index of the first shard to advance is the length of the prefix's list modulo `shards`.
-    /// Threads that advance shards at the same time therefore mostly start at different ones.
+    /// The index of the first shard to advance is the length of the list of `prefix` modulo
+    /// `shards`. Threads that advance shards at the same time therefore mostly start at different
+    /// ones.
     pub(crate) fn new(prefix: &Front<L>, shards: usize) -> AdvanceReport<L>
         ensures { (result.prefix.value ≡ prefix.now) × (result.shards ≡ shards) × (result.stays ≡ []) }
     {
@@ -123,7 +124,7 @@ impl<L: LogId> AdvanceReport<L> {
         }
     }
 
-    /// Returns how many shards lag, by what stopped them.
+    /// Returns how many shards did not reach the end of `prefix`, by what stopped them.
     pub fn behind(&self) -> Lagging
         ensures { result ≡ lagging_of self.now.stays }
     {
@@ -131,7 +132,7 @@ impl<L: LogId> AdvanceReport<L> {
     }
 }
 
-/// Evidence that a change was applied to all shards in turn, as [`ChangeEvidence`] is for one.
+/// Evidence that a change was applied to each shard in turn, or that a shard was not found.
 ///
 /// For [`ShardChange::Shut`], admission was closed before.
 #[derive(Drop)]

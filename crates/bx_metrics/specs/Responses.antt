@@ -11,7 +11,7 @@ asked_of head =
     else (if starts_with nat_eq head (codes "GET /healthz ") then Health
     else (if starts_with nat_eq head (codes "GET ") then Other else NoGet))
 
--- A number between two texts.
+-- The texts `before` and `behind` with `number` in decimal between them.
 abbrev pub with_number : List ℕ → ℕ → List ℕ → List ℕ
 with_number before number behind = before ++ decimal number ++ behind
 
@@ -19,11 +19,13 @@ with_number before number behind = before ++ decimal number ++ behind
 abbrev pub fields_text : ℕ → List ℕ
 fields_text size = with_number (codes "\r\ncontent-length: ") size (codes "\r\nconnection: close\r\n\r\n")
 
--- A response. `status`: the code and reason phrase, and possibly another field. `body`: its body.
+-- The text of a response. `status`: the code and reason phrase, and possibly another field. `body`:
+-- the text after the head.
 abbrev pub message_text : List ℕ → List ℕ → List ℕ
 message_text status body = codes "HTTP/1.1 " ++ status ++ fields_text (length body) ++ body
 
--- The response to a request. `listens`: whether the server listens. `page`: the page of metrics.
+-- The text of the response to a request. `listens`: whether the server listens. `page`: the page of
+-- metrics.
 abbrev pub response_text : MetricsRequest → Bool → List ℕ → List ℕ
 response_text Metrics listens page = message_text (codes "200 OK\r\ncontent-type: text/plain; version=0.0.4; charset=utf-8") page
 response_text Health true page = message_text (codes "200 OK") (codes "listening\n")

@@ -5,7 +5,7 @@ use crate::metric::{METRICS, Metric};
 use std::alloc::{AllocError, Global};
 use std::sync::atomic::{AtomicBool, AtomicU64, Ordering};
 
-/// The current metrics, the lag of each shard, and whether the server listens.
+/// The current metrics, how many entries each shard lacks, and whether the server listens.
 ///
 /// Any thread can read and change them without a lock.
 #[derive(Drop)]
@@ -55,7 +55,7 @@ impl Counts {
         self.lags.len()
     }
 
-    /// Records that `shard` has applied the first `place` of `entries` entries.
+    /// Records that `shard` has applied the first `place` of the list's `entries` entries.
     pub fn set_lag(&self, shard: usize, entries: u64, place: u64) {
         if let Some(lag) = self.lags.get(shard) {
             lag.store(entries.saturating_sub(place), Ordering::SeqCst);
@@ -70,7 +70,7 @@ impl Counts {
         }
     }
 
-    /// Records whether the server listens.
+    /// Records in `listens` whether the server listens.
     pub fn set_listens(&self, listens: bool) {
         self.listens.store(listens, Ordering::SeqCst);
     }
@@ -80,9 +80,9 @@ impl Counts {
         self.listens.load(Ordering::SeqCst)
     }
 
-    /// Copies all values.
+    /// Returns a copy of all values.
     ///
-    /// The values are read one after the other, and may change meanwhile.
+    /// The values are read one after the other, so some may change during the call.
     ///
     /// # Errors
     ///
@@ -95,7 +95,7 @@ impl Counts {
     }
 }
 
-// Creates `count` values of 0.
+// Creates a list of `count` values, all 0.
 fn zeros(alloc: Global, count: usize) -> Result<Vec<AtomicU64>, AllocError> {
     let mut zeros = Vec::with_capacity(alloc, count)?;
     for _ in 0..count {
@@ -104,7 +104,7 @@ fn zeros(alloc: Global, count: usize) -> Result<Vec<AtomicU64>, AllocError> {
     Ok(zeros)
 }
 
-// Returns the current value of each of `counts`.
+// Returns the current values of `counts`, in order.
 fn loaded(alloc: Global, counts: &Vec<AtomicU64>) -> Result<Vec<u64>, AllocError> {
     let mut values = Vec::with_capacity(alloc, counts.len())?;
     for count in counts {
@@ -113,7 +113,7 @@ fn loaded(alloc: Global, counts: &Vec<AtomicU64>) -> Result<Vec<u64>, AllocError
     Ok(values)
 }
 
-/// A copy of all metrics, with each shard's lag in entries.
+/// A copy of all metrics, with the number of entries that each shard lacks.
 #[derive(Drop)]
 pub struct MetricValues {
     values: Vec<u64>,
@@ -123,21 +123,21 @@ pub struct MetricValues {
 impl MetricValues {
     /// Creates a copy from `values`, in the order of the page, and `lags`, by shard.
     ///
-    /// A missing value counts as 0.
+    /// `lags`: the number of entries that each shard lacks. A missing value counts as 0.
     pub fn of(values: Vec<u64>, lags: Vec<u64>) -> MetricValues
         ensures { (result.values ≡ values) × (result.lags ≡ lags) }
     {
         MetricValues { values, lags }
     }
 
-    /// Returns the lag of each shard, in entries.
+    /// Returns the number of entries that each shard lacks, by shard.
     pub(crate) fn lags(&self) -> &[u64]
         ensures { result.now ≡ self.now.lags.items }
     {
         self.lags.as_slice()
     }
 
-    /// Returns the value at `place`, or 0 if it is missing.
+    /// Returns the value at index `place` in the order of the page, or 0 if it is missing.
     pub(crate) fn value(&self, place: usize) -> u64
         ensures { result ≡ unwrap_or (slice_get self.now.values.items place) 0 }
     {

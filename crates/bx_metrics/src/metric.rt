@@ -11,17 +11,17 @@ use bx_message::{MessageKind, Status};
 pub enum Reason {
     /// The documents are not messages.
     Body,
-    /// The read-only listener forbids its messages.
+    /// The request has a message that the read-only listener forbids.
     Forbidden,
-    /// The moment is too large.
+    /// The moment of the request is too large.
     BadMoment,
-    /// The list would become too long.
+    /// The list would become too long with the request.
     Ended,
     /// The hub was closed.
     Closed,
-    /// The window is full because a shard lags.
+    /// The window is full because a shard has not applied the oldest entries.
     Behind,
-    /// The window is full, and no longer has a shard's next entry.
+    /// The window is full, and no longer has the entry that a shard must apply next.
     Overrun,
     /// A shard's lock guards another shard.
     Misplaced,

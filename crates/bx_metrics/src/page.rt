@@ -4,15 +4,17 @@ use crate::metric::{METRICS, Metric};
 use bx_message::MessageKind;
 use std::alloc::{AllocError, Global};
 
-// Initial capacity in bytes: enough for 64 shards if each value has twenty digits.
+// Initial capacity of the page in bytes: enough for 64 shards if each value has twenty digits.
 const ROOM: usize = 16384;
 
-// Name of the lag of each shard.
+// The name of the metric for the entries that a shard has not applied.
 const LAG: &str = "bayeux_shard_lag_entries";
 
 const LAG_HELP: &str = "Entries of the list that the shard has not applied.";
 
-/// Formats the page: a row for each metric and for each shard's lag.
+/// Formats the page: a row for each metric, and one for each shard.
+///
+/// The row of a shard is the number of entries that it has not applied.
 ///
 /// The lines `# HELP` and `# TYPE` precede the first row of each name.
 ///
@@ -39,7 +41,7 @@ pub fn page_text(alloc: Global, metrics: &MetricValues) -> Result<String, AllocE
     Ok(page)
 }
 
-// Appends the lines `# HELP` and `# TYPE` of a name.
+// Appends the lines `# HELP` and `# TYPE` for the metrics with this name.
 fn push_head(
     alloc: Global,
     page: &mut String,
@@ -63,7 +65,7 @@ fn label_of(alloc: Global, metric: Metric) -> Result<String, AllocError> {
     }
 }
 
-// Returns the name of a kind of message.
+// Returns the name of a kind of message, as the label `kind` of the page has it.
 fn kind_name(kind: MessageKind) -> &'static str {
     match kind {
         MessageKind::Handshake => "handshake",

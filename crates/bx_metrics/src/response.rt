@@ -14,9 +14,9 @@ pub enum MetricsRequest {
     Metrics,
     /// Whether the server listens: `GET /healthz`.
     Health,
-    /// An unknown target of a GET.
+    /// A GET of a target other than `/metrics` and `/healthz`.
     Other,
-    /// A method other than GET, or none.
+    /// A request with a method other than GET, or without a method.
     NoGet,
 }
 
@@ -64,7 +64,7 @@ pub fn response_text(
     respond(alloc, asked, listens, page.as_str())
 }
 
-// Creates the response to `asked`. `page`: the page of metrics, used only if it is asked for.
+// Creates the response to `asked`. `page`: the page of metrics, used only for `Metrics`.
 fn respond(
     alloc: Global,
     asked: MetricsRequest,
@@ -111,7 +111,7 @@ fn push_fields(text: &mut Vec<u8>, length: usize) -> Result<(), AllocError>
     )
 }
 
-// Appends `number` between two texts.
+// Appends two texts to `text`, with `number` in decimal between them.
 fn push_number(
     text: &mut Vec<u8>,
     before: &str,

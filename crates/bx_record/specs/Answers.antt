@@ -5,12 +5,12 @@ use Rattle.hex.specs.Hex.{encode_lower}
 use Rattle.bx_entry.specs.declared.input.Input.{Input}
 use Rattle.bx_record.specs.Record.{input_text}
 
--- The line of an answer. `place` is that of the request's first message. `digest` is the SHA-256 of
--- the answer's items.
+-- The line of an answer: `A`, `place`, and `digest` in hexadecimal digits. `place` is the place of
+-- the request's first message. `digest` is the SHA-256 of the answer's items.
 abbrev pub answer_text : ℕ → List ℕ → List ℕ
 answer_text place digest = codes "A " ++ (decimal place ++ 32 ∷ (encode_lower digest ++ 10 ∷ []))
 
--- The 32 bytes of a SHA-256.
+-- `digest` has 32 bytes, like a SHA-256.
 pub record IsSha256 (digest : List ℕ) : Type 0 where
   pub count : length digest ≡ 32
   pub bytes : AllByRecursion (λ (byte : ℕ). byte < 256) digest
@@ -24,11 +24,11 @@ abbrev pub part_text : Part → List ℕ
 part_text (Taken input) = input_text input
 part_text (Given place digest) = answer_text place digest
 
--- The text of a record with these parts.
+-- The text of a record, given its parts in order.
 abbrev pub record_with : List Part → List ℕ
 record_with parts = flat_map part_text parts
 
--- The inputs among the parts.
+-- The inputs among a record's parts, in order.
 abbrev pub taken_inputs : List Part → List Input
 taken_inputs [] = []
 taken_inputs (Taken input ∷ parts) = input ∷ taken_inputs parts

@@ -16,15 +16,16 @@ use Rattle.bx_record.specs.Record.{can_say, config_text, config_words, options_w
 
 -- ---- Inputs
 
--- A request that lines can express: its messages are readable and its listener allows them, its
--- documents fit in a line, and its numbers fit their types.
+-- Lines can express the request `a`: its messages are readable and its listener allows them, its
+-- documents fit in a line, and its moment and nonce have at most 64 and 128 bits.
 pub record IsRecordable (a : Arrival) : Type 0 where
   pub moment : a.moment < 2 ^ 64
   pub nonce : a.nonce < 2 ^ 128
   pub readable : is_ok (arrival_messages a) ≡ true
   pub sayable : can_say (texts_of a.bodies) ≡ true
 
--- An input that a record can have.
+-- A record can have the input: lines can express it if it is a request, and its moment is below
+-- 2^64 if it is a tick.
 abbrev pub CanRecord : Input → Type 0
 CanRecord (Post a) = IsRecordable a
 CanRecord (Tick moment) = moment < 2 ^ 64
@@ -39,31 +40,33 @@ is_of_record line = false
 abbrev pub record_lines : List ℕ → List Line
 record_lines text = with_nonces 0 (lines_in Recorded text)
 
--- The lines of a record.
+-- The lines that are read from the record of the inputs, each request with its nonce.
 abbrev pub recorded_lines : List Input → List Line
 recorded_lines inputs = record_lines (record_of inputs)
 
--- The record's lines have exactly these inputs, in order, and otherwise only nonces.
+-- The lines read from the record of `inputs` are `inputs`, in order, and otherwise only nonces. An
+-- input that does not use its nonce is read with nonce 0.
 pub record ReadsBack (inputs : List Input) : Type 0 where
   pub inputs_are : inputs_in (recorded_lines inputs) ≡ map (λ input. as_recorded (read_input input)) inputs
   pub nothing_else : list_all is_of_record (recorded_lines inputs) ≡ true
 
--- Reading any record gives its inputs.
+-- If a record can have the inputs, reading their record gives them back, in order.
 abbrev pub RecordsReadBack : Type 0
 RecordsReadBack = (inputs : List Input) → AllByRecursion CanRecord inputs → ReadsBack inputs
 
--- The inputs read from the record have the same outs as `inputs`, and the same ones are held.
+-- Under `config`, the inputs read from the record of `inputs` have the same outs as `inputs`, and
+-- the same inputs are held.
 pub record AnswersAlike (config : Config) (inputs : List Input) : Type 0 where
   pub outs_are : outs config (inputs_in (recorded_lines inputs)) ≡ outs config (map read_input inputs)
   pub held_are : held config (inputs_in (recorded_lines inputs)) ≡ held config (map read_input inputs)
 
--- Every record is answered as its inputs were.
+-- Under every configuration, the inputs read from a record are answered as the recorded ones.
 abbrev pub RecordsAnswerAlike : Type 0
 RecordsAnswerAlike = (config : Config) (inputs : List Input) → AllByRecursion CanRecord inputs → AnswersAlike config inputs
 
 -- ---- Answers
 
--- The first line is that of an answer, and `rest` follows it.
+-- The first line of `text` is read as one to skip, and `rest` follows it.
 pub record SaysAnswer (text rest : List ℕ) : Type 0 where
   pub noted : line_of Recorded (first_of text) ≡ Noted
   pub left : rest_of text ≡ rest
@@ -72,80 +75,87 @@ pub record SaysAnswer (text rest : List ℕ) : Type 0 where
 abbrev pub AnswersAreSkipped : Type 0
 AnswersAreSkipped = (place : ℕ) (digest rest : List ℕ) → place < 2 ^ 64 → IsSha256 digest → SaysAnswer (answer_text place digest ++ rest) rest
 
--- A part that a record can have.
+-- A record can have the part: an input that a record can have, or the line of an answer with a
+-- place below 2^64 and a digest of 32 bytes.
 abbrev pub CanStand : Part → Type 0
 CanStand (Taken input) = CanRecord input
 CanStand (Given place digest) = (place < 2 ^ 64) × IsSha256 digest
 
--- Whether a line is one of a record without answers, or that of an answer.
+-- Whether a line is an input without a callback, a nonce, or the line of an answer.
 abbrev pub is_of_either : Line → Bool
 is_of_either Noted = true
 is_of_either line = is_of_record line
 
--- A record with answers has the same inputs as without them, and its other lines are nonces and
--- answers. The outs and the held inputs are also the same.
+-- Reading the record with `parts` gives the inputs among `parts`, in order. All other lines are
+-- nonces and answers. Under every configuration, the inputs that are read have the same outs as
+-- those among `parts`, and the same inputs are held.
 pub record ReadsWith (parts : List Part) : Type 0 where
   pub inputs_are : inputs_in (record_lines (record_with parts)) ≡ map (λ input. as_recorded (read_input input)) (taken_inputs parts)
   pub nothing_else : list_all is_of_either (record_lines (record_with parts)) ≡ true
   pub outs_are : (config : Config) → outs config (inputs_in (record_lines (record_with parts))) ≡ outs config (map read_input (taken_inputs parts))
   pub held_are : (config : Config) → held config (inputs_in (record_lines (record_with parts))) ≡ held config (map read_input (taken_inputs parts))
 
--- Lines of answers between inputs do not change what is read.
+-- Lines of answers between inputs change neither which inputs are read nor how they are answered.
 abbrev pub AnswersChangeNothing : Type 0
 AnswersChangeNothing = (parts : List Part) → AllByRecursion CanStand parts → ReadsWith parts
 
 -- ---- Truncated records
 
--- A byte and the complete lines after it; if there are none, only a newline is kept.
+-- The complete lines of a text, given its first byte and the complete lines after that byte. If
+-- there are no lines after it, the byte is dropped unless it is a newline.
 abbrev pub ended_by : ℕ → List ℕ → List ℕ
 ended_by byte [] = if is_newline byte then byte ∷ [] else []
 ended_by byte (x ∷ xs) = byte ∷ x ∷ xs
 
--- The complete lines of a text.
+-- The complete lines of a text: its bytes up to and including the last newline.
 abbrev pub ended_lines : List ℕ → List ℕ
 ended_lines [] = []
 ended_lines (x ∷ xs) = ended_by x (ended_lines xs)
 
--- The complete lines of a record's beginning have its first `count` inputs, and otherwise only
--- nonces.
+-- The complete lines of `front`, the beginning of a record, are the first `count` of `inputs`, in
+-- order, and otherwise only nonces.
 pub record ReadsUpTo (inputs : List Input) (front : List ℕ) : Type 0 where
   pub count : ℕ
   pub inputs_are : inputs_in (record_lines (ended_lines front)) ≡ map (λ input. as_recorded (read_input input)) (take count inputs)
   pub nothing_else : list_all is_of_record (record_lines (ended_lines front)) ≡ true
 
--- A record may be truncated anywhere.
+-- Wherever a record is truncated, its complete lines give the first of its inputs, in order.
 abbrev pub RecordsBreakOff : Type 0
 RecordsBreakOff = (inputs : List Input) (front behind : List ℕ) → AllByRecursion CanRecord inputs → front ++ behind ≡ record_of inputs → ReadsUpTo inputs front
 
--- The same for a record with answers: the inputs are those of its first `count` parts.
+-- The complete lines of `front`, the beginning of a record with answers, give the inputs among the
+-- first `count` of `parts`, in order. All other complete lines are nonces and answers.
 pub record ReadsWithUpTo (parts : List Part) (front : List ℕ) : Type 0 where
   pub count : ℕ
   pub inputs_are : inputs_in (record_lines (ended_lines front)) ≡ map (λ input. as_recorded (read_input input)) (taken_inputs (take count parts))
   pub nothing_else : list_all is_of_either (record_lines (ended_lines front)) ≡ true
 
--- A record with answers may be truncated anywhere too.
+-- Wherever a record with answers is truncated, its complete lines give the first of its inputs, in
+-- order.
 abbrev pub AnswersBreakOff : Type 0
 AnswersBreakOff = (parts : List Part) (front behind : List ℕ) → AllByRecursion CanStand parts → front ++ behind ≡ record_with parts → ReadsWithUpTo parts front
 
 -- ---- The configuration
 
--- The times and the recorded limits of a configuration fit 64 bits.
+-- The times and the recorded limits of `c` are below 2^64.
 pub record FitsWords (c : Config) : Type 0 where
   pub times : (c.timeout < 2 ^ 64) × (c.interval < 2 ^ 64) × (c.max_interval < 2 ^ 64)
   pub limits : (c.limits.events < 2 ^ 64) × (c.limits.bytes < 2 ^ 64) × (c.limits.sessions < 2 ^ 64) × (c.limits.patterns < 2 ^ 64)
 
--- The number that each argument gives, if any; names, options and `-` give none.
+-- The number that each argument of a configuration's line gives. Names, options and `-` give
+-- `None`.
 abbrev pub config_numbers : Config → List (Option ℕ)
 config_numbers c = None ∷ (if c.limits.bytes == STANDARD_BYTES then None else Some c.limits.bytes) ∷ None ∷ Some c.limits.sessions ∷ None ∷ Some c.limits.patterns
     ∷ Some c.shards ∷ Some 1 ∷ Some c.timeout ∷ Some c.interval ∷ Some c.max_interval ∷ None ∷ Some c.limits.events ∷ []
 
--- The first line has the configuration's arguments, numbers and options, and `rest` follows it.
+-- The first line of `text` has the arguments of `c`, which give its numbers and options. `rest`
+-- follows that line.
 pub record SaysConfig (c : Config) (text rest : List ℕ) : Type 0 where
   pub words_are : slice_split is_space (first_of text) ≡ config_words c
   pub numbers_are : map number_of (config_words c) ≡ config_numbers c
   pub options_are : options_in (options_word c.ride c.anonymous) ≡ Some (record { ride = c.ride; anonymous = c.anonymous })
   pub left : rest_of text ≡ rest
 
--- The line of a configuration gives that configuration, whatever follows it.
+-- The line of a configuration gives its numbers and options, whatever text follows the line.
 abbrev pub ConfigsReadBack : Type 0
 ConfigsReadBack = (c : Config) (rest : List ℕ) → FitsWords c → SaysConfig c (config_text c ++ rest) rest

@@ -15,12 +15,13 @@ use Rattle.bx_script.specs.Words.{is_newline, line_text, with_nonce}
 
 -- ---- Documents
 
--- A document that a line can contain as it is: the only one of its request, without a newline.
+-- The document that a line can contain unchanged, if any: the only one of its request, without a
+-- newline.
 abbrev pub plain_document : List (List ℕ) → Option (List ℕ)
 plain_document (d ∷ []) = if list_any is_newline d then None else Some d
 plain_document documents = None
 
--- The form parameter that carries a document.
+-- The form parameter `message` that carries a document.
 abbrev pub parameter_of : List ℕ → List ℕ
 parameter_of document = codes "message=" ++ byte_serialize document
 
@@ -28,12 +29,14 @@ parameter_of document = codes "message=" ++ byte_serialize document
 unfoldable pub form_of : List (List ℕ) → List ℕ
 form_of documents = join_with_byte 38 (map parameter_of documents)
 
--- The body that carries documents: the plain one itself, or otherwise a form.
+-- The body that carries documents: the one that a line can contain unchanged, if given, and
+-- otherwise a form of all of them.
 abbrev pub carrier_by : Option (List ℕ) → List (List ℕ) → List ℕ
 carrier_by (Some d) documents = d
 carrier_by None documents = form_of documents
 
--- The rest of a line after its moment, for these documents.
+-- The part of a request's line after the moment: `P` and the document that a line can contain
+-- unchanged, if given, and otherwise `F` and a form of all documents.
 abbrev pub command_by : Option (List ℕ) → List (List ℕ) → List ℕ
 command_by (Some d) documents = codes "P " ++ d
 command_by None documents = codes "F " ++ form_of documents
@@ -48,14 +51,14 @@ can_say documents = nat_le (length (carrier_by (plain_document documents) docume
 
 -- ---- The configuration
 
--- The argument for these options.
+-- The argument for the options `ride` and `anonymous`: `r`, `a`, `ra` for both, or `-` for neither.
 abbrev pub options_word : Bool → Bool → List ℕ
 options_word false false = codes "-"
 options_word true false = codes "r"
 options_word false true = codes "a"
 options_word true true = codes "ra"
 
--- The argument for a limit of bytes; `-` is the standard limit.
+-- The argument for a limit of bytes: `-` for the standard limit, and otherwise its decimal digits.
 abbrev pub bytes_word : ℕ → List ℕ
 bytes_word bytes = if bytes == STANDARD_BYTES then codes "-" else decimal bytes
 
@@ -64,7 +67,7 @@ abbrev pub config_words : Config → List (List ℕ)
 config_words c = codes "--bytes" ∷ bytes_word c.limits.bytes ∷ codes "--sessions" ∷ decimal c.limits.sessions ∷ codes "--patterns" ∷ decimal c.limits.patterns
     ∷ decimal c.shards ∷ codes "1" ∷ decimal c.timeout ∷ decimal c.interval ∷ decimal c.max_interval ∷ options_word c.ride c.anonymous ∷ decimal c.limits.events ∷ []
 
--- The line with these arguments, separated by spaces.
+-- The line of a configuration: the replay's arguments for it, separated by spaces.
 abbrev pub config_text : Config → List ℕ
 config_text c = join_with_byte 32 (config_words c) ++ 10 ∷ []
 
@@ -79,19 +82,20 @@ asks_for_session input = false
 unfoldable pub nonce_digits : ℕ → List ℕ
 nonce_digits nonce = hex_digits 32 nonce
 
--- The line that gives the next request its nonce, if the request uses it.
+-- The line that gives the next request its nonce, or no text if the request does not use it.
 abbrev pub nonce_text : Bool → ℕ → ℕ → List ℕ
 nonce_text used moment nonce = if used then line_text moment (codes "N " ++ nonce_digits nonce) else []
 
--- The lines of an input.
+-- The lines of an input in a record: one for the nonce, if the input uses it, and one for the
+-- request or tick.
 abbrev pub input_text : Input → List ℕ
 input_text (Post a) = nonce_text (asks_for_session (read_input (Post a))) a.moment a.nonce ++ line_text a.moment (command_of (texts_of a.bodies))
 input_text (inputs.Tick moment) = line_text moment (codes "T")
 
--- The text of a record.
+-- The text of the record of the inputs, in order.
 abbrev pub record_of : List Input → List ℕ
 record_of inputs = flat_map input_text inputs
 
--- An input as it is read from a record: a nonce that it does not use is 0.
+-- An input as it is read from its record. If the input does not use its nonce, the nonce is 0.
 abbrev pub as_recorded : ReadInput → ReadInput
 as_recorded input = if asks_for_session input then input else with_nonce 0 input

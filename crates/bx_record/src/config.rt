@@ -14,7 +14,7 @@ use std::alloc::{AllocError, Global};
 ///   bytes is `-`
 /// - the number of shards, and 1 as the number of workers
 /// - the timeout, the interval and the longest interval, in milliseconds
-/// - the options
+/// - the options: `-`, `r` (ride), `a` (anonymous) or `ra`
 /// - the number of events that may wait for a session
 ///
 /// # Errors
@@ -41,7 +41,7 @@ pub fn config_text(alloc: Global, config: &Config) -> Result<Vec<u8>, AllocError
     Ok(text)
 }
 
-// Returns the argument for the options.
+// Returns the argument for the options: `-`, `r`, `a` or `ra`.
 fn options_word(ride: bool, anonymous: bool) -> &'static [u8]
     ensures { result.now ≡ options_word ride anonymous }
 {
@@ -53,7 +53,7 @@ fn options_word(ride: bool, anonymous: bool) -> &'static [u8]
     }
 }
 
-// Appends a space and the argument for a limit of `bytes`.
+// Appends a space and the argument for a limit of `bytes`: `-` for the standard limit.
 fn push_bytes(text: &mut Vec<u8>, bytes: usize) -> Result<(), AllocError>
     ensures { OnOk result (text.new.items ≡ text.old.items ++ 32 ∷ bytes_word bytes) }
 {

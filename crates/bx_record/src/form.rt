@@ -30,7 +30,7 @@ pub(crate) fn form_len(bodies: &Bodies) -> Option<usize>
     Some(BODY_LIMIT - room)
 }
 
-// Subtracts from `room` the length of an `&` and the parameter that carries `document`.
+// Returns `room` less the length of an `&` and of the parameter that carries `document`.
 //
 // Returns `None` if they do not fit.
 #[tactic(auto, using(crate::proofs::Forms::encoded_none, crate::proofs::Forms::encoded_more, crate::proofs::Forms::no_room))]
@@ -57,7 +57,7 @@ fn encoded_len(byte: u8) -> usize
     }
 }
 
-// Returns `true` if `byte` is the same in a form.
+// Returns `true` if a form contains `byte` without encoding it.
 fn is_unchanged(byte: u8) -> bool
     ensures { result ≡ is_unchanged byte }
 {

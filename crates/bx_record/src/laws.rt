@@ -26,7 +26,7 @@ pub fn records_break_off()
     ensures { RecordsBreakOff }
 {}
 
-/// Proves that the line of an answer is read as a note, which is skipped.
+/// Proves that reading a record skips the line of an answer.
 ///
 /// This holds for every place below 2^64, every digest of 32 bytes and any text after the line.
 pub fn answers_are_skipped()

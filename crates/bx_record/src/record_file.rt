@@ -17,7 +17,7 @@ pub struct Torn {
     pub error: io::Error,
 }
 
-/// A file with the text up to a position, and other lines between its lines.
+/// A file that contains a text up to a position, and lines of answers between the text's lines.
 ///
 /// A write that fails consumes the `RecordFile`, so nothing can be written after a gap.
 #[derive(Drop)]
@@ -30,7 +30,7 @@ pub struct RecordFile<F: Extent, W> {
 }
 
 impl<F: Extent, W: Write + Drop> RecordFile<F, W> {
-    /// Creates an `RecordFile` for a text that begins at `start`.
+    /// Creates a `RecordFile` for a text that begins at `start`.
     ///
     /// The text up to `start` must be empty. Writes nothing.
     pub fn new(file: CountedFile<W>, start: F) -> RecordFile<F, W>
@@ -44,7 +44,7 @@ impl<F: Extent, W: Write + Drop> RecordFile<F, W> {
         }
     }
 
-    /// Returns how many bytes were written to the file, including notes.
+    /// Returns how many bytes were written to the file, including lines of answers.
     pub fn count(&self) -> u64
         ensures { result ≡ self.now.file.count }
     {

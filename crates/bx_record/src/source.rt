@@ -6,13 +6,13 @@ use crate::chunk::{Chunk, Extent};
 /// Text taken from a source.
 #[derive(Drop)]
 pub struct Taken<F: Extent, E> {
-    /// All text that waited.
+    /// All text that waited to be written.
     pub chunk: Chunk<F>,
     /// Why the text ends after `chunk`, or `None` if it may grow.
     pub fault: Option<E>,
 }
 
-/// A growing text that waits to be written, and notes that are not part of the text.
+/// A growing text that waits to be written, and lines of answers, which are not part of it.
 pub trait Source {
     /// A position in the text.
     type Extent: Extent;
@@ -29,10 +29,10 @@ pub trait Source {
     fn take(&mut self, empty: Vec<u8>) -> Option<Taken<Self::Extent, Self::Fault>>
         requires empty { empty.items ≡ [] };
 
-    /// Takes all waiting answers, and leaves the empty buffer `empty` in their place.
+    /// Takes all waiting lines of answers, and leaves the empty buffer `empty` in their place.
     ///
     /// The request of an answer may be in text that the next [`take`](Self::take) takes, but not in
-    /// later text. If the text ends, some notes may refer to text that is missing.
+    /// later text. If the text ends, it may lack the requests of some answers.
     fn take_answers(&mut self, empty: Vec<u8>) -> Vec<u8>
         requires empty { empty.items ≡ [] };
 

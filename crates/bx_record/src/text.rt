@@ -96,7 +96,8 @@ fn asks_for_session(messages: &[Message]) -> bool
         .any(|message| message.channel.as_str() == "/meta/handshake")
 }
 
-// Returns the document that a line can contain unchanged: the only one, without a newline.
+// Returns the document that a line can contain unchanged, if any: the only one of `bodies`, without
+// a newline.
 fn plain_document(bodies: &Bodies) -> Option<&[u8]>
     ensures { option_map (λ d. d.now) result ≡ plain_document (texts_of bodies.now) }
 {
@@ -144,7 +145,9 @@ fn push_nonce(text: &mut Vec<u8>, moment: u64, nonce: u128) -> Result<(), AllocE
     Ok(())
 }
 
-// Appends the line with `bodies`. `plain` is as for `carrier_len`.
+// Appends the line with `bodies`.
+//
+// `plain`: the document that a line can contain unchanged, if any.
 fn push_documents(
     text: &mut Vec<u8>,
     moment: u64,

@@ -10,13 +10,13 @@ use std::sync::atomic::{AtomicBool, Ordering};
 use std::time::{Clock, Duration};
 use std::{io, thread};
 
-// Milliseconds between two looks at the source. Policy of this server.
+// Milliseconds between two checks of how many bytes wait. Policy of this server.
 const REST: u64 = 10;
 
-// After this many looks, all waiting bytes are written. Policy of this server.
+// After this many checks of how many bytes wait, all of them are written. Policy of this server.
 const LOOKS: u32 = 10;
 
-// If at least this many bytes wait, the next look writes them. Policy of this server.
+// If a check finds at least this many waiting bytes, they are written. Policy of this server.
 pub(crate) const SOON: usize = 64 << 10;
 
 /// Why writing ended.
@@ -24,7 +24,7 @@ pub(crate) const SOON: usize = 64 << 10;
 pub enum End<E> {
     /// `stop` was set, and everything that waited is written.
     Told,
-    /// The text ended, for this reason; its last part is written.
+    /// The text ended, for the reason that the source gave; its last part is written.
     Ended(E),
     /// The source returned no text, since its text had ended before.
     Gone,
@@ -46,7 +46,8 @@ pub struct Written<E> {
 /// Writes at once, then every 100 ms, or within 10 ms if 64 KiB of text wait. After `stop` is
 /// set, writes a last time and does not stop the source.
 ///
-/// Ends earlier if the text ends or cannot be written, and then stops the source.
+/// Ends earlier if the text ends or cannot be written, and then stops the source. Returns how much
+/// was written, and why writing ended.
 ///
 /// # Blocking
 ///
@@ -92,10 +93,13 @@ where
     }
 }
 
-// Writes all that waits, and returns the buffers, which are then empty.
+// Writes all that waits. Returns the file and the buffers for text and answers, which are then
+// empty.
 //
-// Answers are taken first and written last, so that each note follows the text that it refers to.
-// If the text ends, the answers are dropped, since the text that they refer to may be missing.
+// If the text has ended or a write fails, stops the source and returns why writing ended.
+//
+// Answers are taken first and written last, so that each follows the text of its request. If the
+// text ends, the answers are dropped, since it may lack their requests.
 fn write_once<S: Source, W: Write + Drop>(
     source: &mut S,
     out: RecordFile<S::Extent, W>,

@@ -19,21 +19,22 @@ use std::marker::Brand;
 use std::random::RandomSource;
 use std::sync::{Arc, Wait};
 
-/// The hub of these runs.
+/// A hub with the placing `ByRemainder` and a gate that is always open.
 pub type Served<L, R> = Hub<L, ByRemainder, OpenGate, R>;
 
-/// Runs two sessions and a tick over two shards, and then over one.
+/// Runs two sessions and a tick over a hub of two shards, and then over a hub of one.
 ///
-/// One session subscribes and connects, and the other publishes. Each has its own pass. Over two
-/// shards, the first pass learns what the other has seen. Over one shard, a task waits for the
-/// answer. The hub keeps a record. If memory runs out for the record, only the record ends.
+/// One session subscribes and connects, and the other publishes. Each session has its own pass.
+/// Over two shards, the subscriber's pass learns what the publisher's pass has seen. Over one
+/// shard, a task waits for the answer. The hub keeps a record. If memory runs out for the record,
+/// only the record ends.
 ///
-/// Returns the place and the reply of each message, the place of the tick, and the answer to the
-/// connect.
+/// Returns, for each hub, a line for each message with its place and its reply, a line for the
+/// tick, and a line with the answer to the connect. The line of the connect itself is `2 waits`.
 ///
 /// # Errors
 ///
-/// `Memory` if memory runs out outside of the hub's calls; `Wrong` for another result than
+/// `Memory` if memory runs out outside of the retried calls; `Wrong` for another result than
 /// expected, or if a second attempt fails.
 pub fn run<R>(rt: &R, alloc: Global) -> Result<String, Unlike>
 where
@@ -79,7 +80,7 @@ where
     Ok(said.into_text())
 }
 
-// Checks that the record still runs, or that it ended for lack of memory.
+// Checks that the record of `hub` ends with the tick, or that it stopped because memory ran out.
 fn check_record<'a, L, R>(rt: &'a R, alloc: Global, hub: &Served<L, &'a R>) -> Result<(), Unlike>
 where
     L: LogId,

@@ -1,8 +1,8 @@
 //! Sample runs that retry each call for which memory runs out.
 //!
-//! If one allocation fails, the program prints the same as if none fails, or exits with status 1 if
-//! that allocation only prepared a call. An argument names the part to run. Without one, all parts
-//! run in turn.
+//! If one allocation in a retried call fails, the program prints what it prints if none fails. If
+//! an allocation outside of these calls fails, it exits with status 1. An argument names the part
+//! to run. Without one, all parts run in turn.
 #![tactic(auto)]
 
 mod hubs;
@@ -40,7 +40,8 @@ fn main(rt: HostRuntime) -> Result<()> {
     }
 }
 
-// Prints the result of a part. Fails if memory ran out, or if there is no such part.
+// Prints the text of a part, or what was wrong. Fails if memory ran out outside of the retried
+// calls, or if `said` is `None`: no part has the given name.
 fn print(rt: HostRuntime, said: Option<Result<String, Unlike>>) -> Result<()> {
     match said {
         Some(Ok(text)) => rt.println(text.as_str())?,
@@ -51,7 +52,7 @@ fn print(rt: HostRuntime, said: Option<Result<String, Unlike>>) -> Result<()> {
     Ok(())
 }
 
-// Runs `part` and returns its text, or `None` if there is no such part.
+// Runs `part` and returns its text or error, or `None` if no part has this name.
 fn run<R>(rt: R, part: &str) -> Option<Result<String, Unlike>>
 where
     R: Threads + Wait + RandomSource + AllocGlobal + Copy + Drop + Sync,

@@ -12,19 +12,19 @@ use http_body_util::BodyExt;
 use std::alloc::{AllocGlobal, Global};
 use std::random::RandomSource;
 
-// The number of events.
+// The number of events in a response.
 const EVENTS: usize = 3;
 
-// The length in bytes of the data of each event. A piece of 64 KiB has no room for two.
+// The number of letters in the data of each event. A piece of 64 KiB has no room for two events.
 const SIGNS: usize = 40_000;
 
-// The most frames to ask for: three pieces and the end.
+// The most frames to read from a response: three pieces and the end.
 const MOST_FRAMES: usize = 4;
 
-/// Writes a response in three pieces, first as an array and then as a script.
+/// Reads a response of three pieces, first as an array and then as a script.
 ///
-/// Returns a line for each. It has the length in bytes of each frame, and how many bytes are left
-/// after the frame.
+/// Returns a line for each response. It has the length in bytes of each frame, and the number of
+/// bytes that are left after the frame.
 ///
 /// # Errors
 ///
@@ -40,7 +40,8 @@ pub fn run<R: RandomSource + AllocGlobal>(rt: &R, alloc: Global) -> Result<Strin
     Ok(text)
 }
 
-// Reads a whole response, checks its text, and returns its line.
+// Reads a whole response, checks its text, and returns the line with the lengths of its frames.
+// With a `callback`, the response is a script.
 fn given(alloc: Global, task: &MockTask, callback: Option<&str>) -> Result<String, Unlike> {
     let wanted = wanted(alloc, callback)?;
     let mut body = answered(alloc, callback)?;
@@ -61,7 +62,8 @@ fn given(alloc: Global, task: &MockTask, callback: Option<&str>) -> Result<Strin
     Ok(line)
 }
 
-// Returns the part of the line for one frame of `size` bytes, with `left` bytes after it.
+// Returns the text for a frame of `size` bytes after which `left` bytes remain. Fails if `left` is
+// `None`.
 fn said(alloc: Global, size: usize, left: Option<u64>) -> Result<String, Unlike> {
     let Some(left) = left else {
         return Err(Unlike::Wrong("the length is not known"));
@@ -89,7 +91,8 @@ fn ask_once(task: &MockTask, body: &mut Pieces<Bytes>) -> Result<Option<Bytes>, 
     }
 }
 
-// Creates a response with the events. Retries once if memory runs out.
+// Creates a response with `EVENTS` events: a script that calls `callback` if it is given, and
+// otherwise an array. Retries once if memory runs out.
 fn answered(alloc: Global, callback: Option<&str>) -> Result<Pieces<Bytes>, Unlike> {
     let items = events(alloc)?;
     match Pieces::answer(alloc, callback, items.as_slice()) {
@@ -98,7 +101,7 @@ fn answered(alloc: Global, callback: Option<&str>) -> Result<Pieces<Bytes>, Unli
     }
 }
 
-// Returns the data of an event, as JSON.
+// Returns the data of an event: a JSON string of `SIGNS` letters.
 fn data(alloc: Global) -> Result<String, Unlike> {
     let mut text = String::new(alloc);
     text.push_str("\"")?;
@@ -123,7 +126,8 @@ fn events(alloc: Global) -> Result<Vec<Item>, Unlike> {
     Ok(items)
 }
 
-// Returns the whole text that the response must have.
+// Returns the expected text of the whole response: the array of the events, in a call of `callback`
+// if it is given.
 fn wanted(alloc: Global, callback: Option<&str>) -> Result<String, Unlike> {
     let mut text = String::new(alloc);
     if let Some(name) = callback {

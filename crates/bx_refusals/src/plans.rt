@@ -9,22 +9,23 @@ use bx_message::Message;
 use bx_registry::{Plan, Registry};
 use std::alloc::Global;
 
-// A subscription of the second session.
+// A subscription of the second session to `/a/*`.
 const SUBSCRIBE: &str =
     r#"[{"channel":"/meta/subscribe","clientId":"000000000000000000000000000000000000000000000002","subscription":"/a/*"}]"#;
 
-// A publish of the first session.
+// A publish of the first session to `/a/b`.
 const PUBLISH: &str =
     r#"[{"channel":"/a/b","clientId":"000000000000000000000000000000000000000000000001","data":1}]"#;
 
-// A request or a tick, with its moment in milliseconds.
+// A request with its moment in milliseconds and its body, or a tick with its moment.
 #[derive(Clone, Copy, Debug)]
 enum Deed {
     Request(u64, &'static str),
     Tick(u64),
 }
 
-// The second session sends its last message later, so the second tick closes only the first.
+// The requests and ticks of the run. The second session sends its last message later than the
+// first, so the second tick closes only the first session.
 const DEEDS: [Deed; 6] = [
     Deed::Request(0, HANDSHAKE),
     Deed::Request(5, HANDSHAKE),
@@ -34,7 +35,8 @@ const DEEDS: [Deed; 6] = [
     Deed::Request(10_001, PUBLISH),
 ];
 
-// The state of a registry, as far as it can be read.
+// What can be read of a registry: how many entries and live sessions it has, and whether sessions 1
+// and 2 are live.
 #[derive(Clone, Copy, Debug, PartialEq, Eq)]
 struct Counts {
     entries: u64,
@@ -54,12 +56,13 @@ fn counts_of(registry: &Registry) -> Counts {
 
 /// Admits requests and ticks, in order, and returns a line for each.
 ///
-/// The line has the reply to the request, or the sessions that the tick closes.
+/// The line of a request has its reply. The line of a tick has the numbers of the sessions that it
+/// closes.
 ///
 /// # Errors
 ///
 /// `Memory` if memory runs out outside of `plan` and `plan_tick`; `Wrong` if a second attempt fails
-/// or the first changed the registry.
+/// or the first attempt changed the registry.
 pub fn run(alloc: Global) -> Result<String, Unlike> {
     let mut registry = Registry::new(alloc, config(1)?)?;
     let mut text = String::new(alloc);
@@ -95,7 +98,7 @@ fn request(
     }
 }
 
-// Plans a request. Retries once if memory runs out and the registry shows no change.
+// Returns the plan of a request. Retries once if memory runs out and the registry is unchanged.
 fn planned(
     alloc: Global,
     registry: &mut Registry,
@@ -114,7 +117,7 @@ fn planned(
     plan.map_err(|_| Unlike::Wrong("not planned"))
 }
 
-// Admits a tick, and returns a line with the sessions that it closes.
+// Admits a tick, and returns a line with the numbers of the sessions that it closes.
 fn tick(alloc: Global, registry: &mut Registry, moment: u64) -> Result<String, Unlike> {
     let Plan {
         batch,
@@ -138,7 +141,7 @@ fn tick(alloc: Global, registry: &mut Registry, moment: u64) -> Result<String, U
     Ok(text)
 }
 
-// Plans a tick. Retries once if memory runs out and the registry shows no change.
+// Returns the plan of a tick. Retries once if memory runs out and the registry is unchanged.
 fn planned_tick(alloc: Global, registry: &mut Registry, moment: u64) -> Result<Plan, Unlike>
     ensures { IfOk result (λ plan. LeadsTo registry.new plan.change plan.elements) }
 {

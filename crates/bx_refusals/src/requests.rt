@@ -6,11 +6,11 @@ use bx_entry::{Access, Arrival};
 use bx_message::{Answer, Item, Reply, body_text, reply_text};
 use std::alloc::Global;
 
-/// A handshake.
+/// A request with a handshake.
 pub const HANDSHAKE: &str =
     r#"[{"channel":"/meta/handshake","version":"1.0","supportedConnectionTypes":["long-polling"]}]"#;
 
-/// The handshake of an acknowledging session.
+/// A request with the handshake of an acknowledging session.
 pub const ACK_HANDSHAKE: &str =
     r#"[{"channel":"/meta/handshake","version":"1.0","supportedConnectionTypes":["long-polling"],"ext":{"ack":true}}]"#;
 
@@ -26,7 +26,7 @@ pub const CONNECT: &str =
 pub const HOLD_NONE: &str =
     r#"[{"channel":"/meta/connect","clientId":"000000000000000000000000000000000000000000000001","connectionType":"long-polling","ext":{"ack":0}}]"#;
 
-/// A publish of the second session, with the data 7.
+/// A publish of the second session to `/a/b`, with the data 7.
 pub const PUBLISH: &str =
     r#"[{"channel":"/a/b","clientId":"000000000000000000000000000000000000000000000002","data":7}]"#;
 
@@ -43,7 +43,7 @@ pub fn config(shards: usize) -> Result<Config, Unlike> {
     Ok(config)
 }
 
-/// Creates a request with `body`, at moment 0.
+/// Creates a request with the body `body`, at moment 0.
 ///
 /// # Errors
 ///
@@ -52,7 +52,7 @@ pub fn arrival(alloc: Global, body: &str) -> Result<Arrival, Unlike> {
     arrival_at(alloc, 0, body)
 }
 
-/// Creates a request with `body`, at `moment`, in milliseconds.
+/// Creates a request with the body `body`, at `moment`, in milliseconds.
 ///
 /// # Errors
 ///
@@ -66,7 +66,7 @@ pub fn arrival_at(alloc: Global, moment: u64, body: &str) -> Result<Arrival, Unl
     })
 }
 
-/// Returns the text of an answer: its events, then its reply.
+/// Returns the JSON array of an answer: its events, then its reply.
 ///
 /// # Errors
 ///
@@ -81,7 +81,7 @@ pub fn text_of(alloc: Global, answer: Answer) -> Result<String, Unlike> {
     response(alloc, items.as_slice())
 }
 
-/// Returns the text of a response with `items`.
+/// Returns the body of a response with `items`, a JSON array.
 ///
 /// # Errors
 ///
@@ -90,7 +90,7 @@ pub fn response(alloc: Global, items: &[Item]) -> Result<String, Unlike> {
     string(body_text(alloc, items)?)
 }
 
-/// Returns the text of a reply.
+/// Returns `reply` as JSON.
 ///
 /// # Errors
 ///
@@ -103,7 +103,7 @@ pub fn reply(alloc: Global, reply: &Reply) -> Result<String, Unlike> {
 ///
 /// # Errors
 ///
-/// `Wrong` if they are not UTF-8.
+/// `Wrong` if `text` is not UTF-8.
 pub fn string(text: Vec<u8>) -> Result<String, Unlike> {
     String::from_utf8(text).map_err(|_| Unlike::Wrong("not a text"))
 }
@@ -112,7 +112,7 @@ pub fn string(text: Vec<u8>) -> Result<String, Unlike> {
 ///
 /// # Errors
 ///
-/// `Memory` if memory runs out.
+/// `Memory` if memory runs out. Then `text` may have a new newline at its end.
 pub fn add_line(text: &mut String, line: &str) -> Result<(), Unlike> {
     if !text.is_empty() {
         text.push_str("\n")?;

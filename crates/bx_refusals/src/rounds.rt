@@ -16,11 +16,11 @@ use std::thread::Threads;
 // An upper bound on the inputs of a round.
 const MOST_INPUTS: usize = 1_000;
 
-// Requests, each with its moment in milliseconds.
+// The bodies of requests, each with its moment in milliseconds.
 type Requests = &'static [(u64, &'static str)];
 
-// A run: the first requests, the new number of shards if the sessions are then redistributed, the
-// last requests, and whether there are riders.
+// A run: the requests `first`, a redistribution of the sessions to `shards` shards unless it is
+// `None`, and the requests `then`. If `ride` is set, replies carry waiting events.
 #[derive(Clone, Copy, Debug)]
 struct Worked {
     first: Requests,
@@ -29,18 +29,20 @@ struct Worked {
     ride: bool,
 }
 
-// The first session subscribes, and publishes an event that it receives itself.
+// A request in which the first session subscribes to `/a/*`, and publishes an event that it
+// receives itself.
 const SUBSCRIBE_AND_PUBLISH: &str =
     r#"[{"channel":"/meta/subscribe","clientId":"000000000000000000000000000000000000000000000001","subscription":"/a/*"},{"channel":"/a/x","clientId":"000000000000000000000000000000000000000000000001","data":1}]"#;
 
-// The first session publishes two more events.
+// A request in which the first session publishes two events, with the data 2 and 3.
 const PUBLISH_TWO: &str =
     r#"[{"channel":"/a/y","clientId":"000000000000000000000000000000000000000000000001","data":2},{"channel":"/a/z","clientId":"000000000000000000000000000000000000000000000001","data":3}]"#;
 
 const UNSUBSCRIBE: &str =
     r#"[{"channel":"/meta/unsubscribe","clientId":"000000000000000000000000000000000000000000000001","subscription":"/a/*"}]"#;
 
-// Connects of the first session that are never held, by the batch that they acknowledge.
+// The three requests `ACKNOWLEDGE_..` are connects of the first session that are never held. The
+// name of each has the batch that it acknowledges.
 
 const ACKNOWLEDGE_NONE: &str =
     r#"[{"channel":"/meta/connect","clientId":"000000000000000000000000000000000000000000000001","connectionType":"long-polling","ext":{"ack":0},"advice":{"timeout":0}}]"#;
@@ -58,11 +60,11 @@ const HOLD_FIRST: &str =
 const SUBSCRIBE_BELOW: &str =
     r#"[{"channel":"/meta/subscribe","clientId":"000000000000000000000000000000000000000000000001","subscription":"/a/**"}]"#;
 
-// The second session publishes to a channel two segments below `/a`.
+// A publish of the second session to a channel two segments below `/a`.
 const PUBLISH_BELOW: &str =
     r#"[{"channel":"/a/b/c","clientId":"000000000000000000000000000000000000000000000002","data":[1, 2]}]"#;
 
-// A publish answers a held connect.
+// A run in which a publish answers a held connect.
 const ANSWERED: Worked = Worked {
     first: &[
         (0, HANDSHAKE),
@@ -76,7 +78,7 @@ const ANSWERED: Worked = Worked {
     ride: false,
 };
 
-// Batches are sent again until they are acknowledged.
+// A run in which batches are sent again until they are acknowledged.
 const BATCHES: Worked = Worked {
     first: &[
         (0, ACK_HANDSHAKE),
@@ -94,8 +96,8 @@ const BATCHES: Worked = Worked {
     ride: false,
 };
 
-// The first batch answers a held connect and is sent again. The connect that acknowledges it is
-// held.
+// A run in which the first batch answers a held connect and is sent again. The connect that
+// acknowledges the batch is held until the end.
 const HELD_BATCHES: Worked = Worked {
     first: &[
         (0, ACK_HANDSHAKE),
@@ -111,7 +113,7 @@ const HELD_BATCHES: Worked = Worked {
     ride: false,
 };
 
-// Sessions are redistributed while a connect is held.
+// A run in which sessions are redistributed to five shards while a connect is held.
 const DEALT_WHILE_HELD: Worked = Worked {
     first: &[
         (0, HANDSHAKE),
@@ -124,7 +126,7 @@ const DEALT_WHILE_HELD: Worked = Worked {
     ride: false,
 };
 
-// Sessions are redistributed while a batch is outstanding.
+// A run in which sessions are redistributed to one shard while a batch is not yet acknowledged.
 const DEALT_WITH_A_BATCH: Worked = Worked {
     first: &[
         (0, ACK_HANDSHAKE),
@@ -136,7 +138,8 @@ const DEALT_WITH_A_BATCH: Worked = Worked {
     ride: false,
 };
 
-// Replies carry waiting events, also while a connect is held. The last reply carries none.
+// A run in which replies to publishes carry waiting events. In the fifth request, the first event
+// answers the held connect, and a reply carries the second event. The last reply carries no event.
 const RIDDEN: Worked = Worked {
     first: &[
         (0, HANDSHAKE),
@@ -162,13 +165,13 @@ const WORKED: [Worked; 6] = [
 
 /// Makes all runs, and returns a line for each response.
 ///
-/// Each line begins with the number of its request in its run, from 1. The connects that are held
-/// at the end of a run follow.
+/// Each line begins with the number of its request in its run, from 1. After the responses of a
+/// run, a line is appended for each connect that is still held.
 ///
 /// # Errors
 ///
-/// `Memory` if memory runs out outside of the calls that are retried; `Wrong` for another result
-/// than expected, or if a second attempt fails.
+/// `Memory` if memory runs out outside of the retried calls; `Wrong` for another result than
+/// expected, or if a second attempt fails.
 pub fn run<R: Threads + Sync>(rt: &R, alloc: Global) -> Result<String, Unlike> {
     let mut text = String::new(alloc);
     for worked in WORKED {
@@ -190,7 +193,8 @@ fn worked_text<R: Threads + Sync>(
     ended(rt, alloc, &mut round, worked.then, outs)
 }
 
-// Starts a round with the first requests, and redistributes its sessions if the run does so.
+// Returns a round after the first requests of `worked`, redistributed if `worked` has a new number
+// of shards. `once` and `again` are the placings of the two attempts.
 fn first<R: Threads + Sync>(
     rt: &R,
     alloc: Global,
@@ -208,7 +212,7 @@ fn first<R: Threads + Sync>(
     }
 }
 
-// Starts a round of two shards with the first requests.
+// Returns a round of two shards after the first requests of `worked`. Appends the outs.
 fn begun<R: Threads + Sync>(
     rt: &R,
     alloc: Global,
@@ -228,7 +232,8 @@ fn placing(alloc: Global) -> Result<Arc<ByRemainder>, Unlike> {
     Ok(Arc::new(alloc, ByRemainder)?)
 }
 
-// Redistributes the sessions to `shards` shards. Retries once with the returned round on error.
+// Returns `round` with its sessions redistributed to `shards` shards. On an error, retries once
+// with the round that the error returns.
 fn redistributed<R: Threads + Sync>(
     rt: &R,
     alloc: Global,
@@ -256,7 +261,7 @@ fn redistributed_again<R: Threads + Sync>(
     }
 }
 
-// Runs the last requests, and returns the lines of all responses and of the held connects.
+// Runs `requests`, and returns the lines of all responses and held connects of the run.
 fn ended<R: Threads + Sync>(
     rt: &R,
     alloc: Global,
@@ -273,7 +278,8 @@ fn ended<R: Threads + Sync>(
     Ok(text)
 }
 
-// Runs requests. If memory runs out, continues with those that were not admitted.
+// Runs `requests` and appends their outs. If memory runs out, continues once with the requests that
+// were not admitted.
 fn deal<R: Threads + Sync>(
     rt: &R,
     alloc: Global,
@@ -297,7 +303,8 @@ fn inputs(alloc: Global, requests: Requests) -> Result<Vec<Input>, Unlike> {
     Ok(inputs)
 }
 
-// Runs the inputs after the first `admitted`, and checks that the earlier outs stay.
+// Runs the inputs after the first `admitted`, and checks that `outs` still begins with the earlier
+// outs.
 fn go_on<R: Threads + Sync>(
     rt: &R,
     alloc: Global,
@@ -320,7 +327,8 @@ fn go_on<R: Threads + Sync>(
     }
 }
 
-// Runs inputs. If memory runs out, returns how many of them were admitted.
+// Runs `inputs` and appends their outs. Returns `None`, or how many inputs were admitted if memory
+// ran out.
 fn refused_behind<R: Threads + Sync>(
     rt: &R,
     alloc: Global,

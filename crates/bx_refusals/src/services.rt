@@ -49,7 +49,7 @@ impl Nonces for Zeros {
 /// # Errors
 ///
 /// `Memory` if memory runs out outside of the exchanges; `Wrong` for another result than expected,
-/// or if an exchange fails again.
+/// or if the second attempt of an exchange fails.
 pub fn run<R>(rt: R) -> Result<String, Unlike>
 where
     R: Wait + RandomSource + AllocGlobal + Copy + Drop,

@@ -26,13 +26,14 @@ enum Deed {
     Connect(u64),
     // Posts a connect that is never held.
     ConnectAtOnce(u64),
-    // Posts a connect that acknowledges this batch and is never held.
+    // Posts a connect of a session that acknowledges the batch with the second number and is never
+    // held.
     Acknowledge(u64, u64),
     // Publishes data to a channel.
     Publish(&'static str, &'static str),
 }
 
-// A publish answers a held connect.
+// The entries of a run in which a publish answers a held connect.
 const ANSWERED: [Deed; 5] = [
     Deed::Open(1),
     Deed::Open(2),
@@ -41,7 +42,8 @@ const ANSWERED: [Deed; 5] = [
     Deed::Publish("/a/b", "7"),
 ];
 
-// Batches are sent again until they are acknowledged, even after new events and an unsubscription.
+// The entries of a run in which batches are sent again until they are acknowledged, even after new
+// events and an unsubscription.
 const BATCHES: [Deed; 11] = [
     Deed::OpenAck(1),
     Deed::Subscribe(1, "/a/*"),
@@ -56,15 +58,16 @@ const BATCHES: [Deed; 11] = [
     Deed::Acknowledge(1, 2),
 ];
 
-// Opens a session that subscribes to a channel.
+// Entries that open a session and subscribe it to `/a/b`.
 const HEARS: [Deed; 2] = [Deed::Open(1), Deed::Subscribe(1, "/a/b")];
 
 const EVENT: Deed = Deed::Publish("/a/b", "1");
 
-// After a full queue: one more event, so the session overflows, and its connect fails.
+// Entries to apply when the queue is full: an event at which the session overflows, a connect that
+// fails, and another event.
 const OVERFLOW: [Deed; 3] = [EVENT, Deed::ConnectAtOnce(1), EVENT];
 
-// After a full queue: four connects get all events.
+// Entries to apply when the queue is full: four connects, which get all events.
 const GIVEN: [Deed; 4] = [Deed::ConnectAtOnce(1); 4];
 
 // A run over a new shard: the entries `first`, then publishes that fill a queue if `is_filled`, and
@@ -107,7 +110,7 @@ const WORKED: [Worked; 4] = [
 /// # Errors
 ///
 /// `Memory` if memory runs out outside of `Shard::apply`; `Wrong` if an entry is not applied by a
-/// second attempt, or the first one moved the shard.
+/// second attempt, or if the first attempt changed the place of the shard.
 pub fn run(alloc: Global) -> Result<String, Unlike> {
     let mut text = String::new(alloc);
     for worked in WORKED {
@@ -139,7 +142,8 @@ fn shard(alloc: Global) -> Result<Shard<ByRemainder>, Unlike> {
     Ok(Shard::new(alloc, 0, config(1)?, placing))
 }
 
-// Applies entries, and appends a line when the last connect is answered.
+// Applies the entries of `deeds`. When the last connect so far is answered, appends the line of the
+// answer to `text`.
 fn apply_all(
     alloc: Global,
     shard: &mut Shard<ByRemainder>,
@@ -164,7 +168,8 @@ fn apply_all(
     Ok(())
 }
 
-// Publishes as many events as may wait. All entries share one event.
+// Publishes `MOST_EVENTS` events, which fills the queue of the session. All entries share one
+// event.
 fn fill(alloc: Global, shard: &mut Shard<ByRemainder>) -> Result<(), Unlike> {
     let event = event(alloc, "/a/b", "1")?;
     for _ in 0..MOST_EVENTS {
@@ -197,7 +202,7 @@ fn apply(alloc: Global, shard: &mut Shard<ByRemainder>, kind: EntryKind) -> Resu
         .map_err(|_| Unlike::Wrong("not applied"))
 }
 
-// Returns the text of an answer. For four or more events, it has their count and the reply.
+// Returns the text of `answer`. For four or more events, the text has their count and the reply.
 fn told(alloc: Global, answer: Answer) -> Result<String, Unlike> {
     let count = answer.events.len();
     if count < 4 {
@@ -235,7 +240,8 @@ fn patterns(alloc: Global, text: &str) -> Result<Sequence<Pattern>, Unlike> {
     Ok(patterns)
 }
 
-// Creates a connect. Its client id is the session's number as 48 hexadecimal digits.
+// Creates the entry of a connect, to be held for at most `hold` milliseconds. The client id is
+// `session` as 48 hexadecimal digits.
 fn connect(
     alloc: Global,
     session: u64,

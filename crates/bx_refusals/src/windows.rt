@@ -21,7 +21,8 @@ enum Deed {
     Trim(u64),
 }
 
-// The first trim drops nothing, the second the first batch, and the third all that are left.
+// The changes of the run. The first trim drops nothing, the second drops the first batch, and the
+// third drops all batches that are left.
 const DEEDS: [Deed; 7] = [
     Deed::Publish(3),
     Deed::Publish(2),
@@ -32,10 +33,10 @@ const DEEDS: [Deed; 7] = [
     Deed::Publish(2),
 ];
 
-/// Publishes and trims batches, and returns a line for each.
+/// Publishes batches of ticks and trims the window, and returns a line for each change.
 ///
-/// The line has what a reader finds at each place. The last line has what another reader finds,
-/// which looks for the first time.
+/// Each line has what a reader finds at each place after the change. The last line has what another
+/// reader finds that has not read before.
 ///
 /// # Errors
 ///
@@ -69,7 +70,7 @@ fn told<L: LogId, R: Wait + Drop>(
     Ok(text)
 }
 
-// Makes all changes. After each, appends a line with what the reader finds.
+// Makes all changes of `DEEDS`. After each, appends a line with what `reader` finds.
 fn work<L: LogId, R: Wait + Drop>(
     alloc: Global,
     writer: &mut Ticker<L, R>,
@@ -88,8 +89,8 @@ fn work<L: LogId, R: Wait + Drop>(
     Ok(())
 }
 
-// Publishes a batch of `count` ticks. If memory runs out, checks that the reader still finds
-// `before`, and publishes the returned batch.
+// Publishes a batch of `count` ticks. If memory runs out, checks that `reader` still finds what the
+// text `before` says, and publishes the returned batch.
 fn publish<L: LogId, R: Wait + Drop>(
     alloc: Global,
     writer: &mut Ticker<L, R>,
@@ -111,8 +112,8 @@ fn publish<L: LogId, R: Wait + Drop>(
     }
 }
 
-// Trims the window. If memory runs out, checks that the reader still finds `before`, and trims
-// again.
+// Drops the batches that end at or before `place`. If memory runs out, checks that `reader` still
+// finds what the text `before` has, and tries again.
 fn trim<L: LogId, R: Wait + Drop>(
     alloc: Global,
     writer: &mut Ticker<L, R>,
@@ -130,7 +131,8 @@ fn trim<L: LogId, R: Wait + Drop>(
     Err(Unlike::Wrong("not trimmed"))
 }
 
-// Checks that the reader still finds `before`, and has seen all steps of the writer.
+// Checks that `reader` still finds what the text `before` has, and has seen all changes of the
+// writer.
 fn check_same<L: LogId, R: Wait + Drop>(
     alloc: Global,
     writer: &Ticker<L, R>,

@@ -11,14 +11,14 @@ use std::thread::Threads;
 
 const SHARDS: usize = 2;
 
-/// Returns the answer to the connect of one session after another session has published.
+/// Returns the text of the answer to one session's connect, after another session has published.
 ///
 /// All requests are admitted first. Then one worker advances the shards.
 ///
 /// # Errors
 ///
-/// `Memory` if memory runs out outside of the calls that are retried; `Wrong` for another result
-/// than expected, or if a second attempt fails.
+/// `Memory` if memory runs out outside of the retried calls; `Wrong` for another result than
+/// expected, or if a second attempt fails.
 pub fn run<R: Threads + Sync>(rt: &R, alloc: Global) -> Result<String, Unlike> {
     let placing = Arc::new(alloc, ByRemainder)?;
     let mut world = World::new(alloc, config(SHARDS)?, placing)?;
@@ -50,7 +50,7 @@ fn ticket_of(admitted: Admitted) -> Option<Ticket> {
     None
 }
 
-// Admits a request. Retries once if memory runs out.
+// Admits a request with the body `body`, and returns its slots. Retries once if memory runs out.
 fn admit(alloc: Global, world: &mut World<ByRemainder>, body: &str) -> Result<Admitted, Unlike> {
     let arrival = arrival(alloc, body)?;
     let admitted = match world.admit(alloc, &arrival) {
@@ -60,8 +60,8 @@ fn admit(alloc: Global, world: &mut World<ByRemainder>, body: &str) -> Result<Ad
     admitted.map_err(|_| Unlike::Wrong("not admitted"))
 }
 
-// Advances the shards. If memory runs out for one of them, checks that just one is reported to lag,
-// and that a second attempt advances it to the end.
+// Advances the shards. If memory runs out for one of them, checks that exactly one shard is
+// reported as not advanced, and that a second attempt advances it to the end.
 fn bring_up<R: Threads + Sync>(
     rt: &R,
     alloc: Global,
@@ -81,7 +81,8 @@ fn bring_up<R: Threads + Sync>(
     Err(Unlike::Wrong("shards stay behind"))
 }
 
-// Counts the shards at the end of the list. Advances each other shard by one entry.
+// Returns the number of shards that have applied the whole list. Applies one entry to each other
+// shard.
 fn level(alloc: Global, world: &mut World<ByRemainder>) -> usize {
     let mut level = 0usize;
     for shard in 0..SHARDS {

@@ -10,31 +10,32 @@ use Rattle.bx_connects.specs.Connects.{AreApart, connect_at, filed_as, filing_at
 use Rattle.bx_shard.specs.declared.sessions.Sessions.{Sessions}
 use Rattle.bx_shard.specs.Sessions.{patterns_in, kept_in}
 
--- What is reserved in shard `k` of `count` for a known connect, if its session is placed there.
+-- The connect that shard `k` of `count` reserves for a known connect, given by its session and
+-- deadline: held, without a waker. `None` if the session is placed in another shard.
 abbrev pub lent_as : (ℕ → ℕ → ℕ) → ℕ → ℕ → Option (ℕ × Option ℕ) → Option ConnectState
 lent_as placing count k None = None
 lent_as placing count k (Some known) = if nat_eq (placing known.0 count) k then held_by known.0 known.1 else None
 
--- Session `n` in a shard that may not exist.
+-- Session `n` in a shard, or `None` if the shard does not exist or does not have the session.
 abbrev pub kept_there : Option Sessions → ℕ → Option Kept
 kept_there None n = None
 kept_there (Some s) n = kept_in s n
 
--- The patterns of session `n` in a shard that may not exist.
+-- The patterns of session `n` in a shard, or no patterns if the shard does not exist.
 abbrev pub patterns_there : Option Sessions → ℕ → List Glob
 patterns_there None n = []
 patterns_there (Some s) n = patterns_in s n
 
--- The connect at `p` in a shard that may not exist.
+-- The connect at `p` in a shard, or `None` if the shard does not exist or does not know it.
 abbrev pub connect_there : Option Sessions → ℕ → Option ConnectState
 connect_there None p = None
 connect_there (Some s) p = connect_at s.connects p
 
--- Session `n` in shard `k`, if it is there.
+-- Session `n` in shard `k`, if the shard has it.
 abbrev pub kept_of : List Sessions → ℕ → ℕ → Option Kept
 kept_of heirs k n = kept_there (slice_get heirs k) n
 
--- The patterns of session `n` in shard `k`.
+-- The patterns of session `n` in shard `k`, or no patterns if the shard does not exist.
 abbrev pub patterns_at : List Sessions → ℕ → ℕ → List Glob
 patterns_at heirs k n = patterns_there (slice_get heirs k) n
 
@@ -46,7 +47,8 @@ connect_of heirs k p = connect_there (slice_get heirs k) p
 abbrev pub config_of : List Sessions → ℕ → Option Config
 config_of heirs k = option_map (λ (s : Sessions). s.config) (slice_get heirs k)
 
--- The shard is empty and has this configuration.
+-- The shard's sessions `s` are empty, without patterns or connects, and have the configuration
+-- `config`.
 pub record IsEmptyOf (config : Config) (s : Sessions) : Type 0 where
   pub config_is : s.config ≡ config
   pub sessions : (n : ℕ) → kept_in s n ≡ None
@@ -57,13 +59,14 @@ pub record IsEmptyOf (config : Config) (s : Sessions) : Type 0 where
 abbrev pub AreAllClean : List Sessions → Type 0
 AreAllClean heirs = (k n : ℕ) → kept_of heirs k n ≡ None → patterns_at heirs k n ≡ []
 
--- The connects and configurations of the shards are unchanged.
+-- The shards `new` have the same connects and configurations as the shards `old`, in order.
 pub record SameConnects (old new : List Sessions) : Type 0 where
   pub many : length new ≡ length old
   pub configs : (k : ℕ) → config_of new k ≡ config_of old k
   pub connects : (k p : ℕ) → connect_of new k p ≡ connect_of old k p
 
--- The sessions, patterns and configurations of the shards are unchanged.
+-- The shards `new` have the same sessions, patterns and configurations as the shards `old`, in
+-- order.
 pub record SameSessions (old new : List Sessions) : Type 0 where
   pub many : length new ≡ length old
   pub configs : (k : ℕ) → config_of new k ≡ config_of old k
@@ -82,17 +85,19 @@ abbrev pub patterns_among : List Sessions → ℕ → List Glob
 patterns_among [] n = []
 patterns_among (s ∷ ss) n = if is_some (kept_in s n) then patterns_in s n else patterns_among ss n
 
--- What is reserved in shard `k` for the connect at `p`, from the first shard that knows it.
+-- The connect that new shard `k` of `count` reserves at place `p`: the one for the first old shard
+-- that knows the connect there, for a session that is placed in shard `k`.
 abbrev pub lent_among : (ℕ → ℕ → ℕ) → ℕ → ℕ → List Sessions → ℕ → Option ConnectState
 lent_among placing count k [] p = None
 lent_among placing count k (s ∷ ss) p = option_or (lent_as placing count k (known_as (connect_at s.connects p))) (lent_among placing count k ss p)
 
--- There are `count` empty shards with this configuration.
+-- `heirs` is `count` empty shards with the configuration `config`.
 pub record AreEmpty (config : Config) (count : ℕ) (heirs : List Sessions) : Type 0 where
   pub many : length heirs ≡ count
   pub all : All (IsEmptyOf config) heirs
 
--- Everything in the old shards is reserved in the new ones.
+-- All sessions, patterns and connects of the old shards `olds` are reserved in the `count` new
+-- shards `heirs`, which have the configuration `config`.
 pub record AreLent (placing : ℕ → ℕ → ℕ) (count : ℕ) (olds : List Sessions) (config : Config) (heirs : List Sessions) : Type 0 where
   pub many : length heirs ≡ count
   pub configs : (k : ℕ) → k < count → config_of heirs k ≡ Some config
@@ -103,7 +108,7 @@ pub record AreLent (placing : ℕ → ℕ → ℕ) (count : ℕ) (olds : List Se
 
 -- ---- Moves
 
--- A moved session replaces the reserved one, if there is one.
+-- A reserved session after the moved session, if any, replaced it. `None` if none was reserved.
 abbrev pub overlaid : Option Kept → Option Kept → Option Kept
 overlaid None lent = lent
 overlaid (Some k) lent = option_map (λ (x : Kept). k) lent
@@ -131,7 +136,8 @@ abbrev pub answered_all : (ℕ → ℕ → ℕ) → ℕ → ℕ → ℕ → List
 answered_all placing count k p [] lent = lent
 answered_all placing count k p (s ∷ ss) lent = answered_all placing count k p ss (answered_with placing count k (filing_at s.connects.filed p) lent)
 
--- Everything in the old shards has moved to the new ones.
+-- `new` is the new shards `old` after all sessions and filed answers of the old shards `olds` have
+-- moved into what the new shards reserved.
 pub record AreMoved (placing : ℕ → ℕ → ℕ) (count : ℕ) (olds old new : List Sessions) : Type 0 where
   pub many : length new ≡ length old
   pub configs : (k : ℕ) → config_of new k ≡ config_of old k

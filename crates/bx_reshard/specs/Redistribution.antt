@@ -23,29 +23,31 @@ connect_among shards p = among (λ s. connect_in s p) shards
 
 -- ---- Shards of one server
 
--- All shards have the same configuration and the same place.
+-- All shards of a list have the same configuration and the same place.
 abbrev pub AreAlike : List State → Type 0
 AreAlike shards = (i j : ℕ) (s t : State) → slice_get shards i ≡ Some s → slice_get shards j ≡ Some t → (s.setup.config ≡ t.setup.config) × (s.place ≡ t.place)
 
--- No two shards share a session or a connect.
+-- No two shards of a list share a session or a connect.
 abbrev pub AreApart : List State → Type 0
 AreApart shards = (i j : ℕ) (s t : State) → i ≢ j → slice_get shards i ≡ Some s → slice_get shards j ≡ Some t →
     ((n : ℕ) → is_some (session_in s n) ≡ true → session_in t n ≡ None) × ((p : ℕ) → is_some (connect_in s p) ≡ true → connect_in t p ≡ None)
 
--- Shards that agree with the definitions are alike, and share no session or connect.
+-- Shards that agree with the definitions have the same configuration and place, and share no
+-- session or connect.
 abbrev pub HoldersAreApart : Type 0
 HoldersAreApart = (setup : Setup) (list : List Listed) (taken : List ℕ) (n : ℕ) (shards : List State) → ((k : ℕ) (s : State) → slice_get shards k ≡ Some s → Refines setup list taken k n s) →
     AreAlike shards × AreApart shards
 
 -- ---- After redistribution
 
--- The connect, without its waker, if its session is placed in shard `k` of `count`.
+-- A connect, without its waker, if its session is placed in shard `k` of `count`; otherwise `None`.
 abbrev pub redistributed_connect : (ℕ → ℕ → ℕ) → ℕ → ℕ → Option ConnectState → Option ConnectState
 redistributed_connect placing count k None = None
 redistributed_connect placing count k (Some (Held session deadline waker)) = if placing session count == k then Some (Held session deadline None) else None
 redistributed_connect placing count k (Some (Filed session place answer)) = if placing session count == k then Some (Filed session place answer) else None
 
--- New shard `k` has the sessions that are placed in it, with their connects.
+-- `new` is shard `k` of `count`, with the sessions of the shards `old` that are placed in it, and
+-- their connects without wakers. It is shut if the first old shard is.
 pub record IsRedistributed (placing : ℕ → ℕ → ℕ) (count : ℕ) (old : List State) (k : ℕ) (new : State) : Type 0 where
   pub index : new.index ≡ k
   pub setup : (j : ℕ) (s : State) → slice_get old j ≡ Some s → new.setup ≡ record { config = s.setup.config; shards = count; placing = placing }
@@ -55,12 +57,14 @@ pub record IsRedistributed (placing : ℕ → ℕ → ℕ) (count : ℕ) (old : 
   pub connects : (p : ℕ) → connect_in new p ≡ redistributed_connect placing count k (connect_among old p)
   pub sound : IsSound new
 
--- There are `count` new shards, each with what is placed in it.
+-- `new` is `count` shards, each with the sessions of the shards `old` that are placed in it, and
+-- their connects.
 pub record Redistributed (placing : ℕ → ℕ → ℕ) (count : ℕ) (old new : List State) : Type 0 where
   pub many : length new ≡ count
   pub each : (k : ℕ) (s : State) → slice_get new k ≡ Some s → IsRedistributed placing count old k s
 
--- The new shards agree with the definitions, with the new count and placing.
+-- If the old shards agree with the definitions, the new shards agree too, with the new count and
+-- placing.
 abbrev pub RefinesRedistributed : Type 0
 RefinesRedistributed = (setup : Setup) (list : List Listed) (taken : List ℕ) (n count : ℕ) (placing : ℕ → ℕ → ℕ) (old new : List State) → 0 < setup.config.limits.batch →
     length old ≡ setup.shards → ((m : ℕ) → setup.placing m setup.shards < setup.shards) → ((k : ℕ) (s : State) → slice_get old k ≡ Some s → Refines setup list taken k n s) →

@@ -1,4 +1,4 @@
-//! The sessions of the new shards, while these are built.
+//! The sessions of the new shards, while the shards are built.
 ghost use Rattle.std.specs.Prelude.{◌≡◌, ◌<◌, ℕ, nat_eq, not, ◌&&◌, ◌||◌, length, option_map, is_some, if◌then◌else◌, OnOk, IfOk};
 ghost use Rattle.std.specs.List.{All};
 ghost use Rattle.std.specs.Option.{option_or};
@@ -11,7 +11,7 @@ use bx_session::{Answered, Session};
 use bx_shard::{Sessions, Wakers};
 use std::alloc::{AllocError, Global};
 
-/// The sessions, patterns and connects of each new shard, while it is built.
+/// The sessions, patterns and connects of each new shard, while the shard is built.
 #[derive(Drop)]
 pub(crate) struct Heirs {
     pub(crate) shards: Vec<Sessions>,
@@ -79,7 +79,7 @@ impl Heirs {
         heir.lend_connect(place, session, deadline)
     }
 
-    /// Stores `session` in shard `slot`, in which session `number` is reserved.
+    /// Stores `session` in shard `slot` as session `number`, if that is reserved there.
     pub(crate) fn settle(&mut self, slot: usize, number: u64, session: Session)
         requires within { slot < length self.old.shards.items }
         ensures sessions { (k n : ℕ) → kept_of self.new.shards.items k n
@@ -93,7 +93,7 @@ impl Heirs {
         }
     }
 
-    /// Files the answer to a connect that is reserved in shard `slot`.
+    /// Files the answer to a connect in shard `slot`, if the connect is reserved there.
     ///
     /// `place`: that of the entry that gave the answer. Moves the connect's waker to `wakers`.
     pub(crate) fn file(&mut self, slot: usize, place: u64, answered: Answered, wakers: &mut Wakers)

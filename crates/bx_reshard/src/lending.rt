@@ -13,7 +13,7 @@ use bx_entry::Placing;
 use bx_shard::{Sessions, Shard};
 use std::alloc::{AllocError, Global};
 
-/// Reserves the sessions with `numbers` of the old shard `old`, with their patterns.
+/// Reserves in `heirs` the sessions `numbers` of the old shard `old`, with their patterns.
 pub(crate) fn lend_sessions<P: Placing>(
     alloc: Global,
     heirs: &mut Heirs,
@@ -40,7 +40,7 @@ pub(crate) fn lend_sessions<P: Placing>(
     Ok(())
 }
 
-/// Reserves the connects in `old`, held or answered, at `places`.
+/// Reserves in `heirs` the connects of `old`, held or answered, that are at `places`.
 pub(crate) fn lend_connects<P: Placing>(
     heirs: &mut Heirs,
     old: &Connects,
@@ -64,7 +64,7 @@ pub(crate) fn lend_connects<P: Placing>(
     Ok(())
 }
 
-/// Reserves all sessions and connects of the old shard `old`.
+/// Reserves in `heirs` all sessions and connects of the old shard `old`.
 pub(crate) fn lend_from<P: Placing>(
     alloc: Global,
     heirs: &mut Heirs,
@@ -93,7 +93,7 @@ pub(crate) fn lend_from<P: Placing>(
     lend_connects(heirs, connects, connects.filed_places(), placing, count)
 }
 
-/// Creates `count` new shards, in which everything in `shards` is reserved.
+/// Creates the contents of `count` new shards, in which everything in `shards` is reserved.
 pub(crate) fn lend_all<P: Placing>(
     alloc: Global,
     config: Config,

@@ -14,8 +14,8 @@ use std::sync::Arc;
 
 /// Everything that the new shards need, before anything moves into them.
 ///
-/// `heirs` has room for their sessions and connects. `handles` has a handle to the placing for each
-/// shard. `shards` is empty, with room for all shards. `place` and `is_shut` apply to all of them.
+/// `heirs` has room for all sessions and connects. `handles` has a handle to the placing for each
+/// shard. `shards` is empty, with room for all new shards. `place` and `is_shut` are those of each.
 #[derive(Drop)]
 pub(crate) struct Room<P> {
     pub(crate) heirs: Heirs,
@@ -42,7 +42,7 @@ pub(crate) fn copy_handle<P: Drop>(
     Ok(handles)
 }
 
-/// Creates the shards from what is in `room`, in order. Does not allocate.
+/// Returns the new shards, in order, made from what is in `room`. Does not allocate.
 pub(crate) fn finish<P: Placing + Drop>(room: Room<P>, count: ShardCount) -> Vec<Shard<P>>
     requires empty { room.shards.items ≡ [] }
     requires capacity { length room.heirs.shards.items ≤ vec_capacity room.shards }

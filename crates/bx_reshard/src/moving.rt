@@ -31,8 +31,8 @@ pub(crate) fn move_sessions<P: Placing>(
 
 /// Moves the filed answers of an old shard to the new shards in which their sessions are placed.
 ///
-/// Drops the wakers in `connects`, which wakes their tasks. Moves those of the reserved connects,
-/// if any, to `wakers`.
+/// Drops the wakers in `connects`, which wakes their tasks. Moves the wakers of the reserved
+/// connects, if any, to `wakers`.
 pub(crate) fn move_answers<P: Placing>(
     heirs: &mut Heirs,
     mut connects: Connects,
@@ -59,7 +59,9 @@ pub(crate) fn move_answers<P: Placing>(
     }
 }
 
-/// Moves everything in `shards` into the room reserved for it.
+/// Moves all sessions and filed answers in `shards` into the room reserved in `heirs`.
+///
+/// Drops the wakers in `shards`, which wakes their tasks.
 pub(crate) fn move_all<P: Placing + Drop>(
     heirs: &mut Heirs,
     shards: Vec<Shard<P>>,

@@ -46,7 +46,7 @@ pub fn redistribute<P: Placing + Drop>(
     }
 }
 
-// Allocates everything that the new shards need, and reserves in them what `shards` hold.
+// Allocates and returns everything that the new shards need for what `shards` hold.
 fn make_room<P: Placing + Drop>(
     alloc: Global,
     shards: &[Shard<P>],
@@ -69,7 +69,7 @@ fn make_room<P: Placing + Drop>(
     })
 }
 
-// Moves everything in `shards` to the new shards. Does not allocate.
+// Moves everything in `shards` to the new shards, and returns the new shards. Does not allocate.
 fn move_in<P: Placing + Drop>(
     mut room: Room<P>,
     shards: Vec<Shard<P>>,

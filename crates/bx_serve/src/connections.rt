@@ -15,8 +15,8 @@ use tokio::time::Interval;
 
 /// A stream of the tasks that serve accepted connections.
 ///
-/// After a failed accept, for example if no file descriptor is free, it pauses before it tries
-/// again. A connection is dropped if memory runs out for its task.
+/// After a failed accept, for example if no file descriptor is free, the stream pauses before the
+/// next one. A connection is dropped if memory runs out for its task.
 #[derive(Drop)]
 pub struct Connections<R, M> {
     clock: R,
@@ -26,7 +26,7 @@ pub struct Connections<R, M> {
     is_paused: bool,
 }
 
-/// Returns `count` as a limit on connections, or `usize::MAX` if it is 0.
+/// Returns `count` as a limit on connections. A `count` of 0 is no limit, and gives `usize::MAX`.
 pub fn most_of(count: u64) -> usize
     ensures { result ≡ (if count == 0 then 18446744073709551615 else count) }
 {
@@ -55,7 +55,8 @@ impl<R, M> Connections<R, M> {
 }
 
 impl<R: Clock, M> Connections<R, M> {
-    // Waits until the pause, if any, is over. Returns `false` if the timers have been shut down.
+    // Waits until the pause, if any, is over. Then returns `true`, or `false` if the timers have
+    // been shut down.
     fn poll_pause(&mut self, cx: &mut Context<'_>) -> Poll<bool>
         ensures maker { self.new.maker ≡ self.old.maker }
         ensures over { IfReady result (λ _. self.new.is_paused ≡ false) }
@@ -92,7 +93,7 @@ impl<R: Clock + Drop, M: MakeTask> Stream for Connections<R, M> {
             },
             Poll::Ready(Some(Err(_))) => {
                 self.is_paused = true;
-                // If the clock cannot be read, the pause ends at the next tick.
+                // If the clock cannot be read, the pause ends at the interval's next tick.
                 let _ = self.pause.reset(&self.clock);
                 cx.yield_now()
             }

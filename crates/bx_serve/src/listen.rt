@@ -35,12 +35,13 @@ pub type Endpoint<S> = (TcpListener, S);
 
 /// Serves up to `count` connections over HTTP, each as a task, until `end` is ready.
 ///
-/// The connections come from `first` and, if given, `other`. A `count` of 0 is no limit. At the end
-/// it waits for the open connections, up to the runtime's shutdown timeout.
+/// The connections come from `first` and, if given, `other`. A `count` of 0 is no limit. After the
+/// last accept, the open connections are still served, up to the runtime's shutdown timeout.
 ///
 /// A connection ends if the head of a request takes more than 30 seconds, or if the peer takes no
 /// data for 30 seconds. A body fails if no data arrives for 30 seconds, or if it is not complete in
-/// five minutes. If memory runs out for a connection, it is dropped and the next one is served.
+/// five minutes. If memory runs out for a connection, the connection is dropped and the next one is
+/// served.
 ///
 /// # Errors
 ///

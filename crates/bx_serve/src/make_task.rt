@@ -54,9 +54,9 @@ pub trait MakeTask: Drop {
 /// A TCP connection with a limit on each wait for the peer to take data.
 pub type Served<R> = TimeoutIo<TcpStream, TokioTimer<R>>;
 
-/// The body of a request, as the service gets it.
+/// The body of a request, as the service gets it, with time limits.
 ///
-/// Its timer is `None` if memory ran out. The body then fails as soon as it would wait.
+/// The timer is `None` if memory ran out for it. The body then fails as soon as it would wait.
 pub type RequestBody<R> = TimeoutBody<Incoming<Served<R>>, Option<TokioTimer<R>>>;
 
 /// A [`MakeTask`] that serves each connection over HTTP with a clone of a service.

@@ -19,8 +19,8 @@ const BUDGET: u32 = 128;
 
 /// Runs up to `count` futures of `first` and `other` as tasks, until `end` is ready.
 ///
-/// At the end it waits for the tasks, up to the runtime's shutdown timeout. If memory runs out for
-/// a task, its future is dropped and the next one is run.
+/// Then waits for the tasks to end, up to the runtime's shutdown timeout. If memory runs out for a
+/// task, its future is dropped and the next one is run.
 ///
 /// # Errors
 ///
@@ -54,7 +54,7 @@ where
     }
 }
 
-// Runs the futures of one stream as tasks, until `end` is ready.
+// Runs the futures of one stream as tasks, until `end` is ready. Then waits for the tasks.
 fn run<R, S, F, A, T>(rt: &R, runtime: &mut Runtime, futures: S, end: A) -> io::Result<()>
 where
     R: Wait + Threads + Clock + RandomSource + AllocGlobal + Sync,
@@ -72,8 +72,8 @@ where
 
 /// A future that spawns each future of a stream as a task.
 ///
-/// It is ready once the stream ends or `tasks` is shut down. If memory runs out for a task, its
-/// future is dropped.
+/// It is ready once the stream ends or `tasks`, the set of spawned tasks, is shut down. If memory
+/// runs out for a task, its future is dropped.
 #[derive(Drop)]
 pub struct SpawnEach<'a, F: Future, S> {
     tasks: &'a TaskSet<F>,

@@ -14,10 +14,10 @@ use std::test::Fail;
 use std::time::{Clock, Duration, Instant};
 use tokio::time::Driver;
 
-// For how many seconds a body is polled at most.
+// The most seconds for which a body is polled.
 const SECONDS: u64 = 400;
 
-// A clock that shows the stored number of seconds.
+// A clock that returns the stored number of seconds.
 #[derive(Clone, Copy)]
 struct Told<'a>(&'a AtomicU64);
 
@@ -59,7 +59,8 @@ impl Body for Drips<'_> {
     }
 }
 
-// How a body ended, and in which second. `Open`: it did not end.
+// How a body ended, and in which second: `Whole` if it was complete, `Late` if it failed with this
+// error. `Open`: it did not end.
 #[derive(Clone, Copy, Debug, PartialEq, Eq)]
 enum End {
     Whole(u64),

@@ -25,8 +25,8 @@ pub enum TimeoutBodyFault<E> {
 
 /// A body that fails if no frame arrives in time, or if it is not complete in time.
 ///
-/// Each frame restarts the first limit. If the clock cannot be read, or memory runs out for a
-/// timer, it fails as soon as it would wait.
+/// Each frame restarts the limit on the wait for the next. If the clock cannot be read, or memory
+/// runs out for a timer, the body fails as soon as it would wait.
 #[derive(Drop)]
 pub struct TimeoutBody<B, T> {
     body: B,
@@ -103,7 +103,8 @@ where
 
     ghost can_call = { λ p. S.can_call p.service };
 
-    // Ghost: a future that the inner service may return for the same request with a limited body.
+    // Ghost: a future that the inner service may return for the request with time limits on its
+    // body.
     ghost calls = { λ p came future. (handed : Request (TimeoutBody B (Option T))) × (IsWithTimeouts came handed × S.calls p.service handed future) };
 
     fn call(&self, request: Request<B>) -> S::Future {

@@ -14,8 +14,8 @@ use tokio::io::{AsyncRead, AsyncWrite};
 
 /// A connection on which a write, flush or shutdown fails with `TimedOut` if it takes too long.
 ///
-/// Each of them that ends, even with an error, restarts the limit. If the clock cannot be read, or
-/// memory runs out for a timer, they fail as soon as they would wait.
+/// Each write, flush or shutdown that ends, even with an error, restarts the limit. If the clock
+/// cannot be read, or memory runs out for a timer, they fail as soon as they would wait.
 #[derive(Drop)]
 pub struct TimeoutIo<I, T> {
     io: I,

@@ -20,7 +20,7 @@ pub struct Timeouts<T> {
     limit: Duration,
     // The longest time from the first wait. `None` is no limit.
     whole: Option<Duration>,
-    // When `whole` is over. `None` before the first wait, and without `whole`.
+    // The instant at which `whole` is over. `None` before the first wait, or if `whole` is `None`.
     end: Option<Instant>,
     sleep: Option<Sleep>,
     // Whether `sleep` runs for the current wait.
@@ -53,8 +53,8 @@ impl<T> Timeouts<T> {
 }
 
 impl<T: Timer> Timeouts<T> {
-    // Returns when a wait that begins now must end. `None` means that the clock cannot be read, or
-    // that the sum overflows. The first call sets `end`.
+    // Returns the instant at which a wait that begins now must end, or `None` if the clock cannot
+    // be read or the instant is too large. The first wait sets `end`, if `whole` is given.
     fn deadline(&mut self) -> Option<Instant>
         ensures in_time { IfSome result (λ d. IfSome self.new.end (λ e. instant_nanos d ≤ instant_nanos e)) }
         ensures sleep { self.new.sleep ≡ self.old.sleep }
@@ -73,7 +73,8 @@ impl<T: Timer> Timeouts<T> {
         }
     }
 
-    // Starts the timer unless it runs. Returns `false` if there is no deadline or no timer.
+    // Starts the timer unless it runs, and returns `true`. Returns `false` if there is no deadline
+    // or no timer.
     fn is_begun(&mut self) -> bool
         ensures { IfSome self.old.end (λ e. self.new.end ≡ Some e) }
     {

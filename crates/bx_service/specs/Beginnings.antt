@@ -18,16 +18,17 @@ use Rattle.bx_service.specs.Statuses.{route_of}
 abbrev pub length_of : Entries FieldValue → Option (List ℕ)
 length_of fields = option_map (λ (value : FieldValue). value.bytes) (get fields (codes "content-length"))
 
--- Whether `text` is a number above `limit`. A number has only digits and is at most 2^64 - 1.
+-- Whether there is a `text` that is a number above `limit`. A number has only digits and is at most
+-- 2^64 - 1.
 abbrev pub says_more : ℕ → Option (List ℕ) → Bool
 says_more limit text = option_map_or (nat_lt limit) (option_and_then number_of text) false
 
--- The query of a target, empty if it has none.
+-- The query of `uri`, or the empty text if there is none.
 abbrev pub query_of : Uri → List ℕ
 query_of uri = unwrap_or (uri_query uri) []
 
 module _ {I B : Type 0} where
-  -- The request collects `body`, up to `limit` bytes, and has none yet.
+  -- `state` stores `content_type` and collects `body`, up to `limit` bytes. It has no bytes yet.
   abbrev pub IsCollecting : ℕ → Option FieldValue → B → State I B → Type 0
   IsCollecting limit content_type body (Collecting value collect) =
       (value ≡ content_type) × (collect.body ≡ body) × (collect.limit ≡ limit) × (collect.bytes.items ≡ [])
@@ -35,26 +36,30 @@ module _ {I B : Type 0} where
   IsCollecting limit content_type body (Held callback items) = ⊥
   IsCollecting limit content_type body (Refused status) = ⊥
 
-  -- The request is rejected if it is too large. Otherwise its state is one of `states`.
+  -- `state` rejects the request as too large if the flag is `true`. Otherwise it is one of
+  -- `states`.
   abbrev pub OrTooLarge : Bool → (State I B → Type 0) → State I B → Type 0
   OrTooLarge true states state = state ≡ Refused (transport_status TooLarge)
   OrTooLarge false states state = states state
 
-  -- The state of a GET, which is rejected if its query is longer than `limit`.
+  -- A GET of `uri` begins in `state`: `Asked`, or rejected as too large if its query has more than
+  -- `limit` bytes.
   abbrev pub IsAsking : ℕ → Uri → State I B → Type 0
   IsAsking limit uri state = OrTooLarge (nat_lt limit (length (query_of uri))) (λ asked. asked ≡ Asked uri) state
 
-  -- The state of a POST, which is rejected if its `content-length` is above `limit`.
+  -- A POST with `fields` and `body` begins in `state`: it collects `body`, or is rejected as too
+  -- large if its `content-length` is above `limit`.
   abbrev pub IsPosted : ℕ → Entries FieldValue → B → State I B → Type 0
   IsPosted limit fields body state =
       OrTooLarge (says_more limit (length_of fields)) (IsCollecting limit (get fields (codes "content-type")) body) state
 
-  -- The state of a request with this route.
+  -- A request with this route begins in `state`: as a POST, as a GET, or rejected with a status.
   abbrev pub BeginsAs : Route → ℕ → Parts → B → State I B → Type 0
   BeginsAs routes.Post limit head body state = IsPosted limit head.headers body state
   BeginsAs routes.Get limit head body state = IsAsking limit head.uri state
   BeginsAs (routes.Refused status) limit head body state = state ≡ Refused status
 
-  -- The state of a new request, by its method, path and fields.
+  -- A new request with `head` and `body` begins in `state`. Its method, path and fields determine
+  -- its route.
   abbrev pub Begins : ℕ → Parts → B → State I B → Type 0
   Begins limit head body state = BeginsAs (route_of head.method (uri_path head.uri) head.headers) limit head body state

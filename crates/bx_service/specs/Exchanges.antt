@@ -21,57 +21,62 @@ use Rattle.bx_service.specs.Responses.{IsAnswer, IsRefusal}
 use Rattle.bx_transport.specs.Statuses.{transport_status}
 use Rattle.bx_service.specs.Statuses.{body_status, post_status}
 
--- A response as it is sent.
+-- The type of a response as it is sent, with a body in pieces.
 abbrev pub Sent : Type 0
 Sent = Response (Pieces (List ℕ))
 
--- The output of the future of a response's items.
+-- The output of the future of a response's items: the items, or an error.
 abbrev pub Gathered : Type 0
 Gathered = Result (Vec Item Global) Unanswered
 
--- The response for a `Gathered`: 200 with its items, or 503 if it is an error or memory runs out.
+-- `sent` is the response for an output: 200 with its items, or 503 if it is an error or memory runs
+-- out.
 abbrev pub ForItems : Option (List ℕ) → Gathered → Sent → Type 0
 ForItems callback (Ok items) sent = IsAnswer callback items.items sent ⊎ IsRefusal Unavailable sent
 ForItems callback (Err none) sent = IsRefusal Unavailable sent
 
 module _ {I : Type 0} (gives : I → Gathered → Type 0) where
-  -- The response for a future of items, by an output that it may have.
+  -- `sent` is the response for some output that the future `items` may have.
   abbrev pub ForFuture : Option (List ℕ) → I → Sent → Type 0
   ForFuture callback items sent = (gathered : Gathered) × (gives items gathered × ForItems callback gathered sent)
 
-  -- The response for what the backend returns: by its future, or with the status of its fault.
+  -- `sent` is the response for the backend's result: for its future, or with the status of its
+  -- fault.
   abbrev pub ForOutcome : Option (List ℕ) → Result I Declined → Sent → Type 0
   ForOutcome callback (Ok items) sent = ForFuture callback items sent
   ForOutcome callback (Err declined) sent = IsRefusal (post_status declined.fault) sent
 
   module _ (admits : Bodies → Result I Declined → Type 0) where
-    -- The response for `documents`, by a result that the backend may return.
+    -- `sent` is the response for some result that the backend may return for `documents`.
     abbrev pub ForDocuments : Option (List ℕ) → List (List ℕ) → Sent → Type 0
     ForDocuments callback documents sent =
         (bodies : Bodies) × ((texts_of bodies ≡ documents) × ((outcome : Result I Declined) × (admits bodies outcome × ForOutcome callback outcome sent)))
 
-    -- The response for a body as it was read: by its documents, or with the status of the error.
+    -- `sent` is the response to a POST after its body was read: for the documents, or with the
+    -- status of the error.
     abbrev pub ForBody : Result (List (List ℕ)) TransportError → Sent → Type 0
     ForBody (Ok documents) sent = ForDocuments None documents sent
     ForBody (Err error) sent = IsRefusal (transport_status error) sent
 
-    -- The response for a query as it was read: a call of its callback, or the status of the error.
+    -- `sent` is the response to a GET after its query was read: a script that calls the callback,
+    -- or the status of the error.
     abbrev pub ForQuery : Result (List ℕ × List (List ℕ)) TransportError → Sent → Type 0
     ForQuery (Ok taken) sent = ForDocuments (Some taken.0) taken.1 sent
     ForQuery (Err error) sent = IsRefusal (transport_status error) sent
 
-    -- The response for a collected body, or 503 if memory runs out for its documents.
+    -- `sent` is the response to a POST after collecting its body: for the body read as `kind`, or
+    -- 503 if memory runs out for its documents. After an error it is the status of the error.
     abbrev pub ForCollected : Option (List ℕ) → Result (Vec ℕ Global) CollectError → Sent → Type 0
     ForCollected kind (Ok all) sent = ForBody (post_taken kind all.items) sent ⊎ IsRefusal Unavailable sent
     ForCollected kind (Err fault) sent = IsRefusal (body_status fault) sent
 
-    -- The response for a query, or 503 if memory runs out for its documents.
+    -- `sent` is the response to a GET with `query`, or 503 if memory runs out for its documents.
     abbrev pub ForAsked : List ℕ → Sent → Type 0
     ForAsked query sent = ForQuery (get_taken query) sent ⊎ IsRefusal Unavailable sent
 
     module _ {B D E : Type 0} (unread : D → List ℕ) (yields : B → Runs (Result (Frame D) E)) where
-      -- The response for a request, by its state. While the body is collected, the response is one
-      -- for a possible result of collecting it.
+      -- `sent` may be the response to a request in this state. While its body is being collected,
+      -- it is the response for some result that collecting may return.
       abbrev pub MayAnswer : State I B → Sent → Type 0
       MayAnswer (Collecting kind body) sent =
           (collected : Result (Vec ℕ Global) CollectError) × (Gives unread (yields body.body) body.limit body.bytes.items collected

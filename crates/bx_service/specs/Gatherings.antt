@@ -1,4 +1,4 @@
--- The items of a request, and why a request is not admitted.
+-- The items that answer a request, and why a request is not admitted.
 use Rattle.std.specs.Prelude.{ℕ, ◌≡◌, ◌<◌, List, [], ◌∷◌, ◌++◌, map, Option, option_map, Some, None, false, Bool, Ok}
 use Rattle.std.specs.{List.AllByRecursion, List.AllByRecursion-prop, Coded.Unit-prop}
 use Rattle.std.proofs.Props.{props}
@@ -36,8 +36,8 @@ are_below-prop end slots = AllByRecursion-prop (IsBelow end) (below-prop end) sl
 abbrev pub items_of : Answer → List Item
 items_of a = map EventItem a.events ++ ReplyItem a.reply ∷ []
 
--- A pending answer: its ticket, the part of the list seen when it was last polled, and whether it
--- was given.
+-- The state of a pending answer under `ticket`. `seen`: the front of its pass. `is_done`: whether
+-- its output was given.
 pub record Awaited : Type 0 where
   pub ticket : Ticket
   pub seen : List LogStep
@@ -46,48 +46,51 @@ pub record Awaited : Type 0 where
 abbrev pub awaited_as : Ticket → List LogStep → Bool → Awaited
 awaited_as ticket seen is_done = record { ticket = ticket; seen = seen; is_done = is_done }
 
--- The pending answer, if any.
+-- The state of the pending answer `held`, if any.
 abbrev pub awaited : {L : Type 0} {g : LogId.Ghosts L} → Option (PendingAnswer L g) → Option Awaited
 awaited held = option_map (λ h. awaited_as h.ticket h.pass h.is_done) held
 
 module _ (setup : Setup) where
-  -- The items of a pending answer, by an answer that it may give after `seen`.
+  -- `items` are those of an answer that may be given under `ticket`, by a front that extends
+  -- `seen`. If `is_done` is `true`, every answer may be.
   abbrev pub AreItemsSince : Ticket → List LogStep → Bool → List Item → Type 0
   AreItemsSince ticket seen is_done items = (a : Answer)
       × (MayGive setup ticket seen is_done (Ok (Some a)) × (items ≡ items_of a))
 
   module _ (seen : List LogStep) where
-    -- The items of a slot: its reply, or those of its pending answer.
+    -- `items` are those of the slot: its reply, or an answer that may be given under its ticket.
     abbrev pub AreItemsFor : Slot → List Item → Type 0
     AreItemsFor (Ready reply) items = items ≡ ReplyItem reply ∷ []
     AreItemsFor (Waiting ticket) items = AreItemsSince ticket seen false items
 
-    -- The items of all slots, in order.
+    -- `items` are those of all slots, in order.
     abbrev pub AreItems : List Slot → List Item → Type 0
     AreItems [] items = items ≡ []
     AreItems (slot ∷ slots) items = (first : List Item) × (AreItemsFor slot first × ((rest : List Item) × (AreItems slots rest × (items ≡ first ++ rest))))
 
-    -- The remaining items: those of the pending answer, if any, then those of `slots`.
+    -- `items` are those of the pending answer, if any, followed by those of `slots`.
     abbrev pub AreLeft : Option Awaited → List Slot → List Item → Type 0
     AreLeft None slots items = AreItems slots items
     AreLeft (Some w) slots items = (first : List Item) × (AreItemsSince w.ticket w.seen w.is_done first × ((rest : List Item) × (AreItems slots rest × (items ≡ first ++ rest))))
 
-    -- All items: those in `there`, then the remaining ones.
+    -- `items` are those in `there`, then those of the pending answer, if any, then those of
+    -- `slots`.
     abbrev pub AreAll : List Item → Option Awaited → List Slot → List Item → Type 0
     AreAll there awaited slots items = (rest : List Item) × (AreLeft awaited slots rest × (items ≡ there ++ rest))
 
--- A request with `documents` and `access`, as it is read.
+-- The request with `documents` at `moment` and with `nonce`, as a listener with `access` reads it.
 abbrev pub request_of : Access → ℕ → ℕ → List (List ℕ) → ReadInput
 request_of access moment nonce documents = read_by moment nonce (let_in access (request_messages documents))
 
--- The place of a request's first message, `first`. A request without messages has none.
+-- `first`, the place of a request's first message, or `None` if the request has no slots.
 abbrev pub place_of : ℕ → List Slot → Option ℕ
 place_of first [] = None
 place_of first (slot ∷ slots) = Some first
 
 module _ (tells draws : ℕ → Type 0) (access : Access) where
-  -- The request was admitted at a moment of the clock and with a drawn nonce. Its first message, if
-  -- any, is at `place`, and its slots are those that a single-threaded server gives there.
+  -- The request with `documents` was admitted at a `moment` of the clock and with a drawn `nonce`.
+  -- `seen` is a front with its entries. `place` is that of its first message, if any. `slots` are
+  -- those that a single-threaded server gives there.
   pub record AreSlotsFor (setup : Setup) (documents : List (List ℕ)) (seen : List LogStep) (place : Option ℕ) (slots : List Slot) : Type 0 where
     pub moment : ℕ
     pub nonce : ℕ
@@ -98,7 +101,8 @@ module _ (tells draws : ℕ → Type 0) (access : Access) where
     pub slots_at : AreSlotsAt setup (request_of access moment nonce documents) first seen slots
     pub placed : place ≡ place_of first slots
 
-  -- The hub rejects the request with `fault`, at a moment of the clock and with a drawn nonce.
+  -- The hub does not admit the request with `documents`, because of `fault`, at a `moment` of the
+  -- clock and with a drawn `nonce`. `front` is the front at this time.
   pub record IsRefusedWith (documents : List (List ℕ)) (fault : PostFault) : Type 0 where
     pub moment : ℕ
     pub nonce : ℕ

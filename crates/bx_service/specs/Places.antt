@@ -1,9 +1,9 @@
--- The place of an admitted request.
+-- The place of an admitted request's first message.
 use Rattle.std.specs.Prelude.{ℕ, ⊤, Option}
 use Rattle.bx_service.specs.declared.exchange.State.{State}
 use Rattle.bx_service.specs.declared.exchange.State.TheVariants.{Collecting, Asked, Held, Refused}
 
--- If the request was admitted, its items may report `place`.
+-- If the request was admitted, `place` is one that `stands` allows for its items.
 abbrev pub IsPlaced : {I B : Type 0} → (I → Option ℕ → Type 0) → Option ℕ → State I B → Type 0
 IsPlaced stands place (Collecting content_type body) = ⊤
 IsPlaced stands place (Asked uri) = ⊤

@@ -3,7 +3,7 @@ use Rattle.std.specs.Prelude.{⊤}
 use Rattle.bx_service.specs.declared.exchange.State.{State}
 use Rattle.bx_service.specs.declared.exchange.State.TheVariants.{Collecting, Asked, Held, Refused}
 
--- The body that is collected, or the awaited items, can be polled.
+-- The future that the state waits for, if any, can be polled: the body's, or that of the items.
 abbrev pub CanPoll : {I B : Type 0} → (I → Type 0) → (B → Type 0) → State I B → Type 0
 CanPoll items_can body_can (Collecting content_type body) = body_can body.body
 CanPoll items_can body_can (Asked uri) = ⊤

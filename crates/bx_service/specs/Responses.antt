@@ -15,23 +15,23 @@ abbrev pub refusal_fields : Status → Entries FieldValue
 refusal_fields MethodNotAllowed = insert [] (codes "allow") (plain_value (codes "GET, POST"))
 refusal_fields _ = []
 
--- A response with `status` and no body.
+-- `response` has the code of `status`, no body, and no fields except the allowed methods for 405.
 pub record IsRefusal (status : Status) (response : Response (Pieces (List ℕ))) : Type 0 where
   pub number : (head_of response).status ≡ code_of status
   pub fields : (head_of response).headers ≡ refusal_fields status
   pub empty : body_of response ≡ []
 
--- The content type of a body: JSON, or JavaScript for a callback.
+-- The content type of a response with items: JavaScript with a callback, otherwise JSON.
 abbrev pub kind_of : Option (List ℕ) → List ℕ
 kind_of None = codes "application/json;charset=UTF-8"
 kind_of (Some callback) = codes "application/javascript;charset=UTF-8"
 
--- A response with status 200 and `items`.
+-- `response` has status 200, and its body is the text of `items`: JSON, or a call of `callback`.
 pub record IsAnswer (callback : Option (List ℕ)) (items : List Item) (response : Response (Pieces (List ℕ))) : Type 0 where
   pub number : (head_of response).status ≡ 200
   pub fields : (head_of response).headers ≡ insert [] (codes "content-type") (plain_value (kind_of callback))
   pub whole : body_of response ≡ answer_text callback items
 
--- A response: a status without a body, or 200 with items.
+-- `response` has a status and no body, or it has status 200 and a body with items.
 abbrev pub IsResponse : Response (Pieces (List ℕ)) → Type 0
 IsResponse response = ((status : Status) × IsRefusal status response) ⊎ ((callback : Option (List ℕ)) × ((items : List Item) × IsAnswer callback items response))

@@ -19,30 +19,31 @@ use Rattle.bx_service.specs.declared.route.Route.TheVariants as routes
 abbrev pub is_served : List ℕ → Bool
 is_served path = bytes_eq path (codes "/cometd") || starts_with nat_eq path (codes "/cometd/")
 
--- Whether there is no value, or only one, which is `chunked` in any letter case.
+-- Whether the values of `transfer-encoding` are plain: none, or only `chunked`, in any letter case.
 abbrev pub are_plain : List FieldValue → Bool
 are_plain [] = true
 are_plain (value ∷ []) = str_eq_ignore_ascii_case value.bytes (codes "chunked")
 are_plain (value ∷ other ∷ values) = false
 
--- `route`, or 501 if the fields name a transfer coding other than one `chunked`.
+-- `route`, or a rejection with 501 if `fields` have a `transfer-encoding` other than one `chunked`.
 abbrev pub unless_coded : Entries FieldValue → Route → Route
 unless_coded fields route = if are_plain (get_all fields (codes "transfer-encoding")) then route else routes.Refused NotImplemented
 
--- How a request with this method, path and fields is served.
+-- The route of a request with `method`, `path` and `fields`.
 abbrev pub route_of : List ℕ → List ℕ → Entries FieldValue → Route
 route_of method path fields =
     if is_served path then (if bytes_eq method (codes "POST") then unless_coded fields routes.Post
     else (if bytes_eq method (codes "GET") then unless_coded fields routes.Get else routes.Refused MethodNotAllowed))
     else routes.Refused NotFound
 
--- The status of a POST if its body is not collected.
+-- The status of a POST, by the reason for which its body was not collected.
 abbrev pub body_status : CollectError → Status
 body_status bodies.TooLarge = transport_status transports.TooLarge
 body_status bodies.Failed = BadRequest
 body_status bodies.Memory = transport_status transports.Memory
 
--- The status of a request that the hub does not admit: that of its refusal, or 503.
+-- The status of a request that the hub did not admit: that of its rejection, or 503 for other
+-- faults.
 abbrev pub post_status : PostFault → Status
 post_status (posts.Refused refusal) = refusal_status refusal
 post_status _ = Unavailable

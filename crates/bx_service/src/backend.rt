@@ -55,12 +55,12 @@ impl<L: LogId> From<NoAnswer<L>> for Unanswered {
     }
 }
 
-/// Documents that were not admitted.
+/// The documents of a request that was not admitted, with the reason.
 #[derive(Drop)]
 pub struct Declined {
-    /// Why they were not admitted.
+    /// Why the request was not admitted.
     pub fault: PostFault,
-    /// The documents, unchanged.
+    /// The documents of the request, unchanged.
     pub bodies: Bodies,
 }
 
@@ -81,13 +81,14 @@ pub trait Backend: Drop {
     ///
     /// # Errors
     ///
-    /// [`Declined`], with the documents and the reason, if they are not admitted.
+    /// [`Declined`], with the unchanged documents and the reason, if they are not admitted.
     fn admit(&self, bodies: Bodies) -> Result<Self::Items, Declined>
         ensures can_poll { IfOk result Self.Items.can_poll }
         ensures back { IfErr result (λ d. d.bodies ≡ bodies) }
         ensures admitted { admits self.now bodies result };
 
-    /// Returns the place of the first message that `items` answer, or `None` without messages.
+    /// Returns the place of the first message that `items` answer, or `None` if there is no
+    /// message.
     fn place(&self, items: &Self::Items) -> Option<u64>
         ensures { stands items.now result };
 }
@@ -154,7 +155,7 @@ where
 
     ghost stands = { λ items place. place ≡ items.first };
 
-    // Clones the handle before the post, since no error may follow an admission. Locks as
+    // Clones the hub's handle before the post, so that no error follows an admission. Locks as
     // `Hub::post` does.
     fn admit(&self, bodies: Bodies) -> Result<Gathering<L, P, G, R>, Declined> {
         let Ok(hub) = Arc::try_clone(&self.hub) else {

@@ -15,7 +15,7 @@ const BUDGET: usize = 64;
 /// Why a body was not collected.
 #[derive(Clone, Copy, Debug, PartialEq, Eq)]
 pub enum CollectError {
-    /// The data exceeds the limit.
+    /// The data of the body exceeds the limit.
     TooLarge,
     /// The body failed, for example because the connection ended early.
     Failed,
@@ -35,8 +35,9 @@ impl From<AllocError> for CollectError {
 
 /// A future of all the data of a body, in one buffer.
 ///
-/// Each frame's data is appended to the buffer, and the frame is dropped. So it never stores more
-/// data than its limit, even if the frames are small. Trailers are dropped.
+/// The data of each frame is appended to the buffer, and the frame is dropped. The buffer never has
+/// more bytes than the limit, and small frames need no more memory than large ones. Trailers are
+/// dropped.
 #[derive(Drop)]
 pub struct Collect<B> {
     alloc: Global,
@@ -91,7 +92,8 @@ where
     }
 }
 
-// Appends the data of `frame` if the sum is within `limit`.
+// Appends the data of `frame`, if any. Fails with `TooLarge`, and appends no data, if `bytes` would
+// exceed `limit`, or with `Memory`.
 fn add<D: Buf + Drop>(
     bytes: &mut Vec<u8>,
     limit: usize,

@@ -44,7 +44,7 @@ use std::sync::Arc;
 #[derive(Drop)]
 pub struct Exchange<S, I, B, O: Observer> {
     pub(crate) alloc: Global,
-    // `None` after the output, or if the handle on the backend or the observer was not cloned.
+    // `None` after the output, or if memory ran out for a handle on the backend or the observer.
     pub(crate) backend: Option<Arc<S, Global>>,
     pub(crate) state: State<I, B>,
     pub(crate) probe: RequestProbe<O>,
@@ -58,7 +58,7 @@ pub(crate) enum State<I, B> {
         content_type: Option<HeaderValue>,
         body: Collect<B>,
     },
-    /// A GET. The query of its target has the documents.
+    /// A GET, with the documents in the query of this target.
     Asked(Uri),
     /// The request was admitted, and waits for its items.
     ///
@@ -67,15 +67,15 @@ pub(crate) enum State<I, B> {
         callback: Option<String>,
         items: I,
     },
-    /// The request gets this status and no body.
+    /// The response has this status and no body.
     Refused(Status),
 }
 
 impl<I: Future, B: Body> State<I, B> {
     /// Creates the state of a new request, from its head.
     ///
-    /// It is `Refused` if the route is, or if the query of a GET or the `Content-Length` of a POST
-    /// exceeds `limit`.
+    /// The state is `Refused` if the route is `Refused`, or if the query of a GET or the
+    /// `Content-Length` of a POST exceeds `limit`.
     pub(crate) fn new(alloc: Global, limit: BodyLimit, parts: Parts, body: B) -> State<I, B>
         requires { B.can_poll body }
         ensures again { CanPoll I.can_poll B.can_poll result }
@@ -99,7 +99,7 @@ impl<I: Future, B: Body> State<I, B> {
         }
     }
 
-    // Returns the state of a request that exceeds the limit.
+    // Returns the state of a request that exceeds the limit: `Refused` with 413.
     fn too_large() -> State<I, B>
         ensures again { CanPoll I.can_poll B.can_poll result }
         ensures refused { result ≡ Refused (transport_status TooLarge) }
@@ -108,7 +108,7 @@ impl<I: Future, B: Body> State<I, B> {
     }
 }
 
-// Returns the query of `uri`, or an empty one.
+// Returns the query of `uri`, or an empty text if there is none.
 fn query_of(uri: &Uri) -> &str
     ensures { result.now ≡ query_of uri.now }
 {
@@ -128,7 +128,7 @@ fn says_more(limit: BodyLimit, length: Option<&HeaderValue>) -> bool
     }
 }
 
-// Posts the documents of a request and returns its next state.
+// Posts `bodies` and returns the next state, `Held` or `Refused`. Reports the outcome to `probe`.
 fn admitted<S, I, B, D, O>(
     backend: &S,
     probe: &mut RequestProbe<O>,
@@ -158,7 +158,8 @@ where
     }
 }
 
-// Reads the collected body of a POST, posts its documents and returns the next state.
+// Returns the next state of a POST, `Held` or `Refused`. Posts the documents if the body was
+// collected and is valid.
 fn posted<S, I, B, D, O>(
     alloc: Global,
     backend: &S,
@@ -187,7 +188,7 @@ where
     }
 }
 
-// Reads the query of a GET, posts its documents and returns the next state.
+// Returns the next state of a GET, `Held` or `Refused`. Posts the documents if the query is valid.
 fn asked<S, I, B, D, O>(
     alloc: Global,
     backend: &S,
@@ -210,7 +211,8 @@ where
     }
 }
 
-// Creates a response with `status` and no body, and reports it to the observer.
+// Creates a response with `status` and no body, and reports it to the observer. If memory runs out,
+// reports this and returns `ServiceFault::Memory`.
 fn refused<O: Observer>(
     alloc: Global,
     probe: &RequestProbe<O>,
@@ -228,7 +230,8 @@ fn refused<O: Observer>(
 }
 
 // Creates the response to an admitted request, and reports its items and the response to the
-// observer. The status is 503 if the items are unavailable or memory runs out.
+// observer. The status is 503 if the items are unavailable or memory runs out. If memory runs out
+// for the 503 too, returns `ServiceFault::Memory`.
 fn answered<O: Observer>(
     alloc: Global,
     probe: &RequestProbe<O>,
@@ -258,7 +261,7 @@ where
     D: Buf + Drop,
     O: Observer,
 {
-    // Polls until the state is `Held` or `Refused`.
+    // Polls the request until it is `Held` or `Refused`. Pending while its body is being collected.
     fn poll_admitted(&mut self, backend: &S, cx: &mut Context<'_>) -> Poll<()>
         requires { CanPoll I.can_poll B.can_poll self.old.state }
         ensures again { CanPoll I.can_poll B.can_poll self.new.state }
@@ -289,7 +292,8 @@ where
         }
     }
 
-    // Polls for the response, if the state is `Held` or `Refused`.
+    // Polls for the response of a request that is `Held` or `Refused`. In other states, returns
+    // `ServiceFault::Memory`.
     fn poll_answered(
         &mut self,
         cx: &mut Context<'_>,
@@ -330,12 +334,12 @@ where
 
     ghost can_poll = { λ e. CanPoll I.can_poll B.can_poll e.state };
 
-    // Ghost: a response that the state allows. Without a backend there is none.
+    // Ghost: a response is one that the state allows. Without a backend there is no response.
     ghost gives = { λ e given. IfOk given (λ sent. MatchOption e.backend ⊥
         (λ backend. MayAnswer I.gives (S.admits (arc_value backend)) D.unread B.yields e.state sent)) };
 
-    // Drops the backend with the output. A later poll posts no messages and returns
-    // `ServiceFault::Memory`.
+    // Polls for the response, and drops the backend when it is ready. A later poll posts no
+    // messages and returns `ServiceFault::Memory`.
     fn poll(&mut self, cx: &mut Context<'_>) -> Poll<Self::Output>
         requires { CanPoll I.can_poll B.can_poll self.old.state }
         ensures value { IfReady result (λ given. IfOk given (λ sent. MatchOption self.old.backend ⊥

@@ -69,7 +69,7 @@ impl<L: LogId, P: Placing + Drop, G: Gate + Drop, R: Wait + Copy + Drop> Gatheri
         }
     }
 
-    /// Returns the place of the first message, or `None` without messages.
+    /// Returns the place of the first message, or `None` if the request has no messages.
     pub(crate) fn place(&self) -> Option<u64>
         ensures { result ≡ self.now.first }
     {
@@ -85,7 +85,8 @@ impl<L: LogId, P: Placing + Drop, G: Gate + Drop, R: Wait + Copy + Drop> Gatheri
         self.held = Some(PendingAnswer::new(self.pass.again(), ticket));
     }
 
-    // Polls the awaited answer, if any, and appends its items.
+    // Polls the awaited answer, if any, and appends its items. Pending until the answer is given.
+    // Fails if the answer is unavailable or memory runs out.
     fn poll_held(&mut self, cx: &mut Context<'_>) -> Result<Poll<()>, Unanswered>
         ensures same { OnOk result ((all : List Item)
             → AreAll (setup_of L.config L.placing) self.new.pass self.new.items.items (awaited self.new.held)
@@ -112,7 +113,8 @@ impl<L: LogId, P: Placing + Drop, G: Gate + Drop, R: Wait + Copy + Drop> Gatheri
         Ok(Poll::Ready(()))
     }
 
-    // Handles `slot`: appends its reply, or starts to wait for its answer and polls it.
+    // Handles `slot`: appends its reply, or waits for its answer and appends the answer's items.
+    // Pending until the answer is given. Fails if the answer is unavailable or memory runs out.
     fn take(&mut self, slot: Slot, cx: &mut Context<'_>) -> Result<Poll<()>, Unanswered>
         requires below { IsBelow (length (list_of self.old.pass)) slot }
         requires free { self.old.held ≡ None }
@@ -138,7 +140,8 @@ impl<L: LogId, P: Placing + Drop, G: Gate + Drop, R: Wait + Copy + Drop> Gatheri
         }
     }
 
-    // Polls until all items are appended or an answer is pending.
+    // Polls until all items are appended. Pending while an answer is not given. Fails if an answer
+    // is unavailable or memory runs out.
     fn gather(&mut self, cx: &mut Context<'_>) -> Result<Poll<()>, Unanswered>
         ensures same { OnOk result ((all : List Item)
             → AreAll (setup_of L.config L.placing) self.new.pass self.new.items.items (awaited self.new.held)
@@ -165,7 +168,7 @@ impl<L: LogId, P: Placing + Drop, G: Gate + Drop, R: Wait + Copy + Drop> Future
     for Gathering<L, P, G, R> {
     type Output = Result<Vec<Item>, Unanswered>;
 
-    // Ghost: the source that wakes it is that of the awaited answer.
+    // Ghost: what wakes the future is the source of the awaited answer.
     ghost needs = { λ g s. MatchOption g.held ⊥ (λ h. s ≡ h.source.id) };
 
     ghost gives = { λ g gathered. IfOk gathered (λ items. AreAll (setup_of L.config L.placing) g.pass g.items.items
@@ -183,7 +186,7 @@ impl<L: LogId, P: Placing + Drop, G: Gate + Drop, R: Wait + Copy + Drop> Future
     }
 }
 
-// Returns `first`, or `None` if the request has no messages.
+// Returns `first`, the place of a request's first message, or `None` if `slots` is empty.
 fn place_of(first: u64, slots: &[Slot]) -> Option<u64>
     ensures { result ≡ place_of first slots.now }
 {
@@ -193,7 +196,7 @@ fn place_of(first: u64, slots: &[Slot]) -> Option<u64>
     }
 }
 
-// Appends an answer's events and then its reply.
+// Appends an answer's events and then its reply to `items`. On error some may be appended.
 fn add_answer(items: &mut Vec<Item>, answer: Answer) -> Result<(), AllocError>
     ensures { OnOk result (items.new.items ≡ items.old.items ++ items_of answer) }
 {
@@ -204,7 +207,7 @@ fn add_answer(items: &mut Vec<Item>, answer: Answer) -> Result<(), AllocError>
     add_reply(items, reply)
 }
 
-// Appends a reply.
+// Appends a reply to `items`, which are unchanged on error.
 fn add_reply(items: &mut Vec<Item>, reply: Reply) -> Result<(), AllocError>
     ensures { OnOk result (items.new.items ≡ items.old.items ++ ReplyItem reply ∷ []) }
 {

@@ -6,7 +6,7 @@ use std::sync::Arc;
 
 /// Something that happens at a service, as its observer sees it.
 ///
-/// Not the event that subscribers get of a publish.
+/// This is not an event of Bayeux, which subscribers get for a publish.
 #[derive(Clone, Copy)]
 pub enum ServiceEvent<'a> {
     /// A connection was opened.
@@ -15,22 +15,22 @@ pub enum ServiceEvent<'a> {
     Closed,
     /// A request arrived.
     Asked,
-    /// Its documents were admitted. The number is the place of the first message, if there is one.
+    /// A request was admitted. The number is the place of its first message, if any.
     Admitted(Option<u64>),
-    /// Its documents were not admitted, for this reason.
+    /// A request was not admitted, for this reason.
     Refused(PostFault),
     /// The items of the response are complete, or unavailable if `items` is `None`.
     ///
-    /// `place` is that of [`Admitted`](ServiceEvent::Admitted).
+    /// `place`: the place of the request's first message, if any.
     Answered {
         place: Option<u64>,
         items: Option<&'a [Item]>,
     },
-    /// The response has this status, or `None` if memory ran out for the response.
+    /// A response with this status was created. `None`: memory ran out for the response.
     Responded(Option<Status>),
     /// The future of the response was dropped, which ends the request.
     ///
-    /// `was_admitted`: whether its documents were admitted.
+    /// `was_admitted`: whether the request was admitted.
     Left {
         was_admitted: bool,
     },
@@ -38,7 +38,7 @@ pub enum ServiceEvent<'a> {
 
 /// A receiver of a service's events.
 ///
-/// It is called for each connection and request, and cannot change a response.
+/// An observer is called for each connection and request, and cannot change a response.
 pub trait Observer: Drop {
     /// Receives `event`.
     fn see(&self, event: ServiceEvent<'_>);

@@ -12,7 +12,7 @@ use std::sync::Arc;
 
 /// A service's handle on its observer.
 ///
-/// Dropping a connection's handle reports its end.
+/// Dropping the handle of a connection reports that the connection was closed.
 pub(crate) struct ConnectionProbe<O: Observer> {
     observer: Arc<O, Global>,
     is_connection: bool,
@@ -45,10 +45,10 @@ impl<O: Observer> ConnectionProbe<O> {
         })
     }
 
-    /// Reports a new request. Dropping the result reports the request's end.
+    /// Reports a new request and returns its handle.
     ///
-    /// If the observer cannot be cloned, reports at once that the request ended without a response.
-    /// The caller then must not answer it.
+    /// If memory runs out for the handle, reports at once that the request ended without a
+    /// response. The caller then must not answer the request.
     pub(crate) fn ask(&self) -> RequestProbe<O> {
         self.observer.see(ServiceEvent::Asked);
         let observer = Arc::try_clone(&self.observer).ok();
@@ -80,12 +80,12 @@ impl<O: Observer> Drop for ConnectionProbe<O> {
 
 /// A request's handle on the observer.
 ///
-/// Dropping it reports the request's end.
+/// Dropping the handle reports the request's end.
 pub(crate) struct RequestProbe<O: Observer> {
-    // `None` if the handle could not be cloned.
+    // `None` if memory ran out for the handle.
     observer: Option<Arc<O, Global>>,
     is_admitted: bool,
-    // The place of the first message, once the request is admitted.
+    // The place of the first message. `None` before admission, or if the request has no messages.
     place: Option<u64>,
 }
 
@@ -95,14 +95,14 @@ impl<O: Observer> RequestProbe<O> {
         self.observer.is_some()
     }
 
-    // Reports `event`.
+    // Reports `event` to the observer, if any.
     fn tell(&self, event: ServiceEvent<'_>) {
         if let Some(observer) = &self.observer {
             observer.see(event);
         }
     }
 
-    /// Reports that the documents were admitted.
+    /// Reports that the request was admitted. `place`: the place of its first message, if any.
     pub(crate) fn admit(&mut self, place: Option<u64>)
         ensures { self.new.place ≡ place }
     {
@@ -111,12 +111,12 @@ impl<O: Observer> RequestProbe<O> {
         self.tell(ServiceEvent::Admitted(place));
     }
 
-    /// Reports that the documents were not admitted, because of `fault`.
+    /// Reports that the request was not admitted, because of `fault`.
     pub(crate) fn refuse(&self, fault: PostFault) {
         self.tell(ServiceEvent::Refused(fault));
     }
 
-    /// Reports the items, or that they are unavailable.
+    /// Reports the items of the response, or that they are unavailable.
     pub(crate) fn answer(&self, gathered: &Result<Vec<Item>, Unanswered>) {
         let items = match gathered {
             Ok(items) => Some(items.as_slice()),
@@ -126,12 +126,12 @@ impl<O: Observer> RequestProbe<O> {
         self.tell(ServiceEvent::Answered { place, items });
     }
 
-    /// Reports the response's status.
+    /// Reports that a response with `status` was created.
     pub(crate) fn respond(&self, status: Status) {
         self.tell(ServiceEvent::Responded(Some(status)));
     }
 
-    /// Reports that memory ran out for a response, and returns that fault.
+    /// Reports that memory ran out for a response, and returns `ServiceFault::Memory`.
     pub(crate) fn give_up(&self) -> ServiceFault
         ensures { result ≡ Memory }
     {

@@ -12,7 +12,7 @@ use std::alloc::{AllocError, Global};
 
 /// Creates a response with `status` and no body.
 ///
-/// With status 405 it has the field `Allow`.
+/// The response has the field `Allow` if `status` is 405.
 ///
 /// # Errors
 ///
@@ -31,7 +31,9 @@ pub(crate) fn refusal(alloc: Global, status: Status) -> Result<Response<Pieces<B
     Ok(response)
 }
 
-/// Creates a response with `items`, as a script that calls `callback` or, without one, as JSON.
+/// Creates a response with status 200 and `items`, as a script that calls `callback`, or as JSON.
+///
+/// It is JSON if there is no `callback`.
 ///
 /// # Errors
 ///

@@ -7,14 +7,14 @@ use bx_message::Status;
 use http::header::TRANSFER_ENCODING;
 use http::{HeaderMap, Method};
 
-/// Where the documents of a request are.
+/// Where the documents of a request are, or why it is rejected.
 #[derive(Clone, Copy, Debug, PartialEq, Eq)]
 pub(crate) enum Route {
-    /// In the body.
+    /// The documents are in the body of a POST.
     Post,
-    /// In the query.
+    /// The documents are in the query of a GET.
     Get,
-    /// Nowhere: the request is rejected with this status.
+    /// The request is rejected with this status.
     Refused(Status),
 }
 
@@ -44,7 +44,8 @@ impl Route {
         }
     }
 
-    // Returns `self`, or 501 if the fields name a transfer coding other than one `chunked`.
+    // Returns `self`, or a rejection with 501.
+    // The rejection is for `fields` with a `Transfer-Encoding` other than one `chunked`.
     fn unless_coded(self, fields: &HeaderMap) -> Route
         ensures { result ≡ unless_coded fields.now self }
     {
@@ -56,7 +57,7 @@ impl Route {
     }
 }
 
-// Returns `true` if the fields name no transfer coding, or only one `chunked`. Ignores case.
+// Returns `true` if there is no `Transfer-Encoding`, or only one, `chunked` in any letter case.
 fn are_plain(fields: &HeaderMap) -> bool
     ensures { result ≡ are_plain (get_all fields.now (codes "transfer-encoding")) }
 {

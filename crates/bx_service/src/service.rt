@@ -49,7 +49,7 @@ pub struct BayeuxService<S, O: Observer = ()> {
 impl<S: Drop> BayeuxService<S, ()> {
     /// Creates a service over `backend`.
     ///
-    /// It reads bodies and queries of up to [`bx_advice::BODY_LIMIT`] bytes.
+    /// The service reads bodies and queries of up to [`bx_advice::BODY_LIMIT`] bytes.
     ///
     /// # Errors
     ///
@@ -77,8 +77,8 @@ impl<S: Drop> BayeuxService<S, ()> {
 impl<S: Drop, O: Observer> BayeuxService<S, O> {
     /// Creates a service as [`new`](Self::new) does, with an observer.
     ///
-    /// The observer sees each clone as a connection, which closes when the clone is dropped. The
-    /// original is no connection.
+    /// The observer sees each clone of the service as a connection, which closes when the clone is
+    /// dropped. The returned service itself is no connection.
     ///
     /// # Errors
     ///

@@ -21,7 +21,7 @@ pub(crate) fn code_of(status: Status) -> StatusCode
 
 /// Returns the status of a POST if its body was not collected.
 ///
-/// 400 if the body failed. Otherwise the status of the `TransportError` with the same name.
+/// `Failed`: 400. `TooLarge` and `Memory`: the status of the `TransportError` of this name.
 ///
 /// Policy of this server.
 pub(crate) fn body_status(fault: CollectError) -> Status
@@ -36,7 +36,7 @@ pub(crate) fn body_status(fault: CollectError) -> Status
 
 /// Returns the status of a request that the hub did not admit.
 ///
-/// `Refused` has the status of its reason. All others are 503.
+/// `Refused`: the status of its reason. All other faults: 503.
 ///
 /// Policy of this server.
 pub(crate) fn post_status(fault: PostFault) -> Status

@@ -25,22 +25,24 @@ rides_of e = rider_of e.kind e.rides
 abbrev pub rider_in : (ℕ → Option Kept) → Entry → Option Rider
 rider_in sessions e = option_and_then (λ (r : Rider). if is_some (sessions r.session) then Some r else None) (rides_of e)
 
--- The answer to a rider before it gets any events.
+-- The answer to a rider, still without events.
 abbrev pub unridden : Rider → Answer
 unridden rider = record { events = []; reply = rider.reply }
 
--- A session after the answer to a rider got its waiting events, at most one batch.
+-- A session after its waiting events, at most one batch, moved into the answer to its rider.
 abbrev pub given_up : Config → Kept → Kept
 given_up config k = after (forgotten (ride_portion config (resumed k))) k
 
--- The answer to a rider, with its session's events if the session is in the shard.
+-- The state of a rider after its filed answer got its session's waiting events, at most one batch.
+-- It is unchanged if the session is not in the shard.
 abbrev pub completed_by : Config → Option Kept → Option ConnectState → Option ConnectState
 completed_by config None state = state
 completed_by config (Some k) state = completed (events_of (take (ride_portion config (resumed k)) k.queue)) state
 
 -- ---- Entries
 
--- The sessions after an entry. `stands`: whether a session that it opens is placed in the shard.
+-- `new` is the sessions and connects of a shard after entry `e` is applied to `old`. `stands`:
+-- whether a session that `e` opens is placed in the shard.
 pub record Followed (stands : Bool) (e : Entry) (old new : Sessions) : Type 0 where
   pub config : new.config ≡ old.config
   pub sessions : (n : ℕ) → kept_in new n ≡ session_after old.config stands e n (kept_in old n)

@@ -7,7 +7,7 @@ use Rattle.bx_entry.specs.declared.entry.EntryKind.TheVariants.{Opened}
 use Rattle.bx_entry.specs.Placings.{Setup}
 use Rattle.bx_shard.specs.Shards.{shard_at}
 
--- The session is live and has formed at most `place` batches.
+-- Session `k` is live and has formed at most `place` batches.
 pub record IsReached (place : ℕ) (k : Kept) : Type 0 where
   pub live : k.stage ≡ Live
   pub numbers : k.num ≤ place
@@ -20,7 +20,7 @@ SessionsReached = (setup : Setup) (list : List Listed) (taken : List ℕ) (shard
 abbrev pub NumbersAscend : Type 0
 NumbersAscend = (setup : Setup) (list : List Listed) (taken : List ℕ) (shard n : ℕ) → IsStrictlyIncreasing (map (λ (k : Kept). k.number) (shard_at setup list taken shard n).sessions)
 
--- An opened session has a higher number than all sessions then in any shard.
+-- When an entry opens a session, its number is higher than those of all sessions in any shard.
 abbrev pub OpenedIsFresh : Type 0
 OpenedIsFresh = (setup : Setup) (list : List Listed) (taken : List ℕ) (shard m number : ℕ) (ack : Bool) (e : Entry) → slice_get (entries setup.config list) m ≡ Some e → e.kind ≡ Opened number ack →
     All (λ (k : Kept). k.number < number) (shard_at setup list taken shard m).sessions

@@ -19,16 +19,18 @@ published_at place e = record { place = place; event = e }
 abbrev pub reaches : Event → List Glob → Bool
 reaches e patterns = is_broadcast e.channel && any_matches patterns (segments e.channel)
 
--- The numbers of the sessions that the parcels are for.
+-- The numbers of the sessions that the parcels are for, in order.
 abbrev pub numbers_of : List Parcel → List ℕ
 numbers_of xs = map (λ (x : Parcel). x.number) xs
 
--- The parcel's session has room for the event. The parcel has a clone if the session needs one.
+-- The session of parcel `x`, if it is in the shard, has room for the event. If the session will
+-- both send and keep the event, the parcel has a clone.
 pub record IsPacked (s : Sessions) (x : Parcel) : Type 0 where
   pub room : HasRoom s x.number
   pub further : IfSome (kept_in s x.number) (λ (k : Kept). wants_two k ≡ true → x.further ≡ Some x.event)
 
--- The session can receive its parcel.
+-- The session of parcel `x`, if it is in the shard, can receive the parcel: it has not overflowed,
+-- can count another batch, and has room for the event.
 pub record IsReady (s : Sessions) (x : Parcel) : Type 0 where
   pub here : IfSome (kept_in s x.number) (λ (k : Kept). (k.overflow ≡ false) × Countable k)
   pub packed : IsPacked s x
@@ -43,14 +45,16 @@ abbrev pub AllReady : Sessions → List Parcel → Type 0
 AllReady s [] = Unit {0}
 AllReady s (x ∷ xs) = IsReady s x × NoneFor x.number xs × AllReady s xs
 
--- The sessions after one of them receives its parcel.
+-- `new` is the sessions of a shard after parcel `x` is delivered to its session in `old`. `place`:
+-- that of the publish.
 pub record Turn (config : Config) (place : ℕ) (x : Parcel) (old new : Sessions) : Type 0 where
   pub sessions : (n : ℕ) → kept_in new n ≡ (if nat_eq x.number n then option_map (after (received config (published_at place x.event))) (kept_in old x.number) else kept_in old n)
   pub connects : (p : ℕ) → connect_at new.connects p ≡ filing_each place (answers_by (received config (published_at place x.event)) (kept_in old x.number)) (connect_at old.connects) p
   pub held : AreHeld new
   pub config_is : new.config ≡ old.config
 
--- The parcels are delivered one after another.
+-- `new` is the sessions of a shard after the parcels are delivered in order to those in `old`.
+-- `place`: that of the publish.
 abbrev pub Turns : Config → ℕ → List Parcel → Sessions → Sessions → Type 0
 Turns config place [] old new = old ≡ new
 Turns config place (x ∷ xs) old new = (between : Sessions) × Turn config place x old between × Turns config place xs between new

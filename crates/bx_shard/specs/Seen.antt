@@ -9,6 +9,6 @@ use Rattle.bx_shard.specs.States.{State}
 abbrev pub setup_in : {P : Type 0} → (P → ℕ → ℕ → ℕ) → Shard P → Setup
 setup_in place_of s = record { config = s.sessions.config; shards = s.shards; placing = place_of (arc_value s.placing) }
 
--- The state of a shard.
+-- The program's shard as a `State`: its setup, index, place, sessions, and whether it is shut.
 abbrev pub state : {P : Type 0} → (P → ℕ → ℕ → ℕ) → Shard P → State
 state place_of s = record { setup = setup_in place_of s; index = s.index; place = s.place; shut = s.is_shut; sessions = s.sessions }

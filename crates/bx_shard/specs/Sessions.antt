@@ -28,31 +28,35 @@ AreCountable s = (n : ℕ) → IfSome (kept_in s n) Countable
 
 -- ---- Invariants
 
--- The session is live and stored under its number. The tree has its patterns. After an overflow,
--- there are none.
+-- Session `k` is live, and `n` is its number. `patterns` is its patterns, and is empty if the
+-- session has overflowed.
 pub record IsOwn (n : ℕ) (k : Kept) (patterns : List Glob) : Type 0 where
   pub number : k.number ≡ n
   pub live : k.stage ≡ Live
   pub patterns_are : k.patterns ≡ patterns
   pub emptied : k.overflow ≡ true → patterns ≡ []
 
--- The tree has the session's patterns, and none if the session is not in the shard.
+-- A session `n` of the shard is live, and a list is its patterns. If the session is not in the
+-- shard, the list is empty.
 abbrev pub IsCounted : ℕ → Option Kept → List Glob → Type 0
 IsCounted n None patterns = patterns ≡ []
 IsCounted n (Some k) patterns = IsOwn n k patterns
 
--- The deadline of a connect, if session `n` holds it. A deadline may be missing.
+-- The deadline of a connect, if session `n` holds it. The deadline is `None` if no tick can be that
+-- late.
 abbrev pub held_until : Option ConnectState → ℕ → Option (Option ℕ)
 held_until None n = None
 held_until (Some (Held m deadline waker)) n = if nat_eq m n then Some deadline else None
 held_until (Some (Filed session place answer)) n = None
 
--- The deadline of a held connect, if it is the one at `place`.
+-- The deadline of a held connect, if its place is `place`. The deadline is `None` if no tick can be
+-- that late.
 abbrev pub ends_for : Option Pending → ℕ → Option (Option ℕ)
 ends_for None place = None
 ends_for (Some p) place = if nat_eq p.place place then Some (deadline_of p) else None
 
--- The deadline of the connect at `place`, if the session holds it.
+-- The deadline of the connect at `place`, if a session holds it. The deadline is `None` if no tick
+-- can be that late.
 abbrev pub holds_until : Option Kept → ℕ → Option (Option ℕ)
 holds_until None place = None
 holds_until (Some k) place = ends_for k.held place
@@ -61,7 +65,7 @@ holds_until (Some k) place = ends_for k.held place
 abbrev pub AreClean : Sessions → Type 0
 AreClean s = (n : ℕ) → kept_in s n ≡ None → patterns_in s n ≡ []
 
--- The tree has exactly the patterns of each session.
+-- Each session in the shard is live, and the tree has exactly the patterns of the sessions.
 abbrev pub AreCounted : Sessions → Type 0
 AreCounted s = (n : ℕ) → IsCounted n (kept_in s n) (patterns_in s n)
 
@@ -69,17 +73,20 @@ AreCounted s = (n : ℕ) → IsCounted n (kept_in s n) (patterns_in s n)
 abbrev pub AreHeld : Sessions → Type 0
 AreHeld s = (place n : ℕ) → held_until (connect_at s.connects place) n ≡ holds_until (kept_in s n) place
 
--- The tree and the held connects agree with the sessions.
+-- In the shard's sessions `s`, the tree has exactly the patterns of the sessions, and a connect is
+-- held if and only if its session holds it.
 pub record AreTied (s : Sessions) : Type 0 where
   pub patterns : AreCounted s
   pub holds : AreHeld s
 
--- Whether a session, if any, has formed at most `count` batches.
+-- Whether a session has formed at most `count` batches; `true` if there is no session.
 abbrev pub has_formed_at_most : ℕ → Option Kept → Bool
 has_formed_at_most count None = true
 has_formed_at_most count (Some k) = nat_le k.num count
 
--- The invariants of the sessions of a shard that has applied `place` entries.
+-- The sessions `s` fit a shard that has applied `place` entries. The tree and the held connects
+-- agree with the sessions. No session has formed more than `place` batches, and no connect at
+-- `place` or later is known.
 pub record Fits (place : ℕ) (s : Sessions) : Type 0 where
   pub counted : AreCounted s
   pub held : AreHeld s

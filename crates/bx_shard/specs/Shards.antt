@@ -10,7 +10,8 @@ is_placed_in setup shard number = setup.placing number setup.shards == shard
 
 -- ---- Contents of a shard
 
--- A shard: its place, its live sessions in order of number, and its filed answers not taken yet.
+-- A shard of the definitions: the number of applied entries (`place`), its live sessions in order
+-- of number, and its filed answers that are not taken yet.
 pub record Shard : Type 0 where
   pub place : ℕ
   pub sessions : List Kept
@@ -26,15 +27,16 @@ sessions_in setup list shard n =
     let r = registry setup.config (take n list) in
     map (λ (s : Registered). session setup.config s.number (entries_of r)) (filter (λ (s : Registered). is_placed_in setup shard s.number) r.sessions)
 
--- The live sessions.
+-- The live sessions in a list of sessions.
 abbrev pub live_among : List Session → List Session
 live_among ss = filter (λ (s : Session). is_live s.stage) ss
 
--- The answers of the sessions, except those that were taken.
+-- The answers that the sessions gave, except those to the connects at the places in `taken`.
 abbrev pub filed_among : List ℕ → List Session → List Filed
 filed_among taken ss = filter (λ (f : Filed). not (is_taken taken f.connect)) (flat_map (λ (s : Session). s.answers) ss)
 
--- The shard after the first `n` entries, without the answers to the connects at `taken`.
+-- The shard after the first `n` entries, without the answers to the connects at the places in
+-- `taken`.
 abbrev pub shard_at : Setup → List Listed → List ℕ → ℕ → ℕ → Shard
 shard_at setup list taken shard n =
     let ss = sessions_in setup list shard n in

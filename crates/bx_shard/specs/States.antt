@@ -17,7 +17,8 @@ use Rattle.bx_shard.specs.Sessions.{AreTied, kept_in}
 use Rattle.bx_entry.specs.Placings.{Setup}
 use Rattle.bx_shard.specs.Shards.{is_placed_in}
 
--- A shard: its setup, index, number of applied entries, whether it is shut, and its sessions.
+-- A shard: its setup, its index, the number of applied entries (`place`), whether it is shut, and
+-- its sessions with their connects.
 pub record State : Type 0 where
   pub setup : Setup
   pub index : ℕ
@@ -35,71 +36,78 @@ session_in s number = kept_in s.sessions number
 
 -- ---- Sessions
 
--- Session `n` before it is opened, if an entry of this kind opens it in the shard.
+-- Session `n` before it is opened, if an entry of the given kind opens it and `stands` is `true`:
+-- the session is placed in the shard.
 abbrev pub opening : Bool → EntryKind → ℕ → Option Kept
 opening stands (Opened m ack) n = if (m == n) && stands then Some (kept (unopened m)) else None
 opening stands _ n = None
 
--- The session, if it is live.
+-- A session, if it is live; otherwise `None`.
 abbrev pub if_live : Kept → Option Kept
 if_live k = if is_live k.stage then Some k else None
 
--- Session `n` after the entry, which may open it. A closed session is dropped.
+-- Session `n` of a shard after an entry, which may open it. `None` if it is closed or not in the
+-- shard.
 abbrev pub session_after : Config → Bool → Entry → ℕ → Option Kept → Option Kept
 session_after config stands e n o = option_and_then (λ k. if_live (kept_step config k e)) (option_or o (opening stands e.kind n))
 
 -- ---- Connects
 
--- A connect becomes unknown if one of these sessions holds it.
+-- A connect after the sessions in `numbers` are closed: unknown if one of them holds it, otherwise
+-- unchanged.
 abbrev pub dropped_by : List ℕ → Option ConnectState → Option ConnectState
 dropped_by numbers None = None
 dropped_by numbers (Some (Held session deadline waker)) = if list_any (λ m. m == session) numbers then None else Some (Held session deadline waker)
 dropped_by numbers (Some (Filed session place answer)) = Some (Filed session place answer)
 
--- The connects before the entry's answers are filed. A connect is held if its session is in the
--- shard. A tick drops the connects that its closed sessions hold; in a list there are none, since
--- no session is due before its hold ends.
+-- The connects after an entry, before its answers are filed. The entry of a connect holds it, if
+-- its session is in the shard. A tick drops the connects that are held by the sessions that it
+-- closes. A tick of a list drops none, since no session is due before its hold ends.
 abbrev pub begun : (ℕ → Option Kept) → (ℕ → Option ConnectState) → Entry → EntryKind → ℕ → Option ConnectState
 begun sessions connects e (Connect m client id acked hold) p = if is_some (sessions m) then holding m (pending e.place client id e.moment hold) connects p else connects p
 begun sessions connects e (Tick numbers) p = dropped_by numbers (connects p)
 begun sessions connects e _ p = connects p
 
--- The entry gives this answer to a connect or rider of session `number`.
+-- Applying entry `e` to session `number`, which is in the shard, gives the answer `a` to a connect
+-- or rider.
 abbrev pub IsGiven : Config → (ℕ → Option Kept) → Entry → ℕ → Answered → Type 0
 IsGiven config sessions e number a = Contains (answers_by (λ s. step config s e) (sessions number)) a
 
--- Each given answer is filed at `place`, and all other connects are unchanged.
+-- `new` is the connects `old` after all answers in `Given` are filed, as given by the entry at
+-- `place`. All other connects are unchanged.
 pub record Files (place : ℕ) (Given : ℕ → Answered → Type 0) (old new : ℕ → Option ConnectState) : Type 0 where
   pub given : (n : ℕ) (a : Answered) → Given n a → new a.place ≡ Some (Filed n place a.answer)
   pub kept : (p : ℕ) → ((n : ℕ) (a : Answered) → Given n a → a.place ≢ p) → new p ≡ old p
 
--- The session of a rider, if any.
+-- The number of a rider's session, if there is a rider.
 abbrev pub riding : Option Rider → Option ℕ
 riding rides = option_map (λ (r : Rider). r.session) rides
 
--- The session for which an entry of this kind is a connect, if any.
+-- The number of the session that connects by an entry of the given kind, if the kind is a connect.
 abbrev pub connecting : EntryKind → Option ℕ
 connecting (Connect m client id acked hold) = Some m
 connecting _ = None
 
--- The entry is the connect or rider at `p` of session `m`, which is in the shard.
+-- Entry `e`, at place `p`, is a connect of session `m` or has its rider, and the session is in the
+-- shard.
 pub record Connects (sessions : ℕ → Option Kept) (e : Entry) (p m : ℕ) : Type 0 where
   pub place : e.place ≡ p
   pub session : (connecting e.kind ≡ Some m) ⊎ (riding (rider_of e.kind e.rides) ≡ Some m)
   pub here : is_some (sessions m) ≡ true
 
--- Each known connect has the session that it had before, or belongs to this entry.
+-- Each connect known in `new` has the session that it has in `old`, or is the connect or rider of
+-- entry `e`.
 abbrev pub KeepsSessions : (ℕ → Option Kept) → Entry → (ℕ → Option ConnectState) → (ℕ → Option ConnectState) → Type 0
 KeepsSessions sessions e old new = (p m : ℕ) → session_at (new p) ≡ Some m → (session_at (old p) ≡ Some m) ⊎ Connects sessions e p m
 
--- Whether an entry of this kind opens a session in the shard.
+-- Whether an entry of the given kind opens a session that is placed in shard `index`.
 abbrev pub opens_in : Setup → ℕ → EntryKind → Bool
 opens_in setup index (Opened m ack) = is_placed_in setup index m
 opens_in setup index _ = false
 
 -- ---- One entry
 
--- The shard after one more entry.
+-- `new` is the shard `old` after it applies entry `e`.
 pub record Applied (old : State) (e : Entry) (new : State) : Type 0 where
   pub place : new.place ≡ e.place + 1
   pub setup : new.setup ≡ old.setup
@@ -109,7 +117,8 @@ pub record Applied (old : State) (e : Entry) (new : State) : Type 0 where
   pub connects : Files e.place (IsGiven old.setup.config (session_in old) e) (begun (session_in old) (connect_in old) e e.kind) (connect_in new)
   pub known : KeepsSessions (session_in old) e (connect_in old) (connect_in new)
 
--- Nothing observable has changed.
+-- The shards `old` and `new` have the same setup, index, place, sessions and connects. Both are
+-- shut, or neither is.
 pub record IsAsBefore (old new : State) : Type 0 where
   pub place : new.place ≡ old.place
   pub setup : new.setup ≡ old.setup
@@ -120,14 +129,15 @@ pub record IsAsBefore (old new : State) : Type 0 where
 
 -- ---- Invariants
 
--- The tree and the holds agree with the sessions, and no connect at `s.place` or later is known.
+-- In shard `s`, the tree and the held connects agree with the sessions, and no connect at `s.place`
+-- or later is known.
 pub record IsSound (s : State) : Type 0 where
   pub tied : AreTied s.sessions
   pub fresh : (p : ℕ) → s.place ≤ p → connect_in s p ≡ None
 
 -- ---- Other calls
 
--- The shard after a call of `watch` for the connect at `connect`.
+-- `new` is the shard `old` after a call of `watch` with `waker` for the connect at place `connect`.
 pub record Watched (connect : ℕ) (waker : Waker) (old new : State) : Type 0 where
   pub place : new.place ≡ old.place
   pub setup : new.setup ≡ old.setup
@@ -136,7 +146,7 @@ pub record Watched (connect : ℕ) (waker : Waker) (old new : State) : Type 0 wh
   pub sessions : (n : ℕ) → session_in new n ≡ session_in old n
   pub connects : (p : ℕ) → connect_in new p ≡ (if nat_eq connect p then with_waker old.shut waker (connect_in old connect) else connect_in old p)
 
--- The shard without the answers given below place `before`.
+-- `new` is the shard `old` without the answers given by entries before place `before`.
 pub record Swept (before : ℕ) (old new : State) : Type 0 where
   pub place : new.place ≡ old.place
   pub setup : new.setup ≡ old.setup
@@ -145,7 +155,7 @@ pub record Swept (before : ℕ) (old new : State) : Type 0 where
   pub sessions : (n : ℕ) → session_in new n ≡ session_in old n
   pub connects : (p : ℕ) → connect_in new p ≡ unswept before (connect_in old p)
 
--- The shard after it is shut, without wakers.
+-- `new` is the shard `old` after it is shut: its held connects have no wakers.
 pub record WasShut (old new : State) : Type 0 where
   pub place : new.place ≡ old.place
   pub setup : new.setup ≡ old.setup
@@ -154,7 +164,7 @@ pub record WasShut (old new : State) : Type 0 where
   pub sessions : (n : ℕ) → session_in new n ≡ session_in old n
   pub connects : (p : ℕ) → connect_in new p ≡ option_map unwatched (connect_in old p)
 
--- Whether an entry of this kind is applied without allocating, unless it is a rider.
+-- Whether an entry of the given kind is applied without allocating if it has no rider.
 abbrev pub takes_none_by : EntryKind → Bool
 takes_none_by (Unsubscribe m patterns) = true
 takes_none_by (Disconnect m) = true

@@ -10,12 +10,13 @@ use Rattle.bx_shard.specs.Shards.{is_taken, is_placed_in, shard_at}
 
 -- ---- Sessions
 
--- The unopened session that an entry of this kind opens in the shard, if any.
+-- The session, not opened yet, that an entry of the given kind opens in the shard. The list is
+-- empty if it opens none.
 abbrev pub opening_by : Setup → ℕ → EntryKind → List Kept
 opening_by setup shard (Opened n ack) = if is_placed_in setup shard n then kept (unopened n) ∷ [] else []
 opening_by setup shard _ = []
 
--- The live sessions of the shard after an entry, which may open one.
+-- The live sessions of a shard after an entry, which may open a session.
 abbrev pub stepped : Setup → ℕ → Entry → List Kept → List Kept
 stepped setup shard e ks = filter (λ (k : Kept). is_live k.stage) (map (λ (k : Kept). kept_step setup.config k e) (ks ++ opening_by setup shard e.kind))
 
@@ -26,11 +27,12 @@ ShardsStep = (setup : Setup) (list : List Listed) (taken : List ℕ) (shard n : 
 
 -- ---- Answers
 
--- The answers that the sessions give at an entry.
+-- The answers that the sessions of a list give when an entry is applied to them.
 abbrev pub answers_by : Config → Entry → List Kept → List Filed
 answers_by config e ks = flat_map (λ (k : Kept). kept_answers config k e) ks
 
--- An untaken answer is filed after an entry if it was filed before or a live session gives it.
+-- If the answer to a connect was not taken, the one that is filed after an entry is the one filed
+-- before or, if none was, the one that a live session of the shard gives at the entry.
 abbrev pub ShardsFile : Type 0
 ShardsFile = (setup : Setup) (list : List Listed) (taken : List ℕ) (shard n : ℕ) (e : Entry) (place : ℕ) → 0 < setup.config.limits.batch → slice_get (entries setup.config list) n ≡ Some e → is_taken taken place ≡ false →
     find (λ (f : Filed). f.connect == place) (shard_at setup list taken shard (n + 1)).filed

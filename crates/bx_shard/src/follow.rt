@@ -50,7 +50,7 @@ impl Sessions {
         Ok(())
     }
 
-    // Applies `entry` without its rider.
+    // Applies `entry` without its rider. On error, no session or connect has changed.
     fn follow_alone(
         &mut self,
         alloc: Global,

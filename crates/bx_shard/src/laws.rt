@@ -13,15 +13,15 @@ pub fn shards_step()
 
 /// Proves which answers are filed after an entry.
 ///
-/// An answer that was not taken is filed if it was filed before, or if a live session of the shard
-/// gives it at the entry.
+/// If the answer to a connect was not taken, the one that is filed after the entry is the one filed
+/// before or, if none was, the one that a live session of the shard gives at the entry.
 pub fn shards_file()
     ensures { ShardsFile }
 {}
 
-/// Proves that a shard's sessions are live.
+/// Proves that a shard's sessions are live, and bounds the number of batches that they formed.
 ///
-/// None has formed more batches than the shard has applied entries.
+/// No session has formed more batches than the shard has applied entries.
 pub fn sessions_are_reached()
     ensures { SessionsReached }
 {}
@@ -78,7 +78,7 @@ pub fn refines_shut()
 
 /// Proves that a shard still agrees with the definitions after a sweep.
 ///
-/// Swept answers count as taken.
+/// The answers that the sweep drops count as taken.
 pub fn refines_swept()
     ensures { RefinesSwept }
 {}
@@ -88,7 +88,7 @@ pub fn refines_beside_swept()
     ensures { RefinesBesideSwept }
 {}
 
-/// Proves that a filed answer is what one thread gives over the entries that the shard applied.
+/// Proves that filed answers are those of the definitions over the entries that the shard applied.
 pub fn filed_is_given()
     ensures { FiledIsGiven }
 {}

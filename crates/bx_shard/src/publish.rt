@@ -48,7 +48,8 @@ impl Sessions {
         Ok(found.numbers)
     }
 
-    // Reserves room for `event` in each session of `numbers`, and creates their parcels.
+    // Reserves room for `event` in each session of `numbers`, and returns a parcel for each, in
+    // order. On error, no session has received the event.
     fn pack(
         &mut self,
         alloc: Global,

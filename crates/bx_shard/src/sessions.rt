@@ -120,10 +120,10 @@ impl Sessions {
         }
     }
 
-    /// Reserves room for `event` in session `number`, and clones it if it is to be sent and kept.
+    /// Reserves room for `event` in session `number`, and returns a clone of the event if needed.
     ///
-    /// Returns the clone. Does nothing if the session is not in this shard. On error, no session
-    /// has changed.
+    /// A clone is needed if the session will both send and keep the event. Does nothing and returns
+    /// `None` if the session is not in this shard. On error, no session has changed.
     pub(crate) fn reserve(
         &mut self,
         number: u64,

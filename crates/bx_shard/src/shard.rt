@@ -15,7 +15,7 @@ use indexmap::IndexMap;
 use std::alloc::{AllocError, Global};
 use std::sync::Arc;
 
-/// One shard of the server, with sessions placed by a `P`.
+/// One shard of the server, with sessions placed by a value of type `P`.
 ///
 /// Holds the live sessions that are placed in it, their patterns and held connects, and the filed
 /// answers that are not taken yet. It applies the entries of the list in order, independently of
@@ -186,7 +186,7 @@ impl<P: Placing> Shard<P> {
             .watch(ticket.place, waker, self.is_shut)
     }
 
-    /// Drops the answers filed by entries before place `before`, and returns how many.
+    /// Drops the answers given by entries before place `before`, and returns their number.
     pub fn sweep(&mut self, before: u64) -> usize
         ensures swept { Swept before (state P.place_of self.old) (state P.place_of self.new) }
         ensures count { result ≡ count_filed_below before self.old.sessions.connects }

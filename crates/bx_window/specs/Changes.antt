@@ -11,6 +11,7 @@ module _ {L : Type 0} {g : LogId.Ghosts L} where
   front_of (Add published) = published.front
   front_of (Trim trimmed) = trimmed.front
 
-  -- The log that is shown after the change.
+  -- The log that a ring shows after the change, given the log that it showed before. A change that
+  -- is not the next one has no effect.
   abbrev pub after : List LogStep → RingChange L g → List LogStep
   after log change = next_of log (front_of change)

@@ -10,9 +10,9 @@ use bx_history::History;
 pub struct Bundle {
     /// The batch, which begins at the end of the list.
     pub batch: Batch,
-    /// Ghost: the elements of the list for these entries.
+    /// Ghost: the elements of the list for the batch's entries.
     pub elements: Listing,
-    /// Ghost: the requests and ticks that these elements result from.
+    /// Ghost: the requests and ticks that the batch results from.
     pub inputs: History<Input>,
 }
 

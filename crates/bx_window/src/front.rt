@@ -32,7 +32,8 @@ impl Opened {
         }
     }
 
-    // Begins the log. Returns `None` if it has already begun, which does not happen.
+    // Begins the log and returns the writer's end of it. Returns `None` if the log has already
+    // begun, which does not happen.
     pub(crate) fn begun<L: LogId>(self) -> Option<Book<L>>
         requires { self.seen.book ≡ L.book }
         ensures { IfSome result (λ b. b ≡ []) }
@@ -66,7 +67,8 @@ impl Opened {
     }
 }
 
-// Adds a cell, and returns its pen. The pen can write the cell until a step spends it.
+// Adds a cell to the `logbook` book, and returns its pen. The pen can write the cell until a step
+// spends it.
 fn spare(head: &Word<Logged, u64, Law>, seen: &Seen<Logged, u64, Law>) -> Pen
     requires { head.now ≡ head_of seen.now.book }
     ensures book { result.book ≡ seen.now.book }
@@ -112,7 +114,7 @@ impl<L: LogId> Model for Book<L> {
 }
 
 impl<L: LogId> Book<L> {
-    // Returns the whole log.
+    // Returns the front that is the whole log.
     pub(crate) fn front(&self) -> Front<L>
         ensures { result ≡ self.now }
     {
@@ -125,7 +127,8 @@ impl<L: LogId> Book<L> {
         }
     }
 
-    // Returns the whole log. `other` is a prefix of it, because only the pen can append steps.
+    // Returns the front that is the whole log. `other` is a prefix of it, because only the pen can
+    // append steps.
     pub(crate) fn beyond(&mut self, other: &Front<L>) -> Front<L>
         ensures same { self.new ≡ self.old }
         ensures whole { result ≡ self.old }
@@ -200,7 +203,7 @@ impl<L: LogId> Book<L> {
     }
 }
 
-/// A prefix of the window's log that a caller has seen.
+/// A prefix of the window's log of publishes and trims, and so of the list.
 ///
 /// Of two fronts of one window, the shorter is a prefix of the longer, even if batches were trimmed
 /// in between.

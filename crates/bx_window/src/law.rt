@@ -8,17 +8,17 @@ use std::marker::Brand;
 pub struct LogStep {
     /// The elements to append, in order.
     pub elements: Listing,
-    /// The requests and ticks that they result from, in order.
+    /// The requests and ticks that `elements` result from, in order.
     pub inputs: History<Input>,
     /// How many of the window's oldest batches are dropped.
     pub dropped: u64,
 }
 
-/// Ghost: an entry of the log.
+/// Ghost: one record in the log of the window's steps (appends and trims).
 pub struct Logged {
-    /// The step. The first entry's step only opens the log.
+    /// The recorded step. In the first record of the log, it only opens the log.
     pub step: LogStep,
-    /// The key of the cell that the next step spends.
+    /// The key of the cell (a word of the `logbook` book) that the next step spends.
     ///
     /// Only the holder of the cell's pen can append that step.
     pub next: u64,
@@ -27,8 +27,8 @@ pub struct Logged {
 /// Ghost: the rule of the log.
 ///
 /// A cell is a word of the `logbook` book, and has a key. Its pen can write it until a step spends
-/// it. The first cell has the number of entries. The cell of each entry's key except the last is
-/// spent.
+/// it. The first cell has the number of the log's records. The cell of each record's key is spent,
+/// except for the last record's.
 pub struct Law;
 
 impl Rule<Logged, u64> for Law {
@@ -67,7 +67,7 @@ impl Play<Logged, u64> for Spare {
     ghost then = { Spares };
 }
 
-/// Ghost: the move that appends the first entry.
+/// Ghost: the move that appends the first record of the log.
 pub struct Open;
 
 impl Play<Logged, u64> for Open {
@@ -85,7 +85,9 @@ impl Play<Logged, u64> for Add {
     ghost then = { Adds };
 }
 
-/// Ghost: the move that changes nothing, and proves that what was seen is not too long.
+/// Ghost: the move that proves that the expected number of records is not exceeded.
+///
+/// It changes nothing.
 pub struct Whole;
 
 impl Play<Logged, u64> for Whole {
@@ -99,11 +101,11 @@ impl Play<Logged, u64> for Whole {
 pub struct StepRequest<'a> {
     /// The elements to append to the list, in order.
     pub elements: &'a Listing,
-    /// The requests and ticks that they result from, in order.
+    /// The requests and ticks that `elements` result from, in order.
     pub inputs: &'a History<Input>,
     /// How many of the window's oldest batches to drop.
     pub dropped: u64,
-    /// The pen for the step after it.
+    /// The pen that can append the step after this one.
     pub next: &'a Pen,
 }
 
@@ -115,7 +117,7 @@ impl<'a> Plain<StepRequest<'a>, Logged, u64> for Add {
     ghost state = { λ a. None };
 }
 
-// Adding a cell asks for no step.
+// Adding a cell appends no step, so the step asked for is not used.
 impl Plain<u64, Logged, u64> for Spare {
     ghost use Rattle.std.specs.Prelude.{None, []};
 

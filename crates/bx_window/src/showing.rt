@@ -1,4 +1,4 @@
-//! Shows changes to readers.
+//! Showing changes to readers, at once or later.
 ghost use Rattle.std.specs.Prelude.{◌≡◌, [], List, None, IsTrue, IfNone, IfSome, IfOk};
 ghost use Rattle.left_right.specs.Handles.{published, pending};
 ghost use Rattle.bx_window.specs.declared.law.LogStep.{LogStep};
@@ -21,7 +21,8 @@ pub(crate) struct Late<O: Drop> {
 
 /// Shows `change` to readers.
 ///
-/// Returns the change as late if it cannot be shown. Readers then see what they saw before.
+/// Returns `None`, or the change as late if it cannot be shown. Readers then see what they saw
+/// before.
 pub(crate) fn show<L: LogId, R: Wait + Drop>(
     handle: &mut WriteHandle<Ring<L>, RingChange<L>, R>,
     change: RingChange<L>,

@@ -29,7 +29,7 @@ use std::sync::{Arc, Wait};
 
 /// The maximum number of batches in the window.
 ///
-/// The window keeps no more for a shard that does not advance.
+/// The window keeps no more batches for a shard that does not advance.
 ///
 /// Policy of this server.
 pub const MAX_BATCHES: usize = 4096;
@@ -76,7 +76,7 @@ pub type LogWriter<L, R> = Writer<L, R, Ring<L>, RingChange<L>>;
 
 /// Creates the writer and `readers` readers of an opened window.
 ///
-/// Its list is empty. `readers` must be from 1 to 2^32 - 1.
+/// The window's list is empty. `readers` must be from 1 to 2^32 - 1.
 ///
 /// # Errors
 ///
@@ -236,7 +236,8 @@ impl<L: LogId, R: Wait + Drop> Writer<L, R, Ring<L>, RingChange<L>> {
     }
 }
 
-// Moves the batch into an `Arc`. Returns the bundle if memory runs out.
+// Moves the batch into an `Arc`, and returns it with the bundle's elements and inputs. Returns the
+// bundle if memory runs out.
 fn shared(
     alloc: Global,
     bundle: Bundle,
@@ -281,7 +282,7 @@ fn count_below(firsts: &HeapCircularBuffer<u64>, n: u64, end: u64) -> usize
     len
 }
 
-// Appends a place, for which there must be room.
+// Appends the place `first`, for which there must be room.
 #[tactic(auto, using(crate::proofs::Firsts::kept_all))]
 fn put_last(firsts: &mut HeapCircularBuffer<u64>, first: u64)
     requires { length firsts.old.items < firsts.old.capacity }

@@ -12,7 +12,7 @@ abbrev pub first_of : List Entry → ℕ
 first_of [] = 0
 first_of (e ∷ es) = e.place
 
--- The place after the last entry.
+-- The place after the last entry, or 0 if there are no entries.
 abbrev pub end_of : List Entry → ℕ
 end_of es = first_of es + length es
 
@@ -26,7 +26,8 @@ AreOf setup list es = (k : ℕ) → (e : Entry) → slice_get es k ≡ Some e �
 
 -- ---- One shard
 
--- The shard's place is that of an entry or just after the last. Without entries, it is any place.
+-- The place of shard `s` is that of an entry or just after the last. Without entries, it is any
+-- place.
 abbrev pub IsWithin : {P : Type 0} → List Entry → Shard P → Type 0
 IsWithin es s = 0 < length es → (first_of es ≤ s.place) × (s.place ≤ end_of es)
 
@@ -35,8 +36,9 @@ abbrev pub is_behind : {P : Type 0} → List Entry → Shard P → Bool
 is_behind [] s = false
 is_behind (e ∷ es) s = nat_lt s.place (end_of (e ∷ es))
 
--- A shard has advanced, at most to the end of the entries. It still agrees with the definitions
--- over each list that has them. It is at the end, or before an entry that may allocate.
+-- `new` is the shard `old` after it advanced, at most to the end of the entries `es`. It agrees
+-- with the definitions over each list that has the entries, if `old` does. It is at the end, or the
+-- next entry is one that may allocate.
 pub record WentOn {P : Type 0} (place_of : P → ℕ → ℕ → ℕ) (es : List Entry) (old new : Shard P) : Type 0 where
   pub onward : old.place ≤ new.place
   pub within : IsWithin es old → IsWithin es new
@@ -54,7 +56,8 @@ pub record WentOn {P : Type 0} (place_of : P → ℕ → ℕ → ℕ) (es : List
 abbrev pub AreWithin : {P : Type 0} → List Entry → List (Shard P) → Type 0
 AreWithin {P} es shards = (k : ℕ) → (s : Shard P) → slice_get shards k ≡ Some s → IsWithin es s
 
--- Each shard has advanced, and their number is unchanged.
+-- `new` is the shards `old`, in the same order, after each advanced at most to the end of the
+-- entries `es`.
 pub record BroughtUp {P : Type 0} (place_of : P → ℕ → ℕ → ℕ) (es : List Entry) (old new : List (Shard P)) : Type 0 where
   pub all : length new ≡ length old
   pub each : (k : ℕ) → (s t : Shard P) → slice_get old k ≡ Some s → slice_get new k ≡ Some t → WentOn place_of es s t

@@ -2,7 +2,8 @@
 
 /// Calls that a worker makes before and after it advances its shards.
 ///
-/// `worker`: its number, counted from 0. A test can stop one worker there until another is done.
+/// `worker`: its number, counted from 0. In `before`, a test can stop one worker until another
+/// has advanced its shards.
 pub trait Gate {
     /// Runs before the worker advances its shards.
     fn before(&self, worker: usize);

@@ -13,9 +13,9 @@ use std::thread::Threads;
 
 /// Advances every shard to the end of `entries`, and returns how many shards do not reach it.
 ///
-/// `entries` must have consecutive places. Each shard's next entry must be one of them, or the one
-/// after the last. A shard stops at the first entry for which memory runs out. Tasks are woken once
-/// their shard has advanced.
+/// `entries` must have consecutive places. Each shard's next entry must be one of `entries`, or the
+/// one after the last. A shard stops at the first entry for which memory runs out. Tasks are woken
+/// once their shard has advanced.
 ///
 /// Worker `w`, counted from 0, advances the `w`-th run of `ceil(shards / workers)` neighboring
 /// shards, and calls `gate` before and after. A worker without shards does not call it. If no
@@ -68,7 +68,8 @@ fn catch_up_each<P: Placing>(alloc: Global, shards: &mut [Shard<P>], entries: &[
     }
 }
 
-// Applies the entries that the shard lacks, until memory runs out. Tasks are woken at the end.
+// Applies the entries that the shard lacks, and stops with an error if memory runs out. In both
+// cases, wakes the tasks of the answered connects at the end.
 fn catch_up<P: Placing>(
     alloc: Global,
     shard: &mut Shard<P>,
@@ -87,7 +88,7 @@ fn catch_up<P: Placing>(
     Ok(())
 }
 
-// Returns the entries that the shard has not applied.
+// Returns the part of `entries` that the shard has not applied.
 fn lacking<'entries, P: Placing>(shard: &Shard<P>, entries: &'entries [Entry]) -> &'entries [Entry]
     requires { IsWithin entries.now shard.now }
     ensures { result.now ≡ drop (shard.now.place - first_of entries.now) entries.now }

@@ -15,7 +15,8 @@ use std::sync::Wait;
 /// Evidence of why a request or a tick was not admitted.
 ///
 /// It is created while admission is locked, or before, if the request cannot be read. It records
-/// whether the hub was closed. With `Behind` or `Overrun`, it also records a shard that lagged.
+/// whether the hub was closed. With `Behind` or `Overrun`, it also records the position of a shard
+/// that made the post or tick fail.
 #[derive(Drop)]
 pub struct Rejection<L: LogId> {
     fault: PostFault,
@@ -60,7 +61,7 @@ impl<L: LogId> Rejection<L> {
         }
     }
 
-    /// Returns why it was not admitted.
+    /// Returns why the request or tick was not admitted.
     pub fn fault(&self) -> PostFault
         ensures { result ≡ self.now.fault }
     {

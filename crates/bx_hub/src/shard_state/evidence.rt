@@ -21,7 +21,7 @@ use std::snapshot::Snapshot;
 
 /// Evidence of a shard's position.
 ///
-/// Ghost: its index, and what its reader has seen.
+/// Ghost: the shard's index, and the front that its reader has seen.
 #[derive(Drop)]
 pub(crate) struct ShardPosition<L: LogId> {
     index: Snapshot<usize>,
@@ -51,9 +51,9 @@ impl<L: LogId> ShardPosition<L> {
     }
 }
 
-/// The result of advancing a shard to a prefix.
+/// The result of advancing a shard to a front of the list, `prefix`.
 ///
-/// The shard has learned the prefix. It has reached the prefix's end, or `stays` is the fault that
+/// The shard has learned `prefix`. It has reached the end of `prefix`, or `stays` is the fault that
 /// stopped it. With `Misplaced`, the shard was not found and nothing was done. Ghost: the wakers
 /// added to the caller's list.
 #[derive(Drop)]
@@ -113,7 +113,7 @@ impl<L: LogId> ShardAdvance<L> {
         }
     }
 
-    /// Returns the fault, if the shard stopped before the prefix's end or was not found.
+    /// Returns the fault if the shard stopped before the end of `prefix` or was not found.
     pub(crate) fn stays(&self) -> Option<HubFault>
         ensures { result ≡ self.now.stays }
     {
@@ -186,7 +186,7 @@ impl<L: LogId> NoAnswer<L> {
 /// Evidence of the result of registering a waker under a ticket.
 ///
 /// The waker is registered, an answer is filed, no connect is known, or the shard is closed. If the
-/// shard was not found, the ticket is unknown too.
+/// shard was not found, the result is `Unknown`.
 #[derive(Drop)]
 pub struct WatchEvidence<L: LogId> {
     ticket: Snapshot<Ticket>,
@@ -246,10 +246,10 @@ impl<L: LogId> WatchEvidence<L> {
         }
     }
 
-    /// Creates evidence that `ticket` is unknown, because its lock guards another shard,
-    /// `shard_state`.
+    /// Creates evidence that `ticket` is unknown, because its shard was not found.
     ///
-    /// `said`: the result `Unknown` with the waker.
+    /// `shard_state`: the other shard that the lock guards. `said`: the result `Unknown` with the
+    /// waker.
     pub(crate) fn misplaced<P: Placing>(
         shard_state: &ShardState<L, P>,
         ticket: &Ticket,
@@ -279,7 +279,7 @@ pub enum ShardChange {
     Sweep { before: u64 },
 }
 
-/// Evidence that a change was applied to a shard, with the number of answers that it dropped.
+/// Evidence that a change was applied to a shard, and of how many answers the change dropped.
 ///
 /// If the shard was not found, nothing was changed.
 #[derive(Drop)]
@@ -294,8 +294,7 @@ impl<L: LogId> ChangeEvidence<L> {
     ghost use Rattle.bx_hub.specs.Changes.{IsAfter};
     ghost use Rattle.bx_shard.specs.Seen.{state};
 
-    /// Creates evidence that `change` was applied to `shard_state`, which dropped `dropped`
-    /// answers.
+    /// Creates evidence that `change` was applied to `shard_state` and dropped `dropped` answers.
     pub(super) fn of<P: Placing>(
         shard_state: &ShardState<L, P>,
         change: ShardChange,
@@ -313,7 +312,9 @@ impl<L: LogId> ChangeEvidence<L> {
         }
     }
 
-    /// Creates evidence that another shard, `shard_state`, was found, which is unchanged.
+    /// Creates evidence that shard `index` was not found, and nothing was changed.
+    ///
+    /// `shard_state`: the other shard that the lock guards.
     pub(crate) fn misplaced<P: Placing>(
         shard_state: &ShardState<L, P>,
         index: &usize,
@@ -342,7 +343,7 @@ impl<L: LogId> ChangeEvidence<L> {
 
 /// Evidence of the wakers that a call added to its caller's list under a shard's lock.
 ///
-/// Model: these wakers, in order.
+/// Model: the added wakers, in order.
 #[derive(Drop)]
 pub(crate) struct AddedWakers {
     put: History<Waker>,
@@ -358,7 +359,7 @@ impl Model for AddedWakers {
 }
 
 impl AddedWakers {
-    /// Returns evidence of the wakers that were added to `wakers` since it was `before`.
+    /// Returns evidence of the wakers that were added to `wakers` after it was equal to `before`.
     pub(super) fn since(before: History<Waker>, wakers: &Wakers) -> AddedWakers
         ensures { result ≡ drop (length before) wakers.now }
     {
@@ -381,7 +382,7 @@ impl<'a> Lists<&'a Wakers, Waker> for All {
     ghost listed = { λ w. w.now };
 }
 
-// Ghost: the wakers of the second list after the length of the first.
+// Ghost: the wakers of the second list from the index that is the length of the first list.
 struct Further;
 
 impl<'a> Lists<(&'a History<Waker>, &'a Wakers), Waker> for Further {

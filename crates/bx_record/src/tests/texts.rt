@@ -6,7 +6,8 @@ use bx_entry::{Access, Arrival};
 use std::alloc::Global;
 use std::test::Fail;
 
-// Formats a request at moment 5 with nonce 2748.
+// Returns the lines of a request with `bodies` at moment 5 with nonce 2748, if lines can express
+// it.
 fn text_of(alloc: Global, bodies: Bodies) -> Result<Option<Vec<u8>>, Fail> {
     let arrival = Arrival {
         moment: 5,

@@ -28,8 +28,9 @@ impl Extent for Stage {
     }
 }
 
-// A source of two lines, and then of a third line with a fault. Each part has a note. `waiting` is
-// the number of waiting bytes that the source reports.
+// A source of two lines, and then of a third line with fault 7. Its line of an answer is `n1`
+// before the first part is taken, and `n2` afterwards. `waiting` is the number of waiting bytes
+// that the source reports.
 #[derive(Drop)]
 struct Lines<'a> {
     turn: usize,

@@ -9,11 +9,12 @@ use bx_window::LogId;
 use std::alloc::Global;
 use std::sync::Wait;
 
-/// Appends the lines of a connect, of the publish of another session, and of the answer.
+/// Appends to `said` the lines of a connect, of another session's publish, and of the answer.
 ///
 /// # Errors
 ///
-/// As for `hubs::run`.
+/// `Memory` if memory runs out outside of the retried calls; `Wrong` for another result than
+/// expected, or if a second attempt fails.
 pub fn run<L: LogId, H: Wait + Drop, R: Wait>(
     rt: &R,
     alloc: Global,
@@ -43,7 +44,7 @@ fn answer<L: LogId, H: Wait + Drop, R: Wait>(
     poll(rt, alloc, hub, reader, ticket)?.ok_or(Unlike::Wrong("no answer"))
 }
 
-// Opens the second session, publishes its event, and posts a tick.
+// Opens the second session, publishes from it, and posts a tick. All use `pass`.
 fn publish<L: LogId, H: Wait + Drop, R: Wait>(
     rt: &R,
     alloc: Global,

@@ -1,4 +1,4 @@
-//! Calls of a hub, retried if memory runs out, and the lines of their results.
+//! Calls of a hub, each retried once if memory runs out, and the lines of their results.
 use crate::hubs::Served;
 use crate::requests::{CONNECT, HANDSHAKE, SUBSCRIBE, add_line, arrival, reply, text_of};
 use crate::unlike::Unlike;
@@ -9,7 +9,7 @@ use bx_window::LogId;
 use std::alloc::Global;
 use std::sync::Wait;
 
-/// The lines so far, and how many shards have lagged because memory ran out.
+/// The lines of a run so far, and the number of shards that were not advanced for lack of memory.
 #[derive(Drop)]
 pub struct Said {
     text: String,
@@ -17,7 +17,7 @@ pub struct Said {
 }
 
 impl Said {
-    /// Creates a value without lines.
+    /// Creates a text without lines, and with no shard counted.
     pub fn new(alloc: Global) -> Said {
         Said {
             text: String::new(alloc),
@@ -25,29 +25,30 @@ impl Said {
         }
     }
 
-    /// Returns the lines.
+    /// Returns the lines, separated by newlines.
     pub fn into_text(self) -> String {
         let Said { text, .. } = self;
         text
     }
 
-    /// Appends the line of an answer.
+    /// Appends a line with the events and the reply of `answer`.
     ///
     /// # Errors
     ///
-    /// `Memory` if memory runs out.
+    /// `Memory` if memory runs out; `Wrong` if the text is not UTF-8.
     pub fn add_answer(&mut self, alloc: Global, answer: Answer) -> Result<(), Unlike> {
         add_line(&mut self.text, text_of(alloc, answer)?.as_str())
     }
 
-    // Appends a line for what is at `place`.
+    // Appends a line with `place` and `what`, which describes the message or tick at `place`.
     fn add(&mut self, alloc: Global, place: u64, what: &str) -> Result<(), Unlike> {
         let line = format!(in alloc; "{place} {what}")?;
         add_line(&mut self.text, line.as_str())
     }
 
-    // Returns `true` if a shard lags after a call because memory ran out. Fails if a shard lags for
-    // another reason, or if one has lagged before, since only one allocation fails in a run.
+    // Returns `true` if a call did not advance a shard to the end because memory ran out. Fails if
+    // another reason kept a shard from the end, or if it is the second shard in the run: only one
+    // allocation fails in a run.
     fn is_behind(&mut self, behind: Lagging) -> Result<bool, Unlike> {
         let memory = behind.memory;
         let by_memory = Lagging {
@@ -61,8 +62,8 @@ impl Said {
         Ok(memory == 1)
     }
 
-    // Appends a line for each message from place `first` on: its reply, or that it waits. Returns
-    // the last ticket.
+    // Appends a line for each of `slots`, with the places from `first` on: the reply, or `waits`.
+    // Returns the last ticket, or `None` if no message waits.
     fn add_slots(
         &mut self,
         alloc: Global,
@@ -84,16 +85,19 @@ impl Said {
     }
 }
 
-/// The result of a post.
+/// What a post leaves to check: the ticket of a waiting connect, and whether a shard was not
+/// advanced.
 #[derive(Clone, Copy, Debug)]
 pub struct PostEnd {
-    /// The ticket of its connect, if any.
+    /// The ticket of the connect in the request, or `None` if every message has its reply.
     pub ticket: Option<Ticket>,
-    /// Whether a shard lagged after the post.
+    /// Whether the post did not advance a shard to the end because memory ran out.
     pub is_behind: bool,
 }
 
-/// Posts `body`, and again if memory runs out. The first message must get `place`.
+/// Posts `body` and appends a line for each message. Retries once if memory runs out.
+///
+/// `place`: the expected place of the first message.
 ///
 /// # Errors
 ///
@@ -135,13 +139,15 @@ fn end_of<L: LogId>(
     Ok(PostEnd { ticket, is_behind })
 }
 
-/// Opens and subscribes the first session, and posts its connect.
+/// Opens and subscribes the first session, and posts its connect. Appends a line for each.
 ///
-/// Returns the ticket of the connect, and whether a shard lagged after it.
+/// Returns the ticket of the connect, and whether its post did not advance a shard to the end
+/// because memory ran out.
 ///
 /// # Errors
 ///
-/// As for [`post`].
+/// `Memory` if memory runs out outside of the hub's calls; `Wrong` for another result than
+/// expected, or if a second attempt fails.
 pub fn connect<L: LogId, H: Wait + Drop, R: Wait>(
     rt: &R,
     alloc: Global,
@@ -159,11 +165,14 @@ pub fn connect<L: LogId, H: Wait + Drop, R: Wait>(
     }
 }
 
-/// Posts a tick at moment 0, and again if memory runs out. It must get place 5.
+/// Posts a tick at moment 0 and appends its line. Retries once if memory runs out.
+///
+/// The expected place of the tick is 5.
 ///
 /// # Errors
 ///
-/// As for [`post`].
+/// `Memory` if memory runs out outside of the hub's call; `Wrong` for another result than expected,
+/// or if the second attempt fails.
 pub fn tick<L: LogId, H: Wait + Drop, R: Wait>(
     rt: &R,
     alloc: Global,
@@ -196,11 +205,13 @@ fn end_of_tick<L: LogId>(
     said.add(alloc, ticked.place, "ticks")
 }
 
-/// Takes the answer under `ticket`, if it is filed. Tries again if memory runs out.
+/// Takes the answer under `ticket`, or returns `None` if it is not filed.
+///
+/// Retries once if memory runs out.
 ///
 /// # Errors
 ///
-/// `Wrong` if the call fails for another reason, or fails again.
+/// `Wrong` if the hub's call fails for another reason than memory, or fails again.
 pub fn poll<L: LogId, H: Wait + Drop, R: Wait>(
     rt: &R,
     alloc: Global,

@@ -1,4 +1,4 @@
-//! A task that waits for a connect in the only shard, and so shows whether that shard lags.
+//! A task that waits for the answer to a connect, in a hub of one shard.
 use crate::hubs::Served;
 use crate::hubs::said::{Said, connect, post, tick};
 use crate::requests::{HANDSHAKE, PUBLISH};
@@ -16,9 +16,12 @@ use std::sync::{Arc, Wait};
 
 /// Connects a session, and lets a task wait for the answer until another session publishes.
 ///
+/// Appends to `said` a line for each message, for the tick, and for the answer.
+///
 /// # Errors
 ///
-/// As for `hubs::run`.
+/// `Memory` if memory runs out outside of the retried calls; `Wrong` for another result than
+/// expected, or if a second attempt fails.
 pub fn run<'a, L, R>(
     rt: &'a R,
     alloc: Global,
@@ -48,7 +51,8 @@ fn waker(task: &MockTask) -> Result<Waker, Unlike> {
     slot.ok_or(Unlike::Memory)
 }
 
-// Returns `true` if the shard holds the connect, and `false` if it does not know the connect yet.
+// Returns `true` if the shard holds the connect, and `false` if it has not applied the connect yet.
+// Fails if the connect is answered, or if the hub is shut.
 fn is_there<L: LogId, H: Wait + Drop, R: Wait>(
     rt: &R,
     hub: &Served<L, H>,
@@ -63,7 +67,7 @@ fn is_there<L: LogId, H: Wait + Drop, R: Wait>(
     }
 }
 
-// Returns a future of the answer under `ticket`. Fails if `pass` has not seen its place.
+// Returns a future of the answer under `ticket`. Fails if `pass` ends before the ticket's place.
 fn waiting<L: LogId>(pass: &Pass<L>, ticket: Ticket) -> Result<PendingAnswer<L>, Unlike> {
     let pass = pass.again();
     if ticket.place >= pass.len() {
@@ -72,7 +76,8 @@ fn waiting<L: LogId>(pass: &Pass<L>, ticket: Ticket) -> Result<PendingAnswer<L>,
     Ok(PendingAnswer::new(pass, ticket))
 }
 
-// Polls `held` once.
+// Polls `held` once for `task`. Returns the answer or the fault if it is ready, and `Pending` if
+// not.
 fn polled<L: LogId, H: Wait + Drop, R: Wait>(
     rt: &R,
     alloc: Global,
@@ -88,7 +93,7 @@ fn polled<L: LogId, H: Wait + Drop, R: Wait>(
     }
 }
 
-// The result of a poll that should be pending.
+// What a poll returns: `Pending`, `Refused` if memory ran out, or `Other` for all else.
 #[derive(Clone, Copy, Debug, PartialEq, Eq)]
 enum First {
     Pending,
@@ -96,7 +101,7 @@ enum First {
     Other,
 }
 
-// Polls `held`, which should be pending.
+// Polls `held` once, and returns whether it is pending, memory ran out, or the result is another.
 fn look<L: LogId, H: Wait + Drop, R: Wait>(
     rt: &R,
     alloc: Global,
@@ -111,8 +116,8 @@ fn look<L: LogId, H: Wait + Drop, R: Wait>(
     }
 }
 
-// Checks that the connect is held, even if the shard lagged before, and that the task waits. If
-// memory runs out in the poll, polls a new future.
+// Checks that the task waits for the answer under `ticket`, and that a publish then gives the
+// answer. If memory runs out in the first poll, polls a new future.
 fn wait<L: LogId, H: Wait + Drop, R: Wait>(
     rt: &R,
     alloc: Global,
@@ -134,7 +139,8 @@ fn wait<L: LogId, H: Wait + Drop, R: Wait>(
     answer(rt, alloc, hub, task, &mut held, said)
 }
 
-// Checks that a publish answers the connect. The last poll does not allocate, so it is not retried.
+// Publishes, checks that `held` is then ready, and appends its answer to `said`. The poll does not
+// allocate, so it is not retried.
 fn answer<L: LogId, H: Wait + Drop, R: Wait>(
     rt: &R,
     alloc: Global,
@@ -150,7 +156,8 @@ fn answer<L: LogId, H: Wait + Drop, R: Wait>(
     }
 }
 
-// Checks that the publish wakes the task or, if the shard lags after it, that the next tick does.
+// Publishes and posts a tick. Checks that the publish wakes the task or, if memory ran out when the
+// shard was to apply the publish, that the tick does.
 fn publish<L: LogId, H: Wait + Drop, R: Wait>(
     rt: &R,
     alloc: Global,

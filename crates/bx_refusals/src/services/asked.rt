@@ -1,4 +1,4 @@
-//! HTTP requests. `ID` in a text is replaced by the client id of its session.
+//! HTTP requests. `ID` in a text is a placeholder for the client id of a session.
 use crate::unlike::Unlike;
 use bytes::Bytes;
 use http::Request;
@@ -6,28 +6,30 @@ use http::header::CONTENT_TYPE;
 use http_body_util::Full;
 use std::alloc::{AllocError, Global};
 
-/// A body that is not JSON.
+/// A request body that is not JSON.
 pub const BROKEN: &str = "[";
 
-/// A subscription to `/a/*`.
+/// The body of a subscription to `/a/*`. `ID` is a placeholder for the client id.
 pub const SUBSCRIBE: &str =
     r#"[{"channel":"/meta/subscribe","clientId":"ID","subscription":"/a/*"}]"#;
 
-/// A connect that acknowledges no batch, held if it gets no events.
+/// The body of a connect that acknowledges no batch, held if it gets no events. `ID` is a
+/// placeholder for the client id.
 pub const CONNECT: &str =
     r#"[{"channel":"/meta/connect","clientId":"ID","connectionType":"long-polling","ext":{"ack":0}}]"#;
 
-/// A publish with the data 7.
+/// The body of a publish to `/a/b` with the data 7. `ID` is a placeholder for the client id.
 pub const PUBLISH: &str = r#"[{"channel":"/a/b","clientId":"ID","data":7}]"#;
 
-/// A query with a connect that is never held, answered by a script.
+/// The path and query of a connect that is never held. `ID` is a placeholder for the client id. The
+/// response is a script.
 pub const QUERY_CONNECT: &str =
     r#"/cometd?jsonp=cb.x&message=[{%22channel%22:%22/meta/connect%22,%22clientId%22:%22ID%22,%22connectionType%22:%22callback-polling%22,%22advice%22:{%22timeout%22:0}}]"#;
 
-/// A request that can be made more than once.
+/// The method and contents of a request, from which the request can be built more than once.
 #[derive(Clone, Copy, Debug)]
 pub enum Asked<'a> {
-    /// A POST of this body.
+    /// A POST to `/cometd` with this body.
     Post(&'a str),
     /// A GET of this path and query.
     Get(&'a str),

@@ -17,17 +17,17 @@ use http::Response;
 use hyper::service::Service;
 use std::alloc::Global;
 
-/// What an exchange results in.
+/// The result of an exchange: an HTTP response, or the fault of the service.
 pub type Given = Result<Response<Pieces<Bytes>>, ServiceFault>;
 
 /// A service, its hub's list, and the task that polls the exchanges.
 #[derive(Drop)]
 pub struct Client<S: Drop, C: Drop> {
-    /// The allocator.
+    /// The allocator for requests and lines.
     pub alloc: Global,
-    /// The service.
+    /// The service that answers the requests.
     pub service: BayeuxService<S>,
-    /// The list of the service's hub.
+    /// The list of the service's hub, with its expected counts.
     pub list: List<C>,
     /// The task that polls the exchanges.
     pub task: MockTask,
@@ -41,7 +41,7 @@ impl<S: Drop, C: Count + Drop> Client<S, C> {
     /// # Errors
     ///
     /// `Memory` if memory runs out outside of the exchange; `Wrong` if the exchange waits, fails
-    /// again, or changes the list when it fails.
+    /// again, or adds something other than `adds` to the list when it fails.
     pub fn ask<I>(&mut self, asked: Asked<'_>, adds: Adds) -> Result<String, Unlike>
     where
         S: Backend<Items = I> + Drop,
@@ -56,7 +56,8 @@ impl<S: Drop, C: Count + Drop> Client<S, C> {
         line.ok_or(Unlike::Wrong("refused once more"))
     }
 
-    // Makes an exchange that must not wait. Returns its response, or `None` if memory ran out.
+    // Makes an exchange that must not wait. Returns the line of its response, or `None` if memory
+    // ran out.
     fn ask_once<I>(&self, asked: Asked<'_>) -> Result<Option<String>, Unlike>
     where
         S: Backend<Items = I> + Drop,
@@ -66,12 +67,14 @@ impl<S: Drop, C: Count + Drop> Client<S, C> {
         ended(self.poll(&mut exchange))
     }
 
-    /// Polls an exchange once. If it is ready, returns its response, or `None` if memory ran out.
+    /// Polls an exchange once. Returns the line of its response, or `None` if memory ran out.
+    ///
+    /// While the exchange waits, returns `Pending`.
     ///
     /// # Errors
     ///
     /// `Memory` if memory runs out for the line of the response; `Wrong` if the response's body
-    /// waits.
+    /// waits or is not UTF-8.
     pub fn poll<E: Future<Output = Given>>(
         &self,
         exchange: &mut E,
@@ -86,11 +89,11 @@ impl<S: Drop, C: Count + Drop> Client<S, C> {
     }
 }
 
-/// Returns the result of a poll that must be ready.
+/// Returns the line of a poll that must be ready, or `None` if memory ran out in the poll.
 ///
 /// # Errors
 ///
-/// The error of `polled`, if it is one; `Wrong` if it is pending.
+/// The error in `polled`, if there is one; `Wrong` if `polled` is pending.
 pub fn ended(polled: Result<Poll<Option<String>>, Unlike>) -> Result<Option<String>, Unlike> {
     match polled? {
         Poll::Ready(line) => Ok(line),
@@ -98,7 +101,8 @@ pub fn ended(polled: Result<Poll<Option<String>>, Unlike>) -> Result<Option<Stri
     }
 }
 
-// Returns the line of a response, or `None` if memory ran out for the exchange.
+// Returns the line of a response, or `None` if the exchange failed or has the status 503, since
+// memory ran out.
 fn line_of(alloc: Global, task: &MockTask, given: Given) -> Result<Option<String>, Unlike> {
     let Ok(response) = given else {
         return Ok(None);
@@ -115,7 +119,7 @@ fn line_of(alloc: Global, task: &MockTask, given: Given) -> Result<Option<String
     }
 }
 
-// Returns the status, followed by the body if there is one.
+// Returns a line: `status`, followed by `body` unless it is empty.
 fn line(alloc: Global, status: u16, body: Vec<u8>) -> Result<String, Unlike> {
     let body = string(body)?;
     if body.is_empty() {

@@ -13,7 +13,7 @@ use futures::task::Poll;
 use hyper::service::Service;
 use std::alloc::Global;
 
-// A session's client id, and its name in the printed lines.
+// The client id of a session, and the name that the lines have in its place.
 #[derive(Drop)]
 struct Session {
     id: String,
@@ -31,7 +31,8 @@ struct Session {
 ///
 /// # Errors
 ///
-/// As for `services::run`.
+/// `Memory` if memory runs out outside of the exchanges; `Wrong` for another result than expected,
+/// or if the second attempt of an exchange fails.
 pub fn made<S, I, C>(client: &mut Client<S, C>) -> Result<String, Unlike>
 where
     S: Backend<Items = I> + Drop,
@@ -48,7 +49,8 @@ where
     Ok(text)
 }
 
-// Opens a session, which gets the next number.
+// Opens a session by `handshake`, appends the line of the response to `text`, and returns the
+// session.
 fn open<S, I, C>(
     client: &mut Client<S, C>,
     handshake: &str,
@@ -69,7 +71,8 @@ where
     Ok(session)
 }
 
-// Makes the exchanges of the first two sessions that follow their handshakes.
+// Subscribes and connects `first`, publishes from `second`, and connects `second` by a query.
+// Appends the lines of the responses to `text`.
 fn talk<S, I, C>(
     client: &mut Client<S, C>,
     first: &Session,
@@ -94,7 +97,8 @@ where
     add_named(alloc, text, line.as_str(), second)
 }
 
-// Makes a connect that waits for a publish. Retries once if memory runs out before it waits.
+// Makes a connect that waits for a publish, and returns the line of its response. Retries once if
+// memory runs out before the connect waits. Appends the line of the publish to `text`.
 fn held<S, I, C>(
     client: &mut Client<S, C>,
     connect: &str,
@@ -112,8 +116,8 @@ where
     held_once(client, connect, publish, text)?.ok_or(Unlike::Wrong("refused once more"))
 }
 
-// Makes a connect that waits for a publish. Returns its response, or `None` if memory ran out
-// before it waited.
+// Makes a connect that waits for a publish. Returns the line of its response, or `None` if memory
+// ran out before the connect waited.
 fn held_once<S, I, C>(
     client: &mut Client<S, C>,
     connect: &str,
@@ -130,7 +134,8 @@ where
     wait(client, &mut exchange, connect, publish, text)
 }
 
-// Polls a connect that must wait, publishes, and polls it again.
+// Polls a connect that must wait, publishes, and polls the connect again. Returns the line of its
+// response, or `None` if memory ran out before it waited.
 fn wait<S, I, C, E>(
     client: &mut Client<S, C>,
     exchange: &mut E,
@@ -161,8 +166,9 @@ where
     }
 }
 
-// Returns the response to a connect that waited. If memory ran out for it, connects again with the
-// same acknowledgement, which gets the same response.
+// Returns `line`, the response to a connect that waited. If `line` is `None`, since memory ran out,
+// sends `connect` again and returns its response: it acknowledges nothing new, so it gets the same
+// events.
 fn answered<S, I, C>(
     client: &mut Client<S, C>,
     connect: &str,
@@ -182,7 +188,7 @@ where
     }
 }
 
-// Appends a line, with the name of the session in place of its client id.
+// Appends `line` to `text`, with the name of `session` in place of its client id.
 fn add_named(
     alloc: Global,
     text: &mut String,

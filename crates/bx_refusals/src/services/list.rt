@@ -1,4 +1,4 @@
-//! Counts of the entries in a hub's list, and of its sessions.
+//! The number of entries in a hub's list, compared with the expected number.
 use crate::hubs::Served;
 use crate::requests::arrival;
 use crate::unlike::Unlike;
@@ -8,7 +8,7 @@ use std::sync::{Arc, Wait};
 
 /// A list of entries that can be counted.
 pub trait Count {
-    /// Returns the number of entries.
+    /// Returns the number of entries in the list.
     ///
     /// # Errors
     ///
@@ -16,12 +16,12 @@ pub trait Count {
     fn entries(&self, alloc: Global) -> Result<u64, Unlike>;
 }
 
-/// The list of a hub.
+/// The list of a hub. An empty request to the hub returns its number of entries.
 #[derive(Drop)]
 pub struct HubList<L: LogId, R: Wait + Drop> {
     /// The right to wait for the hub's locks.
     pub rt: R,
-    /// The hub.
+    /// The hub that has the list.
     pub hub: Arc<Served<L, R>, Global>,
 }
 
@@ -72,7 +72,7 @@ impl<C: Count + Drop> List<C> {
         self.sessions
     }
 
-    /// Counts what a request added.
+    /// Adds what a request added to the expected numbers.
     pub fn add(&mut self, adds: Adds) {
         if adds != Adds::Nothing {
             self.entries = self.entries.saturating_add(1);

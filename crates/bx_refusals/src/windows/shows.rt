@@ -3,10 +3,11 @@ use crate::unlike::Unlike;
 use bx_window::{LogId, LogReader, Next};
 use std::alloc::Global;
 
-/// Returns what `reader` finds at each place from 0 to `end`, and what it has then seen.
+/// Returns what `reader` finds at each place from 0 to `end`, as a text.
 ///
-/// The text begins with the number of steps that `reader` has seen, and the places at which the
-/// window begins and ends. A batch is given by its first place and the place after its last entry.
+/// The text begins with the number of changes that `reader` has then seen, and the places at which
+/// the window begins and ends. A batch is given by its first place and the place after its last
+/// entry.
 ///
 /// # Errors
 ///
@@ -26,7 +27,7 @@ pub fn shown<L: LogId>(
     Ok(format!(in alloc; "steps {steps}, from {begin} to {len}:{places}")?)
 }
 
-// Returns the text of what is at `place`: a batch, the end, or a dropped entry.
+// Returns a text for what is at `place`: the batch, `end` of the list, or `gone` if it was dropped.
 fn found_at<L: LogId>(
     alloc: Global,
     reader: &mut LogReader<L>,
@@ -43,7 +44,8 @@ fn found_at<L: LogId>(
     }
 }
 
-// Reads at `place`. Retries once if memory runs out and the reader has seen no more steps.
+// Returns what `reader` finds at `place`. Retries once if memory runs out and the reader has seen
+// no further change.
 fn next<L: LogId>(reader: &mut LogReader<L>, place: u64) -> Result<Next, Unlike> {
     let before = reader.note().steps();
     let next = match reader.next(place) {
