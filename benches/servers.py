@@ -5,12 +5,12 @@ import signal
 import subprocess
 import sys
 
-from base import TOP, Wrong
+from base import TOP, CheckFailed
 from daemon import SEED, Daemon
 
 
 @contextlib.contextmanager
-def undisturbed():
+def signals_delayed():
     """Delays the effect of SIGINT and SIGTERM until the end of the context."""
     came = []
     handlers = {it: signal.signal(it, lambda number, _: came.append(number)) for it in (signal.SIGINT, signal.SIGTERM)}
@@ -23,25 +23,25 @@ def undisturbed():
             signal.raise_signal(number)
 
 
-class Child(Daemon):
+class ServerProcess(Daemon):
     """A running server. It is ended if it does not listen, or if a signal interrupts its start."""
 
-    def begin(self, words, **streams):
+    def begin(self, args, **streams):
         """Starts the process and waits until it listens. If that fails, ends the process and raises the exception again."""
         try:
-            super().begin(words, **streams)
+            super().begin(args, **streams)
         except BaseException:
             if hasattr(self, "process"):
                 self.end()
             raise
 
-    def start(self, words, **streams):
+    def start(self, args, **streams):
         """Starts the process. A signal takes effect only after that, so that the process is known and can be ended."""
-        with undisturbed():
-            super().start(words, **streams)
+        with signals_delayed():
+            super().start(args, **streams)
 
 
-class Server(Child):
+class Server(ServerProcess):
     """A running bayeuxd or bare server."""
 
     def __init__(self, name, program, processors=None, connections=0, **streams):
@@ -52,8 +52,8 @@ class Server(Child):
         """
         # pylint: disable=super-init-not-called
         first = ["taskset", "-c", processors] if processors else []
-        words = [] if name == "bare" else ["4", "30000", "0", "10000", SEED]
-        self.begin([*first, program, "127.0.0.1:0", *words, str(connections)], **streams)
+        args = [] if name == "bare" else ["4", "30000", "0", "10000", SEED]
+        self.begin([*first, program, "127.0.0.1:0", *args, str(connections)], **streams)
 
 
 def program_of(name, variable):
@@ -77,7 +77,7 @@ def status_of(measure):
     """
     try:
         return 0 if measure() else 1
-    except (Wrong, subprocess.SubprocessError) as error:
+    except (CheckFailed, subprocess.SubprocessError) as error:
         print(error)
         return 1
     finally:

@@ -35,7 +35,7 @@ NO_LINE = b"-\n"
 BLOCK, PAUSE, MOMENT = 1 << 16, 0.1, 1.0
 
 # The seconds to wait for the thread that feeds the replay after the replay was killed.
-PATIENCE = 5.0
+TIMEOUT_SECONDS = 5.0
 
 # A line of a record. `moment`: in milliseconds. `kind`: one of the letters above. `text`: the rest
 # of the line. `place`: the place of its first message, or of the tick.
@@ -43,29 +43,29 @@ Line = namedtuple("Line", "moment kind text place")
 DECODER = json.JSONDecoder(parse_int=str, parse_float=str, parse_constant=str)
 
 
-class Refused(Exception):
+class UsageError(Exception):
     """The arguments are wrong. The text says why."""
 
 
-class Broken(Exception):
+class ReplayError(Exception):
     """The replay failed, or did not get the whole record. `status`: the exit status that reports this."""
 
     status = 1
 
 
-class Unreadable(Broken):
+class ReadError(ReplayError):
     """The file of the record cannot be read."""
 
     status = 2
 
 
 @contextlib.contextmanager
-def reading(path):
-    """Raises `Unreadable`, with `path`, in place of an OSError within the context."""
+def read_errors(path):
+    """Raises `ReadError`, with `path`, in place of an OSError within the context."""
     try:
         yield
     except OSError as error:
-        raise Unreadable(f"{path} cannot be read: {error.strerror}") from error
+        raise ReadError(f"{path} cannot be read: {error.strerror}") from error
 
 
 def decoded(text):
@@ -159,19 +159,19 @@ class Source:
     """The file of a record."""
 
     def __init__(self, path):
-        """Opens the file at `path`. Raises `Refused` if it is no regular file, or cannot be opened."""
+        """Opens the file at `path`. Raises `UsageError` if it is no regular file, or cannot be opened."""
         self.path = path
         if not os.path.isfile(path):
-            raise Refused(f"{path} is not a regular file")
+            raise UsageError(f"{path} is not a regular file")
         try:
             self.file = open(path, "rb", buffering=0)
         except OSError as error:
-            raise Refused(f"cannot open {path}: {error.strerror}") from error
+            raise UsageError(f"cannot open {path}: {error.strerror}") from error
         # The number of bytes of the whole lines that were read so far.
         self.read = 0
 
     def begin(self):
-        """Returns the first line. Raises `Refused` if it is not the first line of a record, `Unreadable` if reading fails."""
+        """Returns the first line. Raises `UsageError` if it is not the first line of a record, `ReadError` if reading fails."""
         first = b""
         while b"\n" not in first and len(first) < 200:
             data = self.block(200 - len(first))
@@ -180,25 +180,25 @@ class Source:
             first += data
         line, end, _ = first.partition(b"\n")
         if not end or not FIRST.fullmatch(line):
-            raise Refused(f"{self.path} has no first line that says how a server is run")
+            raise UsageError(f"{self.path} has no first line that says how a server is run")
         self.read = len(line) + 1
         return line
 
     def size(self):
-        """Returns the file's length in bytes. Raises `Unreadable` if that fails."""
-        with reading(self.path):
+        """Returns the file's length in bytes. Raises `ReadError` if that fails."""
+        with read_errors(self.path):
             return os.fstat(self.file.fileno()).st_size
 
     def block(self, size):
-        """Reads and returns at most `size` bytes, or b"" at the end of the file. Raises `Unreadable` if that fails."""
-        with reading(self.path):
+        """Reads and returns at most `size` bytes, or b"" at the end of the file. Raises `ReadError` if that fails."""
+        with read_errors(self.path):
             return self.file.read(size)
 
     def lines(self):
         """Yields the number and the text of each further line that is whole when the call begins.
 
         Begins after the last line that was read. The first line that it yields has number 2, as directly after `begin`.
-        Raises `Unreadable` if reading fails.
+        Raises `ReadError` if reading fails.
         """
         number, rest, left = 1, [], self.size() - self.read
         self.file.seek(self.read)
@@ -208,14 +208,14 @@ class Source:
                 number += 1
                 yield number, text
 
-    def followed(self, stop, idle):
+    def follow(self, stop, idle):
         """Yields the number and the text of each further line as the file grows, as `lines` does.
 
         Ends when the event `stop` is set. Ends too when the file has not grown for `idle` seconds, unless `idle` is `None`.
         Yields `None` each time it has reached the end of the file, and every MOMENT seconds while there is more to read.
         """
-        number, rest, grown = 1, [], time.monotonic()
-        told = grown
+        number, rest, last_growth = 1, [], time.monotonic()
+        last_yield = last_growth
         self.file.seek(self.read)
         while not stop.is_set():
             data = self.block(BLOCK)
@@ -223,13 +223,13 @@ class Source:
                 number += 1
                 yield number, text
             now = time.monotonic()
-            if not data or now - told >= MOMENT:
-                told = now
+            if not data or now - last_yield >= MOMENT:
+                last_yield = now
                 yield None
             if data:
-                grown = now
+                last_growth = now
                 continue
-            if idle is not None and now - grown >= idle:
+            if idle is not None and now - last_growth >= idle:
                 return
             stop.wait(PAUSE)
 
@@ -278,12 +278,12 @@ class Replay:
     """A running replay, started with the first line of a record."""
 
     def __init__(self, first, output=subprocess.PIPE):
-        """Starts the program and writes the line `first` to it. Raises `Refused` if it cannot be started."""
+        """Starts the program and writes the line `first` to it. Raises `UsageError` if it cannot be started."""
         try:
             # If this process reads the output, Ctrl-C must interrupt this process alone.
             self.process = subprocess.Popen([REPLAY, "--record", "-"], stdin=subprocess.PIPE, stdout=output, start_new_session=output is subprocess.PIPE)
         except OSError as error:
-            raise Refused(f"cannot start {REPLAY}: {error.strerror}") from error
+            raise UsageError(f"cannot start {REPLAY}: {error.strerror}") from error
         self.printed, self.feeder = Printed(), None
         # The exception due to which it did not get the whole record; whether `kill` ended it.
         self.failed, self.is_killed = None, False
@@ -310,10 +310,10 @@ class Replay:
                         self.flush()
                     elif not self.write(it):
                         break
-            except Broken as error:
+            except ReplayError as error:
                 self.failed = error
             except Exception as error:  # pylint: disable=broad-exception-caught
-                self.failed = Broken(f"the replay was not given the whole record: {error!r}")
+                self.failed = ReplayError(f"the replay was not given the whole record: {error!r}")
             finally:
                 self.close()
 
@@ -342,17 +342,17 @@ class Replay:
         self.end()
 
     def end(self):
-        """Waits until the program has ended. Raises `Broken` if its status is not 0, or if it did not get the whole record."""
+        """Waits until the program has ended. Raises `ReplayError` if its status is not 0, or if it did not get the whole record."""
         status = self.process.wait()
         if self.failed:
             raise self.failed
         if status != 0:
-            raise Broken(f"the replay ended with status {status}")
+            raise ReplayError(f"the replay ended with status {status}")
 
     def kill(self):
-        """Kills the program, and waits at most PATIENCE seconds for the thread that feeds it."""
+        """Kills the program, and waits at most TIMEOUT_SECONDS seconds for the thread that feeds it."""
         self.is_killed = True
         self.process.kill()
         self.process.wait()
         if self.feeder:
-            self.feeder.join(PATIENCE)
+            self.feeder.join(TIMEOUT_SECONDS)

@@ -16,10 +16,10 @@ PROCESSORS = len(os.sched_getaffinity(0))
 # How often a run looks at its processes, in seconds.
 PAUSE = 0.5
 # The memory in GB that a check with one job is likely to need, and that each further job adds.
-CHECK, FURTHER_JOB = 3.0, 1.0
+CHECK_MEMORY, JOB_MEMORY = 3.0, 1.0
 
 
-def named():
+def dependencies():
     """Returns the dependencies of each crate in crates.txt, by its name: crates of this repository and of the toolchain."""
     found = {}
     with open(f"{TOP}/crates.txt", encoding="utf-8") as file:
@@ -32,30 +32,30 @@ def named():
 
 def libraries():
     """Returns the dependencies of each crate in crates.txt, by its name, without the toolchain's crates."""
-    found = named()
+    found = dependencies()
     return {name: [it for it in names if it in found] for name, names in found.items()}
 
 
-def reached(names, steps):
-    """Returns the crates in `names` and all that can be reached from them. `steps`: the next crates of each crate."""
+def reachable(names, edges):
+    """Returns the crates in `names` and all that can be reached from them. `edges`: the next crates of each crate."""
     found, left = [], list(names)
     while left:
         name = left.pop()
         if name not in found:
             found.append(name)
-            left += steps[name]
+            left += edges[name]
     return found
 
 
-def below(names):
+def with_dependencies(names):
     """Returns the crates in `names` and all crates that they depend on, directly or not."""
-    return reached(names, libraries())
+    return reachable(names, libraries())
 
 
-def above(names):
+def with_dependents(names):
     """Returns the crates in `names` and all crates that depend on them, directly or not."""
     lower = libraries()
-    return reached(names, {it: [other for other in lower if it in lower[other]] for it in lower})
+    return reachable(names, {it: [other for other in lower if it in lower[other]] for it in lower})
 
 
 def files_of(name):
@@ -75,37 +75,37 @@ def toolchain():
     kit = os.path.dirname(os.path.dirname(os.path.realpath(found)))
     try:
         with open(f"{kit}/KIT-ID", encoding="ascii") as text:
-            said = text.read().strip()
+            kit_id = text.read().strip()
     except OSError:
-        said = "an unknown toolchain"
-    if LOGIC not in said:
-        sys.exit(f"gadzilk: expected rt of {LOGIC}, got {said}; put the folder of the right one first on the path")
+        kit_id = "an unknown toolchain"
+    if LOGIC not in kit_id:
+        sys.exit(f"gadzilk: expected rt of {LOGIC}, got {kit_id}; put the folder of the right one first on the path")
     return kit
 
 
-class Sums:
+class Checksums:
     """Checksums of everything that a crate is built from: its files, its dependencies, the crates below it, and the toolchain.
 
     `kit`: the toolchain's folder. A sum is computed once, so a new object is needed to see later changes.
     """
 
     def __init__(self, kit):
-        self.named, self.found = named(), {}
+        self.dependencies, self.found = dependencies(), {}
         with open(f"{kit}/KIT-ID", "rb") as text:
             self.kit = text.read()
 
-    def of(self, name):
+    def checksum(self, name):
         """Returns the checksum of crate `name`, as hexadecimal digits."""
         if name not in self.found:
-            made_of = hashlib.sha256(repr(self.named[name]).encode())
+            digest = hashlib.sha256(repr(self.dependencies[name]).encode())
             for file in sorted(files_of(name)):
                 with open(file, "rb") as text:
-                    made_of.update(repr((file[len(TOP) :], text.read())).encode())
-            for it in self.named[name]:
-                if it in self.named:
-                    made_of.update(self.of(it).encode())
-            made_of.update(self.kit)
-            self.found[name] = made_of.hexdigest()
+                    digest.update(repr((file[len(TOP) :], text.read())).encode())
+            for it in self.dependencies[name]:
+                if it in self.dependencies:
+                    digest.update(self.checksum(it).encode())
+            digest.update(self.kit)
+            self.found[name] = digest.hexdigest()
         return self.found[name]
 
 
@@ -115,18 +115,18 @@ def digest_of(file):
         return hashlib.sha256(text.read()).hexdigest()
 
 
-def mark(program, made_of):
-    """Writes PROGRAM.made, which records the sum `made_of` and the digest of the program."""
+def record_build(program, checksum):
+    """Writes PROGRAM.made, which records the sum `checksum` and the digest of the program."""
     with open(f"{program}.made", "w", encoding="ascii") as text:
-        text.write(f"{made_of} {digest_of(program)}")
+        text.write(f"{checksum} {digest_of(program)}")
 
 
-def is_made(program, made_of):
-    """Returns `True` if `program` exists and PROGRAM.made says that this very file was built from the sum `made_of`."""
+def is_up_to_date(program, checksum):
+    """Returns `True` if `program` exists and PROGRAM.made says that this very file was built from the sum `checksum`."""
     if not os.path.isfile(program) or not os.path.isfile(f"{program}.made"):
         return False
     with open(f"{program}.made", encoding="ascii") as text:
-        return text.read() == f"{made_of} {digest_of(program)}"
+        return text.read() == f"{checksum} {digest_of(program)}"
 
 
 def has_tests(name):
@@ -152,27 +152,27 @@ def lines_of(name):
     return count
 
 
-def lines_below(name):
+def total_lines(name):
     """Returns the number of lines of crate `name` and of all crates that it depends on."""
-    return sum(map(lines_of, below([name])))
+    return sum(map(lines_of, with_dependencies([name])))
 
 
-def chains(names):
+def longest_chains(names):
     """Returns for each crate in `names` the number of lines of the longest chain of dependents that begins with it.
 
     A chain consists of crates in `names`, each of which depends directly on the one before.
     """
-    lower, longest = libraries(), {}
+    lower, lengths = libraries(), {}
 
     def length(name):
-        if name not in longest:
+        if name not in lengths:
             over = [length(it) for it in names if name in lower[it]]
-            longest[name] = lines_of(name) + max(over, default=0)
-        return longest[name]
+            lengths[name] = lines_of(name) + max(over, default=0)
+        return lengths[name]
 
     for name in names:
         length(name)
-    return longest
+    return lengths
 
 
 def free_memory():
@@ -182,7 +182,7 @@ def free_memory():
     return int(found) / 1_000_000
 
 
-class Line:
+class ProgressLine:
     """Progress on standard error: on a terminal one line that is overwritten, otherwise line after line."""
 
     def __init__(self):
@@ -203,13 +203,13 @@ class Line:
             sys.stderr.write(text[: os.get_terminal_size(2).columns - 1])
             sys.stderr.flush()
 
-    def tell(self, text):
+    def log(self, text):
         """Prints `text` on a line if standard error is no terminal."""
         if not self.is_terminal:
             print(text, file=sys.stderr, flush=True)
 
 
-class Work:
+class CrateRun:
     """The commands of one crate. Each starts when the one before has succeeded. Their output goes to out/run.log of the crate."""
 
     def __init__(self, name, commands, jobs, is_first):
@@ -218,17 +218,17 @@ class Work:
         `jobs` replaces JOBS in the commands. Unless `is_first`, they run under `nice`, so that they give way to the first crate.
         """
         self.name = name
-        self.room = CHECK + FURTHER_JOB * (jobs - 1)
+        self.memory = CHECK_MEMORY + JOB_MEMORY * (jobs - 1)
         first = [] if is_first else ["nice"]
-        self.left = [first + [it.replace("JOBS", str(jobs)) for it in words] for words in commands]
+        self.left = [first + [it.replace("JOBS", str(jobs)) for it in args] for args in commands]
         self.begin = time.monotonic()
         os.makedirs(f"{TOP}/crates/{name}/out", exist_ok=True)
         self.log = open(f"{TOP}/crates/{name}/out/run.log", "w+b")
         self.status = 0
         self.process = None
-        self.go_on()
+        self.start_next()
 
-    def go_on(self):
+    def start_next(self):
         """Starts the next command if there is one and none has failed, and returns `True` if it started one."""
         if self.status or not self.left:
             return False
@@ -236,14 +236,14 @@ class Work:
         self.process = subprocess.Popen(self.left.pop(0), cwd=f"{TOP}/crates/{self.name}", **how)
         return True
 
-    def is_at_work(self):
+    def is_running(self):
         """Returns `True` if a command is running. Starts the next one if the last has ended."""
         if self.process.poll() is None:
             return True
         self.status = self.process.returncode
-        return self.go_on()
+        return self.start_next()
 
-    def said(self):
+    def output(self):
         """Returns the output of all commands so far."""
         self.log.seek(0)
         return self.log.read().decode(errors="replace")
@@ -253,7 +253,7 @@ class Work:
         return (time.monotonic() - self.begin) / 60
 
 
-def kept_checks(names):
+def prove_commands(names):
     """Returns for each crate in `names` the `rt` command that proves it. `rt` does not repeat proofs that it has kept."""
     verbs = {name: "check" if is_program(name) else "lib" for name in names}
     return {name: [["rt", verb, "--jobs", "JOBS"]] for name, verb in verbs.items()}
@@ -268,26 +268,26 @@ def run(tasks, at_once=PROCESSORS):
     Of the crates that are ready, the one with the longest chain of dependents starts first, with as many jobs as there are free
     processors and memory for them. After a failure no further crate starts.
     """
-    lower, chain = libraries(), chains(list(tasks))
+    lower, chain = libraries(), longest_chains(list(tasks))
     left = sorted(tasks, key=lambda it: -chain[it])
-    working, failed, line, memory, begin = [], [], Line(), 0.9 * free_memory(), time.monotonic()
-    while working or left and not failed:
+    running, failed, line, memory, begin = [], [], ProgressLine(), 0.9 * free_memory(), time.monotonic()
+    while running or left and not failed:
         for name in [] if failed else list(left):
-            is_ready = not any(it in left or it in [work.name for work in working] for it in lower[name])
-            idle, free = PROCESSORS - len(working), memory - sum(it.room for it in working)
-            if is_ready and len(working) < at_once and (free >= CHECK or not working):
+            is_ready = not any(it in left or it in [crate_run.name for crate_run in running] for it in lower[name])
+            idle, free = PROCESSORS - len(running), memory - sum(it.memory for it in running)
+            if is_ready and len(running) < at_once and (free >= CHECK_MEMORY or not running):
                 left.remove(name)
-                jobs = max(1, min(idle, int(1 + (free - CHECK) / FURTHER_JOB)))
-                working.append(Work(name, tasks[name], jobs, all(chain[it.name] <= chain[name] for it in working)))
+                jobs = max(1, min(idle, int(1 + (free - CHECK_MEMORY) / JOB_MEMORY)))
+                running.append(CrateRun(name, tasks[name], jobs, all(chain[it.name] <= chain[name] for it in running)))
         time.sleep(PAUSE)
-        for work in [it for it in working if not it.is_at_work()]:
-            working.remove(work)
-            ended = len(tasks) - len(left) - len(working)
-            if work.status:
-                failed.append(work.name)
+        for crate_run in [it for it in running if not it.is_running()]:
+            running.remove(crate_run)
+            ended = len(tasks) - len(left) - len(running)
+            if crate_run.status:
+                failed.append(crate_run.name)
                 line.clear()
-                sys.stderr.write(work.said())
-            line.tell(f"{work.name} {'FAILED' if work.status else 'done'} in {work.minutes():.1f} minutes ({ended} of {len(tasks)})")
-        line.show(f"{len(tasks) - len(left)} of {len(tasks)} crates, {(time.monotonic() - begin) / 60:.1f} minutes: {' '.join(it.name for it in working)}")
+                sys.stderr.write(crate_run.output())
+            line.log(f"{crate_run.name} {'FAILED' if crate_run.status else 'done'} in {crate_run.minutes():.1f} minutes ({ended} of {len(tasks)})")
+        line.show(f"{len(tasks) - len(left)} of {len(tasks)} crates, {(time.monotonic() - begin) / 60:.1f} minutes: {' '.join(it.name for it in running)}")
     line.clear()
     return failed

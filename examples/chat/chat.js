@@ -30,14 +30,14 @@ function showEvent(data) {
 function showMessage(name, text, isOwn) {
   const item = document.createElement('li');
   const author = document.createElement('b');
-  const words = document.createElement('p');
+  const body = document.createElement('p');
   const time = document.createElement('time');
   item.className = isOwn ? 'own' : 'other';
   item.style.setProperty('--hue', hueOf(name));
   author.textContent = name;
-  words.textContent = text;
+  body.textContent = text;
   time.textContent = new Date().toLocaleTimeString([], { hour: '2-digit', minute: '2-digit' });
-  item.append(author, words, time);
+  item.append(author, body, time);
   show(item);
 }
 
@@ -81,7 +81,7 @@ async function send() {
     await client.publish(CHANNEL, { name: ownName, text, mark: OWN_MARK });
   } catch (failure) {
     field.value = field.value === '' ? text : `${text} ${field.value}`;
-    showProblem(notPublished(failure));
+    showProblem(publishErrorText(failure));
   }
   isSending = false;
 }
@@ -107,7 +107,7 @@ element('join').addEventListener('submit', (event) => {
 async function announce() {
   while (client.state !== 'connected') await pause(50);
   client.publish(CHANNEL, { name: ownName, joined: true }).catch((failure) => {
-    if (failure.status === 403) showProblem(notPublished(failure));
+    if (failure.status === 403) showProblem(publishErrorText(failure));
   });
 }
 

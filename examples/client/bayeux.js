@@ -24,9 +24,9 @@
  */
 
 // How long a response may take in addition to the time that the server holds it, in milliseconds.
-const NETWORK_PATIENCE = 10000;
+const NETWORK_TIMEOUT = 10000;
 const NO_ANSWER = 'no answer in time';
-const SILENCE = { message: NO_ANSWER, mayHaveArrived: true };
+const NO_ANSWER_FAILURE = { message: NO_ANSWER, mayHaveArrived: true };
 // The HTTP status of a publish that is not allowed: the address is the server's listener for
 // readers, or a server in front rejects this page.
 const FORBIDDEN = 403;
@@ -37,22 +37,22 @@ const LONGEST_PAUSE = 10000;
 const PATTERNS_AT_ONCE = 16;
 
 /** Returns an error with this message. `mayHaveArrived`: whether the request may have succeeded. */
-function failureOf(words, mayHaveArrived, more) {
-  return Object.assign(new Error(words), { mayHaveArrived, ...more });
+function failureOf(message, mayHaveArrived, more) {
+  return Object.assign(new Error(message), { mayHaveArrived, ...more });
 }
 
 /**
  * Sends messages by long-polling: by a POST of JSON. The page must be from the server's origin.
  *
- * `patience`: milliseconds to wait. Returns the items of the response.
+ * `timeout`: milliseconds to wait. Returns the items of the response.
  */
-async function askByFetch(url, messages, patience, headers) {
+async function askByFetch(url, messages, timeout, headers) {
   try {
     const response = await fetch(url, {
       method: 'POST',
       headers: { 'Content-Type': 'application/json', ...headers },
       body: JSON.stringify(messages),
-      signal: AbortSignal.timeout(patience),
+      signal: AbortSignal.timeout(timeout),
     });
     const { ok, status } = response;
     if (!ok) throw failureOf(`HTTP status ${status}`, status >= 500 && status !== 501, { status });
@@ -68,9 +68,9 @@ let callbackCount = 0;
  * Sends messages by callback-polling: the response is a script that calls a function of the page.
  * The script may be from any origin.
  *
- * `patience`: milliseconds to wait. Returns the items of the response.
+ * `timeout`: milliseconds to wait. Returns the items of the response.
  */
-async function askByScript(url, messages, patience) {
+async function askByScript(url, messages, timeout) {
   await pageIsLoaded();
   return new Promise((resolve, reject) => {
     const name = `bayeux_callback_${++callbackCount}`;
@@ -81,7 +81,7 @@ async function askByScript(url, messages, patience) {
       script.remove();
       settle(value);
     };
-    const timer = setTimeout(finish, patience, reject, new Error(NO_ANSWER));
+    const timer = setTimeout(finish, timeout, reject, new Error(NO_ANSWER));
     window[name] = (items) => finish(resolve, items);
     script.onerror = () => finish(reject, new Error('the server cannot be reached, or refused the request'));
     script.src = `${url}?jsonp=${name}&message=${encodeURIComponent(JSON.stringify(messages))}`;
@@ -141,7 +141,7 @@ class BayeuxWindows {
     this.taken = new Set(); // the numbers of those that the leader has sent to the server
     this.count = 0;
     this.channel = new BroadcastChannel(name);
-    this.channel.onmessage = ({ data }) => this.hear(JSON.parse(data));
+    this.channel.onmessage = ({ data }) => this.receive(JSON.parse(data));
     this.waiting = new AbortController();
     const left = new Promise((resolve) => (this.release = resolve));
     const begin = () => {
@@ -150,90 +150,90 @@ class BayeuxWindows {
       lead();
       return left;
     };
-    const whereRefused = (failure) => failure.name === 'AbortError' || begin();
-    navigator.locks.request(name, { signal: this.waiting.signal }, begin).catch(whereRefused);
+    const onLockFailure = (failure) => failure.name === 'AbortError' || begin();
+    navigator.locks.request(name, { signal: this.waiting.signal }, begin).catch(onLockFailure);
     this.join();
   }
 
   begin() {
     this.isLeading = true;
-    this.askAnew();
+    this.askAgain();
     this.inherited = [...this.client.subscribed];
     this.client.subscribed.clear();
-    setTimeout(() => this.forget(() => (this.inherited = [])), NETWORK_PATIENCE);
-    this.say('lead');
+    setTimeout(() => this.forget(() => (this.inherited = [])), NETWORK_TIMEOUT);
+    this.post('lead');
   }
 
   leave() {
-    this.say('leave');
+    this.post('leave');
     this.isLeading = false;
-    this.asked.forEach((_, number) => this.settle(number, SILENCE));
+    this.asked.forEach((_, number) => this.settle(number, NO_ANSWER_FAILURE));
     this.channel.close();
     this.waiting.abort();
     this.release();
   }
 
-  say(kind, words) {
+  post(kind, content) {
     if (this.waiting.signal.aborted) return;
-    this.channel.postMessage(JSON.stringify({ ...words, kind, from: this.id }));
+    this.channel.postMessage(JSON.stringify({ ...content, kind, from: this.id }));
   }
 
   // Sends the others this window's state and session, and `events`, if this window leads.
-  tell(events = []) {
+  shareState(events = []) {
     const { state, why, knownId, clientId, advice, mayPublish, hasBatches, lastBatch, subscribed } = this.client;
     const session = { clientId, advice, mayPublish, hasBatches, lastBatch };
-    if (this.isLeading) this.say('news', { state, why, knownId, session, subscribed: [...subscribed], events });
+    if (this.isLeading) this.post('news', { state, why, knownId, session, subscribed: [...subscribed], events });
   }
 
-  hear(message) {
+  receive(message) {
     const { client } = this;
     const isToThis = message.to === this.id;
     if (!this.isLeading) {
       if (message.kind === 'lead' || message.kind === 'news') this.leader = message.from;
-      if (message.kind === 'lead') this.askAnew();
+      if (message.kind === 'lead') this.askAgain();
       else if (message.kind === 'news') client.mirror(message);
       else if (message.kind === 'taken' && isToThis) this.taken.add(message.number);
       else if (message.kind === 'answer' && isToThis) this.settle(message.number, message.failure);
     } else if (message.kind === 'want') {
       this.wanted.set(message.from, message.patterns);
-      this.tell();
+      this.shareState();
       this.answer(message, client.adjust());
     } else if (message.kind === 'publish' && isToThis) {
       const { from, number, channel, data } = message;
-      this.answer(message, client.send(channel, data, () => this.say('taken', { to: from, number })));
+      this.answer(message, client.send(channel, data, () => this.post('taken', { to: from, number })));
     } else if (message.kind === 'leave') {
       this.forget(() => this.wanted.delete(message.from));
     }
   }
 
   // Sends a request to the leader. The promise rejects if the leader does not answer in time.
-  ask(kind, words) {
+  ask(kind, content) {
     const number = ++this.count;
     return new Promise((resolve, reject) => {
       const timer = setTimeout(() => {
         this.client.setState('interrupted', NO_ANSWER);
-        this.settle(number, SILENCE);
-      }, NETWORK_PATIENCE);
-      this.asked.set(number, { kind, words, resolve, reject, timer });
-      this.say(kind, { ...words, number, to: this.leader });
+        this.settle(number, NO_ANSWER_FAILURE);
+      }, NETWORK_TIMEOUT);
+      this.asked.set(number, { kind, content, resolve, reject, timer });
+      this.post(kind, { ...content, number, to: this.leader });
     });
   }
 
   // Repeats the open requests for a new leader. Publishes that the old one had sent may have
   // arrived, so they fail instead. `join` sends the patterns again.
-  askAnew() {
-    this.asked.forEach(({ kind, words }, number) => {
+  askAgain() {
+    this.asked.forEach(({ kind, content }, number) => {
       const settle = (failure) => this.settle(number, failure);
       if (kind === 'want') settle();
-      else if (this.taken.has(number)) settle(SILENCE);
-      else if (!this.isLeading) this.say(kind, { ...words, number, to: this.leader });
-      else this.client.publish(words.channel, words.data).then(() => settle(), settle);
+      else if (this.taken.has(number)) settle(NO_ANSWER_FAILURE);
+      else if (!this.isLeading) this.post(kind, { ...content, number, to: this.leader });
+      else this.client.publish(content.channel, content.data).then(() => settle(), settle);
     });
     this.join();
   }
 
   answer({ from, number }, result) {
-    const reply = (failure) => this.say('answer', { to: from, number, failure });
+    const reply = (failure) => this.post('answer', { to: from, number, failure });
     result.then(() => reply(), (failure) => reply({ ...failure, message: failure.message }));
   }
 
@@ -247,7 +247,7 @@ class BayeuxWindows {
   }
 
   // Sends the leader all patterns of this window.
-  async want() {
+  async sendPatterns() {
     try {
       await this.ask('want', { patterns: [...this.client.listeners.keys()] });
     } catch (failure) {
@@ -257,7 +257,7 @@ class BayeuxWindows {
   }
 
   join() {
-    if (!this.isLeading) this.want().catch(() => {});
+    if (!this.isLeading) this.sendPatterns().catch(() => {});
   }
 
   /** Returns the patterns of all other windows. */
@@ -399,7 +399,7 @@ class BayeuxClient {
       } catch (failure) {
         if (failure.status !== FORBIDDEN) throw failure;
         this.mayPublish = false;
-        this.windows?.tell();
+        this.windows?.shareState();
         throw failureOf(`publishing is not allowed here: ${failure.message}`, false, { status: FORBIDDEN });
       }
     });
@@ -420,7 +420,7 @@ class BayeuxClient {
 
   // Subscribes and unsubscribes as the listeners require. Without a session, `run` does this later.
   adjust() {
-    return this.isLed() ? this.windows.want() : this.inOrder(() => this.askForPatterns());
+    return this.isLed() ? this.windows.sendPatterns() : this.inOrder(() => this.askForPatterns());
   }
 
   // Subscribes to the patterns that the session lacks, and unsubscribes from those that no window
@@ -444,13 +444,13 @@ class BayeuxClient {
       const refused = replies.findIndex((reply) => !reply.successful);
       if (refused < 0) continue;
       const pattern = some[refused].subscription;
-      const words = `${pattern}: ${replies[refused].error}`;
-      if (this.clientId === null) throw failureOf(words, false);
+      const text = `${pattern}: ${replies[refused].error}`;
+      if (this.clientId === null) throw failureOf(text, false);
       // An invalid pattern stays invalid, so its listeners are removed. (If the session is gone,
       // the patterns are kept for the next one.)
       this.listeners.delete(pattern);
       this.windows?.refuse(pattern);
-      throw failureOf(words, false, { pattern });
+      throw failureOf(text, false, { pattern });
     }
   }
 
@@ -463,7 +463,7 @@ class BayeuxClient {
         if (this.clientId === null) await this.handshake(isOver);
         await this.adjust();
         if (isOver()) return;
-        this.noteSession(this.clientId);
+        this.recordSession(this.clientId);
         await this.connect();
         if (isOver()) return;
         this.setState('connected');
@@ -498,11 +498,11 @@ class BayeuxClient {
   }
 
   // Records that session `id` is subscribed. Calls `ongap` if it replaces an earlier one.
-  noteSession(id) {
+  recordSession(id) {
     if (id === this.knownId || id === null) return;
     const hadOne = this.knownId !== null;
     this.knownId = id;
-    this.windows?.tell();
+    this.windows?.shareState();
     if (hadOne) this.ongap();
   }
 
@@ -541,7 +541,7 @@ class BayeuxClient {
     for (const { ext } of replies) if (typeof ext?.ack === 'number') this.lastBatch = ext.ack;
     const events = items.filter((item) => !('successful' in item));
     events.forEach((event) => this.deliver(event));
-    if (events.length > 0) this.windows?.tell(events);
+    if (events.length > 0) this.windows?.shareState(events);
     if (clientId !== null && replies.some((reply) => reply.advice?.reconnect === 'handshake')) {
       // The session is gone, but the server can be reached. So the next pause may be short.
       this.clientId = null;
@@ -552,7 +552,7 @@ class BayeuxClient {
 
   async items(messages, hold) {
     try {
-      return await TRANSPORTS[this.connectionType](this.url, messages, hold + NETWORK_PATIENCE, this.headers);
+      return await TRANSPORTS[this.connectionType](this.url, messages, hold + NETWORK_TIMEOUT, this.headers);
     } catch (failure) {
       if (failure.message === NO_ANSWER && this.state === 'connected') this.setState('interrupted', NO_ANSWER);
       throw failureOf(failure.message, failure.mayHaveArrived ?? true, { status: failure.status });
@@ -564,7 +564,7 @@ class BayeuxClient {
     const isNew = session.clientId !== this.clientId || !session.hasBatches || session.lastBatch > this.lastBatch;
     Object.assign(this, session);
     this.subscribed = new Set(subscribed);
-    this.noteSession(knownId);
+    this.recordSession(knownId);
     if (isNew) events.forEach((event) => this.deliver(event));
     this.setState(state, why);
   }
@@ -581,7 +581,7 @@ class BayeuxClient {
     if (state === this.state && !why) return;
     this.state = state;
     this.why = why;
-    this.windows?.tell();
+    this.windows?.shareState();
     this.onstate(state, why);
   }
 }

@@ -1,7 +1,7 @@
 'use strict';
 // What the pages share: the server's address, and the texts about the connection.
 
-const WORDS_OF_STATES = {
+const STATE_TEXTS = {
   connecting: 'connecting …',
   interrupted: 'connection lost, trying again …',
   unreached: 'no server, trying again …',
@@ -11,7 +11,7 @@ const WORDS_OF_STATES = {
 };
 
 // What an HTTP status other than 200 means. It is from bayeuxd or from a server in front.
-const WORDS_OF_STATUSES = {
+const STATUS_TEXTS = {
   401: 'refuses this page. Log in, and load it anew.',
   403: 'refuses this page. Log in, or open it from the server’s own site.',
   429: 'takes no more requests just now. The page tries again.',
@@ -19,18 +19,18 @@ const WORDS_OF_STATUSES = {
   502: 'has no server behind it that runs. Start bayeuxd there, or wait.',
   504: 'gets no answer from the server behind it. Start bayeuxd there anew, or wait.',
 };
-const NO_SERVER_THERE = 'is no Bayeux server’s. Look at the path, as /cometd.';
+const WRONG_PATH_TEXT = 'is no Bayeux server’s. Look at the path, as /cometd.';
 
 const element = (id) => document.getElementById(id);
 
 // The parameters in the page's address, such as `?server=ADDRESS`.
-const WORDS = new URLSearchParams(location.search);
+const PARAMETERS = new URLSearchParams(location.search);
 
 // Returns the server's address: from disk one on this machine, from a web server its path /cometd,
 // or what `?server=ADDRESS` names.
 function serverAddress() {
   const own = location.protocol === 'file:' ? 'http://127.0.0.1:8087/cometd' : '/cometd';
-  return WORDS.get('server') || own;
+  return PARAMETERS.get('server') || own;
 }
 
 /** Returns whether `address` is an HTTP address, absolute or relative to this page's server. */
@@ -49,20 +49,20 @@ const statusOf = (why) => Number((why.match(/^HTTP status (\d+)$/) || [])[1]);
 const isLasting = (why) => why === NO_ANSWER || [401, 403, 429].includes(statusOf(why));
 
 /** Returns the text for a state other than `connected`. `why`: its reason. */
-function wordsFor(state, why, wasConnected) {
-  if (state === 'interrupted' && why === NO_ANSWER) return WORDS_OF_STATES.unanswered;
-  if (state === 'interrupted' && isLasting(why)) return WORDS_OF_STATES.refused;
-  if (state !== 'interrupted' || wasConnected) return WORDS_OF_STATES[state];
-  return isError(why) || statusOf(why) ? WORDS_OF_STATES.refused : WORDS_OF_STATES.unreached;
+function stateText(state, why, wasConnected) {
+  if (state === 'interrupted' && why === NO_ANSWER) return STATE_TEXTS.unanswered;
+  if (state === 'interrupted' && isLasting(why)) return STATE_TEXTS.refused;
+  if (state !== 'interrupted' || wasConnected) return STATE_TEXTS[state];
+  return isError(why) || statusOf(why) ? STATE_TEXTS.refused : STATE_TEXTS.unreached;
 }
 
 /** Returns a text about what is wrong if the page cannot connect to `address`, and what to do. */
-function troubleWith(address, why) {
+function connectionError(address, why) {
   if (!isAddress(address)) {
     return `“${address}” is no address of a server. Write one as ?server=http://127.0.0.1:8087/cometd behind this page’s address.`;
   }
   const status = statusOf(why);
-  if (status) return `${address} answers with status ${status}: it ${WORDS_OF_STATUSES[status] || NO_SERVER_THERE}`;
+  if (status) return `${address} answers with status ${status}: it ${STATUS_TEXTS[status] || WRONG_PATH_TEXT}`;
   if (isError(why)) return `The server at ${address} refuses: ${why}. The page tries again.`;
   if (why === NO_ANSWER) {
     return `No answer from ${address} for ten seconds. The line or the server is slow, or too many windows are open: a browser has six connections to a server, and each window can take one.`;
@@ -71,24 +71,24 @@ function troubleWith(address, why) {
 }
 
 /** Returns the text about the failure of a publish. */
-function notPublished({ message, mayHaveArrived, status }) {
+function publishErrorText({ message, mayHaveArrived, status }) {
   if (status === 403) return 'Not sent: pages may only read here, or the server refuses this one. To send it again does not help.';
   return mayHaveArrived ? 'No answer: it may have been sent.' : `Not sent: ${message}`;
 }
 
-function inWords(value) {
+function formatNumber(value) {
   return value.toLocaleString('en', { maximumFractionDigits: Math.abs(value) < 10 ? 2 : 1 });
 }
 
 /** Returns the text for an age, such as `12 s ago`. */
-function agoInWords(milliseconds) {
+function formatAge(milliseconds) {
   const seconds = Math.round(milliseconds / 1000);
   return seconds < 120 ? `${seconds} s ago` : `${Math.round(seconds / 60)} min ago`;
 }
 
-function showTrouble(text) {
-  element('trouble').textContent = text;
-  element('trouble').hidden = text === '';
+function showError(text) {
+  element('error').textContent = text;
+  element('error').hidden = text === '';
 }
 
 /**
@@ -102,17 +102,17 @@ function newClient(lastMessages = () => []) {
   const client = new BayeuxClient(isAddress(address) ? address : '/cometd');
   let wasConnected = false;
   client.onstate = (state, why) => {
-    const isUp = state === 'connected';
-    wasConnected ||= isUp;
+    const isConnected = state === 'connected';
+    wasConnected ||= isConnected;
     element('state').className = state;
-    element('state').textContent = isUp ? `connected by ${client.connectionType}` : wordsFor(state, why, wasConnected);
+    element('state').textContent = isConnected ? `connected by ${client.connectionType}` : stateText(state, why, wasConnected);
     element('state').title = why;
-    if (isUp) showTrouble('');
-    else if (state === 'interrupted' && (!wasConnected || isLasting(why))) showTrouble(troubleWith(address, why));
+    if (isConnected) showError('');
+    else if (state === 'interrupted' && (!wasConnected || isLasting(why))) showError(connectionError(address, why));
   };
   if (!isAddress(address)) {
     client.start = () => {};
-    showTrouble(troubleWith(address, ''));
+    showError(connectionError(address, ''));
   }
   window.addEventListener('pagehide', () => client.stop(lastMessages()));
   return client;

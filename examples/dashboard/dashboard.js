@@ -3,15 +3,15 @@
 
 const PATTERN = '/dashboard/*';
 // How many seconds the chart shows (`?seconds=NUMBER`).
-const SECONDS = Number(WORDS.get('seconds')) || 60;
+const SECONDS = Number(PARAMETERS.get('seconds')) || 60;
 // The box of the chart within its picture, in pixels. The picture is as wide as the card. `margin`:
 // the space to the right of the box.
 const BOX = { left: 50, margin: 8, top: 10, bottom: 144, height: 166 };
-const LEAST_WIDTH = 200;
+const MIN_WIDTH = 200;
 // A number is old after three times the usual time between two numbers, and at least after three
 // seconds (in milliseconds). The curve then has a gap.
 const USUAL_TIMES = 3;
-const LEAST_PATIENCE = 3000;
+const MIN_OLD_AFTER = 3000;
 const LINES = 4;
 
 const cards = new Map();
@@ -33,23 +33,23 @@ class Card {
 
   add(value) {
     this.points.push({ time: Date.now(), value, gaps });
-    this.part('.value').textContent = inWords(value);
+    this.part('.value').textContent = formatNumber(value);
     this.draw();
   }
 
   // Returns the milliseconds after which a number is old.
-  patience() {
+  oldAfter() {
     const times = this.points.slice(1).map((point, index) => point.time - this.points[index].time).sort((a, b) => a - b);
-    return Math.max(LEAST_PATIENCE, USUAL_TIMES * (times[Math.floor(times.length / 2)] || 0));
+    return Math.max(MIN_OLD_AFTER, USUAL_TIMES * (times[Math.floor(times.length / 2)] || 0));
   }
 
   // Returns the points in groups. Between two groups, numbers are missing.
   runs() {
     const runs = [];
-    const patience = this.patience();
+    const oldAfter = this.oldAfter();
     this.points.forEach((point, index) => {
       const before = this.points[index - 1];
-      if (!before || point.gaps > before.gaps || point.time - before.time > patience) runs.push([]);
+      if (!before || point.gaps > before.gaps || point.time - before.time > oldAfter) runs.push([]);
       runs[runs.length - 1].push(point);
     });
     return runs;
@@ -58,11 +58,11 @@ class Card {
   // Shows the age of the newest number if it is old.
   showAge(newest) {
     const age = Date.now() - newest.time;
-    const isOld = age > this.patience();
-    const words = isOld ? agoInWords(age) : '';
+    const isOld = age > this.oldAfter();
+    const text = isOld ? formatAge(age) : '';
     this.root.classList.toggle('old', isOld);
-    this.part('.age').textContent = words;
-    this.part('svg').setAttribute('aria-label', `${this.name}: ${inWords(newest.value)} ${words || 'now'}, and the last ${SECONDS} seconds`);
+    this.part('.age').textContent = text;
+    this.part('svg').setAttribute('aria-label', `${this.name}: ${formatNumber(newest.value)} ${text || 'now'}, and the last ${SECONDS} seconds`);
   }
 
   // Draws the chart. Keeps one point that is older than the chart, so that the curve begins at the
@@ -88,15 +88,15 @@ class Card {
     this.part('.newest').setAttribute('visibility', newest.time > start ? 'visible' : 'hidden');
     this.showAge(newest);
     this.drawGrid(scale, up, right);
-    this.part('.least').textContent = inWords(Math.min(...values));
-    this.part('.greatest').textContent = inWords(Math.max(...values));
-    this.part('.mean').textContent = inWords(values.reduce((sum, value) => sum + value, 0) / values.length);
+    this.part('.least').textContent = formatNumber(Math.min(...values));
+    this.part('.greatest').textContent = formatNumber(Math.max(...values));
+    this.part('.mean').textContent = formatNumber(values.reduce((sum, value) => sum + value, 0) / values.length);
   }
 
   // Makes the picture as wide as its card, so that its text keeps its size. Returns the right edge
   // of the box.
   fit() {
-    const width = Math.max(LEAST_WIDTH, this.part('svg').clientWidth);
+    const width = Math.max(MIN_WIDTH, this.part('svg').clientWidth);
     this.part('svg').setAttribute('viewBox', `0 0 ${width} ${BOX.height}`);
     this.part('.end').setAttribute('x', width - BOX.margin);
     return width - BOX.margin;
@@ -108,7 +108,7 @@ class Card {
       const value = scale.low + ((scale.high - scale.low) * line) / LINES;
       const height = up(value);
       parts.push(shape('line', { x1: BOX.left, x2: right, y1: height, y2: height }));
-      parts.push(shape('text', { x: BOX.left - 8, y: height + 4, 'text-anchor': 'end', class: 'label' }, inBrief(value)));
+      parts.push(shape('text', { x: BOX.left - 8, y: height + 4, 'text-anchor': 'end', class: 'label' }, formatBrief(value)));
     }
     this.part('.grid').replaceChildren(...parts);
   }
@@ -133,7 +133,7 @@ function scaleOf(values) {
 }
 
 // Returns a short text for a number on the axis, such as 12.5K.
-function inBrief(value) {
+function formatBrief(value) {
   return value.toLocaleString('en', { notation: 'compact', maximumSignificantDigits: 3 });
 }
 

@@ -5,7 +5,7 @@
 
 const CHANNEL = '/figures/all';
 // Metrics are old after this time, in milliseconds.
-const PATIENCE = 5000;
+const OLD_AFTER = 5000;
 
 let before = null;
 
@@ -19,7 +19,7 @@ function card(name, lines, help, time) {
   const shown = lines.length > 1 ? lines.filter(({ value }) => value !== 0) : lines;
   if (shown.length === 0) shown.push({ label: 'each', value: 0 });
   root.querySelector('dl').append(...shown.flatMap((line) => [
-    part('dt', line.label), part('dd', inWords(line.value)), part('dd', changeOf(line, time), 'change'),
+    part('dt', line.label), part('dd', formatNumber(line.value)), part('dd', changeOf(line, time), 'change'),
   ]));
   return root;
 }
@@ -35,7 +35,7 @@ function part(kind, text, name = '') {
 function changeOf({ key, value }, time) {
   if (!before || !(key in before.figures) || time <= before.time) return '';
   const change = (1000 * (value - before.figures[key])) / (time - before.time);
-  return change === 0 ? '' : `${change > 0 ? '+' : '−'}${inWords(Math.abs(change))} a second`;
+  return change === 0 ? '' : `${change > 0 ? '+' : '−'}${formatNumber(Math.abs(change))} a second`;
 }
 
 function show({ figures, help }) {
@@ -45,8 +45,8 @@ function show({ figures, help }) {
     if (typeof value !== 'number') continue;
     const [, name, label] = key.match(/^([^{]*)(.*)$/);
     // {kind="publish"} is shown as publish.
-    const words = label.replace(/^{|}$/g, '').replace(/\w+="([^"]*)"/g, '$1');
-    families.set(name, [...(families.get(name) || []), { key, label: words, value }]);
+    const labels = label.replace(/^{|}$/g, '').replace(/\w+="([^"]*)"/g, '$1');
+    families.set(name, [...(families.get(name) || []), { key, label: labels, value }]);
   }
   element('empty').hidden = true;
   element('figures').replaceChildren(...[...families].map(([name, lines]) => card(name, lines, help, time)));
@@ -57,9 +57,9 @@ function show({ figures, help }) {
 // Shows the age of the metrics if they are old.
 function showAge() {
   const age = before ? Date.now() - before.time : 0;
-  element('figures').classList.toggle('old', age > PATIENCE);
-  element('age').hidden = age <= PATIENCE;
-  element('age').textContent = `These figures came ${agoInWords(age)}.`;
+  element('figures').classList.toggle('old', age > OLD_AFTER);
+  element('age').hidden = age <= OLD_AFTER;
+  element('age').textContent = `These figures came ${formatAge(age)}.`;
 }
 
 const isObject = (it) => typeof it === 'object' && it !== null;

@@ -12,7 +12,7 @@ retry='"advice":{"interval":0,"reconnect":"retry","timeout":30000}'
 served='"successful":true,"supportedConnectionTypes":["long-polling","callback-polling"],"version":"1.0"'
 
 # Prints the text $1 256 times, separated by commas: the greatest number of messages in a request.
-often() {
+repeat_256() {
     awk -v text="$1" 'BEGIN { for (n = 1; n <= 256; n++) printf "%s%s", (n > 1 ? "," : ""), text }'
 }
 
@@ -22,7 +22,7 @@ script() {
     echo "0 P [$handshake]"
     echo '0 P [{"channel":"/meta/subscribe","clientId":"'$first'","subscription":"/a/b"}]'
     for _ in 1 2 3 4; do
-        echo "0 P [$(often "$publish")]"
+        echo "0 P [$(repeat_256 "$publish")]"
     done
     echo "0 P [$publish]"
     # The session has overflowed: its connects fail, and its other messages are accepted.
@@ -39,7 +39,7 @@ expected() {
     echo '1 200 [{'"$retry"',"channel":"/meta/handshake","clientId":"'$first'",'"$served"'}]'
     echo '2 200 [{"channel":"/meta/subscribe","clientId":"'$first'","subscription":"/a/b","successful":true}]'
     for line in 3 4 5 6; do
-        echo "$line 200 [$(often "$published")]"
+        echo "$line 200 [$(repeat_256 "$published")]"
     done
     echo "7 200 [$published]"
     echo '8 200 [{"advice":{"interval":0,"reconnect":"handshake"},"channel":"/meta/connect","clientId":"'$first'","error":"413::Queue overflow","successful":false}]'

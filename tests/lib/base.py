@@ -11,32 +11,32 @@ import time
 TOP = pathlib.Path(__file__).resolve().parent.parent.parent
 PROGRAM = f"{TOP}/crates/bayeuxd/out/bayeuxd"
 # The exit status of a script that cannot run on this machine.
-NOT_TRIED = 77
+SKIPPED = 77
 # Clears the current line of a terminal.
-CLEARED = "\r\x1b[K"
-# How long `until` waits, in seconds.
-PATIENCE = 25
+CLEAR_LINE = "\r\x1b[K"
+# How long `wait_until` waits, in seconds.
+TIMEOUT_SECONDS = 25
 
 
-class Wrong(Exception):
+class CheckFailed(Exception):
     """A check failed. The message says what is wrong."""
 
 
-class Words(argparse.ArgumentParser):
-    """An argument parser for a script. Its description is `head`, the docstring of the script.
+class ScriptParser(argparse.ArgumentParser):
+    """An argument parser for a script. `description`: the docstring of the script.
 
-    If `head` has a line that begins with "usage: ", the parser adds no usage line of its own.
+    If `description` has a line that begins with "usage: ", the parser adds no usage line of its own.
     """
 
-    def __init__(self, head):
-        usage = argparse.SUPPRESS if "\nusage: " in head else None
-        super().__init__(description=head, formatter_class=argparse.RawDescriptionHelpFormatter, usage=usage)
+    def __init__(self, description):
+        usage = argparse.SUPPRESS if "\nusage: " in description else None
+        super().__init__(description=description, formatter_class=argparse.RawDescriptionHelpFormatter, usage=usage)
 
     def add_daemon(self):
         """Adds the optional argument `program`: the path of a daemon."""
         self.add_argument("program", nargs="?", default=PROGRAM, help="test this bayeuxd (by default the one that scripts/build made)")
 
-    def read(self):
+    def parse_options(self):
         """Returns the parsed arguments.
 
         Exits with status 2 if an argument is not valid, or if `program` is not an executable file.
@@ -47,14 +47,14 @@ class Words(argparse.ArgumentParser):
         return options
 
 
-def check_tried(name, *programs):
+def check_can_run(name, *programs):
     """Exits with status 77 if one of `programs` cannot be executed, or the machine has no loopback.
 
     `name`: the path of the script, for the message.
     """
     if not (all(os.access(it, os.X_OK) for it in programs) and has_loopback()):
         print(f"{name}: nothing is tried, since there is no program {' or '.join(programs)}, or no loopback", file=sys.stderr)
-        sys.exit(NOT_TRIED)
+        sys.exit(SKIPPED)
 
 
 def finish(main):
@@ -70,47 +70,47 @@ def finish(main):
         sys.exit(130)
 
 
-def judged(name, look):
-    """Calls `look` and returns a status: 0, or 1 if it raises `Wrong` or a subprocess times out.
+def run_check(name, check):
+    """Calls `check` and returns a status: 0, or 1 if it raises `CheckFailed` or a subprocess times out.
 
     Prints the error to standard error, after `name`, the path of the script.
     """
     try:
-        look()
+        check()
         return 0
-    except (Wrong, subprocess.TimeoutExpired) as wrong:
+    except (CheckFailed, subprocess.TimeoutExpired) as wrong:
         # Replace the line of progress, if there is one.
-        print(f"{CLEARED if sys.stderr.isatty() else ''}{name}: {wrong}", file=sys.stderr)
+        print(f"{CLEAR_LINE if sys.stderr.isatty() else ''}{name}: {wrong}", file=sys.stderr)
         return 1
 
 
-def counted(name, what, found):
-    """Prints the errors in `found` and how many of its items are right, and returns the status.
+def report_counts(name, what, results):
+    """Prints the errors in `results` and how many of its items are right, and returns the status.
 
-    Each item of `found` is a list of lines, empty if nothing is wrong. The lines go to standard
+    Each item of `results` is a list of lines, empty if nothing is wrong. The lines go to standard
     error. The count goes to standard output, after `name`, the path of the script. `what`: a noun
     for the items. The status is 1 if an item is not empty, otherwise 0.
     """
     count = wrong = 0
-    for said in found:
-        count, wrong = count + 1, wrong + bool(said)
-        print(*said, sep="\n", end="\n" if said else "", file=sys.stderr)
+    for errors in results:
+        count, wrong = count + 1, wrong + bool(errors)
+        print(*errors, sep="\n", end="\n" if errors else "", file=sys.stderr)
     print(f"{name}: {count - wrong} {what} printed what they must, {wrong} did not")
     return 1 if wrong else 0
 
 
-def until(what, is_so):
+def wait_until(what, condition):
     """Waits until `is_so()` returns a true value, and returns that value.
 
-    Raises `Wrong` after `PATIENCE` seconds. `what`: the condition in words, for the message.
+    Raises `CheckFailed` after `TIMEOUT_SECONDS` seconds. `what`: the condition in words, for the message.
     """
-    last = time.monotonic() + PATIENCE
+    deadline = time.monotonic() + TIMEOUT_SECONDS
     while True:
-        found = is_so()
-        if found:
-            return found
-        if time.monotonic() > last:
-            raise Wrong(f"not in {PATIENCE} seconds: {what}")
+        result = condition()
+        if result:
+            return result
+        if time.monotonic() > deadline:
+            raise CheckFailed(f"not in {TIMEOUT_SECONDS} seconds: {what}")
         time.sleep(0.05)
 
 

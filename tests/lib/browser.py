@@ -7,7 +7,7 @@ import urllib.error
 import urllib.request
 from base64 import b64decode
 
-from base import Wrong, can_connect, end, free_port, until
+from base import CheckFailed, can_connect, end, free_port, wait_until
 
 # The key of an element's id in a response of WebDriver.
 ELEMENT = "element-6066-11e4-a52e-4f735466cecf"
@@ -41,13 +41,13 @@ class Browser:
 
     def begin(self, folder):
         """Waits until the driver listens, and starts the browser."""
-        until("the driver listens", lambda: can_connect(self.port))
+        wait_until("the driver listens", lambda: can_connect(self.port))
         # Only names of loopback are resolved, so that the browser connects to no other machine.
-        words = ["--headless=new", "--disable-gpu", "--no-first-run", "--disable-background-networking", "--disable-component-update"]
-        words += [f"--user-data-dir={folder}/profile", "--host-resolver-rules=MAP * ~NOTFOUND, EXCLUDE 127.0.0.1, EXCLUDE localhost"]
+        args = ["--headless=new", "--disable-gpu", "--no-first-run", "--disable-background-networking", "--disable-component-update"]
+        args += [f"--user-data-dir={folder}/profile", "--host-resolver-rules=MAP * ~NOTFOUND, EXCLUDE 127.0.0.1, EXCLUDE localhost"]
         if os.geteuid() == 0:
-            words.append("--no-sandbox")
-        wanted = {"browserName": "chrome", "acceptInsecureCerts": True, "goog:chromeOptions": {"args": words}}
+            args.append("--no-sandbox")
+        wanted = {"browserName": "chrome", "acceptInsecureCerts": True, "goog:chromeOptions": {"args": args}}
         self.session = "/session/" + self.call("POST", "/session", {"capabilities": {"alwaysMatch": wanted}})["sessionId"]
         # The first window stays open, because a new window can only be requested from an open one.
         self.first = self.call("GET", "/window")
@@ -55,7 +55,7 @@ class Browser:
     def call(self, method, path, content=None):
         """Sends a command to the driver, and returns the value in its response.
 
-        `content`: the body, sent as JSON. Raises `Wrong` if the driver reports an error.
+        `content`: the body, sent as JSON. Raises `CheckFailed` if the driver reports an error.
         """
         data = None if content is None else json.dumps(content).encode()
         request = urllib.request.Request(f"http://127.0.0.1:{self.port}{self.session}{path}", data, method=method)
@@ -63,7 +63,7 @@ class Browser:
             with urllib.request.urlopen(request, timeout=60) as response:
                 return json.load(response)["value"]
         except urllib.error.HTTPError as error:
-            raise Wrong(f"{method} {path}: {json.load(error)['value']['message'].splitlines()[0]}") from error
+            raise CheckFailed(f"{method} {path}: {json.load(error)['value']['message'].splitlines()[0]}") from error
 
     def end(self):
         if self.session:
@@ -85,9 +85,9 @@ class Window:
         self.browser.call("POST", "/window", {"handle": self.handle})
         return self.browser.call(method, path, content)
 
-    def run(self, script, *words):
-        """Runs `script` in the page with `words` as its arguments, and returns its result."""
-        return self.call("POST", "/execute/sync", {"script": script, "args": list(words)})
+    def run(self, script, *args):
+        """Runs `script` in the page with `args` as its arguments, and returns its result."""
+        return self.call("POST", "/execute/sync", {"script": script, "args": list(args)})
 
     def texts(self, selector):
         """Returns the texts of all elements that match `selector`."""
@@ -103,7 +103,7 @@ class Window:
         self.call("POST", f"/element/{self.element(selector)}/value", {"text": text})
 
     def wait_state(self, state):
-        until(f"the page says {state}", lambda: self.run("return document.getElementById('state').className") == state)
+        wait_until(f"the page says {state}", lambda: self.run("return document.getElementById('state').className") == state)
 
     def picture(self, file):
         file.write_bytes(b64decode(self.call("GET", "/screenshot")))
@@ -126,13 +126,13 @@ def press_back(window):
     window.call("POST", "/actions", {"actions": [{"type": "key", "id": "keys", "actions": actions}]})
 
 
-def has_focus(window, name):
-    """Raises `Wrong` if another element has the focus, or if no outline shows the focus.
+def check_focus(window, name):
+    """Raises `CheckFailed` if another element has the focus, or if no outline shows the focus.
 
     `name`: the id of the element, or its text if it has no id.
     """
     if window.run(FOCUS) != [name, True]:
-        raise Wrong(f"{window.run(FOCUS)} has the focus and shows it, and not {name}")
+        raise CheckFailed(f"{window.run(FOCUS)} has the focus and shows it, and not {name}")
 
 
 def emulate(window, width=0, height=0, scheme=""):
@@ -142,5 +142,5 @@ def emulate(window, width=0, height=0, scheme=""):
     """
     size = {"width": width, "height": height, "deviceScaleFactor": 1, "mobile": False}
     colours = {"features": [{"name": "prefers-color-scheme", "value": scheme}]}
-    for command, words in (("DeviceMetricsOverride", size), ("EmulatedMedia", colours)):
-        window.call("POST", "/goog/cdp/execute", {"cmd": f"Emulation.set{command}", "params": words})
+    for command, parameters in (("DeviceMetricsOverride", size), ("EmulatedMedia", colours)):
+        window.call("POST", "/goog/cdp/execute", {"cmd": f"Emulation.set{command}", "params": parameters})

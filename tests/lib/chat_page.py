@@ -1,7 +1,7 @@
 """Tests of the chat: two users, cut connections, a slow line, and the keyboard alone."""
-from base import Wrong, until
-from browser import ENTER, TAB, Window, has_focus, press, press_back
-from sight import check_names, check_sight
+from accessibility import check_accessibility, check_accessible_names
+from base import CheckFailed, wait_until
+from browser import ENTER, TAB, Window, check_focus, press, press_back
 
 # The element that says why a message was not sent.
 PROBLEM = "#problem:not([hidden])"
@@ -14,11 +14,11 @@ class Chat(Window):
         super().__init__(browser, address)
         self.write("#name", "  " + ENTER)
         if self.run("return document.getElementById('join').hidden || document.getElementById('name').value"):
-            raise Wrong("blanks are taken as a name")
+            raise CheckFailed("blanks are taken as a name")
         self.write("#name", name)
         self.click("#join button")
         self.wait_state("connected")
-        until(f"{name} sees that {name} joined", lambda: f"{name} joined" in self.texts(".notice"))
+        wait_until(f"{name} sees that {name} joined", lambda: f"{name} joined" in self.texts(".notice"))
 
     def send(self, text):
         self.write("#text", text)
@@ -30,9 +30,9 @@ class Chat(Window):
     def wait_messages(self, expected):
         """Waits until the window shows the messages `expected`, in this order, and no others."""
         try:
-            until("", lambda: self.messages() == expected)
-        except Wrong:
-            raise Wrong(f"the chat shows {self.messages()}, and not {expected}") from None
+            wait_until("", lambda: self.messages() == expected)
+        except CheckFailed:
+            raise CheckFailed(f"the chat shows {self.messages()}, and not {expected}") from None
 
 
 def try_talk(ann, ben):
@@ -40,80 +40,80 @@ def try_talk(ann, ben):
 
     Returns the messages that were sent.
     """
-    said = ["Hello Ben! Do you read this?", "I do. Two windows, and one server between them.", "Shown as text: <b>1 < 2</b> & \"so on\""]
-    until("Ann sees that Ben joined", lambda: "Ben joined" in ann.texts(".notice"))
-    ann.send(said[0])
-    ben.wait_messages(said[:1])
-    ben.send(said[1])
-    ann.wait_messages(said[:2])
-    ann.send(said[2])
-    ben.wait_messages(said)
-    ann.wait_messages(said)
-    return said
+    texts = ["Hello Ben! Do you read this?", "I do. Two windows, and one server between them.", "Shown as text: <b>1 < 2</b> & \"so on\""]
+    wait_until("Ann sees that Ben joined", lambda: "Ben joined" in ann.texts(".notice"))
+    ann.send(texts[0])
+    ben.wait_messages(texts[:1])
+    ben.send(texts[1])
+    ann.wait_messages(texts[:2])
+    ann.send(texts[2])
+    ben.wait_messages(texts)
+    ann.wait_messages(texts)
+    return texts
 
 
-def try_writing(ann, ben, said):
+def try_writing(ann, ben, texts):
     """Checks how windows show their own messages, and a user who has scrolled up.
 
     A message counts as a window's own only if it was sent there, even if the names are equal. New
-    messages do not scroll the list while a user reads further up. `said`: the messages so far.
+    messages do not scroll the list while a user reads further up. `texts`: the messages so far.
     Returns them and the new ones.
     """
     if [len(chat.texts("#messages li.own")) for chat in (ann, ben)] != [2, 1]:
-        raise Wrong("a message is not shown as one's own, or another's is")
+        raise CheckFailed("a message is not shown as one's own, or another's is")
     lines = "\n".join(["A message of many lines"] * 40)
     ann.run("document.getElementById('text').maxLength = 5000")
     ben.run("client.publish(CHANNEL, { name: 'Ann', text: arguments[0] })", lines)
-    ann.wait_messages([*said, lines])
+    ann.wait_messages([*texts, lines])
     if len(ann.texts("#messages li.own")) != 2:
-        raise Wrong("another's message is shown as one's own, since the names are the same")
+        raise CheckFailed("another's message is shown as one's own, since the names are the same")
     place = "return document.getElementById('messages').scrollTop"
-    until("the end is shown", lambda: ann.run(place) > 100)
+    wait_until("the end is shown", lambda: ann.run(place) > 100)
     ann.run("document.getElementById('messages').scrollTop = 50")
     ben.send("Below what Ann reads")
-    said = [*said, lines, "Below what Ann reads"]
-    ann.wait_messages(said)
+    texts = [*texts, lines, "Below what Ann reads"]
+    ann.wait_messages(texts)
     if ann.run(place) != 50:
-        raise Wrong(f"the chat scrolled to {ann.run(place)} while somebody read at 50")
-    return said
+        raise CheckFailed(f"the chat scrolled to {ann.run(place)} while somebody read at 50")
+    return texts
 
 
-def try_slow_line(stand):
+def try_slow_line(fixture):
     """Checks that Enter sends nothing while a message is being sent, and that the typed text stays.
 
     If the response is an error, the text of the message returns to its field.
     """
-    site = stand.site
-    chat = Chat(stand.browser, f"{site.address}/chat/", "Ann")
-    chat.run("const ask = client.publish; client.publish = (...words) => new Promise((go) => (window.go = go)).then(() => ask.apply(client, words))")
+    site = fixture.site
+    chat = Chat(fixture.browser, f"{site.address}/chat/", "Ann")
+    chat.run("const ask = client.publish; client.publish = (...args) => new Promise((go) => (window.go = go)).then(() => ask.apply(client, args))")
     chat.write("#text", "Once" + ENTER)
     chat.write("#text", "Meanwhile" + ENTER + ENTER)
     chat.run("go()")
     chat.wait_messages(["Once"])
     if chat.run("return document.getElementById('text').value") != "Meanwhile":
-        raise Wrong("what was typed meanwhile is gone")
-    until("nothing is on its way", lambda: not chat.run("return isSending"))
+        raise CheckFailed("what was typed meanwhile is gone")
+    wait_until("nothing is on its way", lambda: not chat.run("return isSending"))
     site.status = 504
     chat.write("#text", ENTER)
     chat.write("#text", "more")
     chat.run("go()")
-    until("the page says so", lambda: chat.texts(PROBLEM) == ["No answer: it may have been sent."])
+    wait_until("the page says so", lambda: chat.texts(PROBLEM) == ["No answer: it may have been sent."])
     site.status = 413
     chat.write("#text", ENTER)
     chat.run("go()")
-    until("the page says so", lambda: chat.texts(PROBLEM) == ["Not sent: HTTP status 413"])
+    wait_until("the page says so", lambda: chat.texts(PROBLEM) == ["Not sent: HTTP status 413"])
     if chat.run("return document.getElementById('text').value") != "Meanwhile more":
-        raise Wrong(f"the field has {chat.run('return text.value')!r}, and not what was not sent and what was typed")
+        raise CheckFailed(f"the field has {chat.run('return text.value')!r}, and not what was not sent and what was typed")
     site.status = 200
     chat.close()
 
 
-def try_cut(stand, ann, ben, said):
+def try_cut(fixture, ann, ben, texts):
     """Checks that no message is lost or repeated if connections are cut and responses are lost.
 
-    `said`: the messages so far. Returns them and the new ones.
+    `texts`: the messages so far. Returns them and the new ones.
     """
-    server, relay = stand.server, stand.relay
+    server, relay = fixture.server, fixture.relay
     more = [f"Sent while the line was broken: {number}" for number in range(1, 4)]
     relay.is_down = True
     relay.cut()
@@ -123,40 +123,40 @@ def try_cut(stand, ann, ben, said):
     relay.is_down = False
     for chat in (ann, ben):
         chat.wait_state("connected")
-        chat.wait_messages(said + more)
+        chat.wait_messages(texts + more)
     lost = relay.lost
     relay.loses_responses = True
     server.publish("/chat/hall", {"name": "Cleo", "text": "In a response that was lost, and came again"})
     sessions = len({chat.run("return client.clientId") for chat in (ann, ben)})
-    until("each session lost a response", lambda: relay.lost >= lost + sessions)
+    wait_until("each session lost a response", lambda: relay.lost >= lost + sessions)
     relay.loses_responses = False
-    said = [*said, *more, "In a response that was lost, and came again"]
+    texts = [*texts, *more, "In a response that was lost, and came again"]
     for chat in (ann, ben):
-        chat.wait_messages(said)
-    return said
+        chat.wait_messages(texts)
+    return texts
 
 
-def try_restart(server, ann, ben, said):
+def try_restart(server, ann, ben, texts):
     """Checks that both windows recover from a restart of the server.
 
     They share a channel again. A message that failed is not sent again until the user does so.
-    `said`: the messages so far. Returns them and the new one.
+    `texts`: the messages so far. Returns them and the new one.
     """
     server.kill()
     for chat in (ann, ben):
         chat.wait_state("interrupted")
     ann.send("Once more, after the restart")
-    until("Ann is told that it may not have been sent", lambda: ann.texts(PROBLEM) == ["No answer: it may have been sent."])
+    wait_until("Ann is told that it may not have been sent", lambda: ann.texts(PROBLEM) == ["No answer: it may have been sent."])
     server.start()
     for chat in (ann, ben):
         chat.wait_state("connected")
-    until("the problem is over", lambda: not ann.texts(PROBLEM))
-    ann.wait_messages(said)
+    wait_until("the problem is over", lambda: not ann.texts(PROBLEM))
+    ann.wait_messages(texts)
     ann.click("#write button")
-    said = [*said, "Once more, after the restart"]
+    texts = [*texts, "Once more, after the restart"]
     for chat in (ann, ben):
-        chat.wait_messages(said)
-    return said
+        chat.wait_messages(texts)
+    return texts
 
 
 def try_leaving(server, ann, ben):
@@ -168,53 +168,53 @@ def try_leaving(server, ann, ben):
     is_shared = publishes[0] == publishes[1]
     for chat, publish, is_last in ((ann, publishes[0], not is_shared), (ben, publishes[1], True)):
         if not server.ask(publish)[0]["successful"]:
-            raise Wrong("the page has no session")
+            raise CheckFailed("the page has no session")
         chat.call("POST", "/url", {"url": "about:blank"})
         if chat is ann:
-            until("Ben sees that Ann left", lambda: "Ann left" in ben.texts(".notice"))
+            wait_until("Ben sees that Ann left", lambda: "Ann left" in ben.texts(".notice"))
         if is_last:
-            until("the session is gone", lambda publish=publish: server.ask(publish)[0].get("error") == "402::Unknown client")
+            wait_until("the session is gone", lambda publish=publish: server.ask(publish)[0].get("error") == "402::Unknown client")
 
 
-def try_chat(stand, address, transport, picture=None):
+def try_chat(fixture, address, transport, picture=None):
     """Runs the tests with two windows at `address`.
 
     `transport`: the name of the transport that the page must show. `picture`: a path for a
     screenshot, or `None`.
     """
-    ann, ben = (Chat(stand.browser, address, name) for name in ("Ann", "Ben"))
+    ann, ben = (Chat(fixture.browser, address, name) for name in ("Ann", "Ben"))
     if ann.texts("#state") != [f"connected by {transport}"]:
-        raise Wrong(f"the page says {ann.texts('#state')}, and not that it is connected by {transport}")
-    said = try_talk(ann, ben)
+        raise CheckFailed(f"the page says {ann.texts('#state')}, and not that it is connected by {transport}")
+    texts = try_talk(ann, ben)
     if picture:
         ann.picture(picture)
-    said = try_writing(ann, ben, said)
-    said = try_cut(stand, ann, ben, said)
-    try_restart(stand.server, ann, ben, said)
-    try_leaving(stand.server, ann, ben)
+    texts = try_writing(ann, ben, texts)
+    texts = try_cut(fixture, ann, ben, texts)
+    try_restart(fixture.server, ann, ben, texts)
+    try_leaving(fixture.server, ann, ben)
     for chat in (ann, ben):
         chat.close()
 
 
-def try_keyboard(stand):
+def try_keyboard(fixture):
     """Checks that the chat can be used by keyboard alone, and fits on a narrow screen."""
-    window = Window(stand.browser, stand.from_disk("chat/index.html"))
-    check_names(window, ["#name", "#join button"])
-    check_sight(window)
+    window = Window(fixture.browser, fixture.from_disk("chat/index.html"))
+    check_accessible_names(window, ["#name", "#join button"])
+    check_accessibility(window)
     press(window, *"Ann", ENTER)
     window.wait_state("connected")
-    has_focus(window, "text")
+    check_focus(window, "text")
     press(window, *"By keys alone", ENTER)
-    until("the message is shown", lambda: window.texts("#messages li p") == ["By keys alone"])
+    wait_until("the message is shown", lambda: window.texts("#messages li p") == ["By keys alone"])
     text = "A colour for each name, and a word that is long: " + "x" * 60
     for number in range(12):
-        stand.server.publish("/chat/hall", {"name": f"Name {number * 31}", "text": text})
-    until("all messages are shown", lambda: len(window.texts("#messages li p")) == 13)
+        fixture.server.publish("/chat/hall", {"name": f"Name {number * 31}", "text": text})
+    wait_until("all messages are shown", lambda: len(window.texts("#messages li p")) == 13)
     press(window, TAB)
-    has_focus(window, "Send")
+    check_focus(window, "Send")
     press_back(window)
     press_back(window)
-    has_focus(window, "messages")
-    check_names(window, ["#messages", "#text", "#write button"])
-    check_sight(window)
+    check_focus(window, "messages")
+    check_accessible_names(window, ["#messages", "#text", "#write button"])
+    check_accessibility(window)
     window.close()

@@ -1,21 +1,21 @@
 """Tests of the client for web pages: on a blank page, alone, and shared by windows."""
 import time
 
-from base import Wrong, until
+from base import CheckFailed, wait_until
 from browser import Window
 from daemon import HANDSHAKE
 
-# Creates a client that records its events, states and errors in `told`.
-MADE = """
+# Creates a client that records its events, states and errors in `log`.
+NEW_CLIENT = """
 const [url, options] = arguments, client = new BayeuxClient(url, options);
-client.told = [];
-client.onstate = (state, why) => client.told.push(why ? `${state} ${why}` : state);
-client.ongap = () => client.told.push('gap');
+client.log = [];
+client.onstate = (state, why) => client.log.push(why ? `${state} ${why}` : state);
+client.ongap = () => client.log.push('gap');
 (window.clients ||= []).push(client);
 addEventListener('pagehide', () => client.stop());
-client.listen = (pattern) => client.subscribe(pattern, (data) => client.told.push(data)).catch(({ message }) => client.told.push(message));
-client.say = (channel, data) => client.publish(channel, data).then(() => client.told.push('published'),
-  ({ message, mayHaveArrived }) => client.told.push([message, mayHaveArrived]));
+client.subscribeLogged = (pattern) => client.subscribe(pattern, (data) => client.log.push(data)).catch(({ message }) => client.log.push(message));
+client.publishLogged = (channel, data) => client.publish(channel, data).then(() => client.log.push('published'),
+  ({ message, mayHaveArrived }) => client.log.push([message, mayHaveArrived]));
 """
 
 
@@ -27,46 +27,46 @@ class Client:
 
     def __init__(self, window, *patterns, **options):
         self.window = window
-        self.index = window.run(MADE + "return clients.length - 1;", "/cometd", options)
+        self.index = window.run(NEW_CLIENT + "return clients.length - 1;", "/cometd", options)
         for pattern in patterns:
-            self.do(f"listen('{pattern}')")
+            self.do(f"subscribeLogged('{pattern}')")
         self.do("start()")
-        until("the client is connected", self.is_connected)
+        wait_until("the client is connected", self.is_connected)
 
-    def do(self, words):
-        return self.window.run(f"return clients[{self.index}].{words}")
+    def do(self, expression):
+        return self.window.run(f"return clients[{self.index}].{expression}")
 
     def is_connected(self):
         return self.do("state") == "connected"
 
-    def told(self):
+    def log(self):
         """Returns what the client has recorded, without the states connecting and connected."""
-        return [it for it in self.do("told") if it not in ("connecting", "connected")]
+        return [it for it in self.do("log") if it not in ("connecting", "connected")]
 
     def clear(self):
-        self.do("told.splice(0)")
+        self.do("log.splice(0)")
 
-    def wait_told(self, *wanted):
+    def wait_for_log(self, *wanted):
         """Waits until the client has recorded `wanted`, in any order, and nothing more."""
         try:
-            until("", lambda: sorted(map(str, self.told())) == sorted(map(str, wanted)))
-        except Wrong:
-            raise Wrong(f"a client was told {self.told()}, and not {wanted}") from None
+            wait_until("", lambda: sorted(map(str, self.log())) == sorted(map(str, wanted)))
+        except CheckFailed:
+            raise CheckFailed(f"a client was told {self.log()}, and not {wanted}") from None
 
 
-def try_client(stand):
+def try_client(fixture):
     """Checks the script and the module, header fields, the removal of listeners, and gaps."""
-    page = Window(stand.browser, stand.site.address)
+    page = Window(fixture.browser, fixture.site.address)
     client = Client(page, "/a", headers={"X-Token": "of my own"}, name="Ben")
-    until("the module is the same client", lambda: page.run("return window.modules?.every((it) => it === BayeuxClient)"))
-    try_listeners(stand.site, client)
-    try_gaps(stand, client)
+    wait_until("the module is the same client", lambda: page.run("return window.modules?.every((it) => it === BayeuxClient)"))
+    try_listeners(fixture.site, client)
+    try_gaps(fixture, client)
     client.do("stop()")
-    until("the session is ended", lambda: stand.site.messages("/meta/disconnect"))
-    if any(headers["X-Token"] != "of my own" for headers, _ in stand.site.asked):
-        raise Wrong("a request had no header of the page's own")
-    if any(it["ext"] != {"ack": True, "name": "Ben"} for it in stand.site.messages("/meta/handshake")):
-        raise Wrong("a handshake had not the name that the page gave the session")
+    wait_until("the session is ended", lambda: fixture.site.messages("/meta/disconnect"))
+    if any(headers["X-Token"] != "of my own" for headers, _ in fixture.site.received):
+        raise CheckFailed("a request had no header of the page's own")
+    if any(it["ext"] != {"ack": True, "name": "Ben"} for it in fixture.site.messages("/meta/handshake")):
+        raise CheckFailed("a handshake had not the name that the page gave the session")
     page.close()
 
 
@@ -75,41 +75,41 @@ def try_listeners(site, client):
 
     The client unsubscribes only when the last listener is removed.
     """
-    client.do("subscribe('/a', window.second = (data) => clients[0].told.push(`second ${data}`))")
-    client.do("say('/a', 1)")
-    client.wait_told(1, "second 1", "published")
+    client.do("subscribe('/a', window.second = (data) => clients[0].log.push(`second ${data}`))")
+    client.do("publishLogged('/a', 1)")
+    client.wait_for_log(1, "second 1", "published")
     client.clear()
     client.do("unsubscribe('/a', second)")
-    client.do("say('/a', 2)")
-    client.wait_told(2, "published")
+    client.do("publishLogged('/a', 2)")
+    client.wait_for_log(2, "published")
     if site.messages("/meta/unsubscribe"):
-        raise Wrong("it unsubscribed while there was a listener")
+        raise CheckFailed("it unsubscribed while there was a listener")
     client.clear()
     client.do("unsubscribe('/a')")
-    until("it unsubscribes with the last listener", lambda: unsubscribed(site) == ["/a"])
-    client.do("say('/*', 3)")
-    client.wait_told(["400::Invalid channel", False])
+    wait_until("it unsubscribes with the last listener", lambda: unsubscribed(site) == ["/a"])
+    client.do("publishLogged('/*', 3)")
+    client.wait_for_log(["400::Invalid channel", False])
 
 
-def try_gaps(stand, client):
+def try_gaps(fixture, client):
     """Checks that a cut connection causes no gap, and that a restart of the server causes one."""
-    client.do("listen('/b')")
-    stand.relay.is_down = True
-    stand.relay.cut()
-    until("it is interrupted", lambda: not client.is_connected())
-    stand.server.publish("/b", 4)
-    stand.relay.is_down = False
-    until("the event comes", lambda: 4 in client.told() and client.is_connected())
-    if "gap" in client.told():
-        raise Wrong("a connection that was cut is no gap")
-    stand.server.kill()
-    until("it is interrupted", lambda: not client.is_connected())
-    stand.server.start()
-    until("it is connected", client.is_connected)
-    stand.server.publish("/b", 5)
-    until("the event comes", lambda: client.told()[-1] == 5)
-    if client.told().count("gap") != 1:
-        raise Wrong(f"a restart of the server is one gap, and it was told {client.told()}")
+    client.do("subscribeLogged('/b')")
+    fixture.relay.is_down = True
+    fixture.relay.cut()
+    wait_until("it is interrupted", lambda: not client.is_connected())
+    fixture.server.publish("/b", 4)
+    fixture.relay.is_down = False
+    wait_until("the event comes", lambda: 4 in client.log() and client.is_connected())
+    if "gap" in client.log():
+        raise CheckFailed("a connection that was cut is no gap")
+    fixture.server.kill()
+    wait_until("it is interrupted", lambda: not client.is_connected())
+    fixture.server.start()
+    wait_until("it is connected", client.is_connected)
+    fixture.server.publish("/b", 5)
+    wait_until("the event comes", lambda: client.log()[-1] == 5)
+    if client.log().count("gap") != 1:
+        raise CheckFailed(f"a restart of the server is one gap, and it was told {client.log()}")
 
 
 def unsubscribed(site):
@@ -117,75 +117,75 @@ def unsubscribed(site):
     return [it["subscription"] for it in site.messages("/meta/unsubscribe")]
 
 
-def try_silence(stand):
+def try_silence(fixture):
     """Checks what a client reports if the browser has no connection left for it.
 
     Six clients that do not share a session take all connections. A publish then fails because there
     is no answer in time.
     """
-    page = Window(stand.browser, stand.site.address)
+    page = Window(fixture.browser, fixture.site.address)
     client = [Client(page, share=False) for _ in range(6)][0]
-    until("all wait", lambda: page.run("return clients.every((it) => it.told.length === 2)"))
+    wait_until("all wait", lambda: page.run("return clients.every((it) => it.log.length === 2)"))
     time.sleep(1)
-    client.do("say('/a', 1)")
-    client.wait_told("interrupted no answer in time", ["no answer in time", True])
-    until("it is connected again", client.is_connected)
+    client.do("publishLogged('/a', 1)")
+    client.wait_for_log("interrupted no answer in time", ["no answer in time", True])
+    wait_until("it is connected again", client.is_connected)
     page.close()
 
 
-def try_sharing(stand):
+def try_sharing(fixture):
     """Checks that eight clients in two windows share one session over HTTP/1.1.
 
     The server allows one session only. When the client that leads goes away, another one takes
     over.
     """
-    stand.server.restart("--sessions", "1")
-    shared = Shared(stand)
-    shared.hear()
-    shared.refuse()
-    shared.lose_a_pattern()
-    shared.take_over()
-    shared.check_events()
-    shared.go_on_behind_a_restart()
-    shared.end()
-    stand.server.restart()
+    fixture.server.restart("--sessions", "1")
+    session = SharedSession(fixture)
+    session.check_delivery()
+    session.check_errors()
+    session.check_unsubscribe()
+    session.check_take_over()
+    session.check_events()
+    session.check_restart()
+    session.check_end()
+    fixture.server.restart()
 
 
-class Shared:
+class SharedSession:
     """Eight clients in two windows, which share a session."""
 
-    def __init__(self, stand):
-        self.server, self.site = stand.server, stand.site
-        self.pages = [Window(stand.browser, stand.site.address) for _ in range(2)]
+    def __init__(self, fixture):
+        self.server, self.site = fixture.server, fixture.site
+        self.pages = [Window(fixture.browser, fixture.site.address) for _ in range(2)]
         self.clients = [Client(self.pages[number // 4], "/a", f"/own/{number}") for number in range(8)]
         self.session = self.clients[0].do("clientId")
 
-    def hear(self):
+    def check_delivery(self):
         """Checks that all clients that listen to a channel get an event, and no others."""
         for number, client in enumerate(self.clients):
-            client.do(f"say('/a', {number})")
-            until(f"event {number} has come to all", lambda number=number: all(number in it.told() for it in self.clients))
-        self.clients[3].do("say('/own/5', 'for one')")
+            client.do(f"publishLogged('/a', {number})")
+            wait_until(f"event {number} has come to all", lambda number=number: all(number in it.log() for it in self.clients))
+        self.clients[3].do("publishLogged('/own/5', 'for one')")
         for number, client in enumerate(self.clients):
             own = {3: ["published"], 5: ["for one"]}
-            client.wait_told(*range(8), "published", *own.get(number, []))
+            client.wait_for_log(*range(8), "published", *own.get(number, []))
             client.clear()
 
-    def refuse(self):
+    def check_errors(self):
         """Checks that only the client that sent a request gets its error."""
-        self.clients[6].do("listen('/meta/a')")
-        self.clients[6].do("say('/*', 0)")
-        self.clients[6].wait_told("/meta/a: 403::Subscription denied", ["400::Invalid channel", False])
+        self.clients[6].do("subscribeLogged('/meta/a')")
+        self.clients[6].do("publishLogged('/*', 0)")
+        self.clients[6].wait_for_log("/meta/a: 403::Subscription denied", ["400::Invalid channel", False])
         for client in self.clients[:6] + self.clients[7:]:
-            client.wait_told()
+            client.wait_for_log()
 
-    def lose_a_pattern(self):
+    def check_unsubscribe(self):
         """Checks that the session unsubscribes from the pattern of a client that stops."""
-        self.site.asked.clear()
+        self.site.received.clear()
         self.clients.pop().do("stop()")
-        until("a pattern is unsubscribed", lambda: unsubscribed(self.site) == ["/own/7"])
+        wait_until("a pattern is unsubscribed", lambda: unsubscribed(self.site) == ["/own/7"])
 
-    def take_over(self):
+    def check_take_over(self):
         """Checks that another client takes over the session while a client publishes.
 
         First the leading client stops. Then a whole window closes, and its clients cannot stop
@@ -198,22 +198,22 @@ class Shared:
         del self.clients[:3]
         self.publish_while(1, lambda: self.pages.pop(0).close())
 
-    def publish_while(self, number, leave):
-        """Publishes eight events, calls `leave` meanwhile, and waits for a new leading client.
+    def publish_while(self, number, action):
+        """Publishes eight events, calls `action` meanwhile, and waits for a new leading client.
 
         `number`: distinguishes the events of one call from those of another.
         """
-        words = "for (let number = 0; number < 8; number++) setTimeout(() => clients[2].say('/a', arguments[0] + number), 50 * number)"
-        self.pages[-1].run(words, 100 * number)
+        script = "for (let number = 0; number < 8; number++) setTimeout(() => clients[2].publishLogged('/a', arguments[0] + number), 50 * number)"
+        self.pages[-1].run(script, 100 * number)
         time.sleep(0.2)
-        leave()
-        until("another one has the session", lambda: any(client.do("windows.isLeading") for client in self.clients))
-        self.clients[-1].do(f"say('/own/4', 'over {number}')")
-        until("an event comes", lambda: f"over {number}" in self.clients[-3].told())
+        action()
+        wait_until("another one has the session", lambda: any(client.do("windows.isLeading") for client in self.clients))
+        self.clients[-1].do(f"publishLogged('/own/4', 'over {number}')")
+        wait_until("an event comes", lambda: f"over {number}" in self.clients[-3].log())
 
     def events(self):
         """Returns the set of the lists of events that the clients got."""
-        return {tuple(it for it in client.told() if isinstance(it, int)) for client in self.clients}
+        return {tuple(it for it in client.log() if isinstance(it, int)) for client in self.clients}
 
     def check_events(self):
         """Checks that all clients got the same events, none twice, and that there was no gap.
@@ -221,33 +221,33 @@ class Shared:
         There is no gap because the session is still the first one.
         """
         publisher, silent = self.clients[-1], ["no answer in time", True]
-        until("all publishes have ended", lambda: sum(it in ("published", silent) for it in publisher.told()) == 18)
-        until("all are told the same events", lambda: len(self.events()) == 1)
+        wait_until("all publishes have ended", lambda: sum(it in ("published", silent) for it in publisher.log()) == 18)
+        wait_until("all are told the same events", lambda: len(self.events()) == 1)
         events = max(self.events(), key=len)
         if len(set(events)) != len(events):
-            raise Wrong(f"they were told some twice: {events}")
+            raise CheckFailed(f"they were told some twice: {events}")
         # An event may be lost if its window closes while it is sent. No client then records that it
         # was published.
-        if len(events) < max(14, publisher.told().count("published") - 2):
-            raise Wrong(f"events were lost: {publisher.told()}")
-        if any("gap" in client.told() for client in self.clients):
-            raise Wrong("there was a gap")
+        if len(events) < max(14, publisher.log().count("published") - 2):
+            raise CheckFailed(f"events were lost: {publisher.log()}")
+        if any("gap" in client.log() for client in self.clients):
+            raise CheckFailed("there was a gap")
         if {client.do("clientId") for client in self.clients} != {self.session} or self.site.messages("/meta/handshake"):
-            raise Wrong("the session is another one")
+            raise CheckFailed("the session is another one")
 
-    def go_on_behind_a_restart(self):
+    def check_restart(self):
         """Checks that after a restart each client reports one gap, in one new session."""
         self.server.kill()
-        until("all are interrupted", lambda: not any(client.is_connected() for client in self.clients))
+        wait_until("all are interrupted", lambda: not any(client.is_connected() for client in self.clients))
         self.server.start("--sessions", "1")
-        until("all are connected", lambda: all(client.is_connected() for client in self.clients))
-        self.clients[1].do("say('/a', 'after')")
-        until("all are told", lambda: all("after" in client.told() and client.told().count("gap") == 1 for client in self.clients))
+        wait_until("all are connected", lambda: all(client.is_connected() for client in self.clients))
+        self.clients[1].do("publishLogged('/a', 'after')")
+        wait_until("all are told", lambda: all("after" in client.log() and client.log().count("gap") == 1 for client in self.clients))
 
-    def end(self):
+    def check_end(self):
         """Checks that the session ends with its last client, and the server allows another one."""
         for client in self.clients[1:]:
             client.do("stop()")
-        until("it has the session alone", lambda: not self.clients[0].do("windows.hasOthers()"))
+        wait_until("it has the session alone", lambda: not self.clients[0].do("windows.hasOthers()"))
         self.pages.pop().close()
-        until("the session is gone", lambda: self.server.ask(HANDSHAKE)[0]["successful"])
+        wait_until("the session is gone", lambda: self.server.ask(HANDSHAKE)[0]["successful"])

@@ -9,78 +9,78 @@ import sys
 import tempfile
 import time
 
-from base import CLEARED, Wrong, judged, until
+from base import CLEAR_LINE, CheckFailed, run_check, wait_until
 
 # How long a connection waits for the daemon before a check fails, in seconds.
-PATIENCE = 20.0
+TIMEOUT_SECONDS = 20.0
 # The seed of the daemons. No two bytes are equal, so that a byte read at a wrong place is noticed.
 SEED = bytes(range(1, 33)).hex()
 CONNECT = b'[{"channel":"/meta/connect","connectionType":"long-polling","clientId":"%s"}]'
 HANDSHAKE = {"channel": "/meta/handshake", "version": "1.0", "supportedConnectionTypes": ["long-polling"]}
 
 
-class Ended(Wrong):
+class ConnectionEnded(CheckFailed):
     """The connection ended before the response was complete."""
 
 
 class Daemon:
     """A running bayeuxd that was started with positional arguments.
 
-    `timeout` and `max_interval`: milliseconds. `further`: the optional arguments at the end,
+    `timeout` and `max_interval`: milliseconds. `extra`: the optional arguments at the end,
     options and limit.
     """
 
-    def __init__(self, program, timeout, max_interval, *further, shards=4):
-        self.begin([program, "127.0.0.1:0", str(shards), str(timeout), "0", str(max_interval), SEED, "0", *further])
+    def __init__(self, program, timeout, max_interval, *extra, shards=4):
+        self.begin([program, "127.0.0.1:0", str(shards), str(timeout), "0", str(max_interval), SEED, "0", *extra])
 
-    def begin(self, words, **streams):
-        """Starts the command line `words`, and waits until the daemon listens.
+    def begin(self, args, **streams):
+        """Starts the command line `args`, and waits until the daemon listens.
 
-        `streams`: keyword arguments of `Popen`. Raises `Wrong` if the daemon does not listen.
+        `streams`: keyword arguments of `Popen`. Raises `CheckFailed` if the daemon does not listen.
         """
-        self.start(words, **streams)
+        self.start(args, **streams)
         self.wait()
 
-    def start(self, words, **streams):
-        """Starts the command line `words`. Standard error goes to a temporary file."""
+    def start(self, args, **streams):
+        """Starts the command line `args`. Standard error goes to a temporary file."""
         self.errors = tempfile.TemporaryFile()
-        self.process = subprocess.Popen(words, stdout=subprocess.PIPE, stderr=self.errors, start_new_session=True, **streams)
+        self.process = subprocess.Popen(args, stdout=subprocess.PIPE, stderr=self.errors, start_new_session=True, **streams)
 
     def wait(self):
         """Waits for the first line of standard output, and reads the address from it.
 
-        Raises `Wrong` if this line does not say that the daemon listens.
+        Raises `CheckFailed` if this line does not say that the daemon listens.
         """
         line = self.process.stdout.readline().decode()
         if not line.startswith("listening "):
-            raise Wrong(f"it does not listen: {line!r} {self.told()!r}")
+            raise CheckFailed(f"it does not listen: {line!r} {self.log_tail()!r}")
         host, _, port = line.split()[1].rpartition(":")
         self.address = (host.strip("[]"), int(port))
 
-    def told_address(self, before):
-        """Returns the host and port that follow `before` at the end of a log line.
+    def logged_address(self, prefix):
+        """Returns the host and port that follow `prefix` at the end of a log line.
 
-        Raises `Wrong` if there is no such line.
+        Raises `CheckFailed` if there is no such line.
         """
-        found = re.search(f"{before}(\\S+):([0-9]+)$", self.told().decode(), re.MULTILINE)
+        found = re.search(f"{prefix}(\\S+):([0-9]+)$", self.log_tail().decode(), re.MULTILINE)
         if not found:
-            raise Wrong(f"no line with {before!r}: {self.told()!r}")
+            raise CheckFailed(f"no line with {prefix!r}: {self.log_tail()!r}")
         return (found.group(1).strip("[]"), int(found.group(2)))
 
     def readers_address(self):
         """Waits until the log has the address of the readers' listener, and returns it."""
-        until("a line that tells where readers come", lambda: re.search(rb"readers listening address=\S+\n", self.told()))
-        return self.told_address("readers listening address=")
+        wait_until("a line that tells where readers come", lambda: re.search(rb"readers listening address=\S+\n", self.log_tail()))
+        return self.logged_address("readers listening address=")
 
-    def told(self):
+    def log_tail(self):
         """Returns the last 2,000 bytes that the daemon wrote to standard error."""
         self.errors.seek(0)
         return self.errors.read()[-2000:]
 
     def check_alive(self):
-        """Raises `Wrong` if the process has ended."""
+        """Raises `CheckFailed` if the process has ended."""
         if self.process.poll() is not None:
-            raise Wrong(f"the daemon ended with status {self.process.returncode}: {self.told()!r}")
+            raise CheckFailed(f"the daemon ended with status {self.process.returncode}: {self.log_tail()!r}")
 
     def kilobytes(self):
         """Returns the resident memory of the process, in units of 1,024 bytes."""
@@ -94,8 +94,8 @@ class Daemon:
     def processor_seconds(self):
         """Returns the processor time that the process has used so far, in seconds."""
         with open(f"/proc/{self.process.pid}/stat", encoding="ascii") as text:
-            words = text.read().rpartition(")")[2].split()
-        return (int(words[11]) + int(words[12])) / os.sysconf("SC_CLK_TCK")
+            fields = text.read().rpartition(")")[2].split()
+        return (int(fields[11]) + int(fields[12])) / os.sysconf("SC_CLK_TCK")
 
     def end(self):
         """Terminates the process, and kills it if it is still running after 5 seconds."""
@@ -120,20 +120,20 @@ class Response:
         self.body = body
 
     def items(self):
-        """Returns the array in the JSON body. Raises `Wrong` if the status is not 200."""
+        """Returns the array in the JSON body. Raises `CheckFailed` if the status is not 200."""
         if self.status != 200:
-            raise Wrong(f"status {self.status} in place of items: {self.body[:200]!r}")
+            raise CheckFailed(f"status {self.status} in place of items: {self.body[:200]!r}")
         return json.loads(self.body)
 
 
 class Connection:
     """A connection to a daemon.
 
-    `patience`: how long a send or a read may take, in seconds. After that it raises `Wrong`.
+    `timeout`: how long a send or a read may take, in seconds. After that it raises `CheckFailed`.
     """
 
-    def __init__(self, address, patience=PATIENCE):
-        self.socket = socket.create_connection(address, timeout=patience)
+    def __init__(self, address, timeout=TIMEOUT_SECONDS):
+        self.socket = socket.create_connection(address, timeout=timeout)
         self.socket.setsockopt(socket.IPPROTO_TCP, socket.TCP_NODELAY, 1)
         self.input = b""
 
@@ -144,20 +144,20 @@ class Connection:
         self.socket.close()
 
     def send(self, data):
-        """Sends all of `data`. Raises `Ended` if the daemon has ended the connection."""
+        """Sends all of `data`. Raises `ConnectionEnded` if the daemon has ended the connection."""
         try:
             self.socket.sendall(data)
         except socket.timeout as error:
-            raise Wrong("nothing is taken any more") from error
+            raise CheckFailed("nothing is taken any more") from error
         except OSError as error:
-            raise Ended(f"ended while it was sent to: {error}") from error
+            raise ConnectionEnded(f"ended while it was sent to: {error}") from error
 
-    def fill(self):
+    def receive(self):
         """Appends the next bytes to `input`. Returns `False` if the connection has ended."""
         try:
             data = self.socket.recv(1 << 16)
         except socket.timeout as error:
-            raise Wrong(f"no answer; so far {self.input[:200]!r}") from error
+            raise CheckFailed(f"no answer; so far {self.input[:200]!r}") from error
         except ConnectionError:
             return False
         self.input += data
@@ -166,42 +166,42 @@ class Connection:
     def response(self):
         """Returns the next response.
 
-        Raises `Ended` if the connection ends first, and `Wrong` if the response does not state its
+        Raises `ConnectionEnded` if the connection ends first, and `CheckFailed` if the response does not state its
         length. Only a 405 may omit it.
         """
         while b"\r\n\r\n" not in self.input:
-            if not self.fill():
-                raise Ended(f"ended before a head was whole: {self.input[:200]!r}")
+            if not self.receive():
+                raise ConnectionEnded(f"ended before a head was whole: {self.input[:200]!r}")
         head, _, rest = self.input.partition(b"\r\n\r\n")
         response = Response(head, b"")
         if response.status != 405 and b"content-length" not in response.fields:
-            raise Wrong(f"no length: {head!r}")
+            raise CheckFailed(f"no length: {head!r}")
         size = int(response.fields.get(b"content-length", b"0"))
         self.input = rest
         while len(self.input) < size:
-            if not self.fill():
-                raise Ended(f"ended within a body of {size} bytes: {head!r}")
+            if not self.receive():
+                raise ConnectionEnded(f"ended within a body of {size} bytes: {head!r}")
         response.body, self.input = self.input[:size], self.input[size:]
         return response
 
-    def rest(self):
+    def read_to_end(self):
         """Reads until the daemon ends the connection, and returns all responses."""
-        while self.fill():
+        while self.receive():
             pass
-        found = []
+        responses = []
         while self.input:
-            found.append(self.response())
-        return found
+            responses.append(self.response())
+        return responses
 
     def ask(self, messages):
         """Posts `messages`, and returns the items of the response.
 
-        Raises `Wrong` if the status is not 200.
+        Raises `CheckFailed` if the status is not 200.
         """
         self.send(post(json.dumps(messages).encode()))
         response = self.response()
         if response.status != 200:
-            raise Wrong(f"status {response.status} for {messages}")
+            raise CheckFailed(f"status {response.status} for {messages}")
         return response.items()
 
 
@@ -215,58 +215,58 @@ def get(query, path=b"/cometd"):
     return b"GET %s%s HTTP/1.1\r\nhost: h\r\n\r\n" % (path, query)
 
 
-def succeed(items, count):
-    """Returns `items`. Raises `Wrong` if they are not `count` successful replies."""
+def expect_success(items, count):
+    """Returns `items`. Raises `CheckFailed` if they are not `count` successful replies."""
     if len(items) != count or not all(item.get("successful") for item in items):
-        raise Wrong(f"not {count} successful replies: {items}")
+        raise CheckFailed(f"not {count} successful replies: {items}")
     return items
 
 
-def opened(connection, **further):
+def open_session(connection, **extra):
     """Opens a session by a handshake, and returns the member with its client id.
 
-    `further`: more members of the handshake. Each later message of the session needs the returned
+    `extra`: more members of the handshake. Each later message of the session needs the returned
     member.
     """
-    return {"clientId": succeed(connection.ask([{**HANDSHAKE, **further}]), 1)[0]["clientId"]}
+    return {"clientId": expect_success(connection.ask([{**HANDSHAKE, **extra}]), 1)[0]["clientId"]}
 
 
-def held(address, channel):
+def hold_connect(address, channel):
     """Returns a connection with a held connect. The session is subscribed to `channel`.
 
     Does not wait until the daemon holds the connect.
     """
     connection = Connection(address)
-    mine = opened(connection)
-    succeed(connection.ask([{"channel": "/meta/subscribe", "subscription": channel, **mine}]), 1)
-    connection.send(post(json.dumps([{"channel": "/meta/connect", "connectionType": "long-polling", **mine}]).encode()))
+    session = open_session(connection)
+    expect_success(connection.ask([{"channel": "/meta/subscribe", "subscription": channel, **session}]), 1)
+    connection.send(post(json.dumps([{"channel": "/meta/connect", "connectionType": "long-polling", **session}]).encode()))
     return connection
 
 
-def serve_right(address, channel):
+def check_serves(address, channel):
     """Checks that the daemon serves a well-behaved client, which publishes to `channel`.
 
-    The client subscribes, publishes, gets its event, and disconnects. Raises `Wrong` otherwise.
+    The client subscribes, publishes, gets its event, and disconnects. Raises `CheckFailed` otherwise.
     """
     with Connection(address) as connection:
-        mine = opened(connection)
-        succeed(connection.ask([{"channel": "/meta/subscribe", "subscription": channel, **mine}]), 1)
-        succeed(connection.ask([{"channel": channel, "data": {"right": channel}, "id": "p", **mine}]), 1)
-        got = connection.ask([{"channel": "/meta/connect", "connectionType": "long-polling", "id": 7, **mine}])
-        if got[:-1] != [{"channel": channel, "data": {"right": channel}, "id": "p"}]:
-            raise Wrong(f"not the event that was published: {got}")
-        if succeed(got[1:], 1)[0]["id"] != 7:
-            raise Wrong(f"not the id of the connect: {got}")
-        succeed(connection.ask([{"channel": "/meta/disconnect", **mine}]), 1)
+        session = open_session(connection)
+        expect_success(connection.ask([{"channel": "/meta/subscribe", "subscription": channel, **session}]), 1)
+        expect_success(connection.ask([{"channel": channel, "data": {"right": channel}, "id": "p", **session}]), 1)
+        items = connection.ask([{"channel": "/meta/connect", "connectionType": "long-polling", "id": 7, **session}])
+        if items[:-1] != [{"channel": channel, "data": {"right": channel}, "id": "p"}]:
+            raise CheckFailed(f"not the event that was published: {items}")
+        if expect_success(items[1:], 1)[0]["id"] != 7:
+            raise CheckFailed(f"not the id of the connect: {items}")
+        expect_success(connection.ask([{"channel": "/meta/disconnect", **session}]), 1)
 
 
-def looked_at(name, daemon, look):
-    """Calls `look` with `daemon`, ends the daemon, and returns the status as `judged` does.
+def run_with_daemon(name, daemon, check):
+    """Calls `check` with `daemon`, ends the daemon, and returns the status as `run_check` does.
 
     `name`: the path of the script, for messages.
     """
     try:
-        return judged(name, lambda: look(daemon))
+        return run_check(name, lambda: check(daemon))
     finally:
         daemon.end()
 
@@ -291,4 +291,4 @@ class Progress:
     def clear(self):
         """Clears the line."""
         if sys.stderr.isatty():
-            print(CLEARED, end="", file=sys.stderr, flush=True)
+            print(CLEAR_LINE, end="", file=sys.stderr, flush=True)

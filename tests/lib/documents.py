@@ -6,7 +6,7 @@ import json
 import re
 import urllib.parse
 
-from base import Wrong
+from base import CheckFailed
 from daemon import post
 
 DEPTH = 127
@@ -30,23 +30,23 @@ TOKENS = [
 ]
 
 
-class Refused(Exception):
+class InvalidDocument(Exception):
     """The document is not valid."""
 
 
 def number(text, kind):
     """Converts `text` with `kind`, which is `int` or `float`.
 
-    Raises `Refused` if the number is outside the range of a double, as the daemon does.
+    Raises `InvalidDocument` if the number is outside the range of a double, as the daemon does.
     """
     if float(text) in (float("inf"), float("-inf")):
-        raise Refused(text[:20])
+        raise InvalidDocument(text[:20])
     return kind(text)
 
 
-def refuse(text):
-    """Raises `Refused`: `text` is a constant that Python reads and JSON does not have."""
-    raise Refused(text)
+def reject_constant(text):
+    """Raises `InvalidDocument`: `text` is a constant that Python reads and JSON does not have."""
+    raise InvalidDocument(text)
 
 
 def members(pairs):
@@ -73,9 +73,9 @@ def messages_of(body):
     try:
         text = body.decode("utf-8")
         kinds = {"parse_float": lambda it: number(it, float), "parse_int": lambda it: number(it, int)}
-        read = json.loads(text, parse_constant=refuse, object_pairs_hook=members, **kinds)
+        read = json.loads(text, parse_constant=reject_constant, object_pairs_hook=members, **kinds)
         json.dumps(read, ensure_ascii=False).encode("utf-8")
-    except (ValueError, RecursionError, Refused):
+    except (ValueError, RecursionError, InvalidDocument):
         return None
     found = [read] if isinstance(read, dict) else read
     if depth(text) > DEPTH or not isinstance(found, list) or not all(isinstance(it, dict) for it in found):
@@ -97,66 +97,66 @@ def joined(bodies):
 
 
 def check_reply(message, reply):
-    """Raises `Wrong` if `reply` is not a valid reply to `message`."""
+    """Raises `CheckFailed` if `reply` is not a valid reply to `message`."""
     wanted = message.get("id")
     is_repeated = isinstance(wanted, (str, int, float)) and not isinstance(wanted, bool)
     if reply["channel"] != message["channel"] or ("id" in reply) != is_repeated or (is_repeated and reply["id"] != wanted):
-        raise Wrong(f"reply {reply} to message {message}")
+        raise CheckFailed(f"reply {reply} to message {message}")
     if reply["successful"] is True:
         if "error" in reply:
-            raise Wrong(f"an error in a success: {reply}")
+            raise CheckFailed(f"an error in a success: {reply}")
     elif reply["successful"] is not False or not ERROR.fullmatch(reply["error"]):
-        raise Wrong(f"no error in {reply}")
+        raise CheckFailed(f"no error in {reply}")
 
 
 def check_items(messages, items):
-    """Raises `Wrong` if `items` are not the replies to `messages` in order.
+    """Raises `CheckFailed` if `items` are not the replies to `messages` in order.
 
     There may be events between the replies.
     """
     replies = [item for item in items if "successful" in item]
     if len(replies) != len(messages):
-        raise Wrong(f"{len(replies)} replies to {len(messages)} messages")
+        raise CheckFailed(f"{len(replies)} replies to {len(messages)} messages")
     for message, reply in zip(messages, replies):
         check_reply(message, reply)
     for event in items:
         if "successful" not in event and not {"channel", "data"} <= set(event) <= {"channel", "data", "id"}:
-            raise Wrong(f"no event: {event}")
+            raise CheckFailed(f"no event: {event}")
 
 
 def check_status(response, wanted):
-    """Raises `Wrong` if the status is not `wanted`, or if an error response has a body."""
+    """Raises `CheckFailed` if the status is not `wanted`, or if an error response has a body."""
     if response.status != wanted:
-        raise Wrong(f"status {response.status} and not {wanted}")
+        raise CheckFailed(f"status {response.status} and not {wanted}")
     if wanted != 200 and response.body:
-        raise Wrong(f"a body with status {wanted}: {response.body[:200]!r}")
+        raise CheckFailed(f"a body with status {wanted}: {response.body[:200]!r}")
 
 
 def check_post(messages, response):
-    """Raises `Wrong` if `response` is not the right response to a POST of `messages`.
+    """Raises `CheckFailed` if `response` is not the right response to a POST of `messages`.
 
     `messages` is `None` if the request is not valid.
     """
     check_status(response, 400 if messages is None else 200)
     if messages is not None:
         if response.fields[b"content-type"] != b"application/json;charset=UTF-8":
-            raise Wrong(f"content type {response.fields}")
+            raise CheckFailed(f"content type {response.fields}")
         check_items(messages, response.items())
 
 
 def check_call(name, messages, response):
-    """Raises `Wrong` if `response` does not call the callback `name` with the answer to `messages`.
+    """Raises `CheckFailed` if `response` does not call the callback `name` with the answer to `messages`.
 
     `messages` is `None` if a document is not valid. The status must then be 400, and also if `name`
     is not valid.
     """
-    is_taken = messages is not None and NAME.fullmatch(name)
-    check_status(response, 200 if is_taken else 400)
-    if is_taken:
+    is_valid = messages is not None and NAME.fullmatch(name)
+    check_status(response, 200 if is_valid else 400)
+    if is_valid:
         head, tail = name.encode() + b"(", b")"
         body = response.body
         if response.fields[b"content-type"] != b"application/javascript;charset=UTF-8" or not body.startswith(head):
-            raise Wrong(f"no script: {response.fields} {body[:200]!r}")
+            raise CheckFailed(f"no script: {response.fields} {body[:200]!r}")
         check_items(messages, json.loads(body[len(head) : body.rindex(tail)]))
 
 
@@ -242,15 +242,15 @@ def parameters(random, clients):
 
     It has up to three documents, often the name of a callback, and sometimes other parameters.
     """
-    words = []
+    parts = []
     for _ in range(random.choice((0, 1, 1, 1, 2, 3))):
-        words.append(b"message=" + escaped(random, some(random, clients)))
+        parts.append(b"message=" + escaped(random, some(random, clients)))
     if random.random() < 0.7:
         names = ("cb", "a.b[0]$_-", "", "x y", "a(b", "n" * 256, "n" * 257, "\u00e9", "jsonp")
-        words.append(b"jsonp=" + escaped(random, random.choice(names).encode()))
-    words += random.choice(([], [], [b""], [b"="], [b"a=b"], [b"message"], [b"%6dessage=[]"], [b"message=%ff%5b%5d"], [b"jsonp=%2"], [b"+"]))
-    random.shuffle(words)
-    return b"&".join(words)
+        parts.append(b"jsonp=" + escaped(random, random.choice(names).encode()))
+    parts += random.choice(([], [], [b""], [b"="], [b"a=b"], [b"message"], [b"%6dessage=[]"], [b"message=%ff%5b%5d"], [b"jsonp=%2"], [b"+"]))
+    random.shuffle(parts)
+    return b"&".join(parts)
 
 
 def read_parameters(query):
@@ -314,6 +314,6 @@ def route_case(random, _clients):
     def check(response):
         check_status(response, status)
         if status == 405 and response.fields.get(b"allow") != b"GET, POST":
-            raise Wrong(f"the methods that are allowed: {response.fields}")
+            raise CheckFailed(f"the methods that are allowed: {response.fields}")
 
     return b"%s %s HTTP/1.1\r\nhost: h\r\ncontent-length: 0\r\n\r\n" % (method, path), check

@@ -4,19 +4,19 @@ import getpass
 import pathlib
 import subprocess
 
-from base import TOP, Wrong, can_connect, end, free_port, until
+from base import TOP, CheckFailed, can_connect, end, free_port, wait_until
 
 # The lines of the configuration that disable callback-polling.
-CLOSED = """            limit_except POST {
+CALLBACK_POLLING_OFF = """            limit_except POST {
                 deny all;
             }
 """
 
 
-def status_of(address, *words):
-    """Returns the status that curl gets from `address`. `words`: more arguments of curl."""
-    ran = subprocess.run(["curl", "-sk", "-o", "/dev/null", "-w", "%{http_code}", *words, address], capture_output=True, text=True, check=True)
-    return int(ran.stdout)
+def status_of(address, *args):
+    """Returns the status that curl gets from `address`. `args`: more arguments of curl."""
+    result = subprocess.run(["curl", "-sk", "-o", "/dev/null", "-w", "%{http_code}", *args, address], capture_output=True, text=True, check=True)
+    return int(result.stdout)
 
 
 def try_refusals(address, of_a_get):
@@ -40,7 +40,7 @@ def try_refusals(address, of_a_get):
 
 def expect(what, found, wanted):
     if found != wanted:
-        raise Wrong(f"{what}: status {found}, not {wanted}")
+        raise CheckFailed(f"{what}: status {found}, not {wanted}")
 
 
 def make_certificate(folder):
@@ -50,11 +50,11 @@ def make_certificate(folder):
     subprocess.run(certificate, check=True, stderr=subprocess.DEVNULL)
 
 
-def configuration(upper, secure, folder, changes):
+def configuration(upstream, secure, folder, changes):
     """Returns the configuration for tests, with `changes`: new texts by old texts.
 
-    `upper`: the port of the server. `secure`: the port of nginx. `folder`: for the files of nginx.
-    Raises `Wrong` if a text that is to be replaced is missing.
+    `upstream`: the port of the server. `secure`: the port of nginx. `folder`: for the files of nginx.
+    Raises `CheckFailed` if a text that is to be replaced is missing.
     """
     text = (TOP / "packaging/nginx/nginx.conf").read_text(encoding="utf-8")
     for old, new in {
@@ -63,7 +63,7 @@ def configuration(upper, secure, folder, changes):
         "/var/log/nginx/": f"{folder}/",
         "/etc/nginx/bayeux/": f"{folder}/",
         "/var/www/bayeux": f"{TOP}/examples",
-        "127.0.0.1:8087": f"127.0.0.1:{upper}",
+        "127.0.0.1:8087": f"127.0.0.1:{upstream}",
         "listen 80": f"listen 127.0.0.1:{free_port()}",
         "listen 443": f"listen 127.0.0.1:{secure}",
         "https://bayeux.example": f"https://localhost:{secure}",
@@ -71,28 +71,28 @@ def configuration(upper, secure, folder, changes):
         **changes,
     }.items():
         if old not in text:
-            raise Wrong(f"packaging/nginx/nginx.conf has no {old!r}")
+            raise CheckFailed(f"packaging/nginx/nginx.conf has no {old!r}")
         text = text.replace(old, new)
     paths = "".join(f"    {kind}_temp_path {folder}/{kind};\n" for kind in ("client_body", "proxy", "fastcgi", "uwsgi", "scgi"))
     return text.replace("http {\n", "http {\n" + paths, 1)
 
 
 @contextlib.contextmanager
-def serving(upper, folder, changes):
-    """Runs nginx in front of the server at port `upper`, and yields the address of nginx.
+def serving(upstream, folder, changes):
+    """Runs nginx in front of the server at port `upstream`, and yields the address of nginx.
 
-    `folder`: for the files of nginx. `changes`: see `configuration`. Raises `Wrong` if nginx does
+    `folder`: for the files of nginx. `changes`: see `configuration`. Raises `CheckFailed` if nginx does
     not start.
     """
     make_certificate(folder)
     secure = free_port()
-    pathlib.Path(folder, "nginx.conf").write_text(configuration(upper, secure, folder, changes), encoding="utf-8")
-    words = ["nginx", "-e", f"{folder}/error.log", "-c", f"{folder}/nginx.conf", "-g", "daemon off;"]
-    process = subprocess.Popen(words, stderr=subprocess.DEVNULL)
+    pathlib.Path(folder, "nginx.conf").write_text(configuration(upstream, secure, folder, changes), encoding="utf-8")
+    args = ["nginx", "-e", f"{folder}/error.log", "-c", f"{folder}/nginx.conf", "-g", "daemon off;"]
+    process = subprocess.Popen(args, stderr=subprocess.DEVNULL)
     try:
-        until("nginx listens", lambda: can_connect(secure) or process.poll() is not None)
+        wait_until("nginx listens", lambda: can_connect(secure) or process.poll() is not None)
         if process.poll() is not None:
-            raise Wrong(f"nginx does not start: {pathlib.Path(folder, 'error.log').read_text(encoding='utf-8')}")
+            raise CheckFailed(f"nginx does not start: {pathlib.Path(folder, 'error.log').read_text(encoding='utf-8')}")
         yield f"https://localhost:{secure}"
     finally:
         end(process)

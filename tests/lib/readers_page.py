@@ -5,7 +5,7 @@ They show what is published at the other listener, and say that they may only re
 import os
 import subprocess
 
-from base import PATIENCE, TOP, Wrong, until
+from base import TIMEOUT_SECONDS, TOP, CheckFailed, wait_until
 from browser import Window
 from chat_page import PROBLEM
 from dashboard_page import WAVE, feed
@@ -13,49 +13,49 @@ from server import Site
 
 FORBIDDEN = "Not sent: pages may only read here, or the server refuses this one. To send it again does not help."
 PUBLISHED = """
-client.publish(arguments[0], 0).then(() => (window.said = 'published'), (it) => (window.said = [it.message, it.status, it.mayHaveArrived]));
+client.publish(arguments[0], 0).then(() => (window.outcome = 'published'), (it) => (window.outcome = [it.message, it.status, it.mayHaveArrived]));
 """
 
 
-class Door:
+class ReadersPort:
     """The port of the readers' listener, in the form that `Site` expects."""
 
     def __init__(self, server):
         self.port = server.readers
 
 
-def try_readers(stand):
+def try_readers(fixture):
     """Checks the pages over long-polling and callback-polling, and the feed.
 
     The page on disk uses callback-polling, which does not say why a publish failed.
     """
-    site = Site(Door(stand.server))
-    try_pages(stand, site.address, site)
-    window = Window(stand.browser, f"{stand.file('dashboard/index.html')}?server=http://127.0.0.1:{stand.server.readers}/cometd")
+    site = Site(ReadersPort(fixture.server))
+    try_pages(fixture, site.address, site)
+    window = Window(fixture.browser, f"{fixture.file('dashboard/index.html')}?server=http://127.0.0.1:{fixture.server.readers}/cometd")
     window.wait_state("connected")
-    show(stand.server, window)
+    check_numbers(fixture.server, window)
     window.run(PUBLISHED, "/dashboard/wave")
-    until("the page is told that it was not published", lambda: "refused the request" in (window.run("return window.said") or [""])[0])
+    wait_until("the page is told that it was not published", lambda: "refused the request" in (window.run("return window.outcome") or [""])[0])
     window.close()
-    env = {**os.environ, "BAYEUX_URL": f"http://127.0.0.1:{stand.server.readers}/cometd", "BAYEUX_PAUSE": "0.1"}
-    ran = subprocess.run([TOP / "examples/dashboard/feed"], env=env, capture_output=True, text=True, timeout=PATIENCE, check=False)
-    if ran.returncode != 1 or "publishing is not allowed" not in ran.stderr:
-        raise Wrong(f"the feed ended with status {ran.returncode} and {ran.stderr!r}")
+    env = {**os.environ, "BAYEUX_URL": f"http://127.0.0.1:{fixture.server.readers}/cometd", "BAYEUX_PAUSE": "0.1"}
+    result = subprocess.run([TOP / "examples/dashboard/feed"], env=env, capture_output=True, text=True, timeout=TIMEOUT_SECONDS, check=False)
+    if result.returncode != 1 or "publishing is not allowed" not in result.stderr:
+        raise CheckFailed(f"the feed ended with status {result.returncode} and {result.stderr!r}")
 
 
-def try_pages(stand, address, site=None):
+def try_pages(fixture, address, site=None):
     """Checks the dashboard and the chat at `address`, over long-polling.
 
     `site`: the web server, or `None` if nginx serves the pages.
     """
-    try_dashboard(stand.server, Window(stand.browser, f"{address}/dashboard/"), site)
-    try_chat(stand, address)
+    try_dashboard(fixture.server, Window(fixture.browser, f"{address}/dashboard/"), site)
+    try_chat(fixture, address)
 
 
-def show(server, window):
+def check_numbers(server, window):
     """Checks that the window shows numbers that are published at the other listener."""
     with feed(server, "wave", *WAVE, BAYEUX_PAUSE="0.2"):
-        until("the numbers are shown", lambda: window.texts(".card h2") == ["wave"] and len(window.run("return cards.get('/dashboard/wave').points")) > 3)
+        wait_until("the numbers are shown", lambda: window.texts(".card h2") == ["wave"] and len(window.run("return cards.get('/dashboard/wave').points")) > 3)
 
 
 def try_dashboard(server, window, site):
@@ -64,43 +64,43 @@ def try_dashboard(server, window, site):
     The page sends it once only, and keeps its session.
     """
     window.wait_state("connected")
-    show(server, window)
+    check_numbers(server, window)
     session = window.run("return client.clientId")
     window.run(PUBLISHED, "/dashboard/own")
-    until("the page is told", lambda: window.run("return window.said"))
-    if window.run("return window.said") != ["publishing is not allowed here: HTTP status 403", 403, False]:
-        raise Wrong(f"the page is told {window.run('return window.said')}")
+    wait_until("the page is told", lambda: window.run("return window.outcome"))
+    if window.run("return window.outcome") != ["publishing is not allowed here: HTTP status 403", 403, False]:
+        raise CheckFailed(f"the page is told {window.run('return window.outcome')}")
     server.publish("/dashboard/other", 7)
-    until("a number is shown", lambda: "7" in window.texts(".value"))
+    wait_until("a number is shown", lambda: "7" in window.texts(".value"))
     if window.run("return [client.state, client.clientId]") != ["connected", session] or "own" in window.texts(".card h2"):
-        raise Wrong("the session is another one, or the number was published")
+        raise CheckFailed("the session is another one, or the number was published")
     if site and len(site.messages("/dashboard/own")) != 1:
-        raise Wrong(f"the publish was sent {len(site.messages('/dashboard/own'))} times")
+        raise CheckFailed(f"the publish was sent {len(site.messages('/dashboard/own'))} times")
     window.close()
 
 
-def try_chat(stand, address):
+def try_chat(fixture, address):
     """Checks that two windows show messages, and say that they cannot send any.
 
     Their session ends at once when both have left.
     """
-    chats = [Window(stand.browser, f"{address}/chat/") for _ in range(2)]
+    chats = [Window(fixture.browser, f"{address}/chat/") for _ in range(2)]
     for chat in chats:
         chat.write("#name", "Ann")
         chat.click("#join button")
         chat.wait_state("connected")
-        until("the page says so where somebody joins", lambda chat=chat: chat.texts(PROBLEM) == [FORBIDDEN])
-    stand.server.publish("/chat/hall", {"name": "Cleo", "text": "Read this"})
+        wait_until("the page says so where somebody joins", lambda chat=chat: chat.texts(PROBLEM) == [FORBIDDEN])
+    fixture.server.publish("/chat/hall", {"name": "Cleo", "text": "Read this"})
     for chat in chats:
-        until("the message is shown", lambda chat=chat: chat.texts("#messages li p") == ["Read this"])
+        wait_until("the message is shown", lambda chat=chat: chat.texts("#messages li p") == ["Read this"])
         chat.write("#text", "Mine")
         chat.click("#write button")
-        until("what was not sent is in its field", lambda chat=chat: chat.run("return !isSending && document.getElementById('text').value") == "Mine")
+        wait_until("what was not sent is in its field", lambda chat=chat: chat.run("return !isSending && document.getElementById('text').value") == "Mine")
         if chat.texts(PROBLEM) != [FORBIDDEN] or chat.texts("#messages li p") != ["Read this"]:
-            raise Wrong(f"the page says {chat.texts(PROBLEM)} and shows {chat.texts('#messages li p')}")
+            raise CheckFailed(f"the page says {chat.texts(PROBLEM)} and shows {chat.texts('#messages li p')}")
     last = {"channel": "/nobody", "data": 0, "clientId": chats[1].run("return client.clientId")}
     for chat in chats:
         chat.call("POST", "/url", {"url": "about:blank"})
-    until("the session is gone", lambda: stand.server.ask(last)[0].get("error") == "402::Unknown client")
+    wait_until("the session is gone", lambda: fixture.server.ask(last)[0].get("error") == "402::Unknown client")
     for chat in chats:
         chat.close()

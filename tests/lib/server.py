@@ -9,7 +9,7 @@ import threading
 import urllib.error
 import urllib.request
 
-from base import PATIENCE, TOP, Wrong, free_port, until
+from base import TIMEOUT_SECONDS, TOP, CheckFailed, free_port, wait_until
 from daemon import HANDSHAKE
 
 
@@ -21,18 +21,18 @@ class Server:
 
     def __init__(self, program, *flags):
         self.port, self.readers = free_port(), free_port()
-        self.words = [program, "--listen", f"127.0.0.1:{self.port}", "--readers", f"127.0.0.1:{self.readers}", *flags]
+        self.args = [program, "--listen", f"127.0.0.1:{self.port}", "--readers", f"127.0.0.1:{self.readers}", *flags]
         self.process = None
 
-    def start(self, *further):
-        """Starts the daemon with more flags, `further`, and waits until it listens."""
+    def start(self, *extra):
+        """Starts the daemon with more flags, `extra`, and waits until it listens."""
 
         def is_listening():
-            self.process = subprocess.Popen([*self.words, *further], stdout=subprocess.PIPE, stderr=subprocess.DEVNULL)
+            self.process = subprocess.Popen([*self.args, *extra], stdout=subprocess.PIPE, stderr=subprocess.DEVNULL)
             lines = [self.process.stdout.readline() for _ in range(2)]
             return lines[0].startswith(b"listening ") and lines[1].startswith(b"readers listening ")
 
-        until("bayeuxd listens", is_listening)
+        wait_until("bayeuxd listens", is_listening)
 
     def kill(self):
         self.process.kill()
@@ -44,26 +44,26 @@ class Server:
         if self.process.poll() is None:
             self.kill()
 
-    def restart(self, *further):
+    def restart(self, *extra):
         self.kill()
-        self.start(*further)
+        self.start(*extra)
 
     def ask(self, *messages):
         """Posts `messages`, and returns the items of the response."""
         head = {"Content-Type": "application/json"}
         request = urllib.request.Request(f"http://127.0.0.1:{self.port}/cometd", json.dumps(messages).encode(), head)
-        with urllib.request.urlopen(request, timeout=PATIENCE) as response:
+        with urllib.request.urlopen(request, timeout=TIMEOUT_SECONDS) as response:
             return json.load(response)
 
     def publish(self, channel, *values):
         """Publishes `values` to `channel` in a new session, and ends the session.
 
-        Raises `Wrong` if a publish fails.
+        Raises `CheckFailed` if a publish fails.
         """
-        mine = {"clientId": self.ask(HANDSHAKE)[0]["clientId"]}
-        replies = self.ask(*({"channel": channel, "data": value, **mine} for value in values), {"channel": "/meta/disconnect", **mine})
+        session = {"clientId": self.ask(HANDSHAKE)[0]["clientId"]}
+        replies = self.ask(*({"channel": channel, "data": value, **session} for value in values), {"channel": "/meta/disconnect", **session})
         if not all(reply["successful"] for reply in replies):
-            raise Wrong(f"not published: {replies}")
+            raise CheckFailed(f"not published: {replies}")
 
 
 class Relay:
@@ -86,26 +86,26 @@ class Relay:
     def accept(self):
         while True:
             client, _ = self.listener.accept()
-            threading.Thread(target=self.carry, args=(client,), daemon=True).start()
+            threading.Thread(target=self.forward, args=(client,), daemon=True).start()
 
-    def carry(self, client):
+    def forward(self, client):
         """Copies bytes in both directions until one side ends its connection."""
         with client, contextlib.suppress(OSError):
             if self.is_down:
                 return
-            with socket.create_connection(("127.0.0.1", self.server.port), timeout=PATIENCE) as upper:
-                pair = (client, upper)
+            with socket.create_connection(("127.0.0.1", self.server.port), timeout=TIMEOUT_SECONDS) as upstream:
+                pair = (client, upstream)
                 self.pairs.add(pair)
                 try:
                     while True:
                         for side in select.select(pair, [], [])[0]:
                             data = side.recv(1 << 16)
-                            if side is upper and self.loses_responses:
+                            if side is upstream and self.loses_responses:
                                 self.lost += 1
                                 return
                             if not data:
                                 return
-                            (upper if side is client else client).sendall(data)
+                            (upstream if side is client else client).sendall(data)
                 finally:
                     self.pairs.discard(pair)
 
@@ -133,11 +133,11 @@ class Site(http.server.ThreadingHTTPServer):
     daemon_threads = True
 
     def __init__(self, relay):
-        super().__init__(("127.0.0.1", 0), Visit)
+        super().__init__(("127.0.0.1", 0), SiteHandler)
         self.relay = relay
         self.status = 200
         # The header fields and the messages of each POST.
-        self.asked = []
+        self.received = []
         self.address = f"http://127.0.0.1:{self.server_address[1]}"
         threading.Thread(target=self.serve_forever, daemon=True).start()
 
@@ -146,10 +146,10 @@ class Site(http.server.ThreadingHTTPServer):
 
     def messages(self, channel):
         """Returns all messages to `channel` that pages have sent."""
-        return [message for _, messages in self.asked for message in messages if message["channel"] == channel]
+        return [message for _, messages in self.received for message in messages if message["channel"] == channel]
 
 
-class Visit(http.server.BaseHTTPRequestHandler):
+class SiteHandler(http.server.BaseHTTPRequestHandler):
     """A connection to the site."""
 
     protocol_version = "HTTP/1.1"
@@ -158,30 +158,30 @@ class Visit(http.server.BaseHTTPRequestHandler):
         path = self.path.split("?")[0]
         file = TOP / "examples" / (path.lstrip("/") + ("index.html" if path.endswith("/") else ""))
         if path == "/":
-            self.give(200, BLANK.encode(), "text/html")
+            self.respond(200, BLANK.encode(), "text/html")
         elif file.is_file():
-            self.give(200, file.read_bytes(), KINDS[file.suffix])
+            self.respond(200, file.read_bytes(), KINDS[file.suffix])
         else:
-            self.give(404, b"", "text/plain")
+            self.respond(404, b"", "text/plain")
 
     def do_POST(self):
         body = self.rfile.read(int(self.headers["Content-Length"]))
         site, messages = self.server, json.loads(body)
-        site.asked.append((self.headers, messages))
+        site.received.append((self.headers, messages))
         status, reply = site.status, b""
         if status == 200:
             request = urllib.request.Request(f"http://127.0.0.1:{site.relay.port}/cometd", body, {"Content-Type": "application/json"})
             try:
-                with urllib.request.urlopen(request, timeout=PATIENCE) as response:
+                with urllib.request.urlopen(request, timeout=TIMEOUT_SECONDS) as response:
                     reply = response.read()
             except urllib.error.HTTPError as refused:
                 status = refused.code
             except OSError:
                 status = 502
         with contextlib.suppress(OSError):
-            self.give(status, reply, "application/json")
+            self.respond(status, reply, "application/json")
 
-    def give(self, status, content, kind):
+    def respond(self, status, content, kind):
         self.send_response(status)
         self.send_header("Content-Type", kind)
         self.send_header("Content-Length", str(len(content)))

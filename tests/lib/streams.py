@@ -4,8 +4,8 @@ import socket
 import struct
 import time
 
-from base import Wrong
-from daemon import Connection, Ended, post
+from base import CheckFailed
+from daemon import Connection, ConnectionEnded, post
 from documents import LIMIT, check_post, check_status, document, messages_of
 
 # The statuses that a response to arbitrary bytes may have.
@@ -109,7 +109,7 @@ def end(random, address, data):
     """Sends `data` on a new connection, and ends the connection in one of three ways.
 
     It shuts down the sending side only, closes the socket, or resets the connection. In the first
-    case it reads the responses, and raises `Wrong` if one has an unexpected status.
+    case it reads the responses, and raises `CheckFailed` if one has an unexpected status.
     """
     way = random.choice(("half", "half", "close", "reset"))
     with Connection(address) as connection:
@@ -117,14 +117,14 @@ def end(random, address, data):
             connection.send(data)
             if way == "half":
                 connection.socket.shutdown(socket.SHUT_WR)
-        except (Ended, OSError):
+        except (ConnectionEnded, OSError):
             pass
         if way == "reset":
             connection.socket.setsockopt(socket.SOL_SOCKET, socket.SO_LINGER, struct.pack("ii", 1, 0))
         if way == "half":
-            for response in connection.rest():
+            for response in connection.read_to_end():
                 if response.status not in STATUSES:
-                    raise Wrong(f"status {response.status}")
+                    raise CheckFailed(f"status {response.status}")
 
 
 def check_large(random, address, _daemon):
@@ -141,7 +141,7 @@ def check_large(random, address, _daemon):
     with Connection(address) as connection:
         try:
             connection.send(data)
-        except Ended:
+        except ConnectionEnded:
             pass
         response = connection.response()
         if size > LIMIT:
@@ -173,8 +173,8 @@ def check_slow(random, address, _daemon):
         for connection, messages, data in cases:
             try:
                 check_post(messages, connection.response())
-            except Wrong as error:
-                raise Wrong(f"{error}, slowly sent: {data!r}") from error
+            except CheckFailed as error:
+                raise CheckFailed(f"{error}, slowly sent: {data!r}") from error
     finally:
         for connection in left:
             connection.socket.close()
@@ -184,7 +184,7 @@ def check_slow(random, address, _daemon):
 def check_unread(random, address, daemon):
     """Sends requests and reads no response, until the daemon stops reading or has read 64 MiB.
 
-    Raises `Wrong` if the daemon's memory grows by more than 64 MiB. Returns 1: all of it counts as
+    Raises `CheckFailed` if the daemon's memory grows by more than 64 MiB. Returns 1: all of it counts as
     one request.
     """
     request = post(b"[%s]" % b",".join([b'{"channel":"/meta/x"}'] * 64))
@@ -199,7 +199,7 @@ def check_unread(random, address, daemon):
             try:
                 sent += connection.socket.send(data[sent % len(request) :])
             except OSError as error:
-                raise Wrong(f"ended after {sent} bytes: {error}") from error
+                raise CheckFailed(f"ended after {sent} bytes: {error}") from error
     if daemon.kilobytes() - before > 64 << 10:
-        raise Wrong(f"{daemon.kilobytes() - before} kB more after {sent} bytes of requests whose responses nobody read")
+        raise CheckFailed(f"{daemon.kilobytes() - before} kB more after {sent} bytes of requests whose responses nobody read")
     return 1

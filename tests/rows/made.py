@@ -1,5 +1,5 @@
 """Makes the rows that are too long to be written out, and has the arguments that bayeux_replay must reject."""
-from texts import spelled
+from row_files import expand_macros
 
 # The limits: bytes of a body, messages of a request, and patterns of a message.
 BODY, MESSAGES, PATTERNS = 1_048_576, 256, 64
@@ -8,7 +8,7 @@ BODY, MESSAGES, PATTERNS = 1_048_576, 256, 64
 RECORD = "--record .."
 
 # What the error message expects of an argument, by the argument's name.
-SAID = {
+EXPECTATIONS = {
     "shards": "a number from 1 to 64",
     "workers": "a number from 1 to 16",
     "timeout": "a number from 0 to 4294967295",
@@ -23,7 +23,7 @@ SAID = {
 
 # Arguments that must be rejected, separated by single spaces, by the name of the first wrong one.
 # By "": those that are too few or too many.
-REFUSED = {
+REJECTED = {
     "": [
         "",
         "2 2 30000 0",
@@ -143,7 +143,7 @@ def million_lines():
 
 def fronts():
     """Yields each proper prefix of a body: the whole request is rejected."""
-    body = spelled('[{"channel":"/a/b","clientId":"<client 1>","data":1,"data":{"a" : 1.50},"id":"q"}]')
+    body = expand_macros('[{"channel":"/a/b","clientId":"<client 1>","data":1,"data":{"a" : 1.50},"id":"q"}]')
     tried = "".join(f"0 P {body[:length]}\n" for length in range(len(body)))
     refused = "".join(f"{length + 2} 400\n" for length in range(len(body)))
     handshake = "0 P [<handshake>]\n"
@@ -321,7 +321,7 @@ def holds():
 
 def long_arrays():
     """Yields a publish with the longest allowed body, an array of half a million numbers, and one that is a byte longer."""
-    front, end = spelled('[{"channel":"/a/b","clientId":"<client 1>","data":['), "]}]"
+    front, end = expand_macros('[{"channel":"/a/b","clientId":"<client 1>","data":['), "]}]"
     room = BODY - len(front) - len(end)
     data = listed("1", room // 2 + 1) if room % 2 else listed("1", room // 2 - 1) + ",10"
     yield (

@@ -17,7 +17,7 @@ pub struct Context {
     pub address: SocketAddr,
     /// When the load started. All other times count from here.
     pub start: Instant,
-    /// Number of clients that are not ready yet.
+    /// Number of clients that have not yet opened a session and, if subscribers, subscribed.
     pub unready: AtomicU64,
     /// When the publishers started, in nanoseconds since `start`, or 0 before.
     pub begun: AtomicU64,

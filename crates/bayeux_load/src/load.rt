@@ -12,7 +12,7 @@ use std::thread;
 use std::thread::{JoinHandle, Threads};
 use std::time::{Clock, Instant};
 
-// More threads did not increase the measured rate.
+// The greatest number of threads. More threads did not increase the measured rate.
 const MOST_THREADS: u64 = 8;
 
 // A thread that runs a part.

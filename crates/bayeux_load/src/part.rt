@@ -61,7 +61,7 @@ impl LoadPart {
         })
     }
 
-    /// Opens more clients, so that at most 32 are not ready at a time.
+    /// Opens more clients, so that at most 32 are opening a session or subscribing at a time.
     ///
     /// # Errors
     ///

@@ -18,7 +18,7 @@ pub struct Subscriber {
     pub channel: u32,
     /// The batch that its next connect acknowledges, if any.
     pub acknowledged: Option<u64>,
-    // One element for each publisher of the channel.
+    // The arrivals of events, with one element for each publisher of the channel.
     arrivals: Vec<Arrivals>,
 }
 

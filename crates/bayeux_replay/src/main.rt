@@ -26,7 +26,7 @@ fn main(rt: HostRuntime) -> ExitCode {
 }
 
 // Replays the record in the file after `--record`, or on standard input if that is `-`. Without
-// `--record`, replays the script on standard input.
+// `--record`, replays the script on standard input. Returns the exit code of the program.
 fn run<T: Threads + Sync>(rt: &HostRuntime, threads: &T) -> Result<ExitCode, ScriptFault> {
     let args = args(rt).map_err(|error| ScriptFault::of_read(&error))?;
     match args.as_slice() {
@@ -53,7 +53,8 @@ fn args(rt: &HostRuntime) -> io::Result<Vec<String>> {
     Ok(args)
 }
 
-// Replays the script on standard input, or prints what is wrong with the arguments.
+// Replays the script on standard input. If the arguments are wrong, prints why and returns exit
+// code 2.
 fn replay_script<T: Threads + Sync>(
     rt: &HostRuntime,
     threads: &T,
@@ -78,7 +79,7 @@ fn replay_script<T: Threads + Sync>(
     }
 }
 
-// Replays a record, or prints what is wrong with its first line.
+// Replays a record. If its first line is wrong, prints why and returns exit code 2.
 fn replay_record<T: Threads + Sync, R: Read + Drop>(
     rt: &HostRuntime,
     threads: &T,
@@ -95,7 +96,7 @@ fn replay_record<T: Threads + Sync, R: Read + Drop>(
     }
 }
 
-// Prints the answers to the lines that `reader` still has.
+// Prints the answers to the lines that `reader` still has, and returns exit code 0.
 fn answer<T: Threads + Sync, R: BufRead + Drop>(
     rt: &HostRuntime,
     threads: &T,

@@ -10,7 +10,7 @@ use std::alloc::Global;
 use std::io::Read;
 use std::sync::{Arc, Wait};
 
-/// Reads standard input until it ends or fails, and then sends the signal `shutdown`.
+/// Reads standard input until it ends or fails, and then signals `shutdown`.
 pub fn signal_at_eof<R: Input>(rt: &R, shutdown: Sender<()>) {
     let mut bytes = [0; 512];
     let mut input = rt.reader();
@@ -34,9 +34,9 @@ pub struct Closing<L: LogId, P: Placing, G: Gate + Drop, R: Wait + Drop, A> {
     pub rt: R,
     /// The hub to close.
     pub hub: Arc<Hub<L, P, G, R>, Global>,
-    /// Metrics, which then show that the server no longer listens.
+    /// The metrics. Once `shutdown` is ready, they show that the server no longer listens.
     pub counts: Arc<Counts, Global>,
-    /// The signal to end.
+    /// The future of the signal to end.
     pub shutdown: A,
 }
 

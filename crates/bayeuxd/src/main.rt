@@ -47,8 +47,8 @@ const CANNOT_RECORD: &str = "bayeuxd: cannot create the record";
 /// Error text if the thread that reads standard input cannot start.
 const NO_READER: &str = "bayeuxd: cannot read standard input";
 
-// One second, in milliseconds. For a shorter time the log has a warning, since the user may have
-// meant seconds.
+// One second, in milliseconds. If `timeout` or `max_interval` is shorter, the log has a warning,
+// since the user may have meant seconds.
 const SECOND: u32 = 1000;
 
 /// Error text if memory runs out.
@@ -85,13 +85,13 @@ fn main(rt: HostRuntime) -> ExitCode {
     {
         return refused_at(&rt, NO_METRICS, address, &error);
     }
-    // Created last, so that a failed listener leaves no file.
+    // The record file is created last, so that a failed listener leaves no file.
     let record_file = match record_of(&rt, &settings) {
         Ok(file) => file,
         Err(status) => return status,
     };
-    // Spawned here, because only `main` can pass the right to read standard input to a thread.
-    // Without `--until-eof`, `shutdown` is kept: dropping it would end the server.
+    // The thread is spawned here, because only `main` can pass the right to read standard input to
+    // a thread. Without `--until-eof`, `shutdown` is kept: dropping it would end the server.
     let _kept = if settings.until_eof {
         let Ok(_reading) = thread::spawn(&rt, move || signal_at_eof(&rt, shutdown)) else {
             return failed(&rt, NO_READER);
@@ -119,7 +119,7 @@ fn main(rt: HostRuntime) -> ExitCode {
     }
 }
 
-// The parts of a server, before it listens.
+// The parts of a server that are created before it listens.
 struct Parts<'a> {
     arguments: Serving,
     listen_address: ListenAddress<'a>,
@@ -129,7 +129,7 @@ struct Parts<'a> {
     end: Receiver<()>,
 }
 
-// Creates the parts, or prints what is wrong and returns the exit status.
+// Creates the parts of the server. On error, reports what is wrong and returns the exit status.
 fn parts_of<'a>(rt: &HostRuntime, settings: &Settings<'a>) -> Result<Parts<'a>, ExitCode> {
     let alloc = rt.alloc();
     let Ok(seed) = seed_of(rt, settings.seed) else {
@@ -162,7 +162,8 @@ fn parts_of<'a>(rt: &HostRuntime, settings: &Settings<'a>) -> Result<Parts<'a>, 
     })
 }
 
-// Creates the record file, if `--record` names one. Fails as `parts_of` does.
+// Creates the record file, if `--record` names one. On error, prints what is wrong and returns the
+// exit status.
 fn record_of(
     rt: &HostRuntime,
     settings: &Settings<'_>,
@@ -176,7 +177,7 @@ fn record_of(
     }
 }
 
-// Returns the size limit of bodies and queries.
+// Returns the size limit of bodies and queries from the settings.
 fn body_of(settings: &Settings<'_>) -> BodyLimit {
     match BodyLimit::new(settings.body) {
         Some(limit) => limit,
@@ -220,7 +221,7 @@ fn tell_settings(rt: &HostRuntime, settings: &Settings<'_>) {
     }
 }
 
-// Formats all settings except the seed.
+// Returns the text that the log has for all settings except the seed.
 fn settings_text(alloc: Global, settings: &Settings<'_>) -> Result<String, AllocError> {
     let config = settings.config;
     let mut text = format!(in alloc;
@@ -312,7 +313,8 @@ fn seed_of(rt: &HostRuntime, seed: Seed<'_>) -> io::Result<[u8; 32]> {
     }
 }
 
-// Resolves an address to listen at. Fails as `parts_of` does.
+// Resolves `name`, an address to listen at. On error, reports what is wrong and returns the exit
+// status.
 fn listen_address_of<'a>(rt: &HostRuntime, name: &'a str) -> Result<ListenAddress<'a>, ExitCode> {
     match addresses_of(rt, name) {
         Ok(addresses) => Ok(ListenAddress { name, addresses }),
@@ -320,7 +322,7 @@ fn listen_address_of<'a>(rt: &HostRuntime, name: &'a str) -> Result<ListenAddres
     }
 }
 
-// Resolves a host and a port.
+// Returns the addresses of `name`, a host and a port, in the order in which they are tried.
 fn addresses_of(rt: &HostRuntime, name: &str) -> io::Result<Vec<SocketAddr>> {
     let mut addresses = Vec::new(rt.alloc());
     for address in name.to_socket_addrs(rt)? {
@@ -335,7 +337,7 @@ fn cannot_listen(rt: &HostRuntime, listen: &str, error: &io::Error) -> ExitCode 
     failed(rt, CANNOT_LISTEN)
 }
 
-// Prints what failed, its address or file, and the error, and returns the exit status.
+// Prints what failed, its address or file, and the error, and returns the exit status of a failure.
 fn refused_at(rt: &HostRuntime, what: &str, name: &str, error: &io::Error) -> ExitCode {
     match format!(in rt.alloc(); "{what} at {name}: {error}") {
         Ok(why) => failed(rt, why.as_str()),
@@ -343,7 +345,7 @@ fn refused_at(rt: &HostRuntime, what: &str, name: &str, error: &io::Error) -> Ex
     }
 }
 
-// Prints `why` and returns the exit status.
+// Prints `why` and returns the exit status of a failure.
 fn failed(rt: &HostRuntime, why: &str) -> ExitCode {
     let _ = rt.eprintln(why);
     ExitCode::FAILURE

@@ -11,24 +11,25 @@ use std::thread::Threads;
 use std::time::{Clock, Duration, Instant};
 use std::{io, thread};
 
-// Milliseconds for a request's head to arrive, and for a write to make progress. Policy of this
-// server.
+// The longest time for a request's head to arrive, and for a write to make progress, in
+// milliseconds. Policy of this server.
 const PATIENCE: u64 = 2000;
 
 // Pause after a failed accept, for example if no file descriptor is free, in milliseconds. Policy
 // of this server.
 const PAUSE: u64 = 20;
 
-// The most bytes that are read of a request, and the most reads. Policy of this server.
+// The most bytes that are read of a request. Policy of this server.
 const HEAD: usize = 4096;
 
+// The most reads of a request. Policy of this server.
 const READS: usize = 16;
 
 /// Serves metrics at `address`, on a thread that runs until the program ends.
 ///
 /// # Errors
 ///
-/// The error of a system call, or of memory that runs out.
+/// The error of resolving `address`, of a system call, or of memory that runs out.
 pub fn serve_metrics<R>(rt: R, address: &str, counts: &Arc<Counts, Global>) -> io::Result<()>
 where
     R: Net<Listener = TcpListener, Stream = TcpStream>
@@ -74,7 +75,8 @@ fn answer_all<R: Clock>(
     }
 }
 
-// Answers the request on one connection.
+// Reads the request on one connection and writes its response. Fails if this takes too long, a
+// system call fails or memory runs out.
 fn answer<R: Clock>(
     rt: &R,
     mut stream: TcpStream,
@@ -94,8 +96,8 @@ fn answer<R: Clock>(
     stream.write_all(text.as_slice())
 }
 
-// Reads a head up to its empty line, the end of the data or a limit. Returns its length in bytes,
-// or an error if it takes too long.
+// Reads a request's head up to its empty line, the end of the data, or the limits `HEAD` and
+// `READS`. Returns its length in bytes, or an error if it takes too long or a system call fails.
 fn read_head<R: Clock>(rt: &R, stream: &mut TcpStream, head: &mut [u8]) -> io::Result<usize>
     ensures { IfOk result (λ n. n ≤ length head.new) }
 {
@@ -117,7 +119,7 @@ fn read_head<R: Clock>(rt: &R, stream: &mut TcpStream, head: &mut [u8]) -> io::R
     Ok(length)
 }
 
-// Returns `true` if `head` contains its empty line.
+// Returns `true` if `head` contains the empty line that ends a head.
 fn is_whole(head: &[u8]) -> bool {
     head.windows(4).any(|it| it == b"\r\n\r\n".as_slice())
 }

@@ -25,7 +25,7 @@ const OWNERS: u32 = 0o600;
 #[derive(Drop)]
 pub struct RecordFile<F> {
     file: CountedFile<F>,
-    /// Whether answers' digests are recorded too.
+    /// Whether the digests of answers are recorded too.
     has_answers: bool,
 }
 
@@ -63,7 +63,7 @@ pub struct Recorder {
 impl Recorder {
     /// Starts to record what is appended to the hub's list, if `file` is given.
     ///
-    /// A thread writes it, and logs a warning if the record ends before the server.
+    /// A thread writes the record, and logs a warning if the record ends before the server.
     ///
     /// # Errors
     ///
@@ -128,7 +128,7 @@ impl Recorder {
         }
     }
 
-    /// Writes the lines that wait, and ends the thread.
+    /// Writes the lines that wait, and ends the thread, if there is one.
     ///
     /// # Blocking
     ///
@@ -142,14 +142,14 @@ impl Recorder {
     }
 }
 
-// Why a record ended, and up to which place it goes.
+// Why a record ended early. `place`: the place at which the recorded part of the list ends.
 #[derive(Clone, Copy, Debug)]
 struct Ended {
     fault: RecordFault,
     place: u64,
 }
 
-// The lines of a hub's record and of its answers that wait to be written.
+// The lines of a hub's record, and those of its answers, that wait to be written.
 #[derive(Drop)]
 struct HubRecord<L: LogId, R: Wait + Drop> {
     rt: R,
@@ -176,7 +176,8 @@ impl<L: LogId, R: Wait + Log + Drop> Source for HubRecord<L, R> {
         })
     }
 
-    // Takes the lines of answers. Each request was in the list before its answer was logged.
+    // Takes the lines of answers that wait, and leaves the buffer `empty`. Logs a warning if the
+    // log of answers ended early. The list has each request before the log has its answer.
     fn take_answers(&mut self, empty: Vec<u8>) -> Vec<u8> {
         let TakenAnswers { bytes, fault, .. } = self.log.take(&self.rt, empty);
         if let Some(fault) = fault {

@@ -33,7 +33,7 @@ use std::{io, thread};
 use tokio::net::TcpListener;
 use tokio::runtime::Runtime;
 
-/// How the server runs.
+/// The settings with which the server runs.
 #[derive(Clone, Copy)]
 pub struct Serving {
     /// The number of shards, the times in milliseconds, the limits and the options.
@@ -48,8 +48,8 @@ pub struct Serving {
     pub until_eof: bool,
 }
 
-// With `until_eof`: how long open connections are still served at the end, in milliseconds. Policy
-// of this server.
+// How long open connections are still served at the end if `until_eof` is set, in milliseconds.
+// Policy of this server.
 const LEAVE: u64 = 1000;
 
 /// Why the server cannot start, or stopped.
@@ -88,7 +88,7 @@ pub struct Listening {
 
 /// Listens at `listen_address` and, for the read-only listener, at `readers`.
 ///
-/// Uses the first address of each at which it can listen.
+/// Uses the first address of each name at which it can listen.
 ///
 /// # Errors
 ///
@@ -117,8 +117,8 @@ where
 /// Serves connections until `arguments.connections` were accepted or `shutdown` is ready.
 ///
 /// Prints the listeners' addresses to `writer`, and records the list in `record_file`, if given.
-/// Once `shutdown` is ready, it closes the hub, which ends held connects. At the end it waits for
-/// the open connections. With `until_eof` it closes those that are still open after a second.
+/// Once `shutdown` is ready, it closes the hub, which ends held connects. Then it waits for the
+/// open connections to end. With `until_eof` it closes those that are still open after a second.
 ///
 /// # Errors
 ///
@@ -170,7 +170,7 @@ where
     )
 }
 
-// Serves over a new hub, while a thread posts ticks.
+// Serves connections over a new hub until all have ended, while a thread posts ticks.
 fn run<L, R, F, W>(
     rt: R,
     opened: Opened,
@@ -235,7 +235,7 @@ where
         counts: Arc::try_clone(counts)?,
         shutdown,
     };
-    // Started before anything is appended to the list, such as the first tick.
+    // The recorder starts before anything is appended to the list, such as the first tick.
     let recorder = Recorder::start(rt, &hub, record_file)?;
     let shared = SharedParts {
         rt,
@@ -263,7 +263,7 @@ where
     served
 }
 
-// Logs and prints the address of `listener`, after `what`.
+// Logs the address of `listener` and prints it to `writer`, each time after `what`.
 fn tell<R: Log, W: Write>(
     rt: &R,
     what: &str,
@@ -293,7 +293,7 @@ fn bind<'a, R: Net>(
     Err(ServeFault::CannotListen(listen_address.name, refused))
 }
 
-// What both listeners share.
+// The parts that the backends and observers of both listeners share.
 #[derive(Drop)]
 struct SharedParts<L: LogId, R: Wait + Drop> {
     rt: R,
@@ -313,7 +313,7 @@ struct EndpointParts<S, O> {
 }
 
 impl<L: LogId, R: Wait + Clock + AllocGlobal + Copy + Drop> SharedParts<L, R> {
-    // Creates the backend and the observer for `listener`.
+    // Creates the backend and the observer for `listener`, and returns all three.
     fn parts_for(
         &self,
         listener: TcpListener,
@@ -345,7 +345,7 @@ impl<L: LogId, R: Wait + Clock + AllocGlobal + Copy + Drop> SharedParts<L, R> {
     }
 }
 
-// Serves both listeners.
+// Serves the connections of `first` and, if given, of `other`, until `end` is ready.
 //
 // Prover: generic, because comparing the full types in the connections' tasks takes too long.
 fn serve_endpoints<S, I, O, R, A>(
@@ -373,7 +373,7 @@ where
     serve_until(rt, runtime, first, other, arguments.connections, end)
 }
 
-// Creates the service of a listener.
+// Creates the service of a listener, and returns both.
 fn endpoint_of<S: Backend, O: Observer>(
     alloc: Global,
     body: BodyLimit,

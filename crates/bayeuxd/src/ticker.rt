@@ -16,11 +16,11 @@ use std::{thread, time};
 // The pause before each tick, in milliseconds. Policy of this server.
 const TICK: u64 = 100;
 
-// Number of ticks after which a filed answer is dropped: a minute. Policy of this server.
+// A filed answer is dropped after this number of ticks: a minute. Policy of this server.
 const KEPT: usize = 600;
 
-// Number of ticks after which a filed answer is dropped while more answers are filed than sessions
-// may be live: a second. Policy of this server.
+// If more answers are filed than sessions may be live, a filed answer is dropped after this number
+// of ticks: a second. Policy of this server.
 const KEPT_IN_A_CROWD: usize = 10;
 
 // Number of ticks between the log lines for rejected requests: a second. Policy of this server.
@@ -88,8 +88,8 @@ where
     }
 }
 
-// Removes all places except the newest `kept`. Returns the last one removed, or `None` if all are
-// kept.
+// Removes all of `places` except the newest `kept`. Returns the newest place removed, or `None` if
+// `places` is unchanged.
 fn last_before(places: &mut VecDeque<u64>, kept: usize) -> Option<u64> {
     let mut last = None;
     for _ in kept..places.len() {
@@ -98,7 +98,7 @@ fn last_before(places: &mut VecDeque<u64>, kept: usize) -> Option<u64> {
     last
 }
 
-// Counts an appended tick, and sets how many shards lag after it.
+// Counts an appended tick, and records how many shards have not applied it.
 fn count_tick(counts: &Counts, behind: Lagging) {
     let Lagging {
         memory,
@@ -115,7 +115,8 @@ fn count_tick(counts: &Counts, behind: Lagging) {
     counts.set(Metric::ShardsBehind, shards);
 }
 
-// Copies the state of the hub and its shards to `counts`. Returns how many answers are filed.
+// Copies the state of the hub and its shards to `counts`. Returns how many answers are filed in all
+// shards.
 fn survey<L: LogId, P: Placing, G: Gate + Drop, H: Wait + Drop, R: Wait>(
     rt: &R,
     hub: &Hub<L, P, G, H>,

@@ -27,8 +27,8 @@ impl AnswerLog {
 
     /// Appends the line for the items that answer a request, unless the log has ended.
     ///
-    /// `place`: the place of the request's first message. The log ends without the line if more than
-    /// 64 MiB would wait, or if memory runs out.
+    /// `place`: the place of the request's first message. The log ends without the line if more
+    /// than 64 MiB would wait, or if memory runs out.
     ///
     /// # Blocking
     ///

@@ -126,7 +126,8 @@ impl<L: LogId, R: Wait + Drop> Ticker<L, R> {
 
     /// Drops the batches that are wholly before `place`, and returns `true` if that succeeds.
     ///
-    /// Fails after 1,000,000 steps, or if an earlier change still cannot be shown to readers.
+    /// Returns `false`, and drops nothing, after 1,000,000 steps of the writer, or if an earlier
+    /// change still cannot be shown to readers.
     pub fn trim(&mut self, place: u64) -> bool {
         if self.writer.tell().steps() >= MOST {
             return false;

@@ -9,7 +9,8 @@ use Rattle.bx_hub.specs.Faults.{IsStopped}
 use Rattle.bx_hub.specs.Held.{IsLevelWithout, answer_over}
 use Rattle.bx_hub.specs.declared.{shard_state.evidence.NoAnswer.NoAnswer, fault.HubFault.HubFault}
 
--- The ticket names no shard, or a possible state of its shard at the end of `front` has no answer.
+-- The ticket names no shard, or its shard has a possible state at the end of `front` without an
+-- answer.
 abbrev pub HasNone : Setup → Ticket → List LogStep → Type 0
 HasNone setup ticket front = (setup.shards ≤ ticket.shard) ⊎ IsLevelWithout setup ticket front
 
@@ -19,15 +20,17 @@ module _ {L : Type 0} where
   output_of (Ok answer) = Ok answer
   output_of (Err stopped) = Err stopped.fault
 
--- What each output claims about a front of the list.
--- An answer is the one that a single-threaded server gives over the front. `None`: the ticket names
--- no shard, or no answer is filed for it. A fault: what `IsStopped` claims of the ticket's shard.
+-- The output can be returned after a pass has seen `front`.
+-- An answer is the one that a single-threaded server gives with the list of `front`. `None`: the
+-- ticket names no shard, or no answer is filed for the ticket. A fault: it can stop the ticket's
+-- shard, as `IsStopped` states.
 abbrev pub IsGiven : Setup → Ticket → List LogStep → Result (Option Answer) HubFault → Type 0
 IsGiven setup ticket front (Ok (Some a)) = answer_over setup.config front ticket.place ≡ Some a
 IsGiven setup ticket front (Ok None) = HasNone setup ticket front
 IsGiven setup ticket front (Err fault) = IsStopped fault ticket.shard front
 
--- An output that may be given, by some front that extends `seen`, unless one was given before.
+-- If no output was returned before (`is_done`), `output` agrees with some front that extends
+-- `seen`.
 abbrev pub MayGive : Setup → Ticket → List LogStep → Bool → Result (Option Answer) HubFault → Type 0
 MayGive setup ticket seen is_done output =
     is_done ≡ false → (front : List LogStep) × IsPrefix seen front × IsGiven setup ticket front output

@@ -13,18 +13,20 @@ abbrev pub IsPolledAgain : Context → Type 0
 IsPolledAgain cx = (cx.is_woken ≡ true) ⊎ (cx.lacks_waker ≡ true)
 
 module _ {L : Type 0} where
-  -- A waker of the context's task was registered under the ticket.
+  -- `waker`, which wakes the task of `cx`, was registered under `ticket`, in place of `older` if
+  -- there was one.
   pub record IsLeftBy (cx : Context) (ticket : Ticket) (evidence : WatchEvidence L) : Type 0 where
     pub waker : Waker
     pub wakes : Wakes waker cx
     pub older : Option Waker
     pub lies : IsSaid ticket waker (Stored older) evidence
 
-  -- A waker of the polling task was registered, or the task is polled again in any case.
+  -- A waker of the polling task was registered under the ticket, or the task is polled again in any
+  -- case.
   abbrev pub IsWaitedFor : Ticket → Option (WatchEvidence L) → Context → Context → Type 0
   IsWaitedFor ticket evidence old new = IsPolledAgain new ⊎ IsSomeAnd evidence (IsLeftBy old ticket)
 
-  -- The ticket names none of `shards` shards, or its shard knew no connect and returned the waker.
+  -- `ticket` names none of `shards` shards, or its shard knew no connect and returned `waker`.
   pub record IsUnknown (shards : ℕ) (ticket : Ticket) (evidence : Option (WatchEvidence L)) : Type 0 where
     pub waker : Waker
     pub told : IsToldOf shards ticket waker (Unknown waker) evidence

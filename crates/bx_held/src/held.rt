@@ -53,7 +53,8 @@ impl<L: LogId> PendingAnswer<L> {
         }
     }
 
-    // Polls the hub for the output, and records that it was returned.
+    // Polls the hub, and returns an answer or a fault and sets `is_done`. Returns `None` if there
+    // is no answer yet.
     fn ask<P: Placing, G: Gate + Drop, H: Wait + Drop, R: Wait>(
         &mut self,
         rt: &R,
@@ -92,7 +93,7 @@ impl<L: LogId> PendingAnswer<L> {
     ///
     /// # Errors
     ///
-    /// [`NoAnswer`] with the fault, as in [`Hub::poll_answer`]. It is the last output.
+    /// [`NoAnswer`] with the fault, as in [`Hub::poll_answer`]. Later polls return `None`.
     ///
     /// # Blocking
     ///

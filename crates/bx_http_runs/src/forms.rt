@@ -14,7 +14,7 @@ use std::alloc::{AllocError, Global};
 // something.
 const GO_ON: &str = "<goes on>";
 
-// A mark in the bytes of a request that is replaced by `BODY_LIMIT` spaces.
+// A mark in the bytes of a request, to be replaced by `BODY_LIMIT` spaces.
 const BLANKS: &str = "<blanks>";
 
 // For each request, its name and its bytes, which may have the marks `GO_ON` and `BLANKS`.

@@ -17,7 +17,7 @@ use std::sync::Wait;
 const HANDSHAKE: &str =
     r#"[{"channel":"/meta/handshake","version":"1.0","supportedConnectionTypes":["long-polling"]}]"#;
 
-/// A hub with the placing `ByRemainder` and a gate that is always open.
+/// A hub with the placing `ByRemainder` and a gate that never waits.
 pub type Served<L, R> = Hub<L, ByRemainder, OpenGate, R>;
 
 // Creates a request without messages.

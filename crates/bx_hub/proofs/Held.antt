@@ -84,7 +84,7 @@ stands_taken setup seen told taken place s t room h some took sound =
       holds = subst (λ (i : ℕ). Refines setup (list_of seen) (taken ++ place ∷ []) i t.place t) (sym took.index_is) (subst (λ (n : ℕ). Refines setup (list_of seen) (taken ++ place ∷ []) s.index n t) (sym took.place_is) on);
     }
 
--- A filed answer is what a single-threaded server gives over the longest prefix.
+-- Proves that a filed answer is what a single-threaded server gives with the list of `h.told`.
 pub filed_told : (setup : Setup) (h : Held) (place : ℕ) (a : Answer) → 0 < setup.config.limits.batch → Stands setup h → filed_answer (connect_in h.state place) ≡ Some a → answer_over setup.config h.told place ≡ Some a
 filed_told setup h place a room s e =
     let n : ℕ = h.state.place in

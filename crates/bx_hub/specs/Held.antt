@@ -23,7 +23,7 @@ pub record Held : Type 0 where
   pub taken : List ℕ
   pub state : State
 
--- What `h.seen` has begins with `h.told`, and the shard has applied no entry after `h.told`. The
+-- The log `h.seen` begins with `h.told`, and the shard has applied no entry after `h.told`. The
 -- shard's state agrees with the definitions for the entries that it has applied.
 pub record Stands (setup : Setup) (h : Held) : Type 0 where
   pub learnt : IsPrefix h.told h.seen

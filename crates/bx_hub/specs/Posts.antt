@@ -54,7 +54,7 @@ IsWithoutRoom (Misplaced shard found) front = found ≢ shard
 IsWithoutRoom Memory front = Unit {0}
 IsWithoutRoom _ front = ⊥
 
--- The fault can be the reason why `input` was not admitted, by a pass that has then seen `front`.
+-- The fault can be the reason why `input` was not admitted, if the pass has then seen `front`.
 -- `Body`: the documents are not messages, are more than 256 messages, or the listener forbids them.
 -- `BadMoment`: the moment is too large. `Ended`: the list, or the log of publishes and trims, is
 -- too long. `Behind`: `input` could be appended, but the window is full and begins at `first`.

@@ -32,13 +32,13 @@ pub struct TickReceipt<L: LogId> {
 /// How many shards did not reach the end of a front, by what stopped them.
 #[derive(Clone, Copy, Debug, PartialEq, Eq)]
 pub struct Lagging {
-    /// Number of shards for which memory ran out.
+    /// Number of shards that stopped because memory ran out.
     pub memory: usize,
-    /// Number of shards with a position before the window.
+    /// Number of shards that stopped because the window begins after their position.
     pub overrun: usize,
-    /// Number of shards that are paused.
+    /// Number of shards that stopped because they are paused.
     pub paused: usize,
-    /// Number of shards that are closed with the hub.
+    /// Number of shards that stopped because the hub is closed.
     pub closed: usize,
     /// Number of shards that were not found, because their lock guards another shard.
     pub misplaced: usize,

@@ -336,9 +336,9 @@ impl<L: LogId, P: Placing, G: Gate + Drop, R: Wait + Drop> Hub<L, P, G, R> {
         Ok(least)
     }
 
-    // Advances a shard to the end of `pass` and returns its position, or an error if the shard is
-    // overrun or not found. Adds the wakers of answered connects to `wakers`, and returns evidence
-    // of them. When `wakers` is dropped, after the shard is unlocked, their tasks are woken.
+    // Advances a shard to the end of `pass` and returns its position. Fails if the shard is overrun
+    // or not found. Adds the wakers of answered connects to `wakers`, and returns evidence of them.
+    // When `wakers` is dropped, after the shard is unlocked, their tasks are woken.
     fn advance_one_to_end<W: Wait>(
         &self,
         rt: &W,

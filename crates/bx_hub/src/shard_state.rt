@@ -217,7 +217,7 @@ impl<L: LogId, P: Placing> ShardState<L, P> {
         }
     }
 
-    // Extends what the reader has seen to `prefix`, and stores `prefix` if it is the longest front
+    // Makes `prefix` part of what the reader has seen, and stores it if it is the longest front
     // learned.
     fn learn(&mut self, prefix: &Front<L>)
         ensures old { IsPrefix self.old.prefix self.new.prefix }

@@ -24,7 +24,7 @@ pub enum Task {
     Second,
 }
 
-/// The two tasks, and what the hub's gate has seen.
+/// Two waiting tasks, and what the hub's gate has recorded.
 #[derive(Drop)]
 pub struct Waiting {
     /// Shard of the first session.
@@ -61,7 +61,7 @@ impl Waiting {
         })
     }
 
-    /// Returns one of the tasks.
+    /// Returns the task that `task` names.
     pub fn task(&self, task: Task) -> &MockTask {
         match task {
             Task::First => &self.first,
@@ -70,7 +70,7 @@ impl Waiting {
     }
 }
 
-/// A gate that counts its calls, and checks the first task while the shard is still locked.
+/// A gate that counts its calls, and records whether the first task is woken under a lock.
 #[derive(Drop)]
 pub struct Looking {
     pub waiting: Arc<Waiting, Global>,
@@ -103,13 +103,13 @@ fn waker(task: &MockTask) -> Result<Waker, Fail> {
 #[derive(Clone, Copy, Debug, PartialEq, Eq)]
 pub enum Watched {
     Unknown,
-    /// Whether an older waker was returned.
+    /// The waker was stored. The value is `true` if an older waker was returned.
     Stored(bool),
     Ready,
     Shut,
 }
 
-/// Returns the counts if only `paused` shards lag, because they are paused.
+/// Returns the counts for `paused` paused shards, when all other shards have advanced.
 pub fn behind(paused: usize) -> Lagging {
     Lagging {
         paused,
@@ -126,7 +126,7 @@ pub struct Bench<L: LogId, H: Wait + Drop> {
     pub waiting: Arc<Waiting, Global>,
     /// The last request that was not admitted.
     pub back: Option<Arrival>,
-    /// The older waker that the hub returned last.
+    /// The older waker that the last stored waker replaced, if any.
     pub older: Option<Waker>,
 }
 
@@ -150,7 +150,9 @@ impl<L: LogId, H: Wait + Drop> Bench<L, H> {
         Ok(())
     }
 
-    /// Opens three sessions, and subscribes and connects the first and third, at places 5 and 6.
+    /// Opens three sessions, and subscribes the first and third.
+    ///
+    /// Their connects are held at places 5 and 6.
     ///
     /// # Errors
     ///
@@ -163,7 +165,7 @@ impl<L: LogId, H: Wait + Drop> Bench<L, H> {
         self.wait(rt, CONNECT_THIRD, 6)
     }
 
-    /// Opens the second session and publishes with another pass, then extends `self.pass` to it.
+    /// Opens the second session, publishes with another pass, and extends `self.pass` to that pass.
     ///
     /// # Errors
     ///
@@ -175,9 +177,9 @@ impl<L: LogId, H: Wait + Drop> Bench<L, H> {
         Ok(())
     }
 
-    /// Posts `arrival`, and returns its first place and how many shards lag.
+    /// Posts `arrival`, and returns its first place and how many shards did not apply all of it.
     ///
-    /// A request that is not admitted must come back with `body`, and is stored in `back`.
+    /// A request that is not admitted must come back with `body`, and is then stored in `back`.
     ///
     /// # Errors
     ///
@@ -198,7 +200,10 @@ impl<L: LogId, H: Wait + Drop> Bench<L, H> {
         }
     }
 
-    /// Posts pings and checks each, as described at `Step::Pings`.
+    /// Posts a ping for each place from `first` to before `end`, and checks the place that it gets.
+    ///
+    /// `length`: the least number of bytes of each body. `paused`: how many shards, because they
+    /// are paused, must not apply each ping.
     ///
     /// # Errors
     ///
@@ -233,7 +238,9 @@ impl<L: LogId, H: Wait + Drop> Bench<L, H> {
         }
     }
 
-    /// Registers a waker of `task`, and stores an older one that the hub returns.
+    /// Registers a waker of `task`, and returns the result.
+    ///
+    /// Stores an older waker, if the hub returns one, in `older`.
     ///
     /// # Errors
     ///
@@ -252,9 +259,11 @@ impl<L: LogId, H: Wait + Drop> Bench<L, H> {
         }
     }
 
-    /// Takes `length` bytes of the record, and checks their number and `fault`.
+    /// Takes what waits of the record, and checks that it has `length` bytes and that `fault` ended
+    /// it.
     ///
-    /// Before, `length` bytes must wait, or none if the record has a fault.
+    /// If `fault` is `None`, the record must not have ended, and the hub must first report that
+    /// `length` bytes wait. If a fault ended the record, it must report 0.
     ///
     /// # Errors
     ///
@@ -277,7 +286,9 @@ impl<L: LogId, H: Wait + Drop> Bench<L, H> {
         }
     }
 
-    /// Takes all bytes of the record that wait, and checks that they are `lines`.
+    /// Takes what waits of the record, and checks that it is `lines`.
+    ///
+    /// `fault`: the fault that must have ended the record, if any.
     ///
     /// # Errors
     ///

@@ -6,7 +6,7 @@ use std::test::*;
 
 const IS_PAUSED: Step = Step::Finds(2, ANSWER, Found::Stopped(HubFault::Paused));
 
-// The list after the publish.
+// The state of the hub after a connect and another session's publish.
 const PUBLISHED: Survey = Survey {
     entries: 5,
     live: 2,
@@ -14,10 +14,10 @@ const PUBLISHED: Survey = Survey {
     batches: 5,
 };
 
-// Each run has its own hub.
+// Runs of steps, each with its own hub.
 const RUNS: [&[Step]; 2] = [
-    // A paused shard that has the whole list does not lag. Later the window fills up, and posts
-    // fail until the shard resumes. An index past the last shard is unknown.
+    // A paused shard that has the whole list is not counted as stopped. Later the window fills up,
+    // and posts fail until the shard resumes. An index past the last shard is unknown.
     &[
         Step::NoShard(2),
         Step::Pause,
@@ -29,7 +29,8 @@ const RUNS: [&[Step]; 2] = [
         Step::Resume,
         Step::Again(PING, Ok(4_096)),
     ],
-    // Two shards are paused. If one resumes, the other still lags. Resuming twice has no effect.
+    // Two shards are paused. If one resumes, the other still applies nothing. Resuming twice has no
+    // effect.
     &[
         Step::PauseShard(0),
         Step::PauseShard(1),
@@ -56,8 +57,8 @@ const RUNS_ANYWHERE: [&[Step]; 3] = [
         Step::Sweep(5, 0),
         Step::Finds(2, ANSWER, Found::Wanted),
     ],
-    // A paused shard still returns a filed answer. After the hub is closed, polls report that
-    // instead of the pause.
+    // A paused shard still returns a filed answer. After the hub is closed, a poll without an
+    // answer fails with `Closed`, not with `Paused`.
     &[
         Step::Hold,
         Step::Publish,
@@ -69,7 +70,7 @@ const RUNS_ANYWHERE: [&[Step]; 3] = [
         Step::Close,
         Step::Finds(2, ANSWER, Found::Stopped(HubFault::Closed)),
     ],
-    // An answer filed in a paused shard can be swept, and is then gone.
+    // An answer filed in a paused shard can be swept. A poll then finds no answer.
     &[
         Step::Hold,
         Step::Publish,

@@ -7,24 +7,27 @@ use bx_hub::PostFault;
 use bx_record::RecordFault;
 use std::test::*;
 
-// The recorded lines of a handshake, a ping and a tick.
+// The recorded lines of a handshake.
 const HANDSHAKE_LINES: &str =
     "0 N 00000000000000000000000000000000\n0 P [{\"channel\":\"/meta/handshake\",\"version\":\"1.0\",\"supportedConnectionTypes\":[\"long-polling\"]}]\n";
 
+// The recorded line of a ping.
 const PING_LINE: &str = "0 P [{\"channel\":\"/meta/ping\"}]\n";
 
+// The recorded line of a tick.
 const TICK_LINE: &str = "5 T\n";
 
 // Length in bytes of 63 lines, each with the longest ping that a line can hold.
 const WAITING: usize = 63 * (BODY_LIMIT + 5);
 
-// Length in bytes of a ping with a line that would then exceed the limit of 64 MiB by one byte.
+// Length in bytes of a ping. After `WAITING` bytes, its line exceeds the limit of 64 MiB by one
+// byte.
 const TOO_LONG: usize = 67_108_864 - WAITING - 4;
 
-// Each run has its own hub.
+// Runs of steps, each with its own hub.
 const RUNS: [&[Step]; 4] = [
     // The record has what was appended, once and in order, without rejected ticks and empty
-    // requests. It cannot start again.
+    // requests. No second record can start.
     &[
         Step::Starts(true),
         Step::Lines(&[], None),

@@ -31,27 +31,29 @@ pub enum Step {
     HoldTwo,
     /// Opens the second session and publishes an event that the first one gets.
     Publish,
-    /// Publishes as `Publish` does, with another pass, and then extends the caller's pass to it.
+    /// Opens the second session, publishes with another pass, and then extends the caller's pass to
+    /// it.
     PublishApart,
-    /// Posts a request, which gets this place, or would get it if it had messages. This many paused
-    /// shards lag.
+    /// Posts a request. Fields: its body, its first place (or the list's length if it has no
+    /// messages), and how many shards, because they are paused, do not apply it.
     Post(&'static str, u64, usize),
-    /// Posts a connect or rider, which gets this place. Its answer is pending.
+    /// Posts a connect or rider, and checks that its answer is pending. Fields: the body and place.
     Wait(&'static str, u64),
-    /// Posts pings from the first place to before the second. Their bodies have at least this many
-    /// bytes. This many paused shards lag.
+    /// Posts pings. Fields: the first place, the place after the last ping, the least length of a
+    /// body in bytes, and how many shards, because they are paused, do not apply the pings.
     Pings(u64, u64, usize, usize),
-    /// Posts a request that is not admitted and comes back.
+    /// Posts a request that is not admitted and comes back. Fields: its body and the fault.
     Refused(&'static str, PostFault),
-    /// Posts the request that came back. It gets this place, and no shard lags, or it fails again.
+    /// Posts the request that came back last. Fields: its body, and its place or the fault. If it
+    /// is admitted, all shards apply it.
     Again(&'static str, Result<u64, PostFault>),
-    /// Posts a tick of this moment. It gets this place, or is not admitted.
+    /// Posts a tick. Fields: its moment, and its place or the fault.
     Tick(u64, Result<u64, PostFault>),
-    /// Checks where the window begins and where the list ends, in the caller's pass.
+    /// Checks the caller's pass. Fields: where the window begins and where the list ends.
     Seen(u64, u64),
     /// Checks the survey of the list.
     List(Survey),
-    /// Polls for this answer at this place, and checks what is found.
+    /// Polls for an answer. Fields: its place, the text of the expected answer, and what is found.
     Finds(u64, &'static str, Found),
     /// Polls and watches in vain at shard 2, which does not exist or has no session.
     Elsewhere,
@@ -65,24 +67,27 @@ pub enum Step {
     ResumeShard(usize),
     /// Checks that no shard has this index.
     NoShard(usize),
-    /// Checks the first session's shard: its position, and how many connects are held and answers
-    /// filed.
+    /// Checks the first session's shard. Fields: its position, and the numbers of held connects and
+    /// filed answers.
     Stands(u64, usize, usize),
-    /// Sweeps the answers filed by entries before this place, and checks how many were dropped.
+    /// Sweeps the answers filed by entries before a place. Fields: the place, and how many are
+    /// dropped.
     Sweep(u64, usize),
     Close,
-    /// Registers a waker of this task at this place, and checks the result.
+    /// Registers a waker. Fields: the place of the connect, the waker's task, and the result.
     Watch(u64, Task, Watched),
-    /// Checks whether the task was woken, and that the first was not under its shard's lock.
+    /// Checks whether a task was woken, and that no wake of the first task happened under its
+    /// shard's lock.
     Woken(Task, bool),
-    /// Starts a record, and checks whether it started.
+    /// Starts a record, and checks that this succeeds if the field is `true`, and otherwise fails.
     Starts(bool),
     Stops,
     /// Checks how many bytes wait to be written to the record.
     Waits(usize),
-    /// Takes this many bytes of the record, with its fault if it ended.
+    /// Takes what waits of the record. Fields: its length in bytes, and the fault that ended the
+    /// record.
     Takes(usize, Option<RecordFault>),
-    /// Takes these lines of the record, with its fault if it ended.
+    /// Takes what waits of the record. Fields: its lines, and the fault that ended the record.
     Lines(&'static [&'static str], Option<RecordFault>),
     /// Checks that there is no record.
     NoRecord,
@@ -244,7 +249,8 @@ fn run_in_hub<L: LogId, R: Wait + Abort>(
     take_all(rt, &mut bench, steps)
 }
 
-// Runs all steps with a new hub. `home`: the first session's shard; `ride`: whether events ride.
+// Runs all steps with a new hub. `home`: the first session's shard; `ride`: whether replies of
+// riders carry waiting events.
 fn check_run<R: Wait + Abort + AllocGlobal + RandomSource>(
     rt: &R,
     home: usize,

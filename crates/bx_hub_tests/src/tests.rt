@@ -7,7 +7,7 @@ use std::test::*;
 
 const TWO_PINGS: &str = r#"[{"channel":"/meta/ping"},{"channel":"/meta/ping"}]"#;
 
-// Each run has its own hub.
+// Runs of steps, each with its own hub.
 const RUNS: [&[Step]; 8] = [
     // A truncated body and a late tick are rejected. A request without messages appends nothing.
     &[
@@ -48,7 +48,8 @@ const RUNS: [&[Step]; 8] = [
         Step::Sweep(6, 2),
         Step::Sweep(6, 0),
     ],
-    // A tick trims the window up to the lowest position of a shard. The caller's next call sees it.
+    // A tick trims the window up to the lowest position of a shard. The next call shows that to the
+    // caller.
     &[
         Step::Post(HANDSHAKE, 0, 0),
         Step::Post(HANDSHAKE, 1, 0),

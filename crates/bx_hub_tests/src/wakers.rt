@@ -5,7 +5,7 @@ use bx_calls::{ANSWER, ANSWER_THIRD, Found, PING, PUBLISH, TICKED};
 use bx_hub::PostFault;
 use std::test::*;
 
-// Each run has its own hub.
+// Runs of steps, each with its own hub.
 const RUNS: [&[Step]; 4] = [
     // A tick at the connect's deadline wakes the task and answers the connect without events.
     &[
@@ -43,7 +43,7 @@ const RUNS: [&[Step]; 4] = [
         Step::Finds(6, ANSWER_THIRD, Found::Wanted),
     ],
     // A post to a full window advances a shard that was paused, and so wakes the task. The post
-    // still fails, because the other shard lags.
+    // still fails, because the other shard is paused.
     &[
         Step::Hold,
         Step::Watch(2, Task::First, Watched::Stored(false)),

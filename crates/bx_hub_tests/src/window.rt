@@ -13,7 +13,8 @@ use std::test::*;
 /// What a reader found at a place.
 #[derive(Clone, Copy, Debug, PartialEq, Eq)]
 enum Found {
-    /// First place and number of entries of the batch, and the place of the entry found.
+    /// A batch was found. Fields: its first place, its number of entries, and the place of the
+    /// entry that `entry_of` returns.
     Batch(u64, usize, u64),
     Level,
     Overrun,
@@ -24,41 +25,44 @@ enum Found {
 // first reader, unless they name the other.
 #[derive(Clone, Copy, Debug)]
 enum Step {
-    // Publishes a batch of this many ticks.
+    // Publishes a batch of ticks. Fields: the number of ticks, and the result.
     Publish(u64, Taken),
-    // Publishes this many batches of one tick each.
+    // Publishes batches of one tick each. The field is the number of batches.
     Fill(usize),
-    // Drops the batches that are wholly below this place.
+    // Drops the batches that are wholly before the given place.
     Trim(u64),
-    // The first reader looks at this place.
+    // The first reader looks for an entry. Fields: its place, and what is found.
     Finds(u64, Found),
-    // Each place from the first to before the second has its own batch.
+    // The first reader finds a batch of one entry at each place from the first to before the
+    // second.
     FindsEach(u64, u64),
-    // The other reader looks at this place.
+    // The other reader looks for an entry. Fields: its place, and what is found.
     OtherFinds(u64, Found),
-    // The first place of the window for the first reader.
+    // Checks the place at which the window begins for the first reader.
     Begin(u64),
-    // The first place of the window for the writer.
+    // Checks the place at which the window begins for the writer.
     WriterBegin(u64),
-    // The other reader, which has seen nothing, learns the first reader's note, with this many
-    // entries.
+    // The other reader, which has seen nothing, learns what the first reader has seen. The field is
+    // the number of entries that this has.
     Told(u64),
-    // The other reader learns the writer's front, which has this many steps.
+    // The other reader learns the writer's front. The field is the number of steps that it then has
+    // seen.
     ToldByWriter(u64),
-    // The writer's front, with this many entries and steps, covers the first reader's shorter one.
+    // The writer's front covers the first reader's shorter one. Fields: the numbers of entries and
+    // steps of the writer's front.
     Covers(u64, u64),
 }
 
-// A batch of two ticks that a full window returns.
+// The result of publishing a batch of two ticks to a full window, which returns the batch.
 const FULL: Taken = Taken::Refused {
     why: PublishFault::Full,
     first: 4_096,
     entries: 2,
 };
 
-// Each run has its own window.
+// Runs of steps, each with its own window.
 const RUNS: [&[Step]; 6] = [
-    // A batch of three ticks is found at its three places, and at no other.
+    // A batch of three ticks is found at its three places, and no entry is found at the next place.
     &[
         Step::Finds(0, Found::Level),
         Step::Publish(3, Taken::Published),
@@ -67,7 +71,7 @@ const RUNS: [&[Step]; 6] = [
         Step::Finds(2, Found::Batch(0, 3, 2)),
         Step::Finds(3, Found::Level),
     ],
-    // A trim drops the batches that are wholly below its place.
+    // A trim drops the batches that are wholly before its place.
     &[
         Step::Publish(3, Taken::Published),
         Step::Publish(2, Taken::Published),
@@ -146,7 +150,8 @@ fn find<L: LogId>(reader: &mut LogReader<L>, place: u64) -> Found {
     }
 }
 
-// Checks that a reader that has seen nothing learns `prefix`, and ignores an older one.
+// Checks that `reader`, which has seen nothing, learns `prefix`, and then ignores an older front.
+// `length`: how many entries `prefix` has.
 fn check_told<L: LogId, R: Abort>(
     rt: &R,
     reader: &mut LogReader<L>,

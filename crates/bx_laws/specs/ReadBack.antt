@@ -1,4 +1,4 @@
--- What the texts of replies, events and responses read as, by the grammar of `serde_json`.
+-- The JSON values of the texts of replies, events and responses, by the grammar of `serde_json`.
 use Rattle.std.specs.Prelude.{◌≡◌, ℕ, suc, ◌^◌, ◌<◌, ◌≤◌, List, [], ◌∷◌, ◌++◌, map, codes, Bool, true, false, Option, Some, None, option_map, option_and_then, IfSome, ⊤}
 use Rattle.std.specs.{List.list_all, Ordering.nat_cmp, Ordering.match_ordering, Cmp.Lexicographic.slice_cmp}
 use Rattle.json.specs.Json as json
@@ -15,19 +15,19 @@ use Rattle.bx_message.specs.Texts.{reconnect_text, reply_text, event_text, item_
 
 -- ---- Reading
 
--- The value of a text with at most `levels` nested arrays and objects. `read` of `serde_json` is
--- this with its own limit.
+-- The value of a JSON text with arrays and objects nested at most `levels` deep, or `None` for any
+-- other text. The function `read` of `serde_json` has a fixed number of levels.
 abbrev pub read_within : ℕ → List ℕ → Option Data
 read_within levels text = option_and_then of_json (option_and_then (λ p. json.if_last p.0 p.1) (json.value levels (tokens text)))
 
--- An optional text reads as an optional value: both are present, or neither is.
+-- The text reads as the value, or both are missing.
 abbrev pub ReadsAs : ℕ → Option (List ℕ) → Option Data → Type 0
 ReadsAs levels None None = ⊤
 ReadsAs levels None (Some d) = ⊥
 ReadsAs levels (Some text) None = ⊥
 ReadsAs levels (Some text) (Some d) = read_within levels text ≡ Some d
 
--- Each text reads as the item at its position.
+-- Each text reads as the item at its position, and there is an item for each text.
 abbrev pub AllReadAs : ℕ → List (List ℕ) → Items → Type 0
 AllReadAs levels [] no_items = ⊤
 AllReadAs levels [] (item d ds) = ⊥
@@ -40,34 +40,35 @@ AllReadAs levels (text ∷ texts) (item d ds) = (read_within levels text ≡ Som
 abbrev pub Row : Type 0
 Row = List ℕ × Option Data
 
--- The members that are present, in order.
+-- The members of `rows` that are present, in order.
 abbrev pub members_in : List Row → Members
 members_in [] = no_members
 members_in ((name, None) ∷ rows) = members_in rows
 members_in ((name, Some d) ∷ rows) = member name d (members_in rows)
 
--- The names of the members that are present.
+-- The names of the members of `rows` that are present, in order.
 abbrev pub names_in : List Row → List (List ℕ)
 names_in [] = []
 names_in ((name, None) ∷ rows) = names_in rows
 names_in ((name, Some d) ∷ rows) = name ∷ names_in rows
 
--- The names of an object's members, as in its text.
+-- The unescaped names of an object's members, in the order of its text, with repetitions.
 abbrev pub keys : json.Members → List (List ℕ)
 keys json.no_members = []
 keys (json.member k j ms) = k ∷ keys ms
 
--- Whether the name `n` comes after `m` in byte order.
+-- Whether the name `n` comes after the name `m` in byte order.
 abbrev pub stands_behind : List ℕ → List ℕ → Bool
 stands_behind n m = match_ordering (slice_cmp nat_cmp n m) false false true
 
--- Each name comes after all names before it.
+-- Each name in the second list comes after all names in `before`, and after those that precede it
+-- in its own list, in byte order.
 abbrev pub Ascend : List (List ℕ) → List (List ℕ) → Type 0
 Ascend before [] = ⊤
 Ascend before (n ∷ ns) = (list_all (stands_behind n) before ≡ true) × Ascend (before ++ n ∷ []) ns
 
--- A text is a JSON object of the members that are present, in the order of `rows`, which ascend by
--- name.
+-- `text` is a JSON object of the members of `rows` that are present, in the order of `rows`. The
+-- names in `rows` ascend. Arrays and objects are nested at most `levels` deep.
 pub record IsObjectOf (levels : ℕ) (text : List ℕ) (rows : List Row) : Type 0 where
   pub reads : read_within levels text ≡ Some (object (members_in rows))
   pub order : (ms : json.Members) × (tokens text ≡ json_tokens (json.object ms)) × (keys ms ≡ names_in rows)
@@ -75,45 +76,46 @@ pub record IsObjectOf (levels : ℕ) (text : List ℕ) (rows : List Row) : Type 
 
 -- ---- Replies
 
--- The value of a count.
+-- The JSON number `n`.
 abbrev pub count : ℕ → Data
 count n = number (unsigned n)
 
--- The members of `advice`.
+-- The members of the object that is a reply's `advice`.
 abbrev pub advice_rows : Advice → List Row
 advice_rows a = (codes "interval", Some (count a.interval)) ∷ (codes "reconnect", Some (string (reconnect_text a.reconnect))) ∷ (codes "timeout", option_map count a.timeout) ∷ []
 
--- An object with the only member `ack`.
+-- A JSON object with the only member `ack`, which has the value `d`.
 abbrev pub ack_object : Data → Data
 ack_object d = object (members_in ((codes "ack", Some d) ∷ []))
 
--- The value of `ext`, if any.
+-- The value of a reply's member `ext`, or `None` if the reply has no such member.
 abbrev pub ext_data : AckReply → Option Data
 ext_data NoAck = None
 ext_data AckTrue = Some (ack_object (boolean true))
 ext_data (AckNumber n) = Some (ack_object (count n))
 
--- The value of `error`, if any.
+-- The value of a reply's member `error`, or `None` if the outcome is no error.
 abbrev pub error_data : Outcome → Option Data
 error_data (Failed error) = Some (string (error_text error))
 error_data _ = None
 
--- Whether there is no error.
+-- Whether the outcome is no error.
 abbrev pub succeeds : Outcome → Bool
 succeeds (Failed error) = false
 succeeds _ = true
 
--- A value that only the reply to a handshake has.
+-- The value `d` in the reply to a handshake, and `None` in any other reply.
 abbrev pub for_handshake : MessageKind → Data → Option Data
 for_handshake MessageKind.Handshake d = Some d
 for_handshake _ d = None
 
--- The two connection types.
+-- The JSON array of the two connection types that the server supports.
 abbrev pub connection_types : Data
 connection_types = array (item (string (codes "long-polling")) (item (string (codes "callback-polling")) no_items))
 
--- The members of a reply, if its `id` and `subscription` read as these values. Bayeux 1.0, the
--- responses of the meta messages and of publish; CometD's acknowledgement extension.
+-- The members of the reply `r`, if the texts of its id and its subscription read as `id` and
+-- `subscription`. Bayeux 1.0, the responses of the meta messages and of publish; CometD's
+-- acknowledgement extension.
 abbrev pub reply_rows : Reply → Option Data → Option Data → List Row
 reply_rows r id subscription =
     (codes "advice", option_map (λ a. object (members_in (advice_rows a))) r.advice)
@@ -132,33 +134,35 @@ reply_rows r id subscription =
 abbrev pub AdviceFits : Advice → Type 0
 AdviceFits a = (a.interval < 2 ^ 64) × IfSome a.timeout (λ t. t < 2 ^ 64)
 
--- The batch number, if any, fits in 64 bits.
+-- The batch number in a reply, if any, fits in 64 bits.
 abbrev pub AckFits : AckReply → Type 0
 AckFits NoAck = ⊤
 AckFits AckTrue = ⊤
 AckFits (AckNumber n) = n < 2 ^ 64
 
--- The parts of a reply that a client wrote read as these values, and its numbers fit in 64 bits.
+-- The id and the subscription of `r`, which are texts of a client, read as `id` and `subscription`.
+-- The numbers in `r` fit in 64 bits.
 pub record ReplyParts (levels : ℕ) (r : Reply) (id subscription : Option Data) : Type 0 where
   pub id_reads : ReadsAs levels r.id id
   pub subscription_reads : ReadsAs levels r.subscription subscription
   pub advice_fits : IfSome r.advice AdviceFits
   pub ack_fits : AckFits r.ack
 
--- A reply's text is an object with exactly the members of a reply.
+-- The text of a reply is a JSON object with exactly the members that `reply_rows` has.
 abbrev pub RepliesReadBack : Type 0
 RepliesReadBack = (levels : ℕ) (r : Reply) (id subscription : Option Data) → 1 ≤ levels → ReplyParts levels r id subscription → IsObjectOf (suc levels) (reply_text r) (reply_rows r id subscription)
 
 -- ---- Events and responses
 
--- The members of an event, if its `data` and `id` read as these values. Bayeux 1.0, event messages.
+-- The members of the event `e`, if the texts of its data and its id read as `payload` and `id`.
+-- Bayeux 1.0, event messages.
 abbrev pub event_rows : Event → Data → Option Data → List Row
 event_rows e payload id = (codes "channel", Some (string e.channel)) ∷ (codes "data", Some payload) ∷ (codes "id", id) ∷ []
 
--- An event's text is an object with exactly these members.
+-- The text of an event is a JSON object with its channel, its data and, if it has one, its id.
 abbrev pub EventsReadBack : Type 0
 EventsReadBack = (levels : ℕ) (e : Event) (payload : Data) (id : Option Data) → read_within levels e.payload ≡ Some payload → ReadsAs levels e.id id → IsObjectOf (suc levels) (event_text e) (event_rows e payload id)
 
--- A response's text is the array of what its items read as.
+-- The text of a response is a JSON array of the values that the texts of its items read as.
 abbrev pub BodiesReadBack : Type 0
 BodiesReadBack = (levels : ℕ) (items : List Item) (ds : Items) → AllReadAs levels (map item_text items) ds → read_within (suc levels) (body_text items) ≡ Some (array ds)

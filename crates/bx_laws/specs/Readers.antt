@@ -15,16 +15,17 @@ abbrev pub IsOfReaders : Input → Type 0
 IsOfReaders (Post a) = a.access ≡ ReadOnly
 IsOfReaders (Tick moment) = ⊤
 
--- The element is not a message to a broadcast channel.
+-- What is listed is a tick, or a message to a channel that is not a broadcast channel.
 abbrev pub IsQuiet : Listed → Type 0
 IsQuiet (lists.Post posted) = is_broadcast posted.message.channel ≡ false
 IsQuiet (lists.Tick moment) = ⊤
 
--- The list has no message to a broadcast channel, and no session has an event.
+-- `list` has no message to a broadcast channel, and no session has an event.
 pub record IsSilent (config : Config) (list : List Listed) : Type 0 where
   pub quiet : AllByRecursion IsQuiet list
   pub eventless : (number : ℕ) → (session config number (entries config list)).events ≡ []
 
--- If all requests come through the read-only listener, no session has an event.
+-- If all requests come through the read-only listener, the list has no message to a broadcast
+-- channel, and no session has an event.
 abbrev pub ReadersPublishNothing : Type 0
 ReadersPublishNothing = (config : Config) (inputs : List Input) → AllByRecursion IsOfReaders inputs → IsSilent config (taken_in (map read_input inputs)).list

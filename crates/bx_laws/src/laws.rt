@@ -6,7 +6,7 @@
 //! - An event is done if it is acknowledged, or sent by a plain session.
 //! - A rider is the last message of a request, if its reply also carries the session's waiting
 //!   events.
-//! - An input is open until all its messages are answered.
+//! - An input is complete once all its messages are answered.
 ghost use Rattle.bx_theory.specs.Laws.{DoneNeverFalls, CountsAgree, EntriesInOrder, AnswersStay, BatchRepeats, NeverGivenAgain, NoEventTwice, GivenOnce, NoRidersUnasked, RidersArePlain};
 ghost use Rattle.bx_theory.specs.Readings.{LiveReading, InForceReading, HeldReading, EndingReading, OverflowReading, QueueBounded, DueReading, ClockReading, SameLive, AcceptedWhileLive, PublishesOfNone, ClosedIsOver};
 ghost use Rattle.bx_theory.specs.Riding.{RiderReading, NothingRidesBeside, OthersNeverRide, RiderGiven};
@@ -19,46 +19,55 @@ ghost use Rattle.bx_entry.specs.Keeping.{KeptSteps, KeptRuns, KeptInBounds};
 ghost use Rattle.bx_laws.specs.Readers.{ReadersPublishNothing};
 ghost use Rattle.bx_laws.specs.ReadBack.{RepliesReadBack, EventsReadBack, BodiesReadBack};
 
-/// Proves that the number of a session's done events never falls.
+/// Proves that the number of events that a session never sends again does not fall.
 pub fn done_never_falls()
     ensures { DoneNeverFalls }
 {}
 
 /// Proves that the queue, the batch and the counts of a session always agree.
+///
+/// The queue has the events that may still be sent, or none after an overflow. The outstanding
+/// batch is at the start of the queue. No event waits while a connect is held.
 pub fn counts_agree()
     ensures { CountsAgree }
 {}
 
-/// Proves that the entries of a list are at consecutive places.
+/// Proves that the entries of a list are at consecutive places from 0.
 pub fn entries_in_order()
     ensures { EntriesInOrder }
 {}
 
-/// Proves that an answer depends only on the elements up to the one that gives it.
+/// Proves that an answer depends only on the list up to the entry that gives it.
 pub fn answers_stay()
     ensures { AnswersStay }
 {}
 
 /// Proves that a connect that acknowledges nothing new gets the outstanding batch again.
+///
+/// The batch has the number and the events that it had before. The session must not have
+/// overflowed.
 pub fn batch_repeats()
     ensures { BatchRepeats }
 {}
 
 /// Proves that an event is never sent again after it is acknowledged, or sent by a plain session.
+///
+/// A plain session does not acknowledge.
 pub fn never_given_again()
     ensures { NeverGivenAgain }
 {}
 
 /// Proves that each event in an answer was published after all events that were done before it.
 ///
-/// So done events are never sent again.
+/// An event is done if it is acknowledged, or sent by a session that does not acknowledge. So done
+/// events are never sent again.
 pub fn no_event_twice()
     ensures { NoEventTwice }
 {}
 
-/// Proves that a plain session sends its done events in order, each in one answer.
+/// Proves that a session that does not acknowledge sends its events in order, each in one answer.
 ///
-/// The answers are those to connects and riders.
+/// The answers are those to connects and riders. Events that an overflow drops are not sent.
 pub fn given_once()
     ensures { GivenOnce }
 {}
@@ -68,7 +77,7 @@ pub fn no_riders_unasked()
     ensures { NoRidersUnasked }
 {}
 
-/// Proves that the session of a rider does not acknowledge.
+/// Proves that a rider's session is one that does not acknowledge.
 pub fn riders_are_plain()
     ensures { RidersArePlain }
 {}
@@ -120,13 +129,15 @@ pub fn held_reading()
 
 /// Proves that a held connect is answered at the first entry that ends it.
 ///
-/// A publish that reaches the session answers with its event, and a newer connect with an error. A
-/// disconnect or a tick answers with success and no events.
+/// A publish that reaches the session answers the connect with its event, and a newer connect
+/// answers it with an error. A disconnect or a tick answers it with success and no events.
 pub fn ending_reading()
     ensures { EndingReading }
 {}
 
 /// Proves that a session has overflowed exactly if some earlier entry found no room.
+///
+/// The entry is an event for the full queue, or a subscription to too many patterns.
 pub fn overflow_reading()
     ensures { OverflowReading }
 {}
@@ -137,6 +148,8 @@ pub fn queue_bounded()
 {}
 
 /// Proves that the due moment of a session is the greatest that its accepted messages set.
+///
+/// Each sets the sum of its moment, its hold and the configured interval.
 pub fn due_reading()
     ensures { DueReading }
 {}
@@ -158,7 +171,8 @@ pub fn events_were_published()
     ensures { EventsWerePublished }
 {}
 
-/// Proves that each publish that reaches a session is one of its events, after the earlier ones.
+/// Proves that each publish that reaches a session becomes one of its events, after the earlier
+/// ones.
 pub fn publishes_are_events()
     ensures { PublishesAreEvents }
 {}
@@ -184,22 +198,29 @@ pub fn readers_publish_nothing()
     ensures { ReadersPublishNothing }
 {}
 
-/// Proves that the outs of more inputs begin with the outs of fewer.
+/// Proves that the outs of a run begin with the outs of its first inputs.
 pub fn outs_grow()
     ensures { OutsGrow }
 {}
 
-/// Proves that what is kept of a session is enough to apply an entry and give its answers.
+/// Proves that the effect of an entry on a session does not depend on the session's history.
+///
+/// The history has the session's earlier events and answers. The rest, which a server keeps,
+/// determines what the server keeps after the entry, and the answers that the entry gives.
 pub fn kept_steps()
     ensures { KeptSteps }
 {}
 
-/// Proves that applying entries to what is kept gives what is kept after them.
+/// Proves that what a server keeps of a session can be computed from entry to entry.
+///
+/// The session's history, its earlier events and answers, is not needed.
 pub fn kept_runs()
     ensures { KeptRuns }
 {}
 
-/// Proves that the session of an accepted message, except a handshake, is live before it.
+/// Proves that the session of an accepted message is live before the message.
+///
+/// A handshake is an exception, since it opens its session.
 pub fn accepted_while_live()
     ensures { AcceptedWhileLive }
 {}
@@ -211,12 +232,12 @@ pub fn publishes_of_none()
     ensures { PublishesOfNone }
 {}
 
-/// Proves that the kept queue and batch are within their limits, and empty during a hold.
+/// Proves that a session's queue and batch are within their limits, and empty during a hold.
 pub fn kept_in_bounds()
     ensures { KeptInBounds }
 {}
 
-/// Proves that a closed session holds no connect, and that its events and answers stay as they are.
+/// Proves that a closed session holds no connect, and that its events and answers do not change.
 pub fn closed_is_over()
     ensures { ClosedIsOver }
 {}
@@ -226,7 +247,7 @@ pub fn replies_read_back()
     ensures { RepliesReadBack }
 {}
 
-/// Proves that the text of an event is an object with its channel, data and id.
+/// Proves that the text of an event is an object with its channel, data and, if any, id.
 pub fn events_read_back()
     ensures { EventsReadBack }
 {}
@@ -236,29 +257,31 @@ pub fn bodies_read_back()
     ensures { BodiesReadBack }
 {}
 
-/// Proves that an input appends the outs of all inputs that it makes whole, in order.
+/// Proves that an input appends the outs of all inputs that it completes, in order.
 ///
-/// An input is whole once all its messages are answered, and open before.
+/// An input is complete once all its messages are answered.
 pub fn outs_add()
     ensures { OutsAdd }
 {}
 
-/// Proves that an input stays open until some input makes it whole.
+/// Proves that an input stays incomplete until some input completes it.
+///
+/// An input is complete once all its messages are answered.
 pub fn opens_go_on()
     ensures { OpensGoOn }
 {}
 
-/// Proves that the inputs that are open at the end of a run are its held ones.
+/// Proves that the inputs of a run with unanswered messages are those that the run reports as held.
 pub fn open_is_held()
     ensures { OpenIsHeld }
 {}
 
-/// Proves that an open input is a request with just one message, a held connect.
+/// Proves that an input with an unanswered message is a request of one message, a held connect.
 pub fn open_are_sole()
     ensures { OpenAreSole }
 {}
 
-/// Proves that the open inputs are in the order of their numbers and of their connects' places.
+/// Proves that held inputs are in the order of their numbers and of their connects' places.
 pub fn opens_ascend()
     ensures { OpensAscend }
 {}
@@ -273,17 +296,17 @@ pub fn lines_go_on()
     ensures { LinesGoOn }
 {}
 
-/// Proves that the held lines of a script are printed last.
+/// Proves that a replay prints the lines of held connects last.
 pub fn held_come_last()
     ensures { HeldComeLast }
 {}
 
-/// Proves that each line of a script gets the nonce that the lines before it leave.
+/// Proves that each line gets the nonce that the lines before it announce and do not use.
 pub fn nonces_go_on()
     ensures { NoncesGoOn }
 {}
 
-/// Proves that lines are used as they are read if none gives a nonce, as in every script.
+/// Proves that lines keep their nonces if none announces one, as in every script.
 pub fn nonces_stay()
     ensures lines { NoncesStay }
     ensures scripts { ScriptsSayNone }

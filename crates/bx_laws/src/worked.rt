@@ -1,7 +1,7 @@
-//! Worked runs of the definitions, each computed by the prover.
+//! Worked examples of the definitions, each computed by the prover.
 ghost use Rattle.bx_laws.specs.Worked.{EventsRide, RideAfterHold, NothingRides, NothingRidesAfterRefused, NothingRidesAfterSessionless, NothingRidesAfterHandshake, NothingRidesAfterTwo, SessionlessPublish, SessionlessRefused, NamesRead, LengthsRead, PatternsRead, StarsMatch, DoubleStarsMatch, AllMatch, PlainMatch, HandshakeWithId, RefusedHandshake, TwoHandshakes, NothingPosted, Unreadable, HeldThenGiven, MatchedTwice, ServicePublish, SenderBytes, NoNumber, BatchesRepeat, GreatNumber, EventIsBatch, EventIsBatchHeld, HoldRunsOut, NotSole, Superseded, SupersededHeld, HoldEndsWithSession, HoldExtends, MomentsRise, SessionExpires, GoneWithinARequest, EachRefusal, UnknownType, ManyPatterns, FullQueue, QueueWithRoom, FullWithBatch, HeldThroughOverflow, OverflowAt1025, FourFullBatches, HandshakeText, RefusedText, BatchText, DeliveryText, CallbackExample, EmptyCallback, GoneText, SupersededText, OverflowText, SecondText, EndedText, RefusalsText, RefusedMovesClock, EmptyKeepsClock, RefusedKeepsDue, HoldBeforeEnd, EndedWithNumber, SupersededWithoutNumber, MixedArrays, FullServer, OverflowOutlivesPatterns, ServicePatternsAside, ScriptLines, LineForms, NonceForms, NoteForms, NoncesWait, ScriptPrinted, NoncePrinted, NotePrinted};
 
-/// Shows which texts are names and patterns, and what patterns match.
+/// Proves examples of texts that are names or patterns, and of names that patterns match.
 pub fn channels()
     ensures names_read { NamesRead }
     ensures lengths_read { LengthsRead }
@@ -12,7 +12,7 @@ pub fn channels()
     ensures plain_match { PlainMatch }
 {}
 
-/// Shows handshakes, accepted and rejected.
+/// Proves examples of handshakes, accepted and rejected.
 pub fn handshakes()
     ensures handshake_with_id { HandshakeWithId }
     ensures refused_handshake { RefusedHandshake }
@@ -21,7 +21,7 @@ pub fn handshakes()
     ensures unreadable { Unreadable }
 {}
 
-/// Shows events and the connects that get them.
+/// Proves examples of events and of the connects that get them.
 pub fn deliveries()
     ensures held_then_given { HeldThenGiven }
     ensures sessionless_publish { SessionlessPublish }
@@ -31,7 +31,7 @@ pub fn deliveries()
     ensures sender_bytes { SenderBytes }
 {}
 
-/// Shows riders, which are messages with replies that carry waiting events.
+/// Proves examples of riders, which are messages with replies that carry waiting events.
 pub fn riders()
     ensures events_ride { EventsRide }
     ensures ride_after_hold { RideAfterHold }
@@ -42,7 +42,7 @@ pub fn riders()
     ensures nothing_rides_after_two { NothingRidesAfterTwo }
 {}
 
-/// Shows batches and acknowledgements.
+/// Proves examples of batches and their acknowledgements.
 pub fn acknowledgements()
     ensures no_number { NoNumber }
     ensures batches_repeat { BatchesRepeat }
@@ -51,7 +51,7 @@ pub fn acknowledgements()
     ensures event_is_batch_held { EventIsBatchHeld }
 {}
 
-/// Shows held connects, and what ends them.
+/// Proves examples of held connects, and of what ends a hold.
 pub fn held_connects()
     ensures hold_runs_out { HoldRunsOut }
     ensures not_sole { NotSole }
@@ -64,7 +64,7 @@ pub fn held_connects()
     ensures superseded_without_number { SupersededWithoutNumber }
 {}
 
-/// Shows how sessions end.
+/// Proves examples of how sessions end, and of when they do not.
 pub fn endings()
     ensures session_expires { SessionExpires }
     ensures gone_within_a_request { GoneWithinARequest }
@@ -74,7 +74,7 @@ pub fn endings()
     ensures hold_before_end { HoldBeforeEnd }
 {}
 
-/// Shows rejected messages.
+/// Proves examples of rejected messages and their errors.
 pub fn refusals()
     ensures each_refusal { EachRefusal }
     ensures unknown_type { UnknownType }
@@ -83,7 +83,7 @@ pub fn refusals()
     ensures full_server { FullServer }
 {}
 
-/// Shows queues and patterns at their limits.
+/// Proves examples of queues and patterns at their limits.
 pub fn overflows()
     ensures full_queue { FullQueue }
     ensures queue_with_room { QueueWithRoom }
@@ -95,7 +95,7 @@ pub fn overflows()
     ensures service_patterns_aside { ServicePatternsAside }
 {}
 
-/// Shows responses, byte for byte.
+/// Proves examples of responses, byte for byte.
 pub fn response_texts()
     ensures handshake_text { HandshakeText }
     ensures refused_text { RefusedText }
@@ -111,7 +111,7 @@ pub fn response_texts()
     ensures refusals_text { RefusalsText }
 {}
 
-/// Shows scripts, their lines and what these print.
+/// Proves examples of script lines, and of what a replay prints for them.
 pub fn scripts()
     ensures script_lines { ScriptLines }
     ensures line_forms { LineForms }

@@ -70,7 +70,7 @@ impl Counts {
         }
     }
 
-    /// Records in `listens` whether the server listens.
+    /// Records `listens`: whether the server listens.
     pub fn set_listens(&self, listens: bool) {
         self.listens.store(listens, Ordering::SeqCst);
     }

@@ -9,7 +9,7 @@ use bx_message::{MessageKind, Status};
 /// Why a request was not admitted.
 #[derive(Clone, Copy, Debug, PartialEq, Eq)]
 pub enum Reason {
-    /// The documents are not messages.
+    /// The documents are not valid messages, or have too many of them.
     Body,
     /// The request has a message that the read-only listener forbids.
     Forbidden,

@@ -19,7 +19,7 @@ use std::marker::Brand;
 use std::random::RandomSource;
 use std::sync::{Arc, Wait};
 
-/// A hub with the placing `ByRemainder` and a gate that is always open.
+/// A hub with the placing `ByRemainder` and a gate that never waits.
 pub type Served<L, R> = Hub<L, ByRemainder, OpenGate, R>;
 
 /// Runs two sessions and a tick over a hub of two shards, and then over a hub of one.

@@ -1,8 +1,8 @@
 //! Sample runs that retry each call for which memory runs out.
 //!
 //! If one allocation in a retried call fails, the program prints what it prints if none fails. If
-//! an allocation outside of these calls fails, it exits with status 1. An argument names the part
-//! to run. Without one, all parts run in turn.
+//! an allocation outside of the retried calls fails, the program exits with status 1. An argument
+//! names the part to run. Without an argument, all parts run in turn.
 #![tactic(auto)]
 
 mod hubs;

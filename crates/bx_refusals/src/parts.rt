@@ -91,8 +91,8 @@ fn ask_once(task: &MockTask, body: &mut Pieces<Bytes>) -> Result<Option<Bytes>, 
     }
 }
 
-// Creates a response with `EVENTS` events: a script that calls `callback` if it is given, and
-// otherwise an array. Retries once if memory runs out.
+// Creates a response with `EVENTS` events, and retries once if memory runs out. If `callback` is
+// given, the response is a script that calls it.
 fn answered(alloc: Global, callback: Option<&str>) -> Result<Pieces<Bytes>, Unlike> {
     let items = events(alloc)?;
     match Pieces::answer(alloc, callback, items.as_slice()) {
@@ -126,8 +126,8 @@ fn events(alloc: Global) -> Result<Vec<Item>, Unlike> {
     Ok(items)
 }
 
-// Returns the expected text of the whole response: the array of the events, in a call of `callback`
-// if it is given.
+// Returns the expected text of the whole response. If `callback` is given, it is called with the
+// array of the events.
 fn wanted(alloc: Global, callback: Option<&str>) -> Result<String, Unlike> {
     let mut text = String::new(alloc);
     if let Some(name) = callback {

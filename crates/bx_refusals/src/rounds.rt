@@ -193,8 +193,8 @@ fn worked_text<R: Threads + Sync>(
     ended(rt, alloc, &mut round, worked.then, outs)
 }
 
-// Returns a round after the first requests of `worked`, redistributed if `worked` has a new number
-// of shards. `once` and `again` are the placings of the two attempts.
+// Returns a round after the first requests of `worked`. If `worked` has a new number of shards, the
+// sessions are redistributed, with `once` and `again` as the placings of the two attempts.
 fn first<R: Threads + Sync>(
     rt: &R,
     alloc: Global,
@@ -303,7 +303,7 @@ fn inputs(alloc: Global, requests: Requests) -> Result<Vec<Input>, Unlike> {
     Ok(inputs)
 }
 
-// Runs the inputs after the first `admitted`, and checks that `outs` still begins with the earlier
+// Runs the inputs after the first `admitted`. Checks that `outs` still begins with the earlier
 // outs.
 fn go_on<R: Threads + Sync>(
     rt: &R,

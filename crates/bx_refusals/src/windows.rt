@@ -90,7 +90,7 @@ fn work<L: LogId, R: Wait + Drop>(
 }
 
 // Publishes a batch of `count` ticks. If memory runs out, checks that `reader` still finds what the
-// text `before` says, and publishes the returned batch.
+// text `before` has, and publishes the returned batch.
 fn publish<L: LogId, R: Wait + Drop>(
     alloc: Global,
     writer: &mut Ticker<L, R>,

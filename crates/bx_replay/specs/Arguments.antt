@@ -26,7 +26,7 @@ abbrev pub HasStandardLimits : Arguments → Type 0
 HasStandardLimits arguments =
     IsStandard (record arguments.config.limits { events = standard_limits.events; bytes = standard_limits.bytes; sessions = standard_limits.sessions; patterns = standard_limits.patterns })
 
--- The settings of arguments, if they are valid.
+-- The settings that the result of parsing arguments gives, if the arguments are valid.
 abbrev pub valid_settings : Result Arguments ArgumentError → Option Settings
 valid_settings (Ok arguments) = Some (run_by arguments)
 valid_settings (Err wrong) = None

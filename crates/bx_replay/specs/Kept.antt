@@ -7,7 +7,7 @@ use Rattle.bx_entry.specs.Runs.{Out}
 use Rattle.bx_fanout.specs.declared.out.Out as fanout
 use Rattle.bx_theory.specs.Lines.{outs_text}
 
--- `a` is what is kept of input `i`.
+-- `a` has the line number and the callback of input `i` of `numbered`, and whether it is a tick.
 pub record IsKept (numbered : List Numbered) (i : ℕ) (a : PendingLine) : Type 0 where
   pub one : Numbered
   pub there : slice_get numbered i ≡ Some one
@@ -15,16 +15,18 @@ pub record IsKept (numbered : List Numbered) (i : ℕ) (a : PendingLine) : Type 
   pub callback : option_map string_bytes a.callback ≡ one.callback
   pub tick : a.tick ≡ is_tick one.input
 
--- Everything that is kept belongs to an input.
+-- Whatever `kept` has at a number `i` is the line number, callback and kind of input `i` of
+-- `numbered`.
 abbrev pub AreKept : List Numbered → (ℕ → Option PendingLine) → Type 0
 AreKept numbered kept = (i : ℕ) (a : PendingLine) → kept i ≡ Some a → IsKept numbered i a
 
--- The outs were printed, and everything that is kept still belongs to an input.
+-- The text of the outs `os` was appended, from `before` to `after`. What is then kept, `new`,
+-- belongs to inputs of `numbered`.
 pub record PrintsOuts (numbered : List Numbered) (os : List Out) (before after : Option (List ℕ)) (new : ℕ → Option PendingLine) : Type 0 where
   pub kept : AreKept numbered new
   pub appends : Appends before after (outs_text numbered os)
 
--- What is printed for the held inputs.
+-- What is printed for held inputs, given their numbers.
 abbrev pub held_texts : List Numbered → List ℕ → List ℕ
 held_texts numbered is = flat_map (λ index. held_text (slice_get numbered index)) is
 
@@ -32,16 +34,17 @@ held_texts numbered is = flat_map (λ index. held_text (slice_get numbered index
 abbrev pub without : ℕ → (ℕ → Option PendingLine) → ℕ → Option PendingLine
 without i kept j = if j == i then None else kept j
 
--- All of these inputs are kept, and the list names each of them once.
+-- Something is kept of each input in the list, and no input is in the list twice.
 abbrev pub AllKept : (ℕ → Option PendingLine) → List ℕ → Type 0
 AllKept kept [] = ⊤
 AllKept kept (i ∷ is) = IsSome (kept i) × AllKept (without i kept) is
 
--- The inputs of outs.
+-- The number of each out's input, in order.
 abbrev pub inputs_given : List fanout.Out → List ℕ
 inputs_given os = map (λ (o : fanout.Out). o.input) os
 
--- These inputs are kept, and none is kept under the next number, `count`.
+-- `kept` has each input of `is`, and no input is in `is` twice. `kept` has no input with the next
+-- number, `count`.
 pub record Keeps (kept : ℕ → Option PendingLine) (is : List ℕ) (count : ℕ) : Type 0 where
   pub all : AllKept kept is
   pub none : kept count ≡ None

@@ -7,7 +7,7 @@ use Rattle.bx_script.specs.Words.{first_of, is_space}
 use Rattle.bx_record.specs.Record.{config_text}
 use Rattle.bx_replay.specs.Settings.{Settings, settings_in}
 
--- A configuration that arguments can give: its times have 32 bits, and its limits are in range.
+-- Arguments can give the configuration `c`: its times are below 2^32, and its limits are in range.
 pub record CanSay (c : Config) : Type 0 where
   pub times : (c.timeout < 2 ^ 32) × (c.interval < 2 ^ 32) × (c.max_interval < 2 ^ 32)
   pub events : (1 ≤ c.limits.events) × (c.limits.events ≤ 65536)
@@ -31,10 +31,11 @@ alone c = record {
   patterns = c.limits.patterns;
 }
 
--- The settings that the first line of a record gives.
+-- The settings that the first line of a record gives, if its arguments are valid.
 abbrev pub recorded_settings : List ℕ → Option Settings
 recorded_settings text = settings_in (slice_split is_space (first_of text))
 
--- The line of a configuration gives its settings, whatever text follows it.
+-- If arguments can give a configuration, its line gives its settings with one worker, whatever text
+-- follows the line.
 abbrev pub ConfigsAreTaken : Type 0
 ConfigsAreTaken = (c : Config) (rest : List ℕ) → CanSay c → recorded_settings (config_text c ++ rest) ≡ Some (alone c)

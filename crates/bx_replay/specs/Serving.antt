@@ -30,36 +30,37 @@ abbrev pub shards_after : script.Line → ℕ → ℕ
 shards_after (Resharded shards) before = shards
 shards_after _ before = before
 
--- `text`, which is what the lines after `old` print, was appended.
+-- From `before` to `after`, `text` was appended. `text` is what the lines of `new` after those of
+-- `old` print.
 pub record Prints (config : Config) (old new : List script.Line) (before after : Option (List ℕ)) : Type 0 where
   pub text : List ℕ
   pub appends : Appends before after text
   pub is : printed_so_far config (seen_lines new) ≡ printed_so_far config (seen_lines old) ++ text
 
--- A fault ended the printing of `text`, which is what the lines after `old` print: a prefix was
--- appended.
+-- Printing failed: from `before` to `after`, only a prefix of `text` was appended. `text` is what
+-- the lines of `new` after those of `old` print.
 pub record PrintsFront (config : Config) (old new : List script.Line) (before after : Option (List ℕ)) : Type 0 where
   pub text : List ℕ
   pub front : AppendsFront before after text
   pub is : printed_so_far config (seen_lines new) ≡ printed_so_far config (seen_lines old) ++ text
 
--- `ls` are the lines that were read, if the bytes are known.
+-- If the text is known, its lines are `ls`, which were read, followed by the lines of the rest.
 abbrev pub Reads : Dialect → Option (List ℕ) → Option (List ℕ) → List script.Line → Type 0
 Reads dialect None new ls = ⊤
 Reads dialect (Some xs) None ls = ⊥
 Reads dialect (Some xs) (Some ys) ls = lines_in dialect xs ≡ read_lines ls ++ lines_in dialect ys
 
--- `ls` are all lines of the text, if it is known.
+-- If the text is known, `ls` are all its lines.
 abbrev pub IsAll : Dialect → Option (List ℕ) → List script.Line → Type 0
 IsAll dialect None ls = ⊤
 IsAll dialect (Some text) ls = read_lines ls ≡ lines_in dialect text
 
--- What is printed at the end for the held lines.
+-- What is printed at the end for the inputs that are still held.
 abbrev pub held_lines : Config → List script.Line → List ℕ
 held_lines config ls = held_texts (inputs_from 1 (seen_lines ls)) (held config (inputs_in (seen_lines ls)))
 
--- All outs of the lines' inputs were appended, and the held inputs are kept. `number` counts the
--- lines.
+-- `inputs` are those of the lines `ls`, and `added` are all their outs. What is kept belongs to
+-- inputs, and each held input is kept. `number` is the number of lines.
 pub record Served (config : Config) (ls : List Line) (inputs : List ReadInput) (added : List Out) (kept : ℕ → Option PendingLine) (number : ℕ) : Type 0 where
   pub inputs_are : inputs ≡ inputs_in ls
   pub added_are : added ≡ outs config (inputs_in ls)
@@ -68,7 +69,8 @@ pub record Served (config : Config) (ls : List Line) (inputs : List ReadInput) (
   pub number_is : number ≡ length ls
 
 module _ {P : Type 0} {g : Ghosts P} where
-  -- A round ran one more input. The outs of all inputs that it completed were printed.
+  -- The round `new` is `old` after one more input, `one`. The outs that this added were printed,
+  -- from `before` to `after`. `keeps` has what is still kept, which includes each held input.
   pub record Hands (old : Round P g) (one : Numbered) (new : Round P g) (before after : Option (List ℕ)) (kept keeps : ℕ → Option PendingLine) : Type 0 where
     pub more : List Out
     pub inputs : inputs_of new ≡ inputs_of old ++ one.input ∷ []
@@ -79,14 +81,15 @@ module _ {P : Type 0} {g : Ghosts P} where
     pub held_are : AllKept keeps (held (setup_in new).config (inputs_of new))
     pub prints : (numbered : List Numbered) → length numbered ≡ length (inputs_of old) → AreKept numbered kept → PrintsOuts (numbered ++ one ∷ []) more before after keeps
 
-  -- A fault ended the printing of one more input's outs: a prefix was appended.
+  -- Printing failed: from `before` to `after`, only a prefix of the text of some outs was appended.
+  -- They are those that one more input, `one`, adds to the round `old`.
   pub record HandsFront (old : Round P g) (one : Numbered) (before after : Option (List ℕ)) (kept : ℕ → Option PendingLine) : Type 0 where
     pub more : List Out
     pub adds : outs (setup_in old).config (inputs_of old ++ one.input ∷ []) ≡ outs (setup_in old).config (inputs_of old) ++ more
     pub prints : (numbered : List Numbered) → length numbered ≡ length (inputs_of old) → AreKept numbered kept → AppendsFront before after (outs_text (numbered ++ one ∷ []) more)
 
-  -- The invariant: the outs of the lines are printed; the held inputs and the next request's nonce
-  -- are kept.
+  -- The server `s` has run the inputs of its lines, and keeps something of each held input. It has
+  -- the nonce of the next request.
   pub record Serves (s : ReplayServer P g) : Type 0 where
     pub served : Served (setup_in s.round).config (seen_lines s.lines) (inputs_of s.round) (added_by s.round) (get nat_cmp s.kept) s.number
     pub nonce_is : s.nonce ≡ nonce_at (read_lines s.lines)

@@ -33,7 +33,7 @@ count_in limit digits = option_and_then (λ n. if nat_le 1 n && nat_le n limit t
 abbrev pub time_in : List ℕ → Option ℕ
 time_in digits = option_and_then (λ n. if nat_lt n (2 ^ 32) then Some n else None) (number_of digits)
 
--- The settings of seven arguments.
+-- The settings that seven positional arguments give, if all of them are valid.
 abbrev pub settings_of : List ℕ → List ℕ → List ℕ → List ℕ → List ℕ → List ℕ → List ℕ → Option Settings
 settings_of shards workers timeout interval max_interval options limit = do
   s ← count_in 64 shards
@@ -45,7 +45,8 @@ settings_of shards workers timeout interval max_interval options limit = do
   l ← count_in 65536 limit
   Some (record { shards = s; workers = w; timeout = t; interval = i; max_interval = m; ride = o.ride; anonymous = o.anonymous; limit = l; bytes = STANDARD_BYTES; sessions = STANDARD_SESSIONS; patterns = STANDARD_PATTERNS })
 
--- The settings of five to seven arguments; options default to `-`, the limit to 1024.
+-- The settings that five to seven positional arguments give, if all of them are valid. The options
+-- default to `-`, and the limit of waiting events to 1024.
 abbrev pub positional_settings : List (List ℕ) → Option Settings
 positional_settings (shards ∷ workers ∷ timeout ∷ interval ∷ max_interval ∷ []) = settings_of shards workers timeout interval max_interval (codes "-") (codes "1024")
 positional_settings (shards ∷ workers ∷ timeout ∷ interval ∷ max_interval ∷ options ∷ []) = settings_of shards workers timeout interval max_interval options (codes "1024")
@@ -58,23 +59,27 @@ named_in name [] = (None, [])
 named_in name (arg ∷ []) = (None, arg ∷ [])
 named_in name (arg ∷ next ∷ args) = if bytes_eq arg name then (Some next, args) else (None, arg ∷ next ∷ args)
 
--- The settings with this limit of bytes, if given; `-` leaves them unchanged.
+-- The settings with the given limit of bytes, or `None` if the limit is invalid. Without a limit,
+-- or if it is `-`, the settings are unchanged.
 abbrev pub with_bytes : Option (List ℕ) → Settings → Option Settings
 with_bytes None s = Some s
 with_bytes (Some arg) s = if bytes_eq arg (codes "-") then Some s else option_map (λ n. record s { bytes = n }) (count_in MAX_BYTES arg)
 
--- The settings with this limit of sessions, if given.
+-- The settings with the given limit of sessions, or `None` if the limit is invalid. Without a
+-- limit, the settings are unchanged.
 abbrev pub with_sessions : Option (List ℕ) → Settings → Option Settings
 with_sessions None s = Some s
 with_sessions (Some arg) s = option_map (λ n. record s { sessions = n }) (count_in STANDARD_SESSIONS arg)
 
--- The settings with this limit of patterns, if given.
+-- The settings with the given limit of patterns, or `None` if the limit is invalid. Without a
+-- limit, the settings are unchanged.
 abbrev pub with_patterns : Option (List ℕ) → Settings → Option Settings
 with_patterns None s = Some s
 with_patterns (Some arg) s = option_map (λ n. record s { patterns = n }) (count_in STANDARD_PATTERNS arg)
 
--- The settings of all arguments: `--bytes`, `--sessions` and `--patterns` in this order, each
--- optional, and then five to seven others.
+-- The settings that the arguments of a replay give, if all of them are valid. The arguments are
+-- `--bytes`, `--sessions` and `--patterns`, in this order and each optional, and then five to seven
+-- positional ones.
 abbrev pub settings_in : List (List ℕ) → Option Settings
 settings_in args =
     let bytes = named_in (codes "--bytes") args in

@@ -12,15 +12,18 @@ pub enum ArgumentError {
     Workers,
     /// The timeout (how long a connect is held) is not a number of milliseconds below 2^32.
     Timeout,
-    /// The interval (how long clients wait between two connects) is not such a number.
+    /// The interval (how long clients wait between two connects) is not a number of milliseconds
+    /// below 2^32.
     Interval,
-    /// The longest interval (how long a message keeps its session alive) is not such a number.
+    /// The longest interval is not a number of milliseconds below 2^32.
+    ///
+    /// The longest interval is how long a message keeps its session alive.
     MaxInterval,
     /// The options are not `-`, `r`, `a` or `ra`.
     Options,
     /// The number of events that may wait for a session is not 1 to 65,536.
     Limit,
-    /// The number of bytes that these events may have is neither `-` nor 1 to 4,294,967,295.
+    /// The limit of bytes of a session's waiting events is neither `-` nor 1 to 4,294,967,295.
     Bytes,
     /// The number of sessions that may be live is not 1 to 65,536.
     Sessions,

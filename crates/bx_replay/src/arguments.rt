@@ -106,7 +106,7 @@ impl Arguments {
         }
     }
 
-    // Sets the limit of waiting bytes to `arg`, if given. Returns `None` if it is invalid.
+    // Sets the limit of waiting bytes to `arg`, if given. Returns `None` if `arg` is invalid.
     fn with_bytes(self, arg: Option<&[u8]>) -> Option<Arguments>
         requires { HasStandardLimits self }
         ensures settings { option_map run_by result ≡ with_bytes (option_map (λ arg. arg.now) arg.entry) (run_by self) }
@@ -125,7 +125,7 @@ impl Arguments {
         })
     }
 
-    // Sets the limit of live sessions to `arg`, if given. Returns `None` if it is invalid.
+    // Sets the limit of live sessions to `arg`, if given. Returns `None` if `arg` is invalid.
     fn with_sessions(self, arg: Option<&[u8]>) -> Option<Arguments>
         requires { HasStandardLimits self }
         ensures settings { option_map run_by result ≡ with_sessions (option_map (λ arg. arg.now) arg.entry) (run_by self) }
@@ -141,7 +141,8 @@ impl Arguments {
         })
     }
 
-    // Sets the limit of a session's patterns to `arg`, if given. Returns `None` if it is invalid.
+    // Sets the limit of a session's patterns to `arg`, if given. Returns `None` if `arg` is
+    // invalid.
     fn with_patterns(self, arg: Option<&[u8]>) -> Option<Arguments>
         requires { HasStandardLimits self }
         ensures settings { option_map run_by result ≡ with_patterns (option_map (λ arg. arg.now) arg.entry) (run_by self) }
@@ -157,7 +158,8 @@ impl Arguments {
         })
     }
 
-    // Parses seven positional arguments.
+    // Parses seven positional arguments, with the standard limits of bytes, sessions and patterns.
+    // Returns the error of the first one that is invalid.
     fn parse_seven(
         shards: &[u8],
         workers: &[u8],
@@ -194,7 +196,7 @@ fn named_in<'a, 'b>(name: &[u8], args: &'a [&'b [u8]]) -> (Option<&'b [u8]>, &'a
     }
 }
 
-// Parses a number of shards, 1 to 64.
+// Parses a number of shards. Returns `None` if `digits` are not a number from 1 to 64.
 fn shards_in(digits: &[u8]) -> Option<usize>
     ensures { result ≡ count_in 64 digits.now }
 {
@@ -206,7 +208,7 @@ fn shards_in(digits: &[u8]) -> Option<usize>
     }
 }
 
-// Sets the options to those of `arg`. Returns `None` if it is invalid.
+// Sets the options of `config` to those of `arg`. Returns `None` if `arg` is invalid.
 fn with_options(config: Config, arg: &[u8]) -> Option<Config>
     ensures settings { result
         ≡ option_map (λ (o : Options). record config { ride = o.ride; anonymous = o.anonymous }) (options_in arg.now) }
@@ -215,7 +217,7 @@ fn with_options(config: Config, arg: &[u8]) -> Option<Config>
     Some(config.with(Options::read(arg)?))
 }
 
-// Sets the limit of a session's waiting events. Returns `None` if it is invalid.
+// Sets the limit of a session's waiting events to `limit`. Returns `None` if `limit` is invalid.
 fn with_limit(config: Config, limit: &[u8]) -> Option<Config>
     ensures settings { result
         ≡ option_map (λ n. record config { limits = record config.limits { events = n } }) (count_in 65536 limit.now) }
@@ -227,21 +229,21 @@ fn with_limit(config: Config, limit: &[u8]) -> Option<Config>
     config.with_limit(time_in(limit)?)
 }
 
-// Parses a number of workers, 1 to 16.
+// Parses a number of workers. Returns `None` if `digits` are not a number from 1 to 16.
 fn workers_in(digits: &[u8]) -> Option<WorkerCount>
     ensures { result ≡ count_in 16 digits.now }
 {
     WorkerCount::new(size_in(digits)?)
 }
 
-// Parses a number of 64 bits.
+// Parses a number. Returns `None` if `digits` are not a number below 2^64.
 fn size_in(digits: &[u8]) -> Option<usize>
     ensures { result ≡ number_of digits.now }
 {
     usize::try_from(number_of(digits)?).ok()
 }
 
-// Parses a number of 32 bits.
+// Parses a number. Returns `None` if `digits` are not a number below 2^32.
 fn time_in(digits: &[u8]) -> Option<u32>
     ensures { result ≡ time_in digits.now }
 {

@@ -53,7 +53,7 @@ fn first_line(text: &[u8]) -> &[u8]
     }
 }
 
-// Returns the index of the first newline.
+// Returns the index of the first newline, if any.
 fn end_in(text: &[u8]) -> Option<usize>
     ensures { result ≡ position is_newline text.now }
 {

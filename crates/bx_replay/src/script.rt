@@ -51,7 +51,7 @@ pub fn replay<T: Threads + Sync, P: Placing + Drop + Send + Sync, R: BufRead, W:
     finish(alloc, &server, writer)
 }
 
-// Processes all lines that the reader has.
+// Processes all lines that are left in `lines`, and returns the server after them.
 fn answer_all<T: Threads + Sync, P: Placing + Drop + Send + Sync, R: BufRead, W: Write>(
     rt: &T,
     alloc: Global,

@@ -65,7 +65,7 @@ pub fn new_server<P: Placing + Drop>(
     })
 }
 
-/// Processes `line`, and prints the outs that result.
+/// Processes `line`, prints the outs that result, and returns the server after it.
 ///
 /// `placing`: the placing to use if `line` changes the number of shards.
 ///
@@ -137,7 +137,8 @@ pub fn answer<T: Threads + Sync, P: Placing + Drop + Send + Sync, W: Write>(
     }
 }
 
-// Sets the nonce of a request to `nonce`. Returns the input, and the nonce of the next request.
+// Sets the nonce of `input` to `nonce` if it is a request. Returns the input, and the nonce of the
+// next request: 0 after a request, otherwise `nonce`.
 fn take_nonce(nonce: u128, input: Input) -> (Input, u128)
     ensures input { read_input result.0 ≡ with_nonce nonce (read_input input) }
     ensures left { result.1 ≡ nonce_left nonce (read_input input) }
@@ -148,7 +149,7 @@ fn take_nonce(nonce: u128, input: Input) -> (Input, u128)
     }
 }
 
-// Runs one more input, and prints the outs that result.
+// Runs one more input, which is at line `line`, and prints the outs that result.
 fn hand<T: Threads + Sync, P: Placing + Send + Sync, W: Write>(
     rt: &T,
     alloc: Global,

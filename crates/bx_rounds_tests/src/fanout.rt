@@ -1,6 +1,6 @@
-//! Tests of rounds: with one run or several, one worker or several, and several placings.
+//! Tests of rounds, with one run or several, one worker or several, and several placings.
 //!
-//! Also with riders, and after the sessions are redistributed.
+//! Some have riders, and some redistribute the sessions among more shards.
 ghost use Rattle.std.specs.Prelude.{◌≤◌};
 
 use crate::requests::request;
@@ -17,8 +17,8 @@ use std::sync::atomic::{AtomicBool, AtomicU16, Ordering};
 use std::test::Fail;
 use std::thread::{Threads, yield_now};
 
-// Number of sessions opened before the inputs, each by a request. They subscribe to nothing. With
-// fewer live sessions, one worker would handle an event alone.
+// Number of sessions opened before `INPUTS`, each by a request. They subscribe to nothing. With
+// fewer live sessions, one worker would apply a publish alone.
 const CROWD: usize = 1_024;
 
 // More inputs than any test has.
@@ -27,8 +27,9 @@ const MOST_INPUTS: usize = 10_000;
 const HANDSHAKE: &str =
     r#"{"channel":"/meta/handshake","version":"1.0","supportedConnectionTypes":["long-polling"]}"#;
 
-// Inputs after the crowd, with their moments: two handshakes, a subscription and a connect of the
-// first session, and a publish of the second session, which answers the connect.
+// Moments and bodies of the inputs after the first `CROWD` handshakes: two more handshakes, a
+// subscription and a connect of the first new session, and a publish of the second, which answers
+// the connect.
 const INPUTS: [(u64, &str); 5] = [
     (
         0,
@@ -52,7 +53,8 @@ const INPUTS: [(u64, &str); 5] = [
     ),
 ];
 
-// The number and response of each out, in the order in which they are appended.
+// The number and the response of each out that `INPUTS` give, in the order in which outs are
+// appended.
 const OUTS: [(usize, &str); 5] = [
     (
         1_024,
@@ -73,9 +75,9 @@ const OUTS: [(usize, &str); 5] = [
     (1_028, r#"[{"channel":"/a/b","successful":true}]"#),
 ];
 
-// Inputs after `INPUTS` in a round with riders. The second session publishes another event, which
-// waits for the first session. Then the first session publishes, and gets both events and then the
-// reply.
+// Moments and bodies of inputs after `INPUTS`, in a round with riders. The second session publishes
+// an event, which waits for the first session. Then the first session publishes, and gets its own
+// event too, before the reply.
 const RIDING: [(u64, &str); 2] = [
     (
         30,
@@ -95,13 +97,14 @@ const RIDDEN: [(usize, &str); 2] = [
     ),
 ];
 
-// A connect after `RIDING`, which is held.
+// The moment and body of a connect after `RIDING`, which is held.
 const ALONE: [(u64, &str); 1] = [(
     40,
     r#"{"channel":"/meta/connect","clientId":"000000000000000000000000000000000000000000000401","connectionType":"long-polling"}"#,
 )];
 
-// A run: its inputs, its outs, and after it, how many inputs were started and which are held.
+// A run: its inputs, its outs, the number of inputs started by its end, and the numbers of those
+// then held.
 type HoldRun = (
     &'static [(u64, &'static str)],
     &'static [(usize, &'static str)],
@@ -126,21 +129,21 @@ const TOGETHER: [HoldRun; 1] = [(
     &[2],
 )];
 
-// The same with one run for each input.
+// Three runs of one input each: a session's connect is held until the session connects again.
 const APART: [HoldRun; 3] = [
     (&[(0, HANDSHAKE)], &[(0, OPENED_FIRST)], 1, &[]),
     (&[(1, CONNECT_FIRST)], &[], 2, &[1]),
     (&[(2, CONNECT_FIRST)], &[(1, SUPERSEDED_FIRST)], 3, &[2]),
 ];
 
-// Tables for placings. If there are two shards, the second table uses only the first shard, and the
-// others use both.
+// Shards by session number, for placings (`ByTable`). If there are two shards, the second table
+// uses only the first shard, and the others use both.
 const TABLES: [&[u8]; 3] = [&[0, 1, 2], &[], &[1, 2, 2]];
 
 // How often a waiting worker checks whether it may continue, before it gives up.
 const LOOKS: u32 = 10_000_000;
 
-// Returns the first `count` inputs.
+// Returns the first `count` of `INPUTS` as requests.
 fn inputs(alloc: Global, count: usize) -> Result<Vec<Input>, Fail> {
     requests(alloc, INPUTS.get(..count).ok_or("too few inputs")?)
 }
@@ -154,7 +157,7 @@ fn requests(alloc: Global, table: &[(u64, &str)]) -> Result<Vec<Input>, Fail> {
     Ok(inputs)
 }
 
-// Creates the requests that open the crowd's sessions.
+// Creates `CROWD` requests, each with a handshake.
 fn crowd(alloc: Global) -> Result<Vec<Input>, AllocError> {
     let mut inputs = Vec::new(alloc);
     for _ in 0..CROWD {
@@ -212,7 +215,7 @@ fn run<R: Threads + Sync, G: Gate + Sync>(
     Ok(())
 }
 
-// Opens the crowd's sessions.
+// Opens `CROWD` sessions in `round`.
 fn open_crowd<R: Threads + Sync>(
     rt: &R,
     alloc: Global,
@@ -222,7 +225,8 @@ fn open_crowd<R: Threads + Sync>(
     run(rt, alloc, &OpenGate, round, &crowd(alloc)?, &mut outs)
 }
 
-// Checks the outs of the inputs after the crowd, with at most `at_once` inputs in a run.
+// Checks that runs of at most `at_once` of `INPUTS` each append `OUTS`, in a new round of `sizes`
+// (shards and workers).
 fn check_round<R: Abort + Threads + Sync>(
     rt: &R,
     alloc: Global,
@@ -253,8 +257,8 @@ fn check_given<R: Abort + Threads + Sync>(
     check(rt, alloc, &outs, &OUTS)
 }
 
-// Checks the outs with two gates. The run up to the connect and a tick at the end use `few`. The
-// event uses `many`.
+// Checks that `INPUTS` give `OUTS`, with two gates. Runs with few deliveries call `few`: that up to
+// the connect, and a tick at the end. The run of the event calls `many`.
 fn check_gated<R: Abort + Threads + Sync, F: Gate + Sync, G: Gate + Sync>(
     rt: &R,
     alloc: Global,
@@ -298,7 +302,7 @@ fn check<R: Abort>(
     Ok(())
 }
 
-// Returns the body of an out's response.
+// Returns the body of an out's response, or fails if the input was rejected.
 fn written(alloc: Global, out: &Out) -> Result<Vec<u8>, Fail> {
     match &out.result {
         Ok(items) => Ok(body_text(alloc, items.as_slice())?),
@@ -318,7 +322,8 @@ fn one_run_gives_what_several_give(rt: HostRuntime) -> Result<(), Fail> {
     Ok(())
 }
 
-// Checks the inputs, then riders that `team` handles, and then a connect that worker 0 handles.
+// Checks the outs of `INPUTS`, then those of `RIDING` with the workers in `team`, and then that
+// worker 0 holds a connect alone.
 fn check_riding<R: Abort + Threads + Sync>(
     rt: &R,
     alloc: Global,
@@ -331,7 +336,8 @@ fn check_riding<R: Abort + Threads + Sync>(
     check_team(rt, alloc, round, 0b1, &ALONE, &[])
 }
 
-// Checks that the workers in `team` handle the inputs `asked`, and that their outs are `right`.
+// Checks that exactly the workers in `team` (bit k for worker k) take part in a run of the inputs
+// `asked`, and that the run appends the outs `right`.
 fn check_team<R: Abort + Threads + Sync>(
     rt: &R,
     alloc: Global,
@@ -371,7 +377,7 @@ fn check_riding_by<R: Abort + Threads + Sync>(
     check_riding(rt, alloc, &mut round, team)
 }
 
-// Checks that riders get the same from one worker and from four.
+// Checks that riders get the right events from one worker and from four.
 #[test]
 fn events_ride_by_one_worker_and_by_four(rt: HostRuntime) -> Result<(), Fail> {
     for (workers, team) in [(1, 0b1), (4, 0b1111)] {
@@ -380,7 +386,7 @@ fn events_ride_by_one_worker_and_by_four(rt: HostRuntime) -> Result<(), Fail> {
     Ok(())
 }
 
-// Checks how many inputs were started, and which are held.
+// Checks that `round` has started `intake` inputs, and that those with the numbers `held` are held.
 fn check_held<R: Abort>(
     rt: &R,
     alloc: Global,
@@ -393,7 +399,7 @@ fn check_held<R: Abort>(
     Ok(())
 }
 
-// Checks the outs of each run, and which inputs are held after it.
+// Checks the outs of each of `runs`, and after it which inputs are held.
 fn check_holds<R: Abort + Threads + Sync>(
     rt: &R,
     alloc: Global,
@@ -418,7 +424,7 @@ fn check_holds_by<R: Abort + Threads + Sync>(
     check_holds(rt, alloc, &mut round, runs)
 }
 
-// Checks that a round reports its held connects.
+// Checks that a round reports which connects it holds, after one run and after several.
 #[test]
 fn a_held_connect_is_told_beside_what_is_given(rt: HostRuntime) -> Result<(), Fail> {
     for workers in [1, 2] {
@@ -428,7 +434,8 @@ fn a_held_connect_is_told_beside_what_is_given(rt: HostRuntime) -> Result<(), Fa
     Ok(())
 }
 
-// A gate that stops worker `held` before its work until another worker is done.
+// A gate that stops worker `held` before its work until another worker is done. If that takes too
+// long, it sets `gave_up`.
 #[derive(Drop)]
 struct Holding {
     held: usize,
@@ -465,8 +472,8 @@ impl Gate for Holding {
     }
 }
 
-// Checks that the workers of a run run concurrently, which no clause states. If one thread did the
-// work of both in turn, worker 0 would give up.
+// Checks that the workers of a run work concurrently, which no contract states. If one thread did
+// the work of both workers in turn, the held one would give up.
 #[test]
 fn workers_run_beside_one_another(rt: HostRuntime) -> Result<(), Fail> {
     let alloc = rt.alloc();
@@ -482,7 +489,8 @@ fn workers_run_beside_one_another(rt: HostRuntime) -> Result<(), Fail> {
     Ok(())
 }
 
-// Holds a connect in a round of 4 shards, and redistributes the sessions among 64.
+// Creates a round of 4 shards with a held connect, and returns it with its sessions redistributed
+// among 64 shards.
 fn redistributed<R: Threads + Sync, G: Gate + Sync>(
     rt: &R,
     alloc: Global,
@@ -522,7 +530,7 @@ fn hold<R: Threads + Sync, G: Gate + Sync>(
     run(rt, alloc, gate, round, held, outs)
 }
 
-// Runs the last input, and checks that it ends the hold of the connect.
+// Runs the last of `INPUTS`, a publish, and checks that it answers the held connect.
 fn answer_held<R: Abort + Threads + Sync, G: Gate + Sync>(
     rt: &R,
     alloc: Global,
@@ -537,7 +545,8 @@ fn answer_held<R: Abort + Threads + Sync, G: Gate + Sync>(
     check_held(rt, alloc, round, 1_029, &[])
 }
 
-// Checks that a held connect moves with its session: the event still answers the connect.
+// Checks that a held connect moves with its session: after the sessions are redistributed, the
+// publish still answers it. `before` and `behind`: the gates of the runs before and after.
 fn check_redistributed<R: Abort + Threads + Sync, G: Gate + Sync>(
     rt: &R,
     alloc: Global,
@@ -550,10 +559,11 @@ fn check_redistributed<R: Abort + Threads + Sync, G: Gate + Sync>(
     check(rt, alloc, &outs, &OUTS)
 }
 
-// A gate at which workers wait until their whole team is there.
+// A gate at which workers wait until all workers of `team` are there. If that takes too long, it
+// sets `gave_up`.
 #[derive(Drop)]
 struct Meeting {
-    // Has a bit for each worker of the team.
+    // Bit k is set if worker k belongs to the team.
     team: u16,
     came: AtomicU16,
     went: AtomicU16,
@@ -591,16 +601,17 @@ impl Gate for Meeting {
     }
 }
 
-// Checks that all workers of the team were there at the same time, and finished their work.
+// Checks that exactly the workers of the team met at the gate, and that all of them finished their
+// work.
 fn check_met<R: Abort>(rt: &R, meeting: &Meeting) {
     let (team, went) = (meeting.team, meeting.went.load(Ordering::SeqCst));
     assert!(rt; !meeting.gave_up.load(Ordering::SeqCst), "team {team:b}");
     assert_eq!(rt; went, team, "team {team:b}");
 }
 
-// Checks that each worker has a thread, which no clause states. With fewer threads, workers would
-// give up. The event could reach the crowd, so every worker with a shard takes part. The other
-// inputs have too few deliveries for that.
+// Checks that each worker has its own thread, which no contract states. With fewer threads, workers
+// would give up. Every worker with a shard takes part in the run of the publish, since the publish
+// could reach the sessions of the crowd. The other inputs have too few deliveries for that.
 #[test]
 fn as_many_threads_run_as_workers(rt: HostRuntime) -> Result<(), Fail> {
     let alloc = rt.alloc();
@@ -614,7 +625,8 @@ fn as_many_threads_run_as_workers(rt: HostRuntime) -> Result<(), Fail> {
     Ok(())
 }
 
-// Checks that a held connect moves to one of 64 shards, and that each worker has some of them.
+// Checks that a held connect is answered after its session moves to one of 64 shards, and that each
+// of 16 workers then has some of the shards.
 #[test]
 fn each_worker_finds_a_shard_among_more(rt: HostRuntime) -> Result<(), Fail> {
     let alloc = rt.alloc();

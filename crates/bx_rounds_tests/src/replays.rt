@@ -14,8 +14,8 @@ use std::sync::Arc;
 use std::test::Fail;
 use std::thread::Threads;
 
-// Scripts and what a replay of each writes. In the first, a connect supersedes another, and two
-// lines are wrong. In the second, an event answers a connect.
+// Scripts, each with what a replay of it writes. In the first, a connect supersedes another, and
+// two lines are wrong. In the second, an event answers a connect.
 const RUNS: [(&str, &str); 2] = [
     (
         r#"0 P [{"channel":"/meta/handshake","version":"1.0","supportedConnectionTypes":["long-polling"]}]
@@ -47,8 +47,8 @@ x
     ),
 ];
 
-// In the first, an event answers two of three connects. In the second, a batch is sent again after
-// the sessions are redistributed.
+// Scripts, each with what a replay of it writes. In the first, an event answers two of three
+// connects. In the second, a batch is sent again after the sessions are redistributed.
 const PLACED: [(&str, &str); 2] = [
     (
         r#"0 P [{"channel":"/meta/handshake","version":"1.0","supportedConnectionTypes":["long-polling"]}]
@@ -87,9 +87,9 @@ const PLACED: [(&str, &str); 2] = [
     ),
 ];
 
-// In the first, a connect supersedes another. In the second, clients also disconnect sessions that
-// are not live. In the third, a tick ends a session, which publishes after that. In the fourth, a
-// batch is sent until it is acknowledged.
+// Scripts, each with what a replay of it writes. In the first, a connect supersedes another. In the
+// second, clients also disconnect sessions that are not live. In the third, a tick ends a session,
+// which publishes after that. In the fourth, a batch is sent until it is acknowledged.
 const WHOLE: [(&str, &str); 4] = [
     (
         r#"0 P [{"channel":"/meta/handshake","version":"1.0","supportedConnectionTypes":["long-polling"]}]
@@ -157,7 +157,8 @@ const WHOLE: [(&str, &str); 4] = [
     ),
 ];
 
-// Replays the script in `lines` with two workers and three shards, and returns the result.
+// Replays the script in `lines` to `output`, with two workers and three shards, and returns the
+// replay's result.
 fn replayed<T, P, R, W>(
     rt: &T,
     alloc: Global,
@@ -272,8 +273,9 @@ impl Write for Writer {
     }
 }
 
-// Returns `true` if the replay succeeded, and checks that it wrote `right`. Otherwise checks that
-// it failed with `fault`, and that it wrote a prefix of `right`.
+// Returns `true` if `ended` is `Ok`, after checking that `written` equals `right`. Otherwise
+// returns `false`, after checking that the error is `fault` and that `written` is a prefix of
+// `right`.
 fn is_whole<R: Abort>(
     rt: &R,
     ended: Result<(), ScriptFault>,
@@ -290,7 +292,8 @@ fn is_whole<R: Abort>(
     false
 }
 
-// Replays a script from a reader that fails after `reads` reads, and checks it by `is_whole`.
+// Replays a script from a reader that fails after `reads` reads. Returns `true` if the replay
+// succeeds and writes `right`, and `false` if it fails as a read and writes a prefix of `right`.
 fn check_read<R: Abort + Threads + Sync>(
     rt: &R,
     alloc: Global,
@@ -337,7 +340,8 @@ fn a_failed_read_leaves_a_front(rt: HostRuntime) -> Result<(), Fail> {
     Ok(())
 }
 
-// Replays a script to `writer`, which may fail, and checks it by `is_whole`.
+// Replays a script to `writer`, which may fail. Returns `true` if the replay succeeds and writes
+// `right`, and `false` if it fails as a write and writes a prefix of `right`.
 fn check_writer<R: Abort + Threads + Sync>(
     rt: &R,
     alloc: Global,

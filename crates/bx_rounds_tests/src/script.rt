@@ -12,7 +12,7 @@ use std::io::{BufRead, BufReader, Read, Write};
 use std::process::Abort;
 use std::test::Fail;
 
-// Describes a line. A document of more than 9 bytes is given by its length in bytes.
+// Returns a description of `line`. It gives a document of more than 9 bytes by its length in bytes.
 fn told(alloc: Global, line: &Line) -> Result<String, AllocError> {
     match line {
         Line::Bad => String::from_str(alloc, "bad"),
@@ -51,7 +51,7 @@ fn told_input(alloc: Global, name: &str, input: &Input) -> Result<String, AllocE
     Ok(text)
 }
 
-// Describes all lines that `reader` has, each followed by a semicolon.
+// Returns the descriptions of all lines that `reader` has, each followed by a semicolon.
 fn all_told<R: BufRead>(
     alloc: Global,
     dialect: Dialect,
@@ -71,14 +71,15 @@ fn all_told<R: BufRead>(
     Err(ScriptFault::Read)
 }
 
-// Lines of all kinds.
+// Lines of all kinds that a record may have.
 const SCRIPT: &[u8] =
     b"0 P []\r\n0 T\r\n\0\n0 P \0\n\n000000000000000000000000000007 T\n100000000000000000000000000007 T\n T\n00 T\n1 G jsonp=cb&message=%5B%5D\n0 G \n0 S 0\n0 S 64\n0 S 65\n0 S 00000000000000000000000000001\n0 T\n2 F message=%5B%5D&jsonp=cb&message=+\n0 F \n0 F jsonp=cb\n0 F\n3 N 000000000000000000000000000000fF\n0 N 00000000000000000000000000000ff\n0 N 0000000000000000000000000000000ff\n0 N +00000000000000000000000000000ff\n0 N 000000000000000000000000000000fg\n0 N ffffffffffffffffffffffffffffffff\nA 7 4f53cda18c2baa0c0354bb5f9a3ecbe5ed12ab4d8e11ba873c2f11161202b945\nA 18446744073709551615 4F53CDA18C2BAA0C0354BB5F9A3ECBE5ED12AB4D8E11BA873C2F11161202B945\nA 007 4f53cda18c2baa0c0354bb5f9a3ecbe5ed12ab4d8e11ba873c2f11161202b945\nA 18446744073709551616 4f53cda18c2baa0c0354bb5f9a3ecbe5ed12ab4d8e11ba873c2f11161202b945\nA 7 4f53cda18c2baa0c0354bb5f9a3ecbe5ed12ab4d8e11ba873c2f11161202b94\nA 7 4f53cda18c2baa0c0354bb5f9a3ecbe5ed12ab4d8e11ba873c2f11161202b9450\nA 7 4f53cda18c2baa0c0354bb5f9a3ecbe5ed12ab4d8e11ba873c2f11161202b94g\nA 7\nA\nA  4f53cda18c2baa0c0354bb5f9a3ecbe5ed12ab4d8e11ba873c2f11161202b945\nA 4f53cda18c2baa0c0354bb5f9a3ecbe5ed12ab4d8e11ba873c2f11161202b945\nA 7  4f53cda18c2baa0c0354bb5f9a3ecbe5ed12ab4d8e11ba873c2f11161202b945\nA -7 4f53cda18c2baa0c0354bb5f9a3ecbe5ed12ab4d8e11ba873c2f11161202b945\n5 A 7 4f53cda18c2baa0c0354bb5f9a3ecbe5ed12ab4d8e11ba873c2f11161202b945\n0A 7 4f53cda18c2baa0c0354bb5f9a3ecbe5ed12ab4d8e11ba873c2f11161202b945";
 
 const TOLD: &str =
     "post 0 - |[]\r|;bad;bad;post 0 - |\0|;bad;tick 7;bad;bad;tick 0;post 1 cb |[]|;turned 400;bad;shards 64;bad;shards 1;tick 0;post 2 - |[]| | |;turned 400;turned 400;bad;nonce 255;bad;bad;bad;bad;nonce 340282366920938463463374607431768211455;note;note;note;bad;bad;bad;bad;bad;bad;bad;bad;bad;bad;bad;bad;";
 
-// The same lines, read as a script. Lines that only a record may have are bad there.
+// The descriptions of the lines of `SCRIPT`, read as a script. Lines that only a record may have
+// are bad there.
 const TOLD_AS_SCRIPT: &str =
     "post 0 - |[]\r|;bad;bad;post 0 - |\0|;bad;tick 7;bad;bad;tick 0;post 1 cb |[]|;turned 400;bad;shards 64;bad;shards 1;tick 0;bad;bad;bad;bad;bad;bad;bad;bad;bad;bad;bad;bad;bad;bad;bad;bad;bad;bad;bad;bad;bad;bad;bad;bad;bad;";
 
@@ -108,7 +109,8 @@ impl Read for Slow {
     }
 }
 
-// Checks the description of the record in `reader`, or the fault that reading it results in.
+// Checks that the record in `reader` has the description `wanted`, or that reading it fails with
+// the fault `wanted`.
 fn check_told<R: BufRead>(
     rt: &impl Abort,
     alloc: Global,
@@ -133,7 +135,7 @@ fn check_slowly(
     Ok(())
 }
 
-// Checks what each line is read as, also from slow and failing readers.
+// Checks the descriptions of all lines, also with slow and failing readers.
 #[test]
 fn lines_say_what_they_say(rt: HostRuntime) -> Result<(), Fail> {
     let alloc = rt.alloc();
@@ -154,7 +156,8 @@ fn lines_say_what_they_say(rt: HostRuntime) -> Result<(), Fail> {
     Ok(())
 }
 
-// Returns the number of lines, or `None` if one is not accepted or there are more than 5,000.
+// Returns the number of lines of `script`, or `None` if one is not accepted or there are more than
+// 5,000.
 fn handed(alloc: Global, script: &str) -> Result<Option<u32>, ScriptFault> {
     let mut lines = Lines::new(alloc, Dialect::Script, script.as_bytes());
     for count in 0..5_001 {
@@ -180,7 +183,7 @@ fn a_script_has_thousands_of_lines(rt: HostRuntime) -> Result<(), Fail> {
     Ok(())
 }
 
-// Creates a line of `head`, then `byte` `count` times, and `end`. A line with a tick follows it.
+// Creates a script of two lines: `head`, `count` times `byte` and `end`, followed by a tick.
 fn long_script(
     alloc: Global,
     head: &str,
@@ -223,7 +226,7 @@ fn long_lines_say_what_they_say(rt: HostRuntime) -> Result<(), Fail> {
     Ok(())
 }
 
-// Writes the answers to eight lines of a script.
+// Writes the answers to eight lines of a script to `out`.
 fn write_all(alloc: Global, out: &mut Output<&mut Vec<u8>>) -> Result<(), ScriptFault> {
     write_bad(out, 1)?;
     write_status(out, 2, Status::TooLarge)?;

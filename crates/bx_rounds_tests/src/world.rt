@@ -12,15 +12,15 @@ use std::test::Fail;
 // A step of a schedule.
 #[derive(Clone, Copy, Debug)]
 enum Deed {
-    // A request's moment and body.
+    // Admits a request with this moment and body.
     Post(u64, &'static str),
     Tick(u64),
     Apply(usize),
-    // A ticket's place and shard.
+    // Takes the answer under the ticket with this place and shard.
     Take(u64, usize),
 }
 
-// A step and its output as text.
+// A step, and its expected output as text.
 type Line = (Deed, &'static str);
 
 // Two handshakes, and a subscription of the first session.
@@ -48,8 +48,8 @@ const OPENING: [Line; 3] = [
     ),
 ];
 
-// After `OPENING`, the connect of the first session: if that session is in shard 0, and if it is in
-// shard 1.
+// The connect of the first session after `OPENING`: the first line if the session is in shard 0,
+// the second if it is in shard 1.
 const CONNECT: [Line; 2] = [
     (
         Deed::Post(
@@ -67,7 +67,7 @@ const CONNECT: [Line; 2] = [
     ),
 ];
 
-// After the connect, the second session publishes an event, which answers the connect.
+// A publish of the second session after `CONNECT`, with an event that answers the connect.
 const EVENT: Line = (
     Deed::Post(
         20,
@@ -76,7 +76,7 @@ const EVENT: Line = (
     r#"from 4: {"channel":"/a/b","successful":true}"#,
 );
 
-// The answer to the connect.
+// The output of a step that takes the answer to the connect of `CONNECT`.
 const ANSWER: &str =
     r#"{"channel":"/a/b","data":7}{"advice":{"interval":0,"reconnect":"retry","timeout":30000},"channel":"/meta/connect","clientId":"000000000000000000000000000000000000000000000001","successful":true}"#;
 
@@ -153,7 +153,7 @@ fn steps(alloc: Global, lines: &[Line]) -> Result<Vec<Step>, AllocError> {
     Ok(steps)
 }
 
-// Appends an output as text.
+// Appends `out` as text to `text`.
 fn push_out(alloc: Global, out: &StepOut, text: &mut Vec<u8>) -> Result<(), AllocError> {
     match out {
         StepOut::Admitted { first, slots } => push_slots(alloc, *first, slots.as_slice(), text),
@@ -213,7 +213,7 @@ fn world<P: Placing + Drop>(alloc: Global, placing: &Arc<P>) -> Result<World<P>,
     Ok(World::new(alloc, config, placing.clone()?)?)
 }
 
-// Checks the outputs of the schedule `lines`, in one run.
+// Checks the outputs of the schedule `lines`, run by one call.
 fn check_run<R: Abort, P: Placing>(
     rt: &R,
     alloc: Global,
@@ -230,7 +230,7 @@ fn check_run<R: Abort, P: Placing>(
     Ok(())
 }
 
-// Checks the outputs of the schedule `lines`, step by step.
+// Checks the outputs of the schedule `lines`, with a call for each step.
 fn check_steps<R: Abort, P: Placing>(
     rt: &R,
     alloc: Global,
@@ -258,7 +258,7 @@ fn check<R: Abort, P: Placing + Drop>(
 
 // Checks the outputs of the schedule `lines` in a new world.
 //
-// Runs it at once if `at_once`, and otherwise step by step.
+// If `at_once`, runs the schedule by one call, and otherwise with a call for each step.
 fn check_in<R: Abort, P: Placing + Drop>(
     rt: &R,
     alloc: Global,
@@ -274,8 +274,8 @@ fn check_in<R: Abort, P: Placing + Drop>(
     }
 }
 
-// Creates a schedule of the five entries, followed by the given lines. `shard`: that of the session
-// that connects.
+// Creates a schedule of `OPENING`, `CONNECT` and `EVENT`, followed by the lines `behind`. `shard`:
+// that of the session that connects.
 fn schedule(alloc: Global, shard: usize, behind: &[Line]) -> Result<Vec<Line>, Fail> {
     let mut lines = Vec::from_slice(alloc, &OPENING)?;
     lines.push(*CONNECT.get(shard).ok_or("no shard")?)?;
@@ -284,7 +284,7 @@ fn schedule(alloc: Global, shard: usize, behind: &[Line]) -> Result<Vec<Line>, F
     Ok(lines)
 }
 
-// Checks the output of each step of two schedules.
+// Checks the outputs of two schedules: shards that apply entries in turn, and a held connect.
 #[test]
 fn each_step_gives_its_output(rt: HostRuntime) -> Result<(), Fail> {
     let alloc = rt.alloc();
@@ -293,9 +293,10 @@ fn each_step_gives_its_output(rt: HostRuntime) -> Result<(), Fail> {
     check(&rt, alloc, &placing, &HELD)
 }
 
-// Creates ten steps that apply an entry, five for each shard. Bit k of `order` is the shard of step
-// k, from 0. After each of them, another step takes the answer to the connect, if it is filed. The
-// fifth entry that `shard` applies files it.
+// Creates ten steps that apply an entry, five for each shard. Bit k of `order` is the shard of the
+// k-th of them, from 0. After each, a further step takes the answer to the connect, if it is filed.
+// The session that connects is in `shard`, which files the answer at the fifth entry that it
+// applies.
 fn applications(alloc: Global, order: u32, shard: usize) -> Result<Vec<Line>, AllocError> {
     let mut lines = Vec::new(alloc);
     let mut left = 5_u32;
@@ -312,7 +313,8 @@ fn applications(alloc: Global, order: u32, shard: usize) -> Result<Vec<Line>, Al
     Ok(lines)
 }
 
-// Checks all orders of the steps of `applications`. `shard`: that of the session that connects.
+// Checks the outputs of all orders in which two shards can apply five entries each. `shard`: that
+// of the session that connects.
 fn check_orders<R: Abort, P: Placing + Drop>(
     rt: &R,
     alloc: Global,
@@ -329,7 +331,7 @@ fn check_orders<R: Abort, P: Placing + Drop>(
     Ok(())
 }
 
-// Checks that the order in which shards apply entries does not matter.
+// Checks that shards may apply entries in any order: the answer to a connect is the same.
 #[test]
 fn no_order_of_the_shards_matters(rt: HostRuntime) -> Result<(), Fail> {
     let alloc = rt.alloc();
@@ -349,8 +351,8 @@ fn ticked<P: Placing>(alloc: Global, world: &mut World<P>, moment: u64) -> Resul
     }
 }
 
-// Checks that a tick after the greatest moment is rejected and changes nothing. One at that moment
-// becomes the first entry of the list.
+// Checks that a tick at a moment above the greatest is rejected and changes nothing, and that a
+// tick at the greatest moment becomes the first entry of the list.
 fn check_calls<R: Abort, P: Placing>(
     rt: &R,
     alloc: Global,
@@ -369,7 +371,7 @@ fn check_calls<R: Abort, P: Placing>(
     Ok(())
 }
 
-// Checks that a tick is admitted up to the greatest moment.
+// Checks that ticks are admitted up to the greatest moment, and rejected above it.
 #[test]
 fn a_tick_is_taken_up_to_the_greatest_moment(rt: HostRuntime) -> Result<(), Fail> {
     let alloc = rt.alloc();

@@ -53,8 +53,8 @@ impl<T> Timeouts<T> {
 }
 
 impl<T: Timer> Timeouts<T> {
-    // Returns the instant at which a wait that begins now must end, or `None` if the clock cannot
-    // be read or the instant is too large. The first wait sets `end`, if `whole` is given.
+    // Returns the instant at which a wait that begins now must end. It is `None` if the clock
+    // cannot be read or the instant is too large. The first wait sets `end`, if `whole` is given.
     fn deadline(&mut self) -> Option<Instant>
         ensures in_time { IfSome result (λ d. IfSome self.new.end (λ e. instant_nanos d ≤ instant_nanos e)) }
         ensures sleep { self.new.sleep ≡ self.old.sleep }

@@ -64,8 +64,9 @@ module _ {I : Type 0} (gives : I → Gathered → Type 0) where
     ForQuery (Ok taken) sent = ForDocuments (Some taken.0) taken.1 sent
     ForQuery (Err error) sent = IsRefusal (transport_status error) sent
 
-    -- `sent` is the response to a POST after collecting its body: for the body read as `kind`, or
-    -- 503 if memory runs out for its documents. After an error it is the status of the error.
+    -- `sent` is the response to a POST after collecting its body: for the body, read by its content
+    -- type `kind`, or 503 if memory runs out for its documents. If the body was not collected, the
+    -- response has the status of the error.
     abbrev pub ForCollected : Option (List ℕ) → Result (Vec ℕ Global) CollectError → Sent → Type 0
     ForCollected kind (Ok all) sent = ForBody (post_taken kind all.items) sent ⊎ IsRefusal Unavailable sent
     ForCollected kind (Err fault) sent = IsRefusal (body_status fault) sent

@@ -89,8 +89,8 @@ place_of first (slot ∷ slots) = Some first
 
 module _ (tells draws : ℕ → Type 0) (access : Access) where
   -- The request with `documents` was admitted at a `moment` of the clock and with a drawn `nonce`.
-  -- `seen` is a front with its entries. `place` is that of its first message, if any. `slots` are
-  -- those that a single-threaded server gives there.
+  -- `seen` is a front with the request's entries. `place` is that of the first message, if any.
+  -- `slots` are those that a single-threaded server gives for the request at this place.
   pub record AreSlotsFor (setup : Setup) (documents : List (List ℕ)) (seen : List LogStep) (place : Option ℕ) (slots : List Slot) : Type 0 where
     pub moment : ℕ
     pub nonce : ℕ

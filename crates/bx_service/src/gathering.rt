@@ -207,7 +207,7 @@ fn add_answer(items: &mut Vec<Item>, answer: Answer) -> Result<(), AllocError>
     add_reply(items, reply)
 }
 
-// Appends a reply to `items`, which are unchanged on error.
+// Appends a reply to `items`. Fails if memory runs out.
 fn add_reply(items: &mut Vec<Item>, reply: Reply) -> Result<(), AllocError>
     ensures { OnOk result (items.new.items ≡ items.old.items ++ ReplyItem reply ∷ []) }
 {

@@ -11,7 +11,8 @@ use std::alloc::{AllocError, Global};
 use std::process::Abort;
 use std::test::*;
 
-// Characters in a large event's data. 64 KiB have room for one and a small event, but not for two.
+// Characters in a large event's data. 64 KiB have room for one large event and a small one, but not
+// for two large ones.
 const LARGE: usize = 40_000;
 
 // Number of frames of a response with the events of `items`.
@@ -50,7 +51,8 @@ fn items(alloc: Global) -> Result<Vec<Item>, Fail> {
     Ok(items)
 }
 
-// Returns the text of a response with these events. `sign`: the small event's data.
+// Returns the text of a response with the events of `items`, between `front` and `back`. `sign`:
+// the small event's data.
 fn wanted(alloc: Global, front: &str, sign: &str, back: &str) -> Result<String, Fail> {
     let mut text = String::new(alloc);
     text.push_str(front)?;
@@ -68,7 +70,7 @@ fn wanted(alloc: Global, front: &str, sign: &str, back: &str) -> Result<String, 
     Ok(text)
 }
 
-// Returns the data of the next frame, or `None` at the end.
+// Returns the data of the next frame, or `None` at the end. Fails if the body waits or fails.
 fn next_data(task: &MockTask, body: &mut Pieces<Bytes>) -> Result<Option<Bytes>, Fail> {
     match task.poll(&mut body.frame()) {
         Poll::Pending => Err(Fail::from("it waits")),
@@ -81,8 +83,8 @@ fn next_data(task: &MockTask, body: &mut Pieces<Bytes>) -> Result<Option<Bytes>,
     }
 }
 
-// Checks that the three frames of a response have the text `wanted`, and at most 64 KiB each. Also
-// checks that the body always reports how many bytes are left.
+// Checks that a response with `items` has three frames with the text `wanted`, at most 64 KiB each.
+// Also checks that its body always reports how many bytes are left.
 fn check_pieces<R: Abort>(
     rt: &R,
     alloc: Global,
@@ -105,7 +107,8 @@ fn check_pieces<R: Abort>(
     Ok(())
 }
 
-// Checks that `body` reports how many bytes are left, and its end only if none are.
+// Checks that `body` reports how many bytes are left, and its end only if none are. `whole`: its
+// length in bytes. `given`: how many of them were taken.
 fn check_left<R: Abort>(rt: &R, body: &Pieces<Bytes>, whole: usize, given: usize) {
     let left = whole.saturating_sub(given) as u64;
     assert_eq!(rt; body.size_hint().exact(), Some(left));

@@ -8,7 +8,7 @@ use std::alloc::Global;
 use std::sync::{Arc, Wait};
 use std::test::*;
 
-/// The hub of these tests.
+/// A hub for tests, which places sessions by remainder. Its gate is always open.
 pub type TestHub<L, H> = Hub<L, ByRemainder, OpenGate, H>;
 
 /// A clock fixed at a moment in milliseconds.
@@ -37,13 +37,13 @@ pub struct Bench<L: LogId, S: Drop, H: Wait + Drop> {
     pub alloc: Global,
     pub hub: Arc<TestHub<L, H>, Global>,
     pub pass: Pass<L>,
-    /// At the publishers' listener.
+    /// The service at the publishers' listener.
     pub service: BayeuxService<S>,
-    /// At the read-only listener.
+    /// The service at the read-only listener.
     pub readers: BayeuxService<S>,
-    /// With a clock at a moment that is too large.
+    /// The service with a clock at a moment that is too large.
     pub too_late: BayeuxService<S>,
-    /// With a small body limit.
+    /// The service with a small limit on bodies and queries.
     pub small: BayeuxService<S>,
     pub first: MockTask,
     pub second: MockTask,

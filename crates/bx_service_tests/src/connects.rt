@@ -21,18 +21,18 @@ use std::test::*;
 // A step of a run, and what it checks.
 #[derive(Clone, Copy, Debug)]
 enum Step {
-    // A task polls the connect, which waits. The poll does not wake the task.
+    // In this task, a poll of the held connect is pending and does not wake the task.
     Waits(Task),
-    // A task polls the connect and gets `Want`. Two more polls return no answer.
+    // In this task, a poll of the held connect returns `Want`, and two more polls return no answer.
     Gives(Task, Want),
-    // The first task polls a new future of this ticket and gets `Want`.
+    // In the first task, a poll of a new future of this ticket returns `Want`.
     Other(Ticket, Want),
-    // Checks whether the task has been woken.
+    // The task has been woken exactly if the flag is `true`.
     Woken(Task, bool),
     Post(&'static str),
     Tick(u64),
     Close,
-    // Pauses the connect's shard.
+    // Pauses the shard of the held connect.
     Pause,
     // A sweep drops exactly one answer.
     Sweep,
@@ -54,7 +54,7 @@ const GIVES_EVENT: Step = Step::Gives(Task::First, EVENT);
 
 const GIVES_NOTHING: Step = Step::Gives(Task::First, Want::None);
 
-// A publish answers the connect with its event.
+// A publish answers the held connect with the published event.
 const PUBLISHED: [Step; 5] = [WAITS, HANDSHAKE, PUBLISH, IS_WOKEN, GIVES_EVENT];
 
 // A newer connect answers the held one.
@@ -65,7 +65,7 @@ const SUPERSEDED: [Step; 4] = [
     Step::Gives(Task::First, Want::Answer(texts::SUPERSEDED)),
 ];
 
-// The session's disconnect answers the connect.
+// The session's disconnect answers its held connect.
 const DISCONNECTED: [Step; 4] = [
     WAITS,
     Step::Post(texts::DISCONNECT),
@@ -73,7 +73,7 @@ const DISCONNECTED: [Step; 4] = [
     Step::Gives(Task::First, Want::Answer(texts::SESSION_ENDED)),
 ];
 
-// A tick at the deadline answers the connect. An earlier one does not.
+// A tick at the deadline answers the held connect. An earlier tick does not.
 const TIMED_OUT: [Step; 5] = [
     Step::Tick(29_999),
     WAITS,
@@ -82,7 +82,7 @@ const TIMED_OUT: [Step; 5] = [
     Step::Gives(Task::First, Want::Answer(texts::CONNECTED)),
 ];
 
-// Closing the hub wakes the task, which gets a fault.
+// Closing the hub wakes the task of the held connect, and a poll then returns a fault.
 const CLOSED: [Step; 4] = [
     WAITS,
     Step::Close,
@@ -93,7 +93,8 @@ const CLOSED: [Step; 4] = [
 // An answer filed before the hub closed can still be taken.
 const FILED_BEFORE: [Step; 4] = [HANDSHAKE, PUBLISH, Step::Close, GIVES_EVENT];
 
-// A taken answer, the place of another message, and an unknown shard give no answer.
+// A ticket gives no answer if its answer was taken, if its place is that of another message, or if
+// its shard is unknown.
 const TAKEN: [Step; 6] = [
     HANDSHAKE,
     PUBLISH,
@@ -106,7 +107,7 @@ const TAKEN: [Step; 6] = [
 // A swept answer cannot be taken.
 const SWEPT: [Step; 4] = [WAITS, Step::Tick(30_000), Step::Sweep, GIVES_NOTHING];
 
-// The connect moves to the second task. Only the task that polled last is woken.
+// The held connect moves to the second task. Only the task that polled last is woken.
 const MOVED: [Step; 7] = [
     WAITS,
     Step::Waits(Task::Second),
@@ -117,7 +118,7 @@ const MOVED: [Step; 7] = [
     Step::Gives(Task::Second, EVENT),
 ];
 
-// The connect moves back to the first task, which is woken.
+// The held connect moves to the second task and back to the first, which is woken.
 const MOVED_BACK: [Step; 8] = [
     WAITS,
     Step::Waits(Task::Second),
@@ -129,7 +130,7 @@ const MOVED_BACK: [Step; 8] = [
     GIVES_EVENT,
 ];
 
-// Repeated polls do not wake the task, and keep its waker.
+// Repeated polls do not wake the task, and a later event does.
 const POLLED_AGAIN: [Step; 8] = [
     WAITS,
     WAITS,
@@ -141,7 +142,7 @@ const POLLED_AGAIN: [Step; 8] = [
     GIVES_EVENT,
 ];
 
-// A paused shard answers no connect, and a poll returns a fault.
+// A paused shard does not answer a held connect, and a poll returns a fault.
 const PAUSED: [Step; 6] = [
     WAITS,
     Step::Pause,
@@ -167,7 +168,7 @@ const RUNS: [&[Step]; 12] = [
     &PAUSED,
 ];
 
-// Checks what a poll of a new future of `ticket` returns.
+// Checks that a poll of a new future of `ticket` returns `want`.
 fn other<L: LogId, H: Wait + Drop, Q: Wait + Copy + Drop, R: Abort>(
     rt: &R,
     bench: &Bench<L, H, Q>,

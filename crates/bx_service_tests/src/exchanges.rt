@@ -20,7 +20,7 @@ use std::process::Abort;
 use std::sync::{Arc, Wait};
 use std::test::*;
 
-// Checks what the first poll of a request returns.
+// Checks that the first poll of the exchange for `ask` returns the response `want`.
 fn asks<S, I, R>(
     rt: &R,
     alloc: Global,
@@ -38,7 +38,8 @@ where
     check_given(rt, alloc, &mut exchange, task, want)
 }
 
-// Checks that a POST of `text` waits at its first poll, and drops it.
+// Checks that the first poll of the exchange for a POST of `text` is pending. Then drops the
+// exchange.
 fn waits<S, I, R>(
     rt: &R,
     alloc: Global,
@@ -56,7 +57,7 @@ where
     Ok(())
 }
 
-// Checks that a POST of `text` gets 400 if its body breaks off, after each number of bytes.
+// Checks that a POST of `text` gets 400 if its body fails, after each number of bytes.
 fn breaks<S, I, R>(
     rt: &R,
     alloc: Global,
@@ -157,7 +158,8 @@ where
     Ok(())
 }
 
-// Checks an exchange before, between and after the steps of `held`.
+// Checks `exchange` at its first poll, after the steps `held.before`, and after the steps
+// `held.then`.
 fn watch<F, L, S, I, H, R>(
     rt: &R,
     bench: &mut Bench<L, S, H>,
@@ -186,7 +188,7 @@ where
     Ok(())
 }
 
-// Creates the exchange of `held` and checks it.
+// Creates the exchange of `held` and checks it at its first poll and after the steps of `held`.
 fn hold<L, S, I, H, R>(rt: &R, bench: &mut Bench<L, S, H>, held: &Held) -> Result<(), Fail>
 where
     L: LogId,
@@ -200,7 +202,7 @@ where
     watch(rt, bench, &mut exchange, held)
 }
 
-// Executes the run at index `number`.
+// Executes the run at index `number` of `RUNS`, and checks its responses.
 fn run<L, S, I, H, R>(rt: &R, bench: &mut Bench<L, S, H>, number: usize) -> Result<(), Fail>
 where
     L: LogId,

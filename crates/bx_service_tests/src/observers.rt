@@ -49,7 +49,8 @@ impl Observer for Digits {
     }
 }
 
-// How a request ends: with items, without them, not admitted, or never.
+// What the backend does with a request: it returns items, or that they are unavailable, or does not
+// admit the request, or never answers.
 #[derive(Clone, Copy)]
 enum Said {
     Items,

@@ -23,9 +23,9 @@ pub type Given = Result<Response<bx_pieces::Pieces<Bytes>>, ServiceFault>;
 /// The body of a request.
 #[derive(Clone, Copy, Debug)]
 pub enum Content {
-    /// This text.
+    /// This text, ready at the first poll.
     Whole(&'static str),
-    /// This text, after a first poll that is pending.
+    /// This text, ready at the second poll. The first poll is pending.
     Late(&'static str),
     /// The first `usize` bytes of this text, followed by an error.
     Broken(&'static str, usize),
@@ -106,7 +106,7 @@ pub enum Want {
     Json(&'static str),
     /// Status 200 with this script.
     Script(&'static str),
-    /// Another status, with an empty body.
+    /// This status, which is not 200, with an empty body.
     Status(u16),
 }
 
@@ -141,7 +141,7 @@ impl Want {
     }
 }
 
-/// Checks that a poll of `exchange` is pending, and that it wakes `task` exactly if `is_woken`.
+/// Checks that a poll of `exchange` is pending, and wakes `task` exactly if `is_woken` is `true`.
 pub fn check_pending<F: Future<Output = Given>, R: Abort>(
     rt: &R,
     exchange: &mut F,
@@ -188,7 +188,7 @@ pub fn check_given<F: Future<Output = Given>, R: Abort>(
     Ok(())
 }
 
-// Checks the values of `Content-Type` and `Allow`, or that they are missing.
+// Checks that `response` has the `Content-Type` and `Allow` that `want` expects, or lacks them.
 fn check_fields<R: Abort>(rt: &R, response: &Response<bx_pieces::Pieces<Bytes>>, want: Want) {
     for (name, value) in [(CONTENT_TYPE, want.kind()), (ALLOW, want.allow())] {
         let field = response.headers().get(name);

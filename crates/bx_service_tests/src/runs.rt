@@ -16,7 +16,7 @@ pub enum Step {
     Target(&'static str, &'static str, Want),
     /// A POST of `[]` with these lines of `Transfer-Encoding` gets `Want`.
     Coded(&'static [&'static str], Want),
-    /// A request gets `Want`.
+    /// The request gets `Want` from the publishers' listener.
     Ask(Ask, Want),
     /// A request to a service with a limit of [`SMALL`] bytes gets `Want`.
     Small(Ask, Want),
@@ -26,9 +26,9 @@ pub enum Step {
     ReadText(&'static str, Want),
     /// A POST of this JSON at a moment that is too large gets `Want`.
     TooLate(&'static str, Want),
-    /// A POST of this JSON waits, and is dropped.
+    /// The exchange for a POST of this JSON is pending at its first poll, and is then dropped.
     Wait(&'static str),
-    /// A POST of this JSON gets 400 if its body breaks off, after each number of bytes.
+    /// A POST of this JSON gets 400 if its body fails, after each number of bytes.
     Break(&'static str),
     Tick(u64),
     Close,
@@ -42,12 +42,13 @@ pub enum Step {
 #[derive(Clone, Copy, Debug)]
 pub struct Held {
     pub content: Content,
-    /// Whether its first poll waits for the request's body, and so wakes the task.
+    /// Whether the exchange's first poll waits for the request's body, and so wakes the task.
     pub is_late: bool,
-    /// Steps after which it still waits.
+    /// The steps after which the exchange still waits.
     pub before: &'static [Step],
     pub then: &'static [Step],
-    /// Whether its task is then woken, and its response; or `None` to drop it.
+    /// Whether the steps `then` wake the first task, and the response of the exchange after them.
+    /// `None`: the exchange is dropped.
     pub gives: Option<(bool, Want)>,
 }
 
@@ -68,7 +69,7 @@ const OPENED: [Step; 3] = [
     Step::Post(texts::SUBSCRIBE, texts::SUBSCRIBED),
 ];
 
-// The same with an acknowledging first session.
+// Opens and subscribes the first session, which acknowledges batches, and opens the second.
 const OPENED_WITH_ACK: [Step; 3] = [
     Step::Post(texts::ACK_HANDSHAKE, texts::ACK_HANDSHAKEN),
     Step::Post(texts::HANDSHAKE, texts::SECOND_HANDSHAKEN),
@@ -83,11 +84,11 @@ const TOO_LARGE: Want = Want::Status(413);
 
 const CODED: Want = Want::Status(501);
 
-/// The small limit of a body or query, in bytes.
+/// The limit of `Bench::small` on a body or query, in bytes.
 pub const SMALL: usize = 16;
 
-// Bodies and queries up to the small limit are read, and longer ones get 413. With a
-// `Content-Length` above the limit, a request gets 413 before any of the body has arrived.
+// Bodies and queries of up to `SMALL` bytes are read, and longer ones get 413. With a
+// `Content-Length` above this limit, a request gets 413 before any of the body has arrived.
 const SMALL_LIMIT: Run = Run {
     first: &[
         Step::Small(
@@ -294,7 +295,7 @@ const REFUSED: Run = Run {
     ride: false,
 };
 
-// A closed hub answers 503.
+// A request to a closed hub gets 503.
 const CLOSED: Run = Run {
     first: &[
         Step::Close,
@@ -392,7 +393,7 @@ const TIMED_OUT: Run = Run {
     ride: false,
 };
 
-// Closing the hub ends the held connect with 503.
+// Closing the hub answers the held connect with 503.
 const SHUT: Run = Run {
     first: &OPENED,
     held: Some(Held {
@@ -406,7 +407,7 @@ const SHUT: Run = Run {
     ride: false,
 };
 
-// Pausing the shard does not wake the task, but the next poll gets 503.
+// Pausing the shard of a held connect does not wake the task, but the next poll gets 503.
 const PAUSED: Run = Run {
     first: &OPENED,
     held: Some(Held {
@@ -420,7 +421,7 @@ const PAUSED: Run = Run {
     ride: false,
 };
 
-// Closing the hub also ends the second session's connect, in the other shard.
+// Closing the hub also answers the second session's connect, in the other shard, with 503.
 const FIRST_SHARD_SHUT: Run = Run {
     first: &OPENED,
     held: Some(Held {
@@ -451,7 +452,7 @@ const OTHERS_GO_ON: Run = Run {
     ride: false,
 };
 
-// A body that breaks off is rejected and opens no session.
+// A request gets 400 and opens no session if its body fails.
 const BROKEN_OFF: Run = Run {
     first: &[
         Step::Break(texts::HANDSHAKE),

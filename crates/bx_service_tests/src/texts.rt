@@ -4,7 +4,7 @@
 pub const HANDSHAKE: &str =
     r#"[{"channel":"/meta/handshake","version":"1.0","supportedConnectionTypes":["long-polling"]}]"#;
 
-/// The handshake of an acknowledging session.
+/// A handshake of a session that acknowledges batches.
 pub const ACK_HANDSHAKE: &str =
     r#"[{"channel":"/meta/handshake","version":"1.0","supportedConnectionTypes":["long-polling"],"ext":{"ack":true}}]"#;
 
@@ -88,7 +88,7 @@ pub const SECOND_HANDSHAKEN: &str =
 pub const ACK_HANDSHAKEN: &str =
     r#"[{"advice":{"interval":0,"reconnect":"retry","timeout":30000},"channel":"/meta/handshake","clientId":"000000000000000000000000000000000000000000000001","ext":{"ack":true},"successful":true,"supportedConnectionTypes":["long-polling","callback-polling"],"version":"1.0"}]"#;
 
-/// The reply to the subscription.
+/// The reply to the first session's subscription to `/a/*`.
 pub const SUBSCRIBED: &str =
     r#"[{"channel":"/meta/subscribe","clientId":"000000000000000000000000000000000000000000000001","subscription":"/a/*","successful":true}]"#;
 
@@ -96,19 +96,20 @@ pub const SUBSCRIBED: &str =
 pub const CONNECTED: &str =
     r#"[{"advice":{"interval":0,"reconnect":"retry","timeout":30000},"channel":"/meta/connect","clientId":"000000000000000000000000000000000000000000000001","successful":true}]"#;
 
-/// The second session's event, then the reply to the first session's connect.
+/// The event of the second session's publish, then the reply to the first session's connect.
 pub const CONNECTED_WITH_EVENT: &str =
     r#"[{"channel":"/a/b","data":7},{"advice":{"interval":0,"reconnect":"retry","timeout":30000},"channel":"/meta/connect","clientId":"000000000000000000000000000000000000000000000001","successful":true}]"#;
 
-/// The same for an acknowledging session: the event is its first batch.
+/// The event of the second session's publish, as the first batch of an acknowledging session, then
+/// the reply to that session's connect.
 pub const ACK_CONNECTED_WITH_EVENT: &str =
     r#"[{"channel":"/a/b","data":7},{"advice":{"interval":0,"reconnect":"retry","timeout":30000},"channel":"/meta/connect","clientId":"000000000000000000000000000000000000000000000001","ext":{"ack":1},"successful":true}]"#;
 
-/// The first session's own event, then the reply to its connect.
+/// The event of the first session's publish, then the reply to that session's connect.
 pub const CONNECTED_WITH_OWN: &str =
     r#"[{"channel":"/a/c","data":8},{"advice":{"interval":0,"reconnect":"retry","timeout":30000},"channel":"/meta/connect","clientId":"000000000000000000000000000000000000000000000001","successful":true}]"#;
 
-/// The reply to a superseded connect.
+/// The reply to a connect of the first session that a newer connect superseded.
 pub const SUPERSEDED: &str =
     r#"[{"channel":"/meta/connect","clientId":"000000000000000000000000000000000000000000000001","error":"408::Superseded connect","successful":false}]"#;
 
@@ -116,39 +117,39 @@ pub const SUPERSEDED: &str =
 pub const SESSION_ENDED: &str =
     r#"[{"advice":{"interval":0,"reconnect":"none"},"channel":"/meta/connect","clientId":"000000000000000000000000000000000000000000000001","successful":true}]"#;
 
-/// The reply to the disconnect.
+/// The reply to the first session's disconnect.
 pub const DISCONNECTED: &str =
     r#"[{"channel":"/meta/disconnect","clientId":"000000000000000000000000000000000000000000000001","successful":true}]"#;
 
 /// The reply to a publish to `/a/b`.
 pub const PUBLISHED: &str = r#"[{"channel":"/a/b","successful":true}]"#;
 
-/// The reply to the publish to a service channel.
+/// The reply to a publish to the service channel `/service/a`.
 pub const PUBLISHED_SERVICE: &str = r#"[{"channel":"/service/a","successful":true}]"#;
 
-/// Two waiting events, then the reply to the first session's publish.
+/// Two waiting events of the first session, then the reply to its publish.
 pub const OWN_RIDDEN: &str =
     r#"[{"channel":"/a/b","data":7},{"channel":"/a/c","data":8},{"channel":"/a/c","successful":true}]"#;
 
-/// The replies to two publishes, with the second one's event between them.
+/// The replies to the two publishes of `PUBLISH_TWO`, with the second one's event between them.
 pub const SECOND_RIDDEN: &str =
     r#"[{"channel":"/a/c","successful":true},{"channel":"/a/d","data":9},{"channel":"/a/d","successful":true}]"#;
 
-/// A script: the query's event, then the reply to the query's publish.
+/// A script with the event of `QUERY_PUBLISH`, then the reply to this publish.
 pub const SCRIPT_RIDDEN: &str =
     r#"cb.x([{"channel":"/a/b","data":"x\u2028y"},{"channel":"/a/b","successful":true}])"#;
 
-/// The replies to both documents of the form.
+/// The replies to both documents of `FORM_OF_TWO`.
 pub const BOTH_OF_THE_FORM: &str =
     r#"[{"channel":"/meta/subscribe","clientId":"000000000000000000000000000000000000000000000001","subscription":"/a/*","successful":true},{"channel":"/a/x","successful":true}]"#;
 
-/// A script: the reply to the query's publish.
+/// A script with the reply to `QUERY_PUBLISH`.
 pub const SCRIPT_PUBLISHED: &str = r#"cb.x([{"channel":"/a/b","successful":true}])"#;
 
-/// A script: the query's event, then the reply to the query's connect.
+/// A script with the event of `QUERY_PUBLISH`, then the reply to `QUERY_CONNECT`.
 pub const SCRIPT_CONNECTED: &str =
     r#"cb.x([{"channel":"/a/b","data":"x\u2028y"},{"advice":{"interval":0,"reconnect":"retry","timeout":30000},"channel":"/meta/connect","clientId":"000000000000000000000000000000000000000000000001","successful":true}])"#;
 
-/// The form's event, then the reply to the first session's connect.
+/// The event of `FORM_OF_TWO`, then the reply to the first session's connect.
 pub const CONNECTED_BY_THE_FORM: &str =
     r#"[{"channel":"/a/x","data":1},{"advice":{"interval":0,"reconnect":"retry","timeout":30000},"channel":"/meta/connect","clientId":"000000000000000000000000000000000000000000000001","successful":true}]"#;

@@ -16,7 +16,74 @@ use bx_session::RideRoom;
 use std::alloc::{AllocError, Global};
 
 impl Sessions {
-    /// Returns the rider of `entry`, if it has one.
+    /// Returns the rider of `entry`, if its session is in this shard.
+    pub(crate) fn rider_here<'e>(&self, entry: &'e Entry) -> Option<&'e Rider>
+        ensures { option_copied result ≡ rider_in (kept_in self.now) entry.now }
+    {
+        let rider = rider_of(entry)?;
+        if self.has(rider.session) {
+            Some(rider)
+        } else {
+            None
+        }
+    }
+
+    /// Files the answer to `rider` at `place`, without events, and returns room for its events.
+    ///
+    /// No connect or answer may be known at `place`. On error, no session or connect has changed.
+    pub(crate) fn prepare_ride(
+        &mut self,
+        alloc: Global,
+        place: u64,
+        rider: &Rider,
+    ) -> Result<RideRoom, AllocError>
+        requires fresh { connect_at self.old.connects place ≡ None }
+        ensures room { IfOk result (λ room. IfSome (kept_in self.old rider.now.session) (λ (k : Kept). ride_most self.old.config k ≤ room)) }
+        ensures connects { OnOk result ((p : ℕ) → connect_at self.new.connects p
+            ≡ (if nat_eq place p then Some (Filed rider.now.session place (unridden rider.now)) else connect_at self.old.connects p)) }
+        ensures err { OnErr result ((p : ℕ) → connect_at self.new.connects p ≡ connect_at self.old.connects p) }
+        ensures others { (self.new.config ≡ self.old.config) × (self.new.by_number ≡ self.old.by_number) × (self.new.tree ≡ self.old.tree) }
+    {
+        let room = self.ride_room(alloc, rider.session)?;
+        let answer = Answer {
+            events: Sequence::new(alloc),
+            reply: copy_of(&rider.reply)?,
+        };
+        self.connects.prepare(place, rider.session, answer)?;
+        Ok(room)
+    }
+
+    // Allocates and returns room for the events that session `number` sends with a rider's reply.
+    fn ride_room(&self, alloc: Global, number: u64) -> Result<RideRoom, AllocError>
+        ensures { IfOk result (λ room. IfSome (kept_in self.now number) (λ (k : Kept). ride_most self.now.config k ≤ room)) }
+    {
+        match self.by_number.get(&number) {
+            Some(session) => session.reserve_ride(alloc, &self.config),
+            None => RideRoom::new(alloc, 0),
+        }
+    }
+
+    /// Moves the events for a rider from session `number` into the answer filed for `place`.
+    ///
+    /// `room`: from [`prepare_ride`](Self::prepare_ride).
+    pub(crate) fn ride(&mut self, place: u64, number: u64, room: RideRoom)
+        requires room { IfSome (kept_in self.old number) (λ (k : Kept). ride_portion self.old.config (resumed k) ≤ room) }
+        ensures sessions { (n : ℕ) → kept_in self.new n
+            ≡ (if nat_eq number n then option_map (given_up self.old.config) (kept_in self.old number) else kept_in self.old n) }
+        ensures connects { (p : ℕ) → connect_at self.new.connects p
+            ≡ (if nat_eq place p then completed_by self.old.config (kept_in self.old number) (connect_at self.old.connects place) else connect_at self.old.connects p) }
+        ensures others { (self.new.config ≡ self.old.config) × (self.new.tree ≡ self.old.tree) }
+        ensures counted { AreCounted self.old → AreCounted self.new }
+        ensures held { AreHeld self.old → AreHeld self.new }
+    {
+        if let Some(session) = self.by_number.get_mut(&number) {
+            let events = session.ride(&self.config, room);
+            self.connects.complete(place, events);
+        }
+    }
+}
+
+// Returns the rider of `entry`, if it has one.
 //
 // Only a subscription, an unsubscription or a publish can have a rider.
 fn rider_of(entry: &Entry) -> Option<&Rider>

@@ -14,7 +14,7 @@ use std::process::Abort;
 use std::sync::Arc;
 use std::test::Fail;
 
-// More entries than any test has.
+// A greater number of entries than any test has.
 const MOST_ENTRIES: u64 = 100;
 
 /// What an entry of the list does.
@@ -23,13 +23,13 @@ pub enum Deed {
     Open(u64),
     Subscribe(u64, &'static str),
     Connect(u64),
-    /// A publish to this channel. The data is 7.
+    /// A publish of 7 to the channel.
     Publish(&'static str),
-    /// A publish to this channel, which is a rider of this session.
+    /// A publish of 7 to the channel, as a rider of the session.
     Ride(u64, &'static str),
 }
 
-// Two sessions. The first subscribes, and has a connect at place 3.
+// Entries that open two sessions. The first subscribes to `/a/*` and connects, at place 3.
 const HELD: [Deed; 4] = [
     Deed::Open(1),
     Deed::Open(2),
@@ -37,11 +37,11 @@ const HELD: [Deed; 4] = [
     Deed::Connect(1),
 ];
 
-// The answer to this connect, with the event published at place 4.
+// The answer to the connect of `HELD`, with the event published to `/a/b` at place 4.
 const ANSWER: &str =
     r#"{"channel":"/a/b","data":7}{"advice":{"interval":0,"reconnect":"retry","timeout":30000},"channel":"/meta/connect","clientId":"000000000000000000000000000000000000000000000001","successful":true}"#;
 
-// Two sessions with connects at places 4 and 5.
+// Entries that open two sessions, which subscribe and then connect, at places 4 and 5.
 const BOTH_HELD: [Deed; 6] = [
     Deed::Open(1),
     Deed::Open(2),
@@ -51,7 +51,8 @@ const BOTH_HELD: [Deed; 6] = [
     Deed::Connect(2),
 ];
 
-// An event for each session, at places 6 and 7, and another connect of the first at place 8.
+// Entries after `BOTH_HELD`: an event for each session, at places 6 and 7, and at place 8 another
+// connect of the first session.
 const ANSWERS: [Deed; 3] = [
     Deed::Publish("/a/b"),
     Deed::Publish("/b/c"),
@@ -65,7 +66,8 @@ fn subscribe(alloc: Global, session: u64, pattern: &str) -> Result<EntryKind, Fa
     Ok(EntryKind::Subscribe { session, patterns })
 }
 
-// Creates a connect. Its client id is the session's number in 48 hexadecimal digits.
+// Creates the kind of an entry that is a connect of `session`. The client id is the session's
+// number in 48 hexadecimal digits.
 fn connect(alloc: Global, session: u64) -> Result<EntryKind, AllocError> {
     Ok(EntryKind::Connect {
         session,
@@ -86,7 +88,7 @@ fn publish(alloc: Global, channel: &str) -> Result<EntryKind, Fail> {
     Ok(EntryKind::Publish(SharedEvent::new(alloc, event, name)?))
 }
 
-/// Returns the kind of the entry.
+/// Creates the kind of the entry that does `deed`.
 ///
 /// # Errors
 ///
@@ -103,7 +105,7 @@ pub fn kind(alloc: Global, deed: Deed) -> Result<EntryKind, Fail> {
     }
 }
 
-// Returns the rider of the entry, if any.
+// Creates the rider of the entry that does `deed`, or returns `None` if it has no rider.
 fn rides(alloc: Global, deed: Deed) -> Result<Option<Rider>, AllocError> {
     let Deed::Ride(session, channel) = deed else {
         return Ok(None);
@@ -121,7 +123,7 @@ fn rides(alloc: Global, deed: Deed) -> Result<Option<Rider>, AllocError> {
     Ok(Some(Rider { session, reply }))
 }
 
-// Applies entries, and returns the wakers of the connects that they answer.
+// Applies entries that do `deeds`, and returns the wakers of the connects that they answer.
 fn apply(alloc: Global, shard: &mut Shard<ByRemainder>, deeds: &[Deed]) -> Result<Wakers, Fail> {
     let mut wakers = Wakers::new(alloc);
     for deed in deeds {
@@ -141,7 +143,7 @@ fn apply(alloc: Global, shard: &mut Shard<ByRemainder>, deeds: &[Deed]) -> Resul
     Ok(wakers)
 }
 
-// Creates the only shard, and applies entries to it.
+// Creates the only shard of a server, and applies entries that do `deeds` to it.
 fn shard(alloc: Global, deeds: &[Deed]) -> Result<Shard<ByRemainder>, Fail> {
     let config = Config::new(1, 30_000, 0, 10_000).ok_or("no configuration")?;
     let placing = Arc::new(alloc, ByRemainder)?;
@@ -172,7 +174,7 @@ fn was_woken(task: &MockTask) -> bool {
     woken
 }
 
-// Registers a waker of `task` with the connect at `place`.
+// Registers a waker of `task` with the connect at `place`, and returns the result.
 fn watch(shard: &mut Shard<ByRemainder>, place: u64, task: &MockTask) -> Result<Watch, Fail> {
     Ok(shard.watch(ticket(place), waker(task)?))
 }
@@ -202,6 +204,8 @@ fn check_woken<R: Abort>(rt: &R, wakers: Wakers, tasks: &[&MockTask]) {
 }
 
 // Takes the answer to the connect at `place`, and returns the texts of its events and reply.
+//
+// Returns `None` if no answer is filed.
 fn taken(
     alloc: Global,
     shard: &mut Shard<ByRemainder>,
@@ -240,7 +244,8 @@ fn check_answered<R: Abort>(
     Ok(())
 }
 
-// A subscribed session, an event that waits for it, and at place 3 a publish that is its rider.
+// Entries that open and subscribe a session, publish an event that waits in it, and at place 3
+// publish another as its rider.
 const RIDDEN: [Deed; 4] = [
     Deed::Open(1),
     Deed::Subscribe(1, "/a/*"),
@@ -248,11 +253,13 @@ const RIDDEN: [Deed; 4] = [
     Deed::Ride(1, "/a/c"),
 ];
 
-// The answer to the rider.
+// The answer to the rider of `RIDDEN`.
 const RIDE: &str =
     r#"{"channel":"/a/b","data":7}{"channel":"/a/c","data":7}{"channel":"/a/c","successful":true}"#;
 
-// Checks that a rider gets the waiting event and its own, once. A connect at place 4 is then held.
+// Checks that a rider at place 3 gets the waiting event and its own, once.
+//
+// A connect at place 4 must then be held.
 fn check_ridden<R: Abort>(
     rt: &R,
     alloc: Global,
@@ -282,6 +289,8 @@ fn an_answer_wakes_who_waits_for_it(rt: HostRuntime) -> Result<(), Fail> {
 }
 
 // Checks that answers to two connects wake both tasks when the wakers are dropped, and not before.
+//
+// The connects are at places 4 and 5.
 fn check_both<R: Abort>(
     rt: &R,
     alloc: Global,
@@ -303,8 +312,8 @@ fn several_answers_wake_all_who_wait(rt: HostRuntime) -> Result<(), Fail> {
     check_both(&rt, alloc, &mut shard(alloc, &BOTH_HELD)?, &first, &second)
 }
 
-// Checks that a second waker for a connect replaces the first. Dropping the first must wake its
-// task. The answer must then wake only the other task.
+// Checks that a second waker for the connect at place 3 replaces the first. Dropping the first must
+// wake its task, `older`. The answer must then wake only `newer`.
 fn check_replaced<R: Abort>(
     rt: &R,
     alloc: Global,
@@ -371,14 +380,17 @@ fn a_shard_that_is_shut_wakes_all(rt: HostRuntime) -> Result<(), Fail> {
     check_shut(&rt, alloc, &mut shard(alloc, &BOTH_HELD)?, &first, &second)
 }
 
-// Sweeps below each place in `sweeps`, and checks how many answers each sweep drops.
+// Sweeps below each place in `sweeps`, and checks the number of answers that each sweep drops.
 fn check_sweeps<R: Abort>(rt: &R, shard: &mut Shard<ByRemainder>, sweeps: &[(u64, usize)]) {
     for (before, dropped) in sweeps {
         assert_eq!(rt; shard.sweep(*before), *dropped, "below {before}");
     }
 }
 
-// Checks that sweeps keep an answer that was filed later, and a held connect.
+// Checks that sweeps drop only answers that were given before their places.
+//
+// The answer given at place 6 is dropped. The one given at place 7 stays until it is taken. The
+// connect at place 8 stays held.
 fn check_kept<R: Abort>(
     rt: &R,
     shard: &mut Shard<ByRemainder>,
@@ -414,7 +426,7 @@ fn a_sweep_counts_what_it_drops(rt: HostRuntime) -> Result<(), Fail> {
 
 // Checks that no waker is stored for a ticket without a connect in this shard.
 //
-// The tickets are one of another shard, one of another entry, and one past the end of the list.
+// One ticket is of another shard, one of an entry that is no connect, and one after the last entry.
 fn check_unknown<R: Abort>(
     rt: &R,
     shard: &mut Shard<ByRemainder>,

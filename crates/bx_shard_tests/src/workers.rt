@@ -15,10 +15,11 @@ use std::sync::atomic::{AtomicBool, AtomicU64, Ordering};
 use std::test::Fail;
 use std::thread::Threads;
 
-// The place of the connect.
+// The place of the connect among `entries`.
 const CONNECT: u64 = 2;
 
-// How often a held worker checks whether it may continue, before it gives up.
+// How often a worker that is stopped at the gate checks whether it may continue, before it gives
+// up.
 const LOOKS: u32 = 10_000_000;
 
 // Appends an entry of `kind` at the next place.
@@ -36,7 +37,9 @@ fn add(entries: &mut Vec<Entry>, kind: EntryKind) -> Result<(), AllocError>
     Ok(())
 }
 
-// Creates four entries: session 1 is opened, subscribes and connects, and a publish answers it.
+// Creates four entries, the last of them a publish that answers a connect.
+//
+// The first three open session 1, subscribe it and connect.
 fn entries(alloc: Global) -> Result<Vec<Entry>, Fail>
     ensures { IfOk result (λ es. AreNumbered es.items) }
 {
@@ -64,7 +67,9 @@ fn shards<P: Placing + Drop>(
     Ok(shards)
 }
 
-// Creates `count` shards, advances them, and returns them with the number of shards that lag.
+// Creates `count` shards, advances them over `entries`, and returns them.
+//
+// Also returns the number of shards that do not reach the end.
 fn brought_up_by<R: Threads + Sync, G: Gate + Sync, P: Placing + Drop + Send + Sync>(
     rt: &R,
     alloc: Global,
@@ -80,7 +85,7 @@ fn brought_up_by<R: Threads + Sync, G: Gate + Sync, P: Placing + Drop + Send + S
     Ok((shards, behind))
 }
 
-// Calls `brought_up_by` with a placing by remainder.
+// Calls `brought_up_by` with a placing by remainder, and returns its result.
 fn brought_up<R: Threads + Sync, G: Gate + Sync>(
     rt: &R,
     alloc: Global,
@@ -113,7 +118,8 @@ fn all_are_brought_up(rt: HostRuntime) -> Result<(), Fail> {
     Ok(())
 }
 
-// A gate that holds one worker before its work until another worker has finished.
+// A gate that stops worker `held` before its work until another worker has finished. `is_free`:
+// whether one has finished. `gave_up`: whether the stopped worker no longer waited.
 #[derive(Drop)]
 struct Holding {
     held: usize,
@@ -160,7 +166,7 @@ fn workers_run_beside_one_another(rt: HostRuntime) -> Result<(), Fail> {
     Ok(())
 }
 
-// A gate that counts its calls, with one decimal digit for each worker.
+// A gate that counts the calls of `before` and of `after`, with one decimal digit for each worker.
 #[derive(Drop)]
 struct Counting {
     before: AtomicU64,
@@ -230,7 +236,7 @@ impl Placing for Asked {
     }
 }
 
-// A gate that records how often the placing was called, before the work and after it.
+// A gate that records how often the placing was called until `before` and until `after` ran.
 #[derive(Drop)]
 struct Looking {
     placing: Arc<Asked>,
@@ -250,7 +256,9 @@ impl Gate for Looking {
     }
 }
 
-// Returns how often the placing was called, before the work of a worker and after it.
+// Returns how often the placing was called before and after one worker advanced one shard.
+//
+// The second number includes the calls before.
 fn asked_at_the_gate<R: Threads + Sync>(rt: &R, alloc: Global) -> Result<(u64, u64), Fail> {
     let times = AtomicU64::new(0);
     let placing = Arc::new(alloc, Asked { times })?;

@@ -19,7 +19,7 @@ fn bodies(alloc: Global, documents: &[&str]) -> Result<Bodies, AllocError> {
     Ok(Bodies::Decoded(texts))
 }
 
-// Writes the channels of `messages`, each followed by a space.
+// Returns the channels of `messages`, each followed by a space.
 fn channels(alloc: Global, messages: &[Message]) -> Result<String, AllocError> {
     let mut found = String::new(alloc);
     for message in messages {
@@ -29,10 +29,10 @@ fn channels(alloc: Global, messages: &[Message]) -> Result<String, AllocError> {
     Ok(found)
 }
 
-// The result of reading a request.
+// What reading a request returns: the number of its messages, or the fault of its bodies.
 #[derive(Clone, Copy, Debug, PartialEq, Eq)]
 enum Found {
-    // The number of messages.
+    // The number of messages in the request.
     Messages(usize),
     Fault(BodyError),
 }
@@ -50,7 +50,8 @@ fn read(alloc: Global, documents: &[&str]) -> Result<Found, Fail> {
     found_in(&read_messages(alloc, &bodies(alloc, documents)?))
 }
 
-// Reads a request that arrived with `access`.
+// Reads a request of `documents` that arrived on a listener with `access`. Returns the number of
+// its messages, or its fault.
 fn read_at(alloc: Global, access: Access, documents: &[&str]) -> Result<Found, Fail> {
     let arrival = Arrival {
         moment: 0,
@@ -86,7 +87,7 @@ const FAULTS: [(&str, &str, BodyError); 4] = [
     ),
 ];
 
-// Checks that `NotJson` in any document comes before `NotObject`, and that before `NoChannel`.
+// Checks the order of faults: `NotJson` in any document, then `NotObject`, and then `NoChannel`.
 #[test]
 fn faults_are_ordered_over_all_documents(rt: HostRuntime) -> Result<(), Fail> {
     for (first, second, fault) in &FAULTS {
@@ -96,7 +97,7 @@ fn faults_are_ordered_over_all_documents(rt: HostRuntime) -> Result<(), Fail> {
     Ok(())
 }
 
-// Writes an array of `count` messages.
+// Returns a JSON array of `count` messages to the channel `/a`.
 fn array_of(alloc: Global, count: usize) -> Result<String, Fail> {
     let mut text = String::from_str(alloc, "[")?;
     for i in 0..count {
@@ -109,7 +110,8 @@ fn array_of(alloc: Global, count: usize) -> Result<String, Fail> {
     Ok(text)
 }
 
-// Reads a request of two documents, of `first` and `second` messages.
+// Reads a request of two documents with `first` and `second` messages. Returns the number of its
+// messages, or its fault.
 fn found_in_two(alloc: Global, first: usize, second: usize) -> Result<Found, Fail> {
     let first = array_of(alloc, first)?;
     let second = array_of(alloc, second)?;
@@ -122,7 +124,7 @@ const COUNTS: [(usize, usize, Found); 3] = [
     (257, 0, Found::Fault(BodyError::TooMany)),
 ];
 
-// Checks that the limit of messages counts the messages of all documents.
+// Checks that the limit of messages applies to all documents of a request together.
 #[test]
 fn messages_are_counted_over_all_documents(rt: HostRuntime) -> Result<(), Fail> {
     for (first, second, wanted) in &COUNTS {
@@ -134,7 +136,8 @@ fn messages_are_counted_over_all_documents(rt: HostRuntime) -> Result<(), Fail> 
 
 const FORBIDDEN: Found = Found::Fault(BodyError::Forbidden);
 
-// Channels in JSON, each with the result of a request to it on the read-only listener.
+// Channels as written in JSON, each with the result of reading a message to it on the read-only
+// listener.
 const CHANNELS: [(&str, Found); 28] = [
     ("/meta/handshake", Found::Messages(1)),
     ("/meta/connect", Found::Messages(1)),
@@ -166,7 +169,8 @@ const CHANNELS: [(&str, Found); 28] = [
     ("a", FORBIDDEN),
 ];
 
-// Checks that the read-only listener accepts only messages to meta and service channels.
+// Checks that the read-only listener accepts only messages to meta and service channels. The
+// publishers' listener accepts messages to all channels.
 #[test]
 fn readers_are_let_in_by_channels(rt: HostRuntime) -> Result<(), Fail> {
     let alloc = rt.alloc();
@@ -180,8 +184,8 @@ fn readers_are_let_in_by_channels(rt: HostRuntime) -> Result<(), Fail> {
     Ok(())
 }
 
-// Two documents, with the results of their request: first on the publishers' listener, then on the
-// read-only one. Faults of the documents come before `Forbidden`.
+// Requests of two documents. Each has its result on the publishers' listener, and then its result
+// on the read-only listener. Faults of the documents are reported before `Forbidden`.
 const REQUESTS: [(&str, &str, Found, Found); 18] = [
     ("[]", "[]", Found::Messages(0), Found::Messages(0)),
     (CONNECT, "[]", Found::Messages(1), Found::Messages(1)),
@@ -218,8 +222,8 @@ const PUBLISH: &str = "{\"channel\":\"/a\"}";
 // A message to the empty channel.
 const NO_NAME: &str = "[{\"channel\":\"\"}]";
 
-// Three messages, the first to a broadcast channel. In the next two constants, it is the second and
-// the third.
+// Three messages. The message to a broadcast channel is the first here, the second in `MIDDLE`, and
+// the third in `LAST`.
 const FIRST: &str =
     "[{\"channel\":\"/a\"},{\"channel\":\"/meta/connect\"},{\"channel\":\"/service/a\"}]";
 
@@ -229,7 +233,8 @@ const MIDDLE: &str =
 const LAST: &str =
     "[{\"channel\":\"/meta/connect\"},{\"channel\":\"/service/a\"},{\"channel\":\"/a\"}]";
 
-// Checks that the read-only listener rejects a request with any other message.
+// Checks that the read-only listener rejects a request if one of its messages is forbidden. A
+// message is forbidden if its channel is neither a meta nor a service channel.
 #[test]
 fn readers_publish_nothing(rt: HostRuntime) -> Result<(), Fail> {
     for (first, second, at_publishers, at_readers) in &REQUESTS {
@@ -241,10 +246,11 @@ fn readers_publish_nothing(rt: HostRuntime) -> Result<(), Fail> {
     Ok(())
 }
 
-// The greatest number of publishes in a request, and one more, each with its result.
+// Numbers of publishes in a request: the limit, and one more. Each has the result of the request on
+// the read-only listener.
 const PUBLISHES: [(usize, Found); 2] = [(256, FORBIDDEN), (257, Found::Fault(BodyError::TooMany))];
 
-// Checks that the limit of messages is tested before the listener.
+// Checks that too many publishes on the read-only listener get `TooMany`, not `Forbidden`.
 #[test]
 fn too_many_comes_before_forbidden(rt: HostRuntime) -> Result<(), Fail> {
     for (count, wanted) in &PUBLISHES {
@@ -261,7 +267,7 @@ fn check_place<P: Placing>(rt: &impl Abort, placing: &P, places: &[(u64, usize)]
     }
 }
 
-// Checks the shards that each placing chooses.
+// Checks the shards that each placing chooses for some sessions, out of two shards.
 #[test]
 fn places_by_rule(rt: HostRuntime) -> Result<(), Fail> {
     check_place(&rt, &ByRemainder, &[(1, 1), (2, 0)]);

@@ -44,7 +44,7 @@ pub fn hello(alloc: Global) -> Result<Message, AllocError> {
     Ok(hello)
 }
 
-// The reply to a server's first handshake.
+// The reply to a server's first handshake, as JSON.
 const OPENED: &[u8] =
     br#"{"advice":{"interval":0,"reconnect":"retry","timeout":30000},"channel":"/meta/handshake","clientId":"000000000000000000000000000000000000000000000001","successful":true,"supportedConnectionTypes":["long-polling","callback-polling"],"version":"1.0"}"#;
 
@@ -68,7 +68,8 @@ pub fn config(sessions: usize) -> Config {
     }
 }
 
-// Returns the outcome of the first message, or `None` if it waits.
+// Returns the outcome in the reply to the first message, or `None` if that message has no reply
+// yet.
 fn case_of(plan: &Plan) -> Option<Outcome> {
     match plan.slots.as_slice().first() {
         Some(Slot::Ready(reply)) => Some(reply.outcome),
@@ -84,7 +85,7 @@ fn first_reply(alloc: Global, plan: &Plan) -> Result<Vec<u8>, AllocError> {
     }
 }
 
-/// Commits `plan`, which `registry` made.
+/// Commits `plan`, which `registry` made, to `registry`.
 pub fn commit(registry: &mut Registry, plan: Plan)
     requires { LeadsTo registry.old plan.change plan.elements }
 {
@@ -96,7 +97,7 @@ pub fn commit(registry: &mut Registry, plan: Plan)
     registry.commit(change, &elements);
 }
 
-// Plans and commits a handshake, and returns its outcome.
+// Plans and commits a handshake, and returns the outcome in its reply, if it has one.
 fn open(
     alloc: Global,
     registry: &mut Registry,
@@ -109,7 +110,7 @@ fn open(
     Ok(outcome)
 }
 
-// Plans and commits a tick, and returns the numbers of the sessions that it closes.
+// Plans and commits a tick at `moment`, and returns the numbers of the sessions that it closes.
 fn tick(alloc: Global, registry: &mut Registry, moment: u64) -> Result<Sequence<u64>, AdmitFault> {
     let Plan {
         batch,
@@ -128,7 +129,7 @@ fn tick(alloc: Global, registry: &mut Registry, moment: u64) -> Result<Sequence<
     }
 }
 
-// Checks the plan of the first handshake.
+// Checks the plan of a server's first handshake: its place, its entries, the outcome and the reply.
 fn check_plan(rt: &impl Abort, alloc: Global, plan: &Plan) -> Result<(), Fail> {
     same(rt, plan.batch.first, 0, "place");
     same(rt, plan.batch.entries.len(), 1, "entries");
@@ -143,7 +144,7 @@ fn plan_of_first(alloc: Global, registry: &mut Registry) -> Result<Plan, AdmitFa
     registry.plan(alloc, &ByRemainder, 0, 0, messages.as_slice())
 }
 
-// Checks that a plan changes nothing until it is committed.
+// Checks the plan of a first handshake, and that making the plan leaves the registry unchanged.
 fn check_unchanged(rt: &impl Abort, alloc: Global, registry: &mut Registry) -> Result<(), Fail> {
     check_plan(rt, alloc, &plan_of_first(alloc, registry)?)?;
     same(rt, registry.entries(), 0, "entries");
@@ -151,7 +152,7 @@ fn check_unchanged(rt: &impl Abort, alloc: Global, registry: &mut Registry) -> R
     Ok(())
 }
 
-// Checks that a tick at `moment` closes the sessions `wanted`.
+// Plans and commits a tick at `moment`, and checks that it closes the sessions `wanted`.
 fn check_tick(
     rt: &impl Abort,
     alloc: Global,
@@ -177,12 +178,12 @@ fn check_closed(rt: &impl Abort, alloc: Global, registry: &mut Registry) -> Resu
     Ok(())
 }
 
-// Returns the error of a request without messages at `moment`, if any.
+// Returns the error of planning a request without messages at `moment`, or `None` if there is none.
 fn fault_at(alloc: Global, registry: &mut Registry, moment: u64) -> Option<AdmitFault> {
     registry.plan(alloc, &ByRemainder, moment, 0, &[]).err()
 }
 
-// Returns the place that a tick at `moment` would get.
+// Returns the place that a tick at `moment` would get, or the error of planning the tick.
 fn place_of_tick(alloc: Global, registry: &mut Registry, moment: u64) -> Result<u64, AdmitFault> {
     match &registry.plan_tick(alloc, moment) {
         Ok(plan) => Ok(plan.batch.first),

@@ -9,7 +9,8 @@ use std::alloc::{AllocError, Global};
 use std::process::Abort;
 use std::test::Fail;
 
-// A message, with its session's number. Sessions 1 to 3 are live, and only 3 acknowledges.
+// A message, with the number of its session if it names one. Sessions 1 to 3 are live, and only
+// session 3 acknowledges.
 #[derive(Clone, Copy, Debug)]
 enum Sent {
     // A handshake, which names no session.
@@ -23,8 +24,8 @@ enum Sent {
     Disconnect(u64),
 }
 
-// Requests, each with how its messages are answered and with its riders. The first entry of a
-// request is at place 3.
+// Requests, each with the text of its plan: how its messages are answered, and its riders. The
+// first entry of each request is at place 3.
 const REQUESTS: [(&[Sent], &str); 18] = [
     (&[Sent::Publish(1)], "waits 3/1; 3 rides 1 /a;"),
     (
@@ -73,7 +74,8 @@ fn publish(alloc: Global, client: TextMember) -> Result<Message, AllocError> {
     Ok(publish)
 }
 
-// Creates a message that subscribes or unsubscribes, depending on `channel`.
+// Creates a message of `session` with the pattern `/a/*`. It subscribes or unsubscribes, depending
+// on `channel`.
 fn subscription(alloc: Global, channel: &str, session: u64) -> Result<Message, AllocError> {
     let mut subscription = message(alloc, channel, client(alloc, session)?)?;
     subscription.texts.push(Text::new(alloc, "/a/*")?)?;
@@ -101,7 +103,7 @@ fn to_messages(alloc: Global, sent: &[Sent]) -> Result<Vec<Message>, AllocError>
     Ok(messages)
 }
 
-// Opens a session by a handshake with `ack`.
+// Opens the next session by a handshake with `ack`.
 fn open(alloc: Global, registry: &mut Registry, ack: AckMember) -> Result<(), Fail> {
     let mut message = hello(alloc)?;
     message.ack = ack;
@@ -119,7 +121,8 @@ fn registry(alloc: Global, options: Options) -> Result<Registry, Fail> {
     Ok(registry)
 }
 
-// Appends how a message is answered. The shard of a ticket equals its session's number.
+// Appends to `text` how a message is answered: `ready`, or `waits` with its ticket. A ticket has
+// its place and its shard, which equals the number of the session.
 fn push_slot(alloc: Global, slot: &Slot, text: &mut String) -> Result<(), AllocError> {
     match slot {
         Slot::Ready(_) => text.push_str("ready; "),
@@ -129,7 +132,8 @@ fn push_slot(alloc: Global, slot: &Slot, text: &mut String) -> Result<(), AllocE
     }
 }
 
-// Appends the rider of `entry`, if any, with the channel of its reply.
+// Appends to `text` the rider of `entry`, if it has one. The rider has its place, its session, and
+// the channel of its reply.
 fn push_rider(alloc: Global, entry: &Entry, text: &mut String) -> Result<(), AllocError> {
     if let Some(rider) = &entry.rides {
         let place = entry.place;
@@ -141,7 +145,7 @@ fn push_rider(alloc: Global, entry: &Entry, text: &mut String) -> Result<(), All
     Ok(())
 }
 
-// Writes how the messages of `plan` are answered, and then its riders.
+// Returns a text of how the messages of `plan` are answered, followed by its riders.
 fn told(alloc: Global, plan: &Plan) -> Result<String, AllocError> {
     let mut text = String::new(alloc);
     for slot in plan.slots.as_slice() {
@@ -153,7 +157,7 @@ fn told(alloc: Global, plan: &Plan) -> Result<String, AllocError> {
     Ok(text)
 }
 
-// Plans a request of `sent`, and writes the plan.
+// Plans a request of the messages `sent`, and returns the text of the plan.
 fn told_of(alloc: Global, registry: &mut Registry, sent: &[Sent]) -> Result<String, Fail> {
     let messages = to_messages(alloc, sent)?;
     let plan = registry.plan(alloc, &ByRemainder, 0, 0, messages.as_slice())?;
@@ -172,7 +176,7 @@ fn check_request(
     Ok(())
 }
 
-// Checks which messages are riders.
+// Checks which messages are riders, and how messages are answered, if `ride` is set.
 #[test]
 fn the_last_message_of_one_session_rides(rt: HostRuntime) -> Result<(), Fail> {
     let alloc = rt.alloc();

@@ -12,14 +12,15 @@ use std::alloc::{AllocError, Global};
 use std::process::Abort;
 use std::test::Fail;
 
-// More batches than any test forms.
+// An upper bound on the number of batches that a test forms.
 const MANY: u64 = 1_000_000;
 
 #[derive(Clone, Copy, Debug)]
 enum Step {
-    // Events with consecutive numbers as data: the first number, and how many events.
+    // Publishes events with consecutive numbers as data, given by the first number and the count.
     Publish(u64, u64),
-    // The batch number that a connect acknowledges, its moment and its hold.
+    // Connects, given by the number of the batch to acknowledge, the moment, and how long the
+    // connect may be held, in milliseconds.
     Connect(Option<u64>, u64, u64),
     Tick(u64),
     Close,
@@ -29,7 +30,7 @@ fn config() -> Result<Config, Fail> {
     Ok(Config::new(1, 30_000, 0, 10_000).ok_or("no configuration")?)
 }
 
-// Writes `number` as JSON.
+// Returns `number` as JSON.
 fn json(alloc: Global, number: u64) -> Result<RawJson, AllocError> {
     let text = format!(in alloc; "{number}")?;
     RawJson::new(alloc, text.as_str())
@@ -52,7 +53,7 @@ pub fn event(alloc: Global, number: u64) -> Result<SharedEvent, Fail> {
     Ok(SharedEvent::new(alloc, event, name)?)
 }
 
-// Returns the numbers in the events of an answer.
+// Returns the numbers that are the data of the events of an answer.
 fn numbers(alloc: Global, answered: &Answered) -> Result<Vec<u64>, Fail> {
     let mut numbers = Vec::new(alloc);
     for event in answered.answer.events.as_slice() {
@@ -124,7 +125,8 @@ fn push_delivery(answers: &mut Vec<Answered>, delivery: Delivery) -> Result<(), 
     }
 }
 
-// Creates a connect from its place, its moment and its hold.
+// Creates a connect at `place` and `moment`, to be held for at most `hold` milliseconds. Its client
+// id is `Z1`, and its id is `"7"`.
 fn pending(
     alloc: Global,
     (place, moment, hold): (u64, u64, u64),
@@ -166,7 +168,7 @@ fn publish(
     push_delivery(answers, session.deliver(config, place, event, further))
 }
 
-// Publishes `count` events with consecutive numbers, from `first` on.
+// Publishes `count` events with the numbers from `first` on, and appends the answers to `answers`.
 fn publish_all(
     alloc: Global,
     config: &Config,
@@ -230,7 +232,7 @@ fn told(alloc: Global, session: &mut Session, place: u64, step: Step) -> Result<
     text_of(alloc, &answers_to(alloc, session, place, step)?)
 }
 
-// Checks the answers to `step` at `place`.
+// Applies `step` at `place`, and checks that the text of the answers is `expected`.
 fn check_told(
     rt: &impl Abort,
     alloc: Global,
@@ -264,7 +266,8 @@ fn check_says(rt: &impl Abort, session: &Session, says: Says) {
     }
 }
 
-// Applies `steps` at places from 0 on, and checks the answers to each. Then checks `says`.
+// Applies `steps` at the places from 0 on, and checks the text of the answers to each. Then checks
+// the properties `says`.
 fn run_in(
     rt: &impl Abort,
     alloc: Global,
@@ -283,7 +286,8 @@ fn run_in(
     Ok(())
 }
 
-// Runs `steps` in session 7, which acknowledges if `ack` is `true`.
+// Applies `steps` to a new session 7, which acknowledges if `ack` is `true`, and checks the
+// answers. Then checks the properties `says`.
 fn run(
     rt: &impl Abort,
     alloc: Global,
@@ -331,7 +335,7 @@ const PLAIN: [(Step, &str); 7] = [
     (Step::Connect(None, 0, 0), "6 ok plain 0: none;"),
 ];
 
-// Checks that a plain session drops the events that it sends.
+// Checks that a session without acknowledgements sends each event once.
 #[test]
 fn plain_sessions_forget_what_they_give(rt: HostRuntime) -> Result<(), Fail> {
     run(&rt, rt.alloc(), false, &PLAIN, &[])
@@ -375,14 +379,14 @@ const OVERFLOW: [(Step, &str); 8] = [
     ),
 ];
 
-// Checks that an overflow drops all events, and that later connects fail.
+// Checks that a session that overflows drops all events, and that its later connects fail.
 #[test]
 fn overflows_drop_the_events(rt: HostRuntime) -> Result<(), Fail> {
     let says = [Says::Overflowed(true), Says::Patterns(0)];
     run(&rt, rt.alloc(), true, &OVERFLOW, &says)
 }
 
-// Creates `count` patterns with consecutive numbers, from `first` on.
+// Creates `count` patterns `/p/NUMBER/*` with consecutive numbers, from `first` on.
 fn patterns(alloc: Global, first: u64, count: u64) -> Result<Vec<Pattern>, Fail> {
     let mut patterns = Vec::new(alloc);
     for i in 0..count {
@@ -396,8 +400,8 @@ fn pattern(alloc: Global, number: u64) -> Result<Pattern, Fail> {
     Ok(Pattern::read(alloc, text.as_str())?)
 }
 
-// Subscribes to `count` patterns from `first` on, and returns `true` if the session has overflowed.
-// `tree` has the active patterns.
+// Subscribes session 7 to `count` patterns, with numbers from `first` on. Returns `true` if the
+// session has overflowed. `tree` has its active patterns.
 fn subscribe(
     alloc: Global,
     session: &mut Session,
@@ -417,7 +421,7 @@ fn subscribe(
     Ok(session.subscribe(&config, patterns.as_slice(), fresh))
 }
 
-// Unsubscribes from `patterns`.
+// Unsubscribes session 7 from `patterns`, in `session` and in `tree`.
 fn unsubscribe(session: &mut Session, tree: &mut Tree, patterns: &[Pattern])
     requires tied { patterns_of tree.old 7 ≡ session.old.kept.patterns }
     ensures tied { patterns_of tree.new 7 ≡ session.new.kept.patterns }
@@ -426,7 +430,8 @@ fn unsubscribe(session: &mut Session, tree: &mut Tree, patterns: &[Pattern])
     session.unsubscribe(patterns, gone);
 }
 
-// Subscribes to the greatest number of patterns, and replaces one of them.
+// Subscribes to the greatest number of patterns, and replaces one of them. Checks that the session
+// has not overflowed.
 fn reach_the_limit(
     rt: &impl Abort,
     alloc: Global,
@@ -450,7 +455,7 @@ fn reach_the_limit(
     Ok(())
 }
 
-// Subscribes to one pattern more than is allowed, which makes the session overflow.
+// Subscribes to one pattern more than is allowed, and checks that the session overflows.
 fn pass_the_limit(
     rt: &impl Abort,
     alloc: Global,
@@ -486,7 +491,8 @@ fn patterns_past_their_limit_leave_a_connect_held(rt: HostRuntime) -> Result<(),
     check_limit(&rt, alloc, &mut Session::open(alloc, 7, true))
 }
 
-// Checks the reply to a connect that a disconnect ended.
+// Checks the reply to a connect that a disconnect ended. It must have the connect's client id and
+// `id`, and the advice never to reconnect.
 fn check_reply(rt: &impl Abort, reply: &Reply) -> Result<(), Fail> {
     same(rt, reply.channel.as_str(), "/meta/connect", "channel");
     match (&reply.client, &reply.id, reply.advice) {
@@ -517,8 +523,9 @@ fn replies_repeat_what_the_connect_had(rt: HostRuntime) -> Result<(), Fail> {
 
 // An acknowledging session as its client sees it.
 //
-// The fields are the next event to be published, the first unacknowledged event, the number of the
-// last batch, and how many of its events are outstanding.
+// `published` is the number of the next event to publish, and `done` the number of the first
+// unacknowledged event. `number` is the number of the last batch, and `out` counts its outstanding
+// events.
 #[derive(Drop)]
 struct Seen {
     published: u64,
@@ -527,7 +534,8 @@ struct Seen {
     out: u64,
 }
 
-// Checks that `events` are consecutive from `first` on, and returns the number after the last.
+// Checks that `events` are consecutive numbers from `first` on. Returns the number that follows
+// them.
 fn follow(rt: &impl Abort, events: &[u64], first: u64, place: u64) -> u64 {
     let mut next = first;
     for event in events {
@@ -538,7 +546,8 @@ fn follow(rt: &impl Abort, events: &[u64], first: u64, place: u64) -> u64 {
 }
 
 impl Seen {
-    // Acknowledges batch `acked`: all events of the last batch, or none.
+    // Records the acknowledgement of batch `acked`. If `acked` is at least the number of the last
+    // batch, all events of that batch are acknowledged, and otherwise none.
     fn acknowledges(&mut self, acked: Option<u64>) {
         if let Some(number) = acked
             && number >= self.number
@@ -559,7 +568,9 @@ impl Seen {
         Ok(())
     }
 
-    // Checks batch `number`, which ends before event `next`.
+    // Checks and records batch `number`, which has the unacknowledged events before `next`. It must
+    // be the outstanding batch or, if no batch is outstanding, be empty with the last number or not
+    // empty with the next number.
     fn gets_batch(&mut self, rt: &impl Abort, number: u64, next: u64, place: u64) {
         let count = next.saturating_sub(self.done);
         same(rt, next <= self.published, true, place);
@@ -576,8 +587,8 @@ impl Seen {
 }
 
 // Returns the step that `random` chooses. While fewer than 900 events are unacknowledged, half of
-// the steps publish. A connect acknowledges no batch, the last one, the one before it, or the
-// greatest number.
+// the steps publish. A connect acknowledges no batch, the last batch, the batch before the last, or
+// the greatest number.
 fn step_of(random: u64, seen: &Seen, place: u64) -> Step {
     let acked = match random / 16 % 4 {
         0 => None,
@@ -594,7 +605,7 @@ fn step_of(random: u64, seen: &Seen, place: u64) -> Step {
     }
 }
 
-// Applies `step` at `place`, and checks the answers as the client sees them.
+// Applies `step` at `place`, updates `seen`, and checks that the answers agree with `seen`.
 fn see(
     rt: &impl Abort,
     alloc: Global,
@@ -623,7 +634,8 @@ fn see_all(
     Ok(())
 }
 
-// Applies and checks 10,000 random steps.
+// Applies 10,000 random steps, and checks that the answers agree with `seen`. Checks that the
+// session has not overflowed.
 fn see_steps(
     rt: &impl Abort,
     alloc: Global,
@@ -641,7 +653,8 @@ fn see_steps(
     Ok(())
 }
 
-// Checks that each event is sent in order, and acknowledged once.
+// Checks that a session sends its events in order, and that each event is acknowledged once. The
+// test takes 10,000 random steps.
 #[test]
 fn each_event_comes_once_and_in_order(rt: HostRuntime) -> Result<(), Fail> {
     let alloc = rt.alloc();

@@ -29,7 +29,7 @@ fn texts_of(alloc: Global, patterns: &[Pattern]) -> Result<String, AllocError> {
     Ok(all)
 }
 
-// Returns `true` if the patterns of `number` are `texts`, each followed by a space.
+// Returns `true` if the patterns of session `number` are `texts`, each followed by a space.
 fn has_texts(alloc: Global, tree: &Tree, number: u64, texts: &str) -> Result<bool, AllocError> {
     let patterns = tree.patterns(alloc, number)?;
     Ok(texts_of(alloc, &patterns)?.as_str() == texts)
@@ -43,8 +43,8 @@ fn plant(alloc: Global, tree: &mut Tree) -> Result<(), Fail> {
     Ok(())
 }
 
-// Names under `/a` and elsewhere. For each: the numbers that a search finds, and the greatest
-// number of lists that it may visit.
+// Channel names under `/a` and elsewhere. Each has the sessions that a search finds, and the
+// greatest number of the tree's lists that the search may visit.
 const FINDS: [(&str, &[u64], usize); 7] = [
     ("/a/b", &[1, 2], 9),
     ("/a/c", &[1], 9),
@@ -55,7 +55,7 @@ const FINDS: [(&str, &[u64], usize); 7] = [
     ("/ab/b", &[], 9),
 ];
 
-// Checks that a search for `name` finds `numbers` and visits at most `most` lists.
+// Checks that a search for `name` finds the sessions `numbers` and visits at most `most` lists.
 fn assert_find(
     rt: &impl Abort,
     alloc: Global,
@@ -78,7 +78,8 @@ fn assert_finds(rt: &impl Abort, alloc: Global, tree: &Tree) -> Result<(), Fail>
     Ok(())
 }
 
-// Removes a pattern, and returns `true` if it was there. Fails if `has` and `remove` disagree.
+// Removes the pattern `text` of session `number`, and returns `true` if the session had it. Fails
+// if `has` and `remove` disagree.
 fn remove(alloc: Global, tree: &mut Tree, text: &str, number: u64) -> Result<bool, Fail> {
     let pattern = Pattern::read(alloc, text)?;
     let is_there = tree.has(&pattern, number);
@@ -89,8 +90,8 @@ fn remove(alloc: Global, tree: &mut Tree, text: &str, number: u64) -> Result<boo
     }
 }
 
-// Patterns to remove, each with its session and whether it is there. Then the remaining patterns of
-// session 1, and the sessions found for `/a/b`.
+// Patterns to remove. Each has its session, whether the session has the pattern, the patterns that
+// session 1 then has, and the sessions that a search then finds for `/a/b`.
 const REMOVES: [(&str, u64, bool, &str, &[u64]); 4] = [
     ("/a/**", 2, false, "/a/* /a/** ", &[1, 2]),
     ("/a/*", 1, true, "/a/** ", &[1, 2]),
@@ -98,7 +99,7 @@ const REMOVES: [(&str, u64, bool, &str, &[u64]); 4] = [
     ("/a/**", 1, true, "", &[2]),
 ];
 
-// Removes patterns one by one, and checks what `REMOVES` expects.
+// Removes the patterns in `REMOVES` one by one, and checks the results that are given there.
 fn assert_removes(rt: &impl Abort, alloc: Global, tree: &mut Tree) -> Result<(), Fail> {
     for (text, number, is_there, left, found) in &REMOVES {
         let was_there = remove(alloc, tree, *text, *number)?;
@@ -109,7 +110,8 @@ fn assert_removes(rt: &impl Abort, alloc: Global, tree: &mut Tree) -> Result<(),
     Ok(())
 }
 
-// Adds `pattern` for `number`, which then has one pattern. Returns `true` if it was added.
+// Adds `pattern` for session `number`, and returns `true` if the session did not have it before.
+// Fails unless the session then has exactly one pattern.
 fn add(alloc: Global, tree: &mut Tree, pattern: &Pattern, number: u64) -> Result<bool, Fail> {
     let is_added = tree.add(alloc, pattern, number)?;
     if tree.count(number) == 1 {
@@ -119,7 +121,8 @@ fn add(alloc: Global, tree: &mut Tree, pattern: &Pattern, number: u64) -> Result
     }
 }
 
-// Adds `/a/b` for session 2, which has it already, and twice for session 1, which does not.
+// Adds `/a/b` for session 2, which has it already, and twice for session 1, which does not have it.
+// Checks that only the first addition for session 1 changes the tree.
 fn assert_adds(rt: &impl Abort, alloc: Global, tree: &mut Tree) -> Result<(), Fail> {
     let pattern = Pattern::read(alloc, "/a/b")?;
     same(rt, add(alloc, tree, &pattern, 2)?, false, "2");
@@ -142,13 +145,13 @@ fn patterns_come_and_go_one_by_one(rt: HostRuntime) -> Result<(), Fail> {
     assert_one_by_one(&rt, rt.alloc(), &mut tree)
 }
 
-// Patterns to add for session 1: one occurs twice, and the session has one already.
+// Patterns to add for session 1: `/b` occurs twice, and the session has `/a/*` already.
 const COMING: [&str; 4] = ["/b", "/a/*", "/b", "/c/*"];
 
-// Patterns to remove from session 1: one occurs twice, and one is not there.
+// Patterns to remove from session 1: `/c/*` occurs twice, and the session does not have `/d`.
 const GOING: [&str; 4] = ["/c/*", "/d", "/b", "/c/*"];
 
-// Checks that the patterns of `number` are `texts`, each followed by a space.
+// Checks that the patterns of session `number` are `texts`, each followed by a space.
 fn assert_texts(
     rt: &impl Abort,
     alloc: Global,
@@ -175,7 +178,8 @@ fn assert_several_come(
     assert_texts(rt, alloc, tree, 3, "/b /a/* /c/* ")
 }
 
-// Removes `going` from session 1, and then all patterns of session 3.
+// Removes `going` from session 1, and then all patterns of session 3. Checks how many are removed,
+// and what is left.
 fn assert_several_go(
     rt: &impl Abort,
     alloc: Global,
@@ -203,7 +207,7 @@ fn several_come_and_go_at_once(rt: HostRuntime) -> Result<(), Fail> {
     assert_at_once(&rt, rt.alloc(), &mut tree)
 }
 
-// Gives each of 10,000 sessions its own pattern.
+// Adds a pattern for each of 10,000 sessions, a different one for each.
 fn crowd(alloc: Global, tree: &mut Tree) -> Result<(), Fail> {
     for number in 10..10_010 {
         let text = format!(in alloc; "/x{number}")?;
@@ -212,7 +216,7 @@ fn crowd(alloc: Global, tree: &mut Tree) -> Result<(), Fail> {
     Ok(())
 }
 
-// Checks that a search for a name of 32 segments visits few lists.
+// Checks that a search for a name of 32 segments visits at most 99 of the tree's lists.
 fn assert_finds_deep(rt: &impl Abort, alloc: Global, tree: &Tree) -> Result<(), Fail> {
     let name = "/a".repeat(alloc, 32)?;
     assert_find(rt, alloc, tree, name.as_str(), &[1], 99)
@@ -225,14 +229,14 @@ fn assert_few_visited(rt: &impl Abort, alloc: Global, tree: &mut Tree) -> Result
     assert_finds_deep(rt, alloc, tree)
 }
 
-// Checks that a search among thousands of patterns visits few lists.
+// Checks that a search among thousands of patterns visits few of the tree's lists.
 #[test]
 fn visits_few_lists(rt: HostRuntime) -> Result<(), Fail> {
     let mut tree = Tree::new(rt.alloc());
     assert_few_visited(&rt, rt.alloc(), &mut tree)
 }
 
-// Advances a linear congruential generator, and returns a number below `bound`.
+// Advances the linear congruential generator `state`, and returns a number less than `bound`.
 fn draw(state: &mut u64, bound: u64) -> u64
     requires { 0 < bound }
     ensures { result < bound }
@@ -243,7 +247,7 @@ fn draw(state: &mut u64, bound: u64) -> u64
     (*state >> 33) % bound
 }
 
-// Draws a path of one to four segments, each `a` or `b`, with one of `endings` or none.
+// Returns a random path of one to four segments, each `a` or `b`, with one of `endings` or none.
 fn drawn_text(alloc: Global, state: &mut u64, endings: &[&str]) -> Result<String, AllocError> {
     let mut text = String::new(alloc);
     for _ in 0..1 + draw(state, 4) {
@@ -256,7 +260,7 @@ fn drawn_text(alloc: Global, state: &mut u64, endings: &[&str]) -> Result<String
 
 const SESSIONS: u64 = 6;
 
-// Returns the numbers that have a matching pattern in `pairs`, ascending.
+// Returns the sessions with a pattern in `pairs` that matches `name`, in ascending order.
 fn plain_find(
     alloc: Global,
     pairs: &[(u64, Pattern)],
@@ -293,7 +297,8 @@ impl Both {
         self.pairs.retain(|pair| pair.0 != number);
     }
 
-    // Removes a pattern, and returns `true` if tree and list agree on whether it was there.
+    // Removes `pattern` of session `number` from the tree and the list. Returns `true` if both
+    // agree on whether the session had it.
     fn remove(&mut self, number: u64, pattern: &Pattern) -> bool {
         let is_listed = self.is_listed(number, pattern);
         let is_removed = self.tree.remove(pattern, number);
@@ -302,7 +307,8 @@ impl Both {
         is_removed == is_listed
     }
 
-    // Adds a pattern, and returns `true` if tree and list agree on whether it was new.
+    // Adds `pattern` for session `number` to the tree and the list. Returns `true` if both agree on
+    // whether it was new to the session.
     fn add(&mut self, alloc: Global, number: u64, pattern: Pattern) -> Result<bool, Fail> {
         let is_listed = self.is_listed(number, &pattern);
         let is_added = self.tree.add(alloc, &pattern, number)?;
@@ -313,13 +319,14 @@ impl Both {
     }
 }
 
-// Draws a pattern.
+// Returns a random pattern of one to four segments, each `a` or `b`, and perhaps a wildcard.
 fn drawn_pattern(alloc: Global, state: &mut u64) -> Result<Pattern, Fail> {
     let text = drawn_text(alloc, state, &["/*", "/**"])?;
     Ok(Pattern::read(alloc, text.as_str())?)
 }
 
-// Draws a change, applies it to both, and returns `true` if their results agree.
+// Applies a change that `state` chooses to the tree and the list. Returns `true` if both agree on
+// its result.
 fn change(alloc: Global, state: &mut u64, both: &mut Both) -> Result<bool, Fail> {
     let number = draw(state, SESSIONS);
     let pattern = drawn_pattern(alloc, state)?;
@@ -334,20 +341,22 @@ fn change(alloc: Global, state: &mut u64, both: &mut Both) -> Result<bool, Fail>
     }
 }
 
-// Returns `true` if both find the same for `name`, and the tree visits at most 15 lists.
+// Returns `true` if the tree and the list find the same sessions for `name`. If the tree's search
+// visits more than 15 of its lists, returns `false`.
 fn agrees_on(alloc: Global, both: &Both, name: &ChannelName) -> Result<bool, Fail> {
     let expected = plain_find(alloc, both.pairs.as_slice(), name)?;
     let found = both.tree.nodes().find(alloc, name)?;
     Ok(found.numbers.as_slice() == expected.as_slice() && found.visited <= 15)
 }
 
-// Returns `true` if both find the same for a drawn name.
+// Returns `true` if the tree and the list find the same sessions for a random name. If the tree's
+// search visits more than 15 of its lists, returns `false`.
 fn agrees(alloc: Global, state: &mut u64, both: &Both) -> Result<bool, Fail> {
     let text = drawn_text(alloc, state, &[])?;
     agrees_on(alloc, both, &ChannelName::read(alloc, text.as_str())?)
 }
 
-// Checks that tree and list agree after each of 2,000 drawn changes.
+// Checks that the tree and the list agree after each of 2,000 random changes.
 fn assert_agree(rt: &impl Abort, alloc: Global, both: &mut Both) -> Result<(), Fail> {
     let mut state = 20_260_101;
     for step in 0..2_000 {

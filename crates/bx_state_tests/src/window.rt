@@ -11,19 +11,19 @@ use std::alloc::Global;
 use std::process::Abort;
 use std::test::Fail;
 
-// Limit of events in these tests.
+// The limit of events in a window.
 const LIMIT: usize = 1_024;
 
-// More batches than any test forms.
+// An upper bound on the number of batches that a test forms.
 const MANY: u64 = 1_000_000;
 
 #[derive(Clone, Copy, Debug)]
 enum Move {
-    // Events with consecutive numbers as data: the first number, and how many events.
+    // Appends events with consecutive numbers as data, given by the first number and the count.
     Push(u64, u64),
     // Checks that the window is full.
     Full,
-    // Forms the next batch of at most this many events, unless one is outstanding.
+    // Forms the next batch, of at most the given number of events, unless a batch is outstanding.
     Give(usize),
     Acknowledge(u64),
     Clear,
@@ -82,7 +82,7 @@ fn apply(rt: &impl Abort, alloc: Global, window: &mut Window, step: Move) -> Res
     Ok(())
 }
 
-// Makes `moves`, and checks the window after each.
+// Makes each of `moves`, and checks that the text of the window is then as given.
 fn run(
     rt: &impl Abort,
     alloc: Global,
@@ -187,7 +187,8 @@ fn events_without_batches_are_forgotten(rt: HostRuntime) -> Result<(), Fail> {
 
 // Checks what a connect that acknowledges `number` would get.
 //
-// `done`: how many events it drops. `portions`: how many it then gets for batch limits of 9 and 1.
+// `done`: how many events the acknowledgement would drop. `portions`: how many events the connect
+// would then get, for batch limits of 9 and 1.
 fn check_ahead(rt: &impl Abort, window: &Window, number: u64, done: usize, portions: [usize; 2]) {
     same(rt, window.acknowledged(number), done, number);
     let done = window.acknowledged(number);
@@ -196,8 +197,8 @@ fn check_ahead(rt: &impl Abort, window: &Window, number: u64, done: usize, porti
     }
 }
 
-// Checks what a connect would get of five events, three of them in a batch. It would get the batch
-// until that is acknowledged, and then the other two.
+// Checks what a connect would get of five events, with three of them in a batch. It would get the
+// batch until the batch is acknowledged, and then the other two events.
 fn look_ahead(rt: &impl Abort, alloc: Global, window: &mut Window) -> Result<(), Fail> {
     check_ahead(rt, window, 0, 0, [0, 0]);
     apply(rt, alloc, window, Move::Push(1, 5))?;
@@ -218,8 +219,8 @@ fn a_look_ahead_says_what_a_connect_is_given(rt: HostRuntime) -> Result<(), Fail
     look_ahead(&rt, alloc, &mut Window::new(alloc))
 }
 
-// Checks that events count until they are dropped. The text of each is 27 bytes long, for example
-// `{"channel":"/a/b","data":7}`.
+// Checks that the bytes of events count toward the limit until the events are dropped. The text of
+// each event is 27 bytes long, for example `{"channel":"/a/b","data":7}`.
 fn check_bytes(rt: &impl Abort, alloc: Global, window: &mut Window) -> Result<(), Fail>
     requires { window.old.contents.out ≡ 0 }
 {
@@ -267,7 +268,7 @@ fn check_bytes(rt: &impl Abort, alloc: Global, window: &mut Window) -> Result<()
     Ok(())
 }
 
-// Checks that the bytes of an event count until it is dropped.
+// Checks that the bytes of an event count toward the limit of a window until the event is dropped.
 #[test]
 fn bytes_count_until_their_event_is_given_for_good(rt: HostRuntime) -> Result<(), Fail> {
     let alloc = rt.alloc();

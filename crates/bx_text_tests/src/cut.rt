@@ -13,12 +13,12 @@ fn count_of(alloc: Global, body: &[u8]) -> Result<usize, CutError> {
     Ok(Document::read(alloc, body)?.pieces().len())
 }
 
-// Checks the number of messages in `body`, or the error.
+// Checks that the number of messages in `body`, or its error, is `wanted`.
 fn check(rt: &impl Abort, alloc: Global, body: &str, wanted: Result<usize, CutError>) {
     same(rt, count_of(alloc, body.as_bytes()), wanted, body);
 }
 
-// Checks the texts of the messages in `body`.
+// Checks that the texts of the messages in `body` are `wanted`.
 fn check_pieces(
     rt: &impl Abort,
     alloc: Global,
@@ -62,7 +62,8 @@ fn documents_have_their_pieces(rt: HostRuntime) -> Result<(), Fail> {
     Ok(())
 }
 
-// Checks the value of member `name` of the only message, by its piece and by its text.
+// Checks that member `name` of the only message in `body` is `wanted`. `None` is for a missing
+// member. Looks it up in the message's piece and in its text.
 fn check_member(
     rt: &impl Abort,
     alloc: Global,
@@ -80,7 +81,7 @@ fn check_member(
     Ok(())
 }
 
-// Checks that keys are compared after unescaping, and that the last member of a name counts.
+// Checks that keys are compared after unescaping, and that the last member with a name counts.
 #[test]
 fn members_are_the_last_of_their_name(rt: HostRuntime) -> Result<(), Fail> {
     let table: [(&str, &str, Option<&str>); 16] = [
@@ -111,7 +112,7 @@ fn members_are_the_last_of_their_name(rt: HostRuntime) -> Result<(), Fail> {
     Ok(())
 }
 
-// Checks the error of each kind of invalid body.
+// Checks the errors of invalid bodies of many kinds.
 #[test]
 fn faults_are_told_in_order(rt: HostRuntime) -> Result<(), Fail> {
     let table: [(&[u8], CutError); 30] = [
@@ -179,7 +180,8 @@ fn repeated(
     Ok(text)
 }
 
-// Checks the body of `front`, `count` times `part`, and `back`.
+// Checks that the number of messages in a body, or its error, is `wanted`. The body is `front`,
+// followed by `count` times `part` and then `back`.
 fn check_repeated(
     rt: &impl Abort,
     alloc: Global,
@@ -218,7 +220,8 @@ fn limits_are_exact(rt: HostRuntime) -> Result<(), Fail> {
     Ok(())
 }
 
-// Returns the length in bytes of the value of member `a` of the only message.
+// Returns the length in bytes of the value of member `a` of the only message, or 0 if it has no
+// `a`.
 fn length_of_a(alloc: Global, body: &str) -> Result<usize, Fail> {
     let document = Document::read(alloc, body.as_bytes())?;
     match document.pieces() {
@@ -276,7 +279,8 @@ fn only_objects_are_messages(rt: HostRuntime) {
     }
 }
 
-// Checks a body with `number` between `front` and `back`.
+// Checks that the number of messages in a body, or its error, is `wanted`. The body is `number`
+// between `front` and `back`.
 fn check_number(
     rt: &impl Abort,
     alloc: Global,
@@ -349,7 +353,8 @@ fn numbers_too_large_for_a_float_are_no_json(rt: HostRuntime) -> Result<(), Fail
     Ok(())
 }
 
-// Checks a body with `depth` levels of nesting around `inside`, between `front` and `back`.
+// Checks that the number of messages in a body, or its error, is `wanted`. The body is `front`,
+// `depth` times `open`, `inside`, `depth` times `close`, and `back`.
 fn check_nested(
     rt: &impl Abort,
     alloc: Global,
@@ -426,7 +431,7 @@ fn nested_values_are_cut_too(rt: HostRuntime) {
     }
 }
 
-// Checks that lookups in malformed texts do not fail.
+// Checks that lookups in malformed texts return without a failure.
 #[test]
 fn no_text_is_too_odd_to_cut(rt: HostRuntime) {
     for odd in [
@@ -453,7 +458,8 @@ fn no_text_is_too_odd_to_cut(rt: HostRuntime) {
     }
 }
 
-// Checks the unescaped text of `value`, or that it is not a string.
+// Checks that the unescaped text of `value` is `wanted`. `None` is for a value that is not a
+// string.
 fn check_text(
     rt: &impl Abort,
     alloc: Global,
@@ -489,7 +495,7 @@ fn strings_are_unescaped(rt: HostRuntime) -> Result<(), Fail> {
     Ok(())
 }
 
-// Checks which strings have no escapes.
+// Checks the texts of strings without escapes, and that other values have none.
 #[test]
 fn strings_without_escapes_stand_as_they_are(rt: HostRuntime) {
     let table: [(&str, Option<&str>); 7] = [

@@ -22,7 +22,7 @@ fn json(alloc: Global, json: Option<&str>) -> Result<Option<RawJson>, AllocError
     }
 }
 
-// Creates a message with these members and no others.
+// Creates a message with `channel`, `id` and `subscription`, and no other members.
 fn message(
     alloc: Global,
     channel: &str,
@@ -48,7 +48,7 @@ fn message(
     })
 }
 
-// Formats the reply to `message`.
+// Returns the reply to `message`, as JSON.
 fn replied(
     alloc: Global,
     message: &Message,
@@ -61,7 +61,7 @@ fn replied(
     Ok(reply_text(alloc, &reply)?)
 }
 
-// Checks the reply to a message with `channel`, `id` and a subscription.
+// Checks that the reply to a message with `channel`, `id` and a subscription is `wanted`.
 fn check_reply(
     rt: &impl Abort,
     alloc: Global,
@@ -87,7 +87,7 @@ fn check_replied(
     Ok(())
 }
 
-// Checks the members of the reply to each kind of message.
+// Checks the members of replies to messages of several kinds.
 #[test]
 fn replies_have_their_members(rt: HostRuntime) -> Result<(), Fail> {
     let alloc = rt.alloc();
@@ -333,7 +333,7 @@ fn add_ack(alloc: Global, out: &mut String, ack: AckMember) -> Result<(), AllocE
     }
 }
 
-// Appends all fields except the channel, in the order in which `Message` declares them.
+// Appends all fields of `m` except the channel to `out`, in the order of their declaration.
 fn add_fields(alloc: Global, out: &mut String, m: &Message) -> Result<(), AllocError> {
     add_json(out, "id", &m.id)?;
     add_text(out, "client", &m.client)?;
@@ -359,13 +359,14 @@ fn shown(alloc: Global, m: &Message) -> Result<String, AllocError> {
     Ok(out)
 }
 
-// Checks the fields of a message with channel `/a` followed by `members`.
+// Checks that the fields of a message with the channel `/a` and then `members` are `wanted`.
 fn check_members(rt: &impl Abort, alloc: Global, members: &str, wanted: &str) -> Result<(), Fail> {
     let body = format!(in alloc; r#"{{"channel":"/a"{members}}}"#)?;
     check_only(rt, alloc, body.as_str(), Some(wanted))
 }
 
-// Checks the fields of the only message in `body`, or that it has no channel.
+// Checks that the fields of the only message in `body` are `wanted`. `None` is for a message that
+// is rejected because it has no channel.
 fn check_only(
     rt: &impl Abort,
     alloc: Global,
@@ -408,7 +409,8 @@ fn check_fields(
     Ok(())
 }
 
-// Members of a message, and the fields that they result in.
+// Members that follow the channel `/a` in a message, each with the text of the parsed message's
+// fields.
 const MEMBERS: [(&str, &str); 52] = [
     ("", "/a"),
     (r#","channel":"/b""#, "/b"),
@@ -488,7 +490,7 @@ const MEMBERS: [(&str, &str); 52] = [
     (r#","advice":{"timeout":5},"advice":5"#, "/a"),
 ];
 
-// Checks the fields that members result in.
+// Checks the fields of a message with each row of `MEMBERS`.
 #[test]
 fn members_are_the_fields(rt: HostRuntime) -> Result<(), Fail> {
     for (members, wanted) in MEMBERS {

@@ -17,13 +17,14 @@ fn repeated(alloc: Global, start: &str, part: &str, count: usize) -> Result<Stri
     Ok(text)
 }
 
-// Checks that `text` has `fault`, or that it is a name if there is none.
+// Checks that `text` is not a name because of `fault`, or that it is a name if `fault` is `None`.
 fn check_name(rt: &impl Abort, alloc: Global, text: &str, fault: Option<NameError>) {
     same(rt, name_fault(text), fault, text);
     same(rt, ChannelName::read(alloc, text).err(), fault, text);
 }
 
-// Checks the text of `start`, followed by `count` times `part`.
+// Checks that a text is not a name because of `fault`, or that it is a name if `fault` is `None`.
+// The text is `start`, followed by `count` times `part`.
 fn check_repeated(
     rt: &impl Abort,
     alloc: Global,
@@ -104,7 +105,7 @@ fn check_refused(rt: &impl Abort, alloc: Global, text: &str, fault: NameError) {
     same(rt, Pattern::read(alloc, text).err(), Some(fault), text);
 }
 
-// Returns the fault of 31 segments followed by `end`, or `None` if this is a pattern.
+// Returns why 31 segments followed by `end` are not a pattern, or `None` if they are a pattern.
 fn fault_behind(alloc: Global, end: &str) -> Result<Option<NameError>, AllocError> {
     let mut text = repeated(alloc, "", "/a", 31)?;
     text.push_str(end)?;
@@ -178,7 +179,7 @@ fn matching(rt: HostRuntime) -> Result<(), Fail> {
     Ok(())
 }
 
-// Checks the kinds of channels.
+// Checks which channels are meta, service and broadcast channels.
 #[test]
 fn kinds(rt: HostRuntime) -> Result<(), Fail> {
     let table = [
@@ -200,7 +201,7 @@ fn kinds(rt: HostRuntime) -> Result<(), Fail> {
     Ok(())
 }
 
-// Returns the segments of `name`, joined.
+// Returns the segments of `name`, joined without slashes.
 fn joined(alloc: Global, name: &ChannelName) -> Result<String, AllocError> {
     let mut joined = String::new(alloc);
     for segment in name.segments() {
@@ -230,7 +231,7 @@ fn check_pattern_parts(rt: &impl Abort, alloc: Global, pattern: &Pattern) -> Res
     Ok(())
 }
 
-// Checks the parts of names and patterns, and that copies are equal.
+// Checks the segments of a name and of a pattern, and that a pattern equals its copy.
 #[test]
 fn parts(rt: HostRuntime) -> Result<(), Fail> {
     let name = ChannelName::read(rt.alloc(), "/a/bc/d")?.clone()?;
@@ -239,7 +240,7 @@ fn parts(rt: HostRuntime) -> Result<(), Fail> {
     check_pattern_parts(&rt, rt.alloc(), &pattern)
 }
 
-// Checks the text of a fault.
+// Checks the text of the fault of a name with a star.
 #[test]
 fn faults_have_texts(rt: HostRuntime) -> Result<(), Fail> {
     let refused = ChannelName::read(rt.alloc(), "/a*").err();

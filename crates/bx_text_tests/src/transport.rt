@@ -22,7 +22,7 @@ fn listed(alloc: Global, bodies: &Bodies) -> Result<String, AllocError> {
     Ok(text)
 }
 
-// Returns the documents of a POST, as `listed` formats them.
+// Returns the documents of a POST with `body`, as `listed` formats them.
 fn post(alloc: Global, content_type: Option<&str>, body: &str) -> Result<String, TransportError> {
     let content_type = content_type.map(str::as_bytes);
     let bodies = read_post(
@@ -40,7 +40,7 @@ fn get(alloc: Global, query: &str) -> Result<String, TransportError> {
     Ok(format!(in alloc; "{name} {documents}")?)
 }
 
-// Checks the documents or the error.
+// Checks that the documents or the error in `taken` are those in `wanted`.
 fn check(
     rt: &impl Abort,
     taken: Result<String, TransportError>,
@@ -53,7 +53,7 @@ fn check(
     }
 }
 
-// Checks that the error is `fault`, if any.
+// Checks that the error in `taken` is `fault`, or that there is none if `fault` is `None`.
 fn check_fault(
     rt: &impl Abort,
     taken: Result<String, TransportError>,
@@ -162,7 +162,8 @@ fn queries_name_their_callback(rt: HostRuntime) -> Result<(), Fail> {
     Ok(())
 }
 
-// Checks the error of a callback name of `length` characters.
+// Checks that the error of a callback name of `length` characters is `fault`. `None` is for no
+// error.
 fn check_length(
     rt: &impl Abort,
     alloc: Global,
@@ -186,7 +187,8 @@ fn names_have_256_characters_at_most(rt: HostRuntime) -> Result<(), Fail> {
 
 // Checks the errors of `size` spaces as JSON, as a form and as a query.
 //
-// `plain` is the error as JSON, and `form` the error as a form and as a query.
+// `plain` is the error as JSON, or `None` if there is none. `form` is the error as a form and as a
+// query.
 fn check_size(
     rt: &impl Abort,
     alloc: Global,

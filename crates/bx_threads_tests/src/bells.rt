@@ -32,7 +32,7 @@ struct Counter {
 }
 
 impl Counter {
-    // Creates a counter at 0, and the file descriptor that owns it.
+    // Creates a counter at 0, and the file descriptor that owns it. Returns `None` if that fails.
     fn new() -> Option<(Counter, OwnedFd)> {
         let fd = eventfd(0, EFD_CLOEXEC);
         if fd < 0 {
@@ -63,16 +63,16 @@ enum Waking {
     Question,
 }
 
-// Flags between the threads.
+// Flags that the threads share.
 #[derive(Drop)]
 struct Flags {
-    // The waking call begins.
+    // Set just before the waking call.
     is_armed: AtomicBool,
-    // That call is about to advance shard 1.
+    // Set when the waking call has locked shard 1 and is about to advance it.
     stands: AtomicBool,
-    // After that, every shard was locked and unlocked once.
+    // Set after every shard was locked and unlocked once, during the waking call.
     swept: AtomicBool,
-    // That call has ended.
+    // Set after the waking call has ended.
     ended: AtomicBool,
 }
 
@@ -87,7 +87,7 @@ impl Flags {
     }
 }
 
-// A gate that reports when the waking call has locked shard 1.
+// A gate that sets `Flags::stands` when the waking call has locked shard 1.
 #[derive(Drop)]
 struct Telling {
     flags: Arc<Flags, Global>,
@@ -132,7 +132,8 @@ fn wakes<L: LogId, P: Placing, G: Gate + Drop, H: Wait + Drop, R: Wait>(
     answered
 }
 
-// Locks every shard once, after the waking call has locked shard 1. Returns `true` if it has.
+// Waits until the waking call has locked shard 1, then locks every shard once. Returns `true`
+// unless the wait took over `LOOKS` milliseconds.
 fn sweeps<L: LogId, P: Placing, G: Gate + Drop, H: Wait + Drop, R: Wait + Clock>(
     rt: &R,
     hub: &Hub<L, P, G, H>,
@@ -144,18 +145,19 @@ fn sweeps<L: LogId, P: Placing, G: Gate + Drop, H: Wait + Drop, R: Wait + Clock>
     stood
 }
 
-// What happened to a wake that was blocked.
+// What a thread finds while the wake of a task is blocked.
 #[derive(Clone, Copy, Debug, PartialEq, Eq)]
 struct Told {
-    // Whether every shard could be locked meanwhile.
+    // Whether every shard could be locked while the wake was blocked.
     was_free: bool,
     // Whether the waking call had ended, although its wake was blocked.
     had_ended: bool,
-    // Whether the blocked write could continue.
+    // Whether the counter could be read, so that the blocked wake continues.
     let_go: bool,
 }
 
-// Lets the wake continue once every shard was locked, or after `LOOKS` milliseconds.
+// Lets the blocked wake continue once every shard was locked, or after `LOOKS` milliseconds.
+// Returns what it found.
 fn lets_go<R: Clock>(rt: &R, flags: &Flags, counter: &Counter) -> Told {
     let was_free = wait_for(rt, &flags.swept);
     thread::sleep(rt, Duration::from_millis(20));

@@ -15,16 +15,17 @@ use std::sync::{Arc, Wait};
 use std::test::*;
 use std::thread::{Threads, join};
 
-// Ticks of each of two threads. With the other requests they exceed the window's 4,096 batches.
+// Number of ticks that each of two threads appends. With the other requests they exceed the
+// window's 4,096 batches.
 const TICKS: usize = 2_000;
 
-// Events of each of three threads, together fewer than a session may queue.
+// Number of events that each of three threads publishes, together fewer than a session may queue.
 const EVENTS: usize = 250;
 
-// Events of all three threads.
+// Number of events that all three threads publish.
 const ALL_EVENTS: usize = 3 * EVENTS;
 
-// Connects of each of two threads.
+// Number of connects that each of two threads posts.
 const CONNECTS: usize = 100;
 
 const SUBSCRIPTIONS: [&str; 2] = [
@@ -32,7 +33,7 @@ const SUBSCRIPTIONS: [&str; 2] = [
     r#"[{"channel":"/meta/subscribe","clientId":"000000000000000000000000000000000000000000000002","subscription":"/a/*"}]"#,
 ];
 
-// Connects that are answered at once.
+// A connect of each of two sessions, which is answered at once.
 const ASKS: [&str; 2] = [
     r#"[{"channel":"/meta/connect","clientId":"000000000000000000000000000000000000000000000001","connectionType":"long-polling","advice":{"timeout":0}}]"#,
     r#"[{"channel":"/meta/connect","clientId":"000000000000000000000000000000000000000000000002","connectionType":"long-polling","advice":{"timeout":0}}]"#,
@@ -41,15 +42,16 @@ const ASKS: [&str; 2] = [
 // What a thread does.
 #[derive(Clone, Copy, Debug)]
 enum Job {
-    // The number of the first event to publish.
+    // Publishes events. The field is the number of the first event.
     Publish(usize),
     Tick,
-    // The index of the session, 0 or 1.
+    // Receives events. The field is the index of the session, 0 or 1.
     Receive(usize),
     Sweep,
 }
 
-// Publishes `EVENTS` events. The data of each is its number, counted from `first`.
+// Publishes `EVENTS` events. The data of each is its number, counted from `first`. Returns an empty
+// list, or `None` if a post fails.
 fn publishes<L: LogId, P: Placing, G: Gate + Drop, H: Wait + Drop, R: Wait>(
     rt: &R,
     alloc: Global,
@@ -80,7 +82,8 @@ fn ticks<L: LogId, P: Placing, G: Gate + Drop, H: Wait + Drop, R: Wait>(
 
 // Appends the numbers of the events that one connect gets to `given`.
 //
-// Adds `ALL_EVENTS` to those of session 1, so that no two events have the same number.
+// Adds `ALL_EVENTS` to those of session 1, so that no two events have the same number. Returns
+// `None` if a call fails.
 fn asks<L: LogId, P: Placing, G: Gate + Drop, H: Wait + Drop, R: Wait>(
     rt: &R,
     alloc: Global,
@@ -100,7 +103,8 @@ fn asks<L: LogId, P: Placing, G: Gate + Drop, H: Wait + Drop, R: Wait>(
     Some(())
 }
 
-// Returns the numbers of the events that a session gets by `CONNECTS` connects.
+// Returns the numbers of the events that `CONNECTS` connects of a session get. Returns `None` if a
+// call fails.
 fn receives<L: LogId, P: Placing, G: Gate + Drop, H: Wait + Drop, R: Wait>(
     rt: &R,
     alloc: Global,
@@ -115,7 +119,7 @@ fn receives<L: LogId, P: Placing, G: Gate + Drop, H: Wait + Drop, R: Wait>(
     Some(given)
 }
 
-// Sweeps repeatedly. Returns `None` if that drops an answer.
+// Sweeps repeatedly. Returns an empty list, or `None` if a sweep drops an answer.
 fn sweeps<L: LogId, P: Placing, G: Gate + Drop, H: Wait + Drop, R: Wait>(
     rt: &R,
     alloc: Global,
@@ -143,7 +147,7 @@ fn works<L: LogId, P: Placing, G: Gate + Drop, H: Wait + Drop, R: Wait>(
     }
 }
 
-// Appends the numbers of `second` to those of `first`.
+// Returns the numbers of `first` and then those of `second`, or `None` if either is `None`.
 fn joined(first: Option<Vec<usize>>, second: Option<Vec<usize>>) -> Option<Vec<usize>> {
     let mut all = first?;
     all.extend_from_slice(second?.as_slice()).ok()?;
@@ -187,6 +191,7 @@ fn four<
 }
 
 // Runs eight threads, and returns the numbers of the events that the two sessions get meanwhile.
+// Returns `None` if a call fails.
 fn eight<
     L: LogId + Send + Sync,
     P: Placing + Send + Sync,
@@ -214,7 +219,7 @@ fn eight<
     joined(a, b)
 }
 
-// Opens and subscribes two sessions.
+// Opens and subscribes two sessions. Returns `None` if a post fails.
 fn opens<L: LogId, P: Placing, G: Gate + Drop, H: Wait + Drop, R: Wait>(
     rt: &R,
     alloc: Global,
@@ -229,7 +234,7 @@ fn opens<L: LogId, P: Placing, G: Gate + Drop, H: Wait + Drop, R: Wait>(
 
 // Returns the numbers of the events that both sessions get, in ascending order.
 //
-// Connects after the threads end fetch the events that are left.
+// Connects after the threads end fetch the events that are left. Returns `None` if a call fails.
 fn given<
     L: LogId + Send + Sync,
     P: Placing + Send + Sync,
@@ -269,7 +274,7 @@ fn crowd<L: LogId + Send + Sync, R: Threads + Wait + Abort + Sync>(
     Ok(())
 }
 
-// Shows that each session gets each published event once while eight threads run.
+// Checks that each session gets each published event once while eight threads run.
 #[test]
 fn eight_threads(rt: HostRuntime) -> Result<(), Fail> {
     let alloc = rt.alloc();

@@ -20,31 +20,31 @@ use std::thread::{Threads, join};
 // How often a thread looks at a flag before it gives up.
 const LOOKS: u32 = 10_000_000;
 
-// Flags between the gate and the test.
+// Flags that the gate and the test share.
 #[derive(Drop)]
 struct Flags {
-    // The gate stops callers in shard 0.
+    // Set when the gate is to stop callers in shard 0.
     is_held: AtomicBool,
-    // A caller has stopped there.
+    // Set when a caller has stopped in shard 0.
     stands: AtomicBool,
-    // The stopped caller may continue.
+    // Set when the stopped caller may continue.
     is_free: AtomicBool,
-    // The stopped caller gave up waiting for `is_free`.
+    // Set when the stopped caller gave up waiting for `is_free`.
     gave_up: AtomicBool,
 }
 
 // What a second caller finds while the first is stopped in shard 0.
 #[derive(Clone, Copy, Debug, PartialEq, Eq)]
 struct Told {
-    // Whether a tick is rejected only for its moment.
+    // Whether a tick with a moment that is too large is rejected for that reason.
     is_bad_moment: bool,
-    // How many entries the caller has then seen.
+    // How many entries the second caller has seen after its tick.
     seen: u64,
-    // What the caller finds for the connect in shard 1.
+    // What the second caller finds when it polls for the connect in shard 1.
     found: Found,
 }
 
-// A gate that stops callers in shard 0, if asked to, until they may continue.
+// A gate that stops callers in shard 0, if `Flags::is_held` is set, until they may continue.
 #[derive(Drop)]
 struct Holding {
     flags: Arc<Flags, Global>,
@@ -68,7 +68,8 @@ impl Gate for Holding {
     fn after(&self, _shard: usize) {}
 }
 
-// Ticks and polls while the publish is stopped in shard 0, and then lets it continue.
+// Ticks and polls while the publish is stopped in shard 0, and then lets it continue. Returns what
+// the calls find.
 //
 // Admission and shard 1 must be unlocked, and the list must have the publish.
 fn takes<L: LogId, P: Placing, H: Wait + Drop, R: Wait>(
@@ -99,7 +100,8 @@ fn takes<L: LogId, P: Placing, H: Wait + Drop, R: Wait>(
     }
 }
 
-// Publishes, and is stopped under the lock of shard 0.
+// Publishes an event, and returns `true` if it is admitted. The gate stops this call under the lock
+// of shard 0.
 fn posts<L: LogId, P: Placing, H: Wait + Drop, R: Wait>(
     rt: &R,
     alloc: Global,

@@ -21,8 +21,8 @@ use std::time::{Clock, Duration};
 // How often a thread looks at a flag before it gives up, one millisecond apart.
 const LOOKS: u32 = 10_000;
 
-// How often all shards are locked, one millisecond apart, while the post has locked admission.
-// In that time the other call reaches the point where it would wait for admission.
+// How often all shards are locked, one millisecond apart, while the post has locked admission. In
+// that time the stopped call continues to the point where it would wait for admission.
 const SWEEPS: u32 = 200;
 
 // Number of pings before `Call::Post`, which then makes the list 64 long and trims the window.
@@ -40,15 +40,17 @@ enum Call {
 #[derive(Drop)]
 struct Flags<C: Clock + Drop> {
     clock: C,
-    // The call must stop in shard 1, and the post where it places a session.
+    // Whether the call must stop in shard 1.
     holds_call: AtomicBool,
+    // Whether the post must stop where it places a session.
     holds_post: AtomicBool,
-    // The call has stopped, and so has the post.
+    // Set when the call has stopped in shard 1.
     call_stands: AtomicBool,
+    // Set when the post has stopped while admission is locked.
     post_stands: AtomicBool,
-    // The post may continue.
+    // Set when the post may continue.
     is_free: AtomicBool,
-    // A thread gave up waiting.
+    // Set when a thread gave up waiting.
     gave_up: AtomicBool,
     // How often the placing was used.
     asked: AtomicU64,
@@ -164,7 +166,7 @@ fn calls<L: LogId, P: Placing, G: Gate + Drop, H: Wait + Drop, C: Clock + Drop, 
     }
 }
 
-// Posts a connect, which is stopped while admission is locked.
+// Posts a connect, which is stopped while admission is locked. Returns `true` if it is admitted.
 fn posts<L: LogId, P: Placing, G: Gate + Drop, H: Wait + Drop, C: Clock + Drop, R: Wait>(
     rt: &R,
     alloc: Global,
@@ -177,6 +179,7 @@ fn posts<L: LogId, P: Placing, G: Gate + Drop, H: Wait + Drop, C: Clock + Drop, 
 }
 
 // Locks every shard repeatedly, while the post has locked admission and the call can continue.
+// Returns how many answers were dropped.
 fn sweeps<L: LogId, P: Placing, G: Gate + Drop, H: Wait + Drop, C: Clock + Drop, R: Wait>(
     rt: &R,
     hub: &Hub<L, P, G, H>,
@@ -209,8 +212,8 @@ fn posts_and_sweeps<
 
 // Runs the three threads and checks that none waited in vain.
 //
-// If the call waited for admission while it has locked a shard, the sweeps would block, and the
-// post would wait for them in vain.
+// If the call waited for admission with a shard locked, the sweeps would block, and the post would
+// wait for them in vain.
 fn beside<
     L: LogId + Send + Sync,
     P: Placing + Send + Sync,
@@ -240,7 +243,7 @@ fn stands<
     R: Threads + Wait + Abort + Sync,
 >(rt: &R, alloc: Global, hub: &Hub<L, P, G, H>, flags: &Flags<C>, call: Call) -> Result<(), Fail> {
     post(rt, alloc, hub, &mut hub.pass(), HANDSHAKE)?;
-    // Each shard places the new session when it applies its handshake.
+    // Each shard places the new session when it applies the handshake.
     let between = flags.between.load(Ordering::SeqCst);
     same(rt, between, 2, "between the gates");
     beside(rt, alloc, hub, flags, call);

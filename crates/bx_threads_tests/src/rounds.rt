@@ -33,19 +33,20 @@ const LOOKS: u32 = 11_000;
 
 const QUICK_LOOKS: u32 = 1_000;
 
-// A publish of the round's number by the second session.
+// A publish by the second session. The number of the round goes between the two texts.
 const PUBLISH: [&str; 2] = [
     r#"[{"channel":"/a/b","clientId":"000000000000000000000000000000000000000000000002","data":"#,
     "}]",
 ];
 
-// The response to the first session's connect in that round.
+// The response to the first session's connect in a round. The number of the round goes between the
+// two texts.
 const ANSWER: [&str; 2] = [
     r#"[{"channel":"/a/b","data":"#,
     r#"},{"advice":{"interval":0,"reconnect":"retry","timeout":30000},"channel":"/meta/connect","clientId":"000000000000000000000000000000000000000000000001","successful":true}]"#,
 ];
 
-// Formats `round` between two texts.
+// Returns the two texts `around` with `round` between them.
 fn text_of(alloc: Global, around: [&str; 2], round: u64) -> Result<String, AllocError> {
     let [head, tail] = around;
     format!(in alloc; "{head}{round}{tail}")
@@ -62,7 +63,7 @@ struct Turns {
 impl Turns {
     // Sleeps until the task is woken, and stores a new waker in `slot`.
     //
-    // Returns `false` if the task was shut down.
+    // Returns `true`, or `false` if the task was shut down.
     fn sleep<R: Wait>(&self, rt: &R, slot: &mut Option<Waker>) -> bool {
         match self.task.next(rt) {
             Some(mut cx) => {
@@ -102,7 +103,7 @@ const OVER: u64 = u64::MAX;
 enum Next {
     Publish,
     Over,
-    // The round did not begin in time.
+    // The next round did not begin in time.
     Late,
 }
 
@@ -135,6 +136,7 @@ impl Told {
 }
 
 // Registers a waker and sleeps until it is woken, unless the connect was answered meanwhile.
+// Returns `None` if the connect is unknown or the task was shut down.
 fn wait<L: LogId, P: Placing, G: Gate + Drop, H: Wait + Drop, R: Wait>(
     rt: &R,
     hub: &Hub<L, P, G, H>,
@@ -161,7 +163,7 @@ fn wait<L: LogId, P: Placing, G: Gate + Drop, H: Wait + Drop, R: Wait>(
     }
 }
 
-// Checks that the connect gets `wanted`, at once or after `wait`.
+// Polls for the answer, at once and after `wait`. Returns `None` if it is not `wanted`.
 fn answered<L: LogId, P: Placing, G: Gate + Drop, H: Wait + Drop, R: Wait>(
     rt: &R,
     alloc: Global,
@@ -185,7 +187,8 @@ fn answered<L: LogId, P: Placing, G: Gate + Drop, H: Wait + Drop, R: Wait>(
     }
 }
 
-// Posts a connect of the first session. In even rounds the event may be published before it.
+// Posts a connect of the first session and returns its ticket, or `None` if the post fails. In even
+// rounds the event may be published before the connect.
 fn connects<L: LogId, P: Placing, G: Gate + Drop, H: Wait + Drop, R: Wait>(
     rt: &R,
     alloc: Global,
@@ -202,7 +205,7 @@ fn connects<L: LogId, P: Placing, G: Gate + Drop, H: Wait + Drop, R: Wait>(
     ticket
 }
 
-// Plays a round: its connect must get its event.
+// Plays a round. Returns `None` if its connect does not get its event.
 fn plays<L: LogId, P: Placing, G: Gate + Drop, H: Wait + Drop, R: Wait>(
     rt: &R,
     alloc: Global,
@@ -249,7 +252,7 @@ fn waits<L: LogId, P: Placing, G: Gate + Drop, H: Wait + Drop, R: Wait + Clock>(
     told
 }
 
-// Publishes an event in each round, and returns how many.
+// Publishes an event in each round, and returns the number of events.
 //
 // Returns `None` if a publish fails or a round does not begin in time.
 fn publishes<L: LogId, P: Placing, G: Gate + Drop, H: Wait + Drop, R: Wait + Clock>(
@@ -281,7 +284,8 @@ fn publish<L: LogId, P: Placing, G: Gate + Drop, H: Wait + Drop, R: Wait>(
     Some(())
 }
 
-// Runs `publishes`. If that fails, shuts the task down so that it does not sleep forever.
+// Runs `publishes` and returns its result. If that is `None`, shuts the waiting task down, so that
+// it does not sleep forever.
 fn publishes_all<L: LogId, P: Placing, G: Gate + Drop, H: Wait + Drop, R: Wait + Clock>(
     rt: &R,
     alloc: Global,

@@ -15,10 +15,11 @@ use std::sync::{Arc, Wait};
 use std::test::*;
 use std::thread::{Threads, join};
 
-// More ticks than the window has batches.
+// Number of ticks, which exceeds the number of batches in a full window.
 const TICKS: usize = 5_000;
 
-// Ticks without publishing, so that any event found later is the other thread's.
+// Ticks `TICKS` times and returns the pass, or `None` if a tick fails. Does not publish, so that
+// any event found later is the other thread's.
 fn ticks<L: LogId, P: Placing, G: Gate + Drop, H: Wait + Drop, R: Wait>(
     rt: &R,
     alloc: Global,
@@ -31,7 +32,7 @@ fn ticks<L: LogId, P: Placing, G: Gate + Drop, H: Wait + Drop, R: Wait>(
     Some(pass)
 }
 
-// Publishes an event, and returns the pass that has seen it.
+// Publishes an event, and returns the pass that has seen it, or `None` if the post fails.
 fn tells<L: LogId, P: Placing, G: Gate + Drop, H: Wait + Drop, R: Wait>(
     rt: &R,
     alloc: Global,

@@ -21,29 +21,32 @@ use Rattle.bx_world.specs.declared.step.StepOut.TheVariants.{Admitted, Taken}
 abbrev pub slot_at : Config → List Listed → ℕ → Option PlaceSlot
 slot_at config list place = option_map (λ (j : Judged). j.slot) (slice_get (registry config list).judged place)
 
--- A ticket for the connect or rider at `here` has that place and the shard of its session.
+-- `t` is the ticket for the connect or rider at `here`: it has the place `here` and the shard of
+-- the session.
 pub record IsTicket (setup : Setup) (list : List Listed) (here : ℕ) (t : Ticket) : Type 0 where
   pub session : ℕ
   pub waits : slot_at setup.config list here ≡ Some (Waiting session)
   pub place : t.place ≡ here
   pub shard : t.shard ≡ setup.placing session setup.shards
 
--- A slot has the reply to the message at `place`, without events, or the ticket for its answer.
+-- The slot has the reply to the message at `place`, which comes without events, or the ticket for
+-- the answer to that message.
 abbrev pub IsSlot : Setup → List Listed → ℕ → Slot → Type 0
 IsSlot setup list place (answers.Ready reply) = answer setup.config list place ≡ Some (record { place = place; events = []; reply = reply })
 IsSlot setup list place (answers.Waiting ticket) = IsTicket setup list place ticket
 
--- The slots are those of `place` and the places after it.
+-- The slots are those of the messages at `place` and the places after it, in order.
 abbrev pub EachSlot : Setup → List Listed → ℕ → List Slot → Type 0
 EachSlot setup list place [] = ⊤
 EachSlot setup list place (slot ∷ slots) = IsSlot setup list place slot × EachSlot setup list (place + 1) slots
 
--- The number of messages in an input.
+-- The number of messages in an input, which is 0 for a tick.
 abbrev pub asked_by : ReadInput → ℕ
 asked_by (Request moment nonce messages) = length messages
 asked_by _ = 0
 
--- The messages of an admitted input are in the list from `first` on, and each has its slot.
+-- The messages of the admitted `input` are in `list` from place `first` on, and `slots` has the
+-- slot of each, in order.
 pub record IsAdmitted (setup : Setup) (list : List Listed) (input : ReadInput) (first : ℕ) (slots : List Slot) : Type 0 where
   pub listed : take (length (added_by input)) (drop first list) ≡ added_by input
   pub many : length slots ≡ asked_by input
@@ -54,36 +57,37 @@ abbrev pub RepliedBy : Setup → List Listed → Input → StepOut → Type 0
 RepliedBy setup list input (Admitted first slots) = IsAdmitted setup list (read_input input) first slots
 RepliedBy setup list input _ = ⊤
 
--- If the step is an admission, it gives the right slots.
+-- If the step admits an input, the input is in the list, and its messages have their slots.
 abbrev pub Replied : Setup → List Listed → Step → StepOut → Type 0
 Replied setup list (Admit input) out = RepliedBy setup list input out
 Replied setup list (Apply shard) out = ⊤
 Replied setup list (Take ticket) out = ⊤
 
--- Each admission of the schedule gives the right slots.
+-- For each admission in the schedule, the input is in the list, and its messages have their slots.
 abbrev pub EachReplied : Setup → List Listed → List Step → List StepOut → Type 0
 EachReplied setup list [] outs = ⊤
 EachReplied setup list (step ∷ steps) [] = ⊤
 EachReplied setup list (step ∷ steps) (out ∷ outs) = Replied setup list step out × EachReplied setup list steps outs
 
--- Under every schedule, each immediate reply is what one thread gives.
+-- Under every schedule, each immediate reply is that of a server that handles one message at a
+-- time.
 abbrev pub RepliesAreAnswers : Type 0
 RepliesAreAnswers = (setup : Setup) (first : WorldState) (steps : List Step) (outs : List StepOut) (last : WorldState) → 0 < setup.config.limits.batch →
     Runs setup first steps outs last → EachReplied setup last.list steps outs
 
 -- ---- Taken answers
 
--- The output is this taken answer.
+-- The output is a taken answer, which is `answer`.
 abbrev pub GaveIn : Answer → StepOut → Type 0
 GaveIn answer (Taken (Some a)) = a ≡ answer
 GaveIn answer _ = ⊥
 
--- The step took this answer to the connect or rider at `place`.
+-- The step took `answer`, the answer to the connect or rider at `place`.
 abbrev pub GaveBy : ℕ → Answer → Step → StepOut → Type 0
 GaveBy place answer (Take t) out = (t.place ≡ place) × GaveIn answer out
 GaveBy place answer _ out = ⊥
 
--- Some step of the schedule took this answer to the connect or rider at `place`.
+-- Some step of the schedule took `answer`, the answer to the connect or rider at `place`.
 abbrev pub Gave : List Step → List StepOut → ℕ → Answer → Type 0
 Gave [] outs place answer = ⊥
 Gave (step ∷ steps) [] place answer = ⊥
@@ -95,8 +99,8 @@ session_before config list number n = session config number (take n (entries con
 
 -- ---- Repeated acknowledgements
 
--- An accepted connect at `place` acknowledges nothing new while a batch is outstanding. The session
--- has not overflowed.
+-- The entry at `place` is an accepted connect of session `number`. It acknowledges nothing new
+-- while a batch is outstanding, and the session has not overflowed.
 pub record AsksAgain (config : Config) (list : List Listed) (number place : ℕ) : Type 0 where
   pub entry : Entry
   pub client : List ℕ
@@ -109,8 +113,9 @@ pub record AsksAgain (config : Config) (list : List Listed) (number place : ℕ)
   pub overflow : (session_before config list number place).overflow ≡ false
   pub repeats : Repeats (session_before config list number place).num acked
 
--- The answer that formed the outstanding batch. It is the session's last answer after the entry
--- that raised the batch number to this batch's.
+-- `filed` is the answer that formed the batch which is outstanding before `place`. It is the last
+-- answer of session `number` after the entry at `forming`, which raised the batch number to that
+-- batch's.
 pub record FormedBy (config : Config) (list : List Listed) (number place : ℕ) (filed : Filed) : Type 0 where
   pub forming : ℕ
   pub earlier : forming < place
@@ -118,9 +123,9 @@ pub record FormedBy (config : Config) (list : List Listed) (number place : ℕ) 
   pub current : (session_before config list number (forming + 1)).num ≡ (session_before config list number place).num
   pub last : LastAnswer (session_before config list number (forming + 1)) filed
 
--- The connect is answered at once, with the outstanding batch and its number. An earlier connect of
--- the session got the answer that formed the batch, with the same number and events. Taken answers
--- have that number and those events too.
+-- The connect at `place` is answered at once, with the outstanding batch and its number. The
+-- session's connect at `former`, an earlier place, got the answer that formed the batch, with the
+-- same number and events. Answers taken for the two connects have that number and those events.
 pub record GivenAgain (config : Config) (list : List Listed) (steps : List Step) (outs : List StepOut) (number place : ℕ) : Type 0 where
   pub former : ℕ
   pub earlier : former < place
@@ -149,28 +154,31 @@ BatchesRepeat = (setup : Setup) (first : WorldState) (steps : List Step) (outs :
 
 -- ---- No event again
 
--- How many events of the session are never sent again, as of the entry at place `n`. Events that
--- this entry acknowledges count. A plain session does not acknowledge; the events that it sends at
--- this entry do not count yet.
+-- How many events of session `number` are never sent again, as of the entry at place `n`. Events
+-- that this entry acknowledges count. If the session does not acknowledge, the events that it sends
+-- at this entry do not count yet.
 abbrev pub done_at : Config → List Listed → ℕ → ℕ → ℕ
 done_at config list number n =
     if (session_before config list number (n + 1)).ack then (session_before config list number (n + 1)).done else (session_before config list number n).done
 
--- The answer is the one that the session filed for `connect`. Each of its events was published
--- after every event that was already acknowledged or, in a plain session, sent.
+-- `a` is the answer that session `number` filed for the connect at `connect`. Each event of `a` was
+-- published after every event that was already acknowledged or, if the session does not
+-- acknowledge, sent.
 pub record GivenLater (config : Config) (list : List Listed) (number connect : ℕ) (a : Answer) : Type 0 where
   pub filed : Filed
   pub found : find (λ (f : Filed). f.connect == connect) (session config number (entries config list)).answers ≡ Some filed
   pub given : a ≡ record { events = events_of filed.publications; reply = filed.reply }
   pub later : (n : ℕ) → n ≤ filed.place → AllBelow (take (done_at config list number n) (session config number (entries config list)).events) filed.publications
 
--- No answer has an event that was acknowledged, or sent by a plain session, before it.
+-- Under every schedule, no taken answer has an event that was acknowledged before it or, if the
+-- session does not acknowledge, sent before it.
 abbrev pub NoneGivenAgain : Type 0
 NoneGivenAgain = (setup : Setup) (first : WorldState) (steps : List Step) (outs : List StepOut) (last : WorldState) → 0 < setup.config.limits.batch →
     Runs setup first steps outs last → (number place : ℕ) (a : Answer) → slot_at setup.config last.list place ≡ Some (Waiting number) → Gave steps outs place a →
     GivenLater setup.config last.list number place a
 
--- All events of the first answer were published before those of the second.
+-- `a` and `b` are the answers that session `number` filed for the connects at `connect` and
+-- `later`. All events of `a` were published before those of `b`.
 pub record GivenApart (config : Config) (list : List Listed) (number : ℕ) (connect later : ℕ) (a b : Answer) : Type 0 where
   pub filed : Filed
   pub next : Filed
@@ -180,7 +188,7 @@ pub record GivenApart (config : Config) (list : List Listed) (number : ℕ) (con
   pub given_next : b ≡ record { events = events_of next.publications; reply = next.reply }
   pub apart : AllBelow filed.publications next.publications
 
--- Under every schedule, no event is in two answers of a plain session.
+-- Under every schedule, no event is in two answers of a session that does not acknowledge.
 abbrev pub PlainGivenOnce : Type 0
 PlainGivenOnce = (setup : Setup) (first : WorldState) (steps : List Step) (outs : List StepOut) (last : WorldState) → 0 < setup.config.limits.batch →
     Runs setup first steps outs last → (number place later : ℕ) (a b : Answer) → place < later → (session setup.config number (entries setup.config last.list)).ack ≡ false →
@@ -189,7 +197,8 @@ PlainGivenOnce = (setup : Setup) (first : WorldState) (steps : List Step) (outs 
 
 -- ---- The theorem
 
--- What holds for a schedule that runs from the world `first` to the world `last`.
+-- A schedule that runs from the world `first` to the world `last` gives what a server gives that
+-- handles one message at a time.
 pub record AsOneThread (setup : Setup) (first : WorldState) (steps : List Step) (outs : List StepOut) (last : WorldState) : Type 0 where
   -- The list grows by what was admitted, in order.
   pub list : last.list ≡ first.list ++ admitted_in steps outs
@@ -199,18 +208,20 @@ pub record AsOneThread (setup : Setup) (first : WorldState) (steps : List Step) 
   pub replied : EachReplied setup last.list steps outs
   -- No answer is taken twice.
   pub once : EachNew first.taken (taken_places steps outs)
-  -- A connect that repeats its acknowledgement gets the same batch.
+  -- A connect that acknowledges nothing new gets the outstanding batch again.
   pub again : (number place : ℕ) → AsksAgain setup.config last.list number place → GivenAgain setup.config last.list steps outs number place
   -- The number of a session's events that are never sent again does not fall.
   pub done : (number m n : ℕ) → m ≤ n → (session_before setup.config last.list number m).done ≤ (session_before setup.config last.list number n).done
-  -- Events that were acknowledged, or sent by a plain session, are never sent again.
+  -- Events that were acknowledged or, if the session does not acknowledge, sent are never sent
+  -- again.
   pub never : (number place : ℕ) (a : Answer) → slot_at setup.config last.list place ≡ Some (Waiting number) → Gave steps outs place a → GivenLater setup.config last.list number place a
-  -- No event is in two answers of a plain session.
+  -- No event is in two answers of a session that does not acknowledge.
   pub apart : (number place later : ℕ) (a b : Answer) → place < later → (session setup.config number (entries setup.config last.list)).ack ≡ false →
       slot_at setup.config last.list place ≡ Some (Waiting number) → slot_at setup.config last.list later ≡ Some (Waiting number) → Gave steps outs place a → Gave steps outs later b →
       GivenApart setup.config last.list number place later a b
 
--- A world gives what one thread gives, for every schedule, number of shards and placing.
+-- For every schedule, number of shards and placing, a world gives what a server gives that handles
+-- one message at a time.
 abbrev pub Headline : Type 0
 Headline = (setup : Setup) (first : WorldState) (steps : List Step) (outs : List StepOut) (last : WorldState) → 0 < setup.config.limits.batch →
     Runs setup first steps outs last → AsOneThread setup first steps outs last

@@ -9,12 +9,13 @@ use Rattle.bx_shard.specs.declared.shard.Shard.{Shard}
 use Rattle.bx_world.specs.declared.step.Applied.{Applied}
 use Rattle.bx_world.specs.declared.step.Applied.TheVariants.{Done, Level, Memory}
 
--- A shard agrees with the definitions' shard `k` and has applied every entry below `first`.
+-- The shard `s` agrees with the definitions' shard `k`, and has applied every entry below `first`.
 pub record RefinesFrom {P : Type 0} (place_of : P → ℕ → ℕ → ℕ) (setup : Setup) (list : List Listed) (taken : List ℕ) (first k : ℕ) (s : Shard P) : Type 0 where
   pub holds : Refines setup list taken k s.place (state place_of s)
   pub past : first ≤ s.place
 
--- Each shard agrees with the definitions and has applied every entry below `first`.
+-- Each shard agrees with the definitions' shard of its index, and has applied every entry below
+-- `first`.
 abbrev pub EachRefines : {P : Type 0} → (P → ℕ → ℕ → ℕ) → Setup → List Listed → List ℕ → ℕ → List (Shard P) → Type 0
 EachRefines {P} place_of setup list taken first shards = (k : ℕ) → (s : Shard P) → slice_get shards k ≡ Some s → RefinesFrom place_of setup list taken first k s
 
@@ -30,14 +31,15 @@ StandWithin {P} end shards = (k : ℕ) (s : Shard P) → slice_get shards k ≡ 
 abbrev pub some_stands_at : {P : Type 0} → ℕ → List (Shard P) → Bool
 some_stands_at {P} place shards = list_any (λ n. n == place) (map (λ (s : Shard P). s.place) shards)
 
--- A shard after it applied its next entry of the list.
+-- `new` is the shard `old` after it applied its next entry of `list`.
 pub record HasApplied {P : Type 0} (place_of : P → ℕ → ℕ → ℕ) (list : List Entry) (old new : Shard P) : Type 0 where
   pub entry : Entry
   pub next : slice_get list old.place ≡ Some entry
   pub applied : states.Applied (state place_of old) entry (state place_of new)
   pub sound : IsSound (state place_of new)
 
--- A shard that is unchanged, because memory ran out for its next entry, which may allocate.
+-- `new` has the state of the shard `old`, because memory ran out for its next entry of `list`,
+-- which may allocate.
 pub record HasStayed {P : Type 0} (place_of : P → ℕ → ℕ → ℕ) (list : List Entry) (old new : Shard P) : Type 0 where
   pub entry : Entry
   pub next : slice_get list old.place ≡ Some entry
@@ -45,7 +47,8 @@ pub record HasStayed {P : Type 0} (place_of : P → ℕ → ℕ → ℕ) (list :
   pub same : IsAsBefore (state place_of old) (state place_of new)
   pub sound : IsSound (state place_of new)
 
--- The result of applying a shard's next entry of the list, if there is one.
+-- The shard applied its next entry of the list, or is unchanged because it has applied the whole
+-- list or memory ran out.
 abbrev pub IsApplication : {P : Type 0} → (P → ℕ → ℕ → ℕ) → List Entry → Shard P → Applied → Shard P → Type 0
 IsApplication place_of list old Done new = HasApplied place_of list old new
 IsApplication place_of list old Level new = (slice_get list old.place ≡ None) × (new ≡ old)

@@ -11,12 +11,12 @@ use Rattle.bx_world.specs.declared.step.StepOut.TheVariants.{Admitted, Taken}
 
 -- ---- The list
 
--- What an input adds to the list, if it is admitted.
+-- What an input adds to the list, given the output: nothing if the input was not admitted.
 abbrev pub added_as : Input → StepOut → List Listed
 added_as input (Admitted first slots) = added_by (read_input input)
 added_as input _ = []
 
--- What a step adds to the list.
+-- What a step adds to the list, given its output.
 abbrev pub added_in : Step → StepOut → List Listed
 added_in (Admit input) out = added_as input out
 added_in _ out = []
@@ -34,7 +34,8 @@ ListIsAdmitted = (setup : Setup) (first : WorldState) (steps : List Step) (outs 
 
 -- ---- Taken answers
 
--- If the output is a taken answer, it is the one to the message at the ticket's place.
+-- If the output is a taken answer, it is the one that one thread gives over `list` to the message
+-- at the ticket's place.
 abbrev pub TookBy : Config → List Listed → Ticket → StepOut → Type 0
 TookBy config list t (Taken (Some a)) = option_map given_of (answer config list t.place) ≡ Some a
 TookBy config list t _ = ⊤
@@ -50,12 +51,13 @@ EachTook config list [] outs = ⊤
 EachTook config list (step ∷ steps) [] = ⊤
 EachTook config list (step ∷ steps) (out ∷ outs) = Took config list step out × EachTook config list steps outs
 
--- Each taken answer is what one thread gives over the last list.
+-- Under every schedule, each taken answer is that of a server that handles one message at a time.
 abbrev pub TakesAreAnswers : Type 0
 TakesAreAnswers = (setup : Setup) (first : WorldState) (steps : List Step) (outs : List StepOut) (last : WorldState) → 0 < setup.config.limits.batch →
     Runs setup first steps outs last → EachTook setup.config last.list steps outs
 
--- Once a shard has passed the place of an answer, the answer is filed there until it is taken.
+-- Once a session's shard has applied the entry that answers a connect or rider, the answer is filed
+-- in that shard until it is taken.
 abbrev pub AnswersAreFiled : Type 0
 AnswersAreFiled = (setup : Setup) (list : List Listed) (taken : List ℕ) (n place number : ℕ) (a : PlacedAnswer) → 0 < setup.config.limits.batch →
     option_map (λ (j : Judged). j.slot) (slice_get (registry setup.config list).judged place) ≡ Some (Waiting number) →
@@ -72,17 +74,17 @@ AnswersCanBeTaken = (setup : Setup) (w : WorldState) (t : Ticket) (number : ℕ)
 
 -- ---- No answer twice
 
--- The place, if the output is a taken answer.
+-- The list of just `place` if the output is a taken answer, and otherwise the empty list.
 abbrev pub taken_as : ℕ → StepOut → List ℕ
 taken_as place (Taken (Some a)) = place ∷ []
 taken_as place _ = []
 
--- The place of the connect or rider with the answer that a step took, if any.
+-- The list of just the ticket's place if the step took an answer, and otherwise the empty list.
 abbrev pub taken_by : Step → StepOut → List ℕ
 taken_by (Take t) out = taken_as t.place out
 taken_by _ out = []
 
--- The places of the connects and riders with taken answers, in order.
+-- The places of the tickets for which the steps took answers, in order.
 abbrev pub taken_places : List Step → List StepOut → List ℕ
 taken_places [] outs = []
 taken_places (step ∷ steps) [] = []
@@ -100,7 +102,8 @@ NoneTakenTwice = (setup : Setup) (first : WorldState) (steps : List Step) (outs 
 
 -- ---- Consecutive schedules
 
--- A schedule that begins in the world that another leaves forms one schedule with it.
+-- If a schedule ends in the world in which another begins, the steps of both, in order, are a
+-- schedule.
 abbrev pub SchedulesCompose : Type 0
 SchedulesCompose = (setup : Setup) (first middle last : WorldState) (steps more : List Step) (outs given : List StepOut) →
     Runs setup first steps outs middle → Runs setup middle more given last → Runs setup first (steps ++ more) (outs ++ given) last

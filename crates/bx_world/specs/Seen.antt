@@ -10,15 +10,17 @@ use Rattle.bx_world.specs.Worlds.{WorldState, IsOutput, Runs, after}
 use Rattle.bx_world.specs.declared.{step.Step.Step, step.StepOut.StepOut, world.World.World}
 
 module _ {P : Type 0} {g : Ghosts P} where
-  -- The configuration, with the number of shards and the placing.
+  -- The configuration of a world, with its number of shards and its placing.
   abbrev pub setup_of : World P g → Setup
   setup_of w = placed_by w.admission.config w.admission.shards (g.place_of (arc_value w.placing))
 
-  -- The list, how many entries each shard has applied, and which answers were taken.
+  -- The program's world as a world of the definitions: the list, how many entries each shard has
+  -- applied, and the places of the taken answers.
   abbrev pub world_of : World P g → WorldState
   world_of w = record { list = w.admission.list; applied = map (λ (s : Shard P). s.place) w.shards.items; taken = w.taken }
 
-  -- The step takes the definitions' world from `old` to `new` and gives this output.
+  -- In the definitions, `step` may give `out`, and takes the world from that of `old` to that of
+  -- `new`.
   pub record Steps (old : World P g) (step : Step) (out : StepOut) (new : World P g) : Type 0 where
     pub output : IsOutput (setup_of old) (world_of old) step out
     pub world : world_of new ≡ after (world_of old) step out
@@ -29,8 +31,8 @@ module _ {P : Type 0} {g : Ghosts P} where
   abbrev pub ShardsRefine : World P g → Type 0
   ShardsRefine w = (k : ℕ) (s : Shard P) → slice_get w.shards.items k ≡ Some s → Refines (setup_of w) w.admission.list w.taken k s.place (state g.place_of s)
 
-  -- The steps ran in order and appended their outputs to `before`. The outputs are what one thread
-  -- gives, and the shards agree with the definitions.
+  -- `steps` ran in order and took `old` to `new`. `outs` is `before` followed by their outputs. The
+  -- outputs are what one thread gives, and the shards of `new` agree with the definitions.
   pub record Ran (old : World P g) (steps : List Step) (before outs : List StepOut) (new : World P g) : Type 0 where
     pub given : List StepOut
     pub behind : outs ≡ before ++ given

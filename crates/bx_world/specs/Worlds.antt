@@ -16,7 +16,7 @@ pub record WorldState : Type 0 where
   pub applied : List ℕ
   pub taken : List ℕ
 
--- A world with an empty list.
+-- A world with an empty list, without applied entries or taken answers.
 abbrev pub new_world : Setup → WorldState
 new_world setup = record { list = []; applied = replicate setup.shards 0; taken = [] }
 
@@ -46,7 +46,7 @@ output setup w (Take ticket) = Taken (option_map given_of (filed_under setup w t
 
 -- ---- Steps
 
--- The world after a step with this output.
+-- The world after a step, given its output.
 abbrev pub after : WorldState → Step → StepOut → WorldState
 after w (Admit input) (Admitted first slots) = record w { list = w.list ++ added_by (read_input input) }
 after w (Apply shard) Applied = record w { applied = slice_set w.applied shard (slice_index w.applied shard + 1) }
@@ -69,11 +69,12 @@ may_refuse setup w (Admit input) = true
 may_refuse setup w (Apply shard) = not (is_level w shard) && may_take_memory (next_entry setup w shard)
 may_refuse setup w (Take ticket) = false
 
--- An output that the step may give.
+-- The step may give the output: it is that with enough memory or, if memory may run out for the
+-- step, `OutOfMemory`.
 abbrev pub IsOutput : Setup → WorldState → Step → StepOut → Type 0
 IsOutput setup w step out = (out ≡ output setup w step) ⊎ ((may_refuse setup w step ≡ true) × (out ≡ OutOfMemory))
 
--- From `w`, the steps may give these outputs, one for each step, and lead to `last`.
+-- From `w`, the steps may give the outputs, one for each step, and lead to the world `last`.
 abbrev pub Runs : Setup → WorldState → List Step → List StepOut → WorldState → Type 0
 Runs setup w [] [] last = last ≡ w
 Runs setup w (step ∷ steps) (out ∷ outs) last = IsOutput setup w step out × Runs setup (after w step out) steps outs last

@@ -63,7 +63,7 @@ impl Intake {
         })
     }
 
-    /// Appends a request's messages to the list.
+    /// Appends a request's messages to the list, and returns how each is answered.
     ///
     /// # Errors
     ///
@@ -83,7 +83,7 @@ impl Intake {
         take_in(&mut self.registry, &mut self.backlog, plan)
     }
 
-    /// Appends a tick to the list.
+    /// Appends a tick to the list, and returns its place.
     ///
     /// # Errors
     ///
@@ -143,9 +143,9 @@ impl Intake {
         self.registry.reshard(shards);
     }
 
-    /// Advances every shard to the end of the list, and returns how many shards lag.
+    /// Advances every shard to the end of the list, and returns how many shards still lack entries.
     ///
-    /// A shard lags only if memory runs out. `workers` and `gate` are as for
+    /// A shard still lacks entries only if memory runs out. `workers` and `gate` are as for
     /// [`bring_up`](bx_workers::bring_up) of `bx_workers`.
     pub(crate) fn bring_up<R: Threads + Sync, G: Gate + Sync, P: Placing + Send + Sync>(
         &mut self,
@@ -166,8 +166,8 @@ impl Intake {
     }
 }
 
-// Commits `plan`, which `registry` made, and appends its entries to `backlog`. If memory runs out,
-// nothing has changed.
+// Commits `plan`, which `registry` made, and appends its entries to `backlog`. Returns their first
+// place and the slots. If memory runs out, nothing has changed.
 fn take_in(
     registry: &mut Registry,
     backlog: &mut Backlog,

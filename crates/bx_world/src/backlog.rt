@@ -112,9 +112,9 @@ impl Backlog {
         }
     }
 
-    /// Advances every shard to the end of the list, and returns how many shards lag.
+    /// Advances every shard to the end of the list, and returns how many shards still lack entries.
     ///
-    /// A shard lags only if memory runs out. `workers` and `gate` are as for
+    /// A shard still lacks entries only if memory runs out. `workers` and `gate` are as for
     /// [`bring_up`](bx_workers::bring_up) of `bx_workers`.
     pub(crate) fn bring_up<R: Threads + Sync, G: Gate + Sync, P: Placing + Send + Sync>(
         &mut self,

@@ -9,12 +9,14 @@ pub fn list_is_admitted()
     ensures { ListIsAdmitted }
 {}
 
-/// Proves that each taken answer is what one thread gives.
+/// Proves that each taken answer is that of a server that handles one message at a time.
 pub fn takes_are_answers()
     ensures { TakesAreAnswers }
 {}
 
-/// Proves that an answer is filed once its shard has passed its place, until it is taken.
+/// Proves that an answer is filed once the session's shard has applied the answering entry.
+///
+/// It stays filed until it is taken.
 pub fn answers_are_filed()
     ensures { AnswersAreFiled }
 {}
@@ -34,7 +36,7 @@ pub fn schedules_compose()
     ensures { SchedulesCompose }
 {}
 
-/// Proves that each reply that an admission returns at once is what one thread gives.
+/// Proves that each immediate reply is that of a server that handles one message at a time.
 pub fn replies_are_answers()
     ensures { RepliesAreAnswers }
 {}
@@ -46,7 +48,7 @@ pub fn none_given_again()
     ensures { NoneGivenAgain }
 {}
 
-/// Proves that no event is in two answers of a plain session.
+/// Proves that no event is in two answers of a session that does not acknowledge.
 pub fn plain_given_once()
     ensures { PlainGivenOnce }
 {}

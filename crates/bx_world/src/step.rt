@@ -23,7 +23,7 @@ pub enum Step {
 pub enum StepOut {
     /// The request or tick was admitted, and its entries are in the list.
     Admitted {
-        /// The place of its first entry.
+        /// The place of the first entry of the request or tick.
         first: u64,
         /// How each message is answered, in order. Empty for a tick.
         slots: Sequence<Slot>,
@@ -52,7 +52,7 @@ pub enum Applied {
 }
 
 impl StepOut {
-    /// Converts the result of an admission.
+    /// Converts the result of an admission to the output of a step.
     pub(crate) fn of_admission(admitted: Result<Admitted, AdmitFault>) -> StepOut
         ensures { result ≡ admission admitted }
     {
@@ -63,7 +63,7 @@ impl StepOut {
         }
     }
 
-    /// Converts the result of applying an entry.
+    /// Converts the result of applying an entry to the output of a step.
     pub(crate) fn of_application(applied: Applied) -> StepOut
         ensures { result ≡ application applied }
     {

@@ -99,7 +99,7 @@ impl<P: Placing> World<P> {
         self.admission.post(alloc, &*self.placing, arrival)
     }
 
-    /// Appends a tick to the list.
+    /// Appends a tick to the list, and returns its place.
     ///
     /// `moment`: milliseconds since the server started.
     ///
@@ -118,8 +118,9 @@ impl<P: Placing> World<P> {
 
     /// Applies the next entry of the list to the shard with index `shard`, counted from 0.
     ///
-    /// Memory cannot run out for a disconnect, a rejected message, a tick, or an unsubscription
-    /// that is not a rider.
+    /// Returns whether the shard applied it, has no entry to apply or does not exist, or memory ran
+    /// out. Memory cannot run out for a disconnect, a rejected message, a tick, or an
+    /// unsubscription that is not a rider.
     pub fn apply(&mut self, alloc: Global, shard: usize) -> Applied
         ensures { Steps self.old (Apply shard) (application result) self.new }
     {
@@ -144,9 +145,9 @@ impl<P: Placing> World<P> {
         Some(answer)
     }
 
-    /// Advances every shard to the end of the list, and returns how many shards lag.
+    /// Advances every shard to the end of the list, and returns how many shards still lack entries.
     ///
-    /// A shard lags only if memory runs out. `workers` and `gate` are as for
+    /// A shard still lacks entries only if memory runs out. `workers` and `gate` are as for
     /// [`bring_up`](bx_workers::bring_up) of `bx_workers`.
     pub fn bring_up<R: Threads + Sync, G: Gate + Sync>(
         &mut self,

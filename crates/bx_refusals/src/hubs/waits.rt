@@ -52,7 +52,7 @@ fn waker(task: &MockTask) -> Result<Waker, Unlike> {
 }
 
 // Returns `true` if the shard holds the connect, and `false` if it has not applied the connect yet.
-// Fails if the connect is answered, or if the hub is shut.
+// Fails if the connect is answered, or if the hub is closed.
 fn is_there<L: LogId, H: Wait + Drop, R: Wait>(
     rt: &R,
     hub: &Served<L, H>,

@@ -101,8 +101,8 @@ pub fn ended(polled: Result<Poll<Option<String>>, Unlike>) -> Result<Option<Stri
     }
 }
 
-// Returns the line of a response, or `None` if the exchange failed or has the status 503, since
-// memory ran out.
+// Returns the line of a response, or `None` if memory ran out: the exchange failed or has status
+// 503.
 fn line_of(alloc: Global, task: &MockTask, given: Given) -> Result<Option<String>, Unlike> {
     let Ok(response) = given else {
         return Ok(None);

@@ -134,8 +134,8 @@ where
     wait(client, &mut exchange, connect, publish, text)
 }
 
-// Polls a connect that must wait, publishes, and polls the connect again. Returns the line of its
-// response, or `None` if memory ran out before it waited.
+// Polls a connect that must wait, publishes, and polls the connect again. Returns the line of the
+// connect's response, or `None` if memory ran out before the connect waited.
 fn wait<S, I, C, E>(
     client: &mut Client<S, C>,
     exchange: &mut E,

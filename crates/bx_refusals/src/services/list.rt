@@ -16,7 +16,8 @@ pub trait Count {
     fn entries(&self, alloc: Global) -> Result<u64, Unlike>;
 }
 
-/// The list of a hub. An empty request to the hub returns its number of entries.
+/// The list of a hub. A request without messages, which adds no entry, is posted to count its
+/// entries.
 #[derive(Drop)]
 pub struct HubList<L: LogId, R: Wait + Drop> {
     /// The right to wait for the hub's locks.

@@ -27,17 +27,17 @@ pub enum Task {
 /// What a poll must return.
 #[derive(Clone, Copy, Debug)]
 pub enum Want {
-    /// No answer yet.
+    /// The poll is pending.
     Pending,
-    /// An answer. The text is the array of its events and its reply.
+    /// The poll returns an answer. The text is the array of its events and its reply.
     Answer(&'static str),
-    /// No answer, now or later.
+    /// The poll returns that there is no answer, now or later.
     None,
-    /// This fault.
+    /// The poll returns this fault.
     Fault(HubFault),
 }
 
-// Returns the array of an answer's events and its reply.
+// Returns the JSON array of an answer's events, followed by its reply.
 fn array_of(alloc: Global, answer: &Answer) -> Result<Vec<u8>, AllocError> {
     let mut text = b"[".to_vec(alloc)?;
     for event in answer.events.as_slice() {
@@ -90,7 +90,7 @@ pub struct Bench<L: LogId, H: Wait + Drop, R: Wait + Copy + Drop> {
 }
 
 impl<L: LogId, H: Wait + Drop, R: Wait + Copy + Drop> Bench<L, H, R> {
-    /// Returns one of the tasks.
+    /// Returns the task that `task` names.
     pub fn task(&self, task: Task) -> &MockTask {
         match task {
             Task::First => &self.first,
@@ -153,7 +153,7 @@ impl<L: LogId, H: Wait + Drop, R: Wait + Copy + Drop> Bench<L, H, R> {
         Ok(PendingAnswer::new(pass, ticket))
     }
 
-    /// Polls `held` once, in `task`.
+    /// Polls `held` once, in `task`, and returns the output.
     pub fn poll(
         &self,
         task: Task,

@@ -6,7 +6,7 @@ from browser import Browser
 from server import Relay, Server, Site
 
 
-class Stand:
+class Fixture:
     """A running server, a relay to it, a web server that uses the relay, and a browser.
 
     A context manager that ends the server and the browser. `folder`: for the files of the browser.
@@ -22,13 +22,13 @@ class Stand:
             self.browser = Browser(folder)
             stack.callback(self.browser.end)
             # If the browser does not start, the stack ends the server.
-            self.ending = stack.pop_all()
+            self.cleanup = stack.pop_all()
 
     def __enter__(self):
         return self
 
     def __exit__(self, *_):
-        self.ending.close()
+        self.cleanup.close()
 
     @staticmethod
     def file(page):

@@ -9,14 +9,14 @@ from base import TOP
 # expected output.
 Row = namedtuple("Row", "name arguments script expected")
 
-WORD = re.compile("<([^<>]*)>")
+MACRO = re.compile("<([^<>]*)>")
 # The number of hexadecimal digits of a client id.
 CLIENT = 48
 # Words for characters that cannot be seen in a text file.
 CHARACTERS = {"space": " ", "return": "\r", "zero": "\0"}
 
 
-def read_words():
+def read_macros():
     """Returns the words in tests/rows/words.txt and those for characters.
 
     Each name has the number of its arguments and its text.
@@ -30,10 +30,10 @@ def read_words():
     return found
 
 
-WORDS = read_words()
+MACROS = read_macros()
 
 
-def expanded(match):
+def expand_match(match):
     """Returns the text for one word and its arguments. The last argument extends to the end.
 
     Raises `ValueError` if the number of arguments is wrong.
@@ -41,7 +41,7 @@ def expanded(match):
     name, *rest = match[1].split(" ", 1)
     if name == "client":
         return rest[0].zfill(CLIENT)
-    count, text = WORDS[name]
+    count, text = MACROS[name]
     arguments = rest[0].split(" ", count - 1) if rest else []
     if len(arguments) != count:
         raise ValueError(f"<{match[1]}> has not {count} arguments")
@@ -50,10 +50,10 @@ def expanded(match):
     return text
 
 
-def spelled(text):
+def expand_macros(text):
     """Returns `text` with all words replaced by their texts."""
-    while WORD.search(text):
-        text = WORD.sub(expanded, text)
+    while MACRO.search(text):
+        text = MACRO.sub(expand_match, text)
     return text
 
 
@@ -70,7 +70,7 @@ def row_of(name, lines):
         parts[line[0]].append(line[2:])
     if not parts[">"] or not parts["<"] or lines != sorted(lines, key=lambda it: "$><".index(it[0])):
         raise ValueError(f"{name}: not arguments, a script and what is printed, in this order")
-    script, expected = ("".join(f"{spelled(it)}\n" for it in parts[mark]).encode() for mark in "><")
+    script, expected = ("".join(f"{expand_macros(it)}\n" for it in parts[mark]).encode() for mark in "><")
     return Row(name, parts["$"][0] if parts["$"] else None, script, expected)
 
 

@@ -10,45 +10,45 @@ import subprocess
 import sys
 import tempfile
 
-from base import PATIENCE, Wrong
+from base import TIMEOUT_SECONDS, CheckFailed
 
 TOOLS = {"mmdebstrap": "mmdebstrap", "unshare": "util-linux", "ip": "iproute2"}
 
 
-class Missing(Exception):
+class CannotRun(Exception):
     """The test cannot run on this machine. The message says why."""
 
 
 def release():
     """Returns the code name of this machine's Debian release.
 
-    Raises `Missing` if the machine does not run Debian.
+    Raises `CannotRun` if the machine does not run Debian.
     """
     with open("/etc/os-release", encoding="utf-8") as file:
-        words = dict(line.strip().replace('"', "").split("=", 1) for line in file if "=" in line)
-    if words.get("ID") != "debian":
-        raise Missing("this machine has no Debian, whose release would be taken")
-    return words["VERSION_CODENAME"]
+        fields = dict(line.strip().replace('"', "").split("=", 1) for line in file if "=" in line)
+    if fields.get("ID") != "debian":
+        raise CannotRun("this machine has no Debian, whose release would be taken")
+    return fields["VERSION_CODENAME"]
 
 
 def check_tools():
-    """Raises `Missing` if the user is not root, or if a tool is not installed."""
+    """Raises `CannotRun` if the user is not root, or if a tool is not installed."""
     if os.geteuid() != 0:
-        raise Missing("only root can make an empty Debian and a network of its own")
+        raise CannotRun("only root can make an empty Debian and a network of its own")
     for tool, package in TOOLS.items():
         if not shutil.which(tool):
-            raise Missing(f"there is no {tool}: install Debian's package {package}")
+            raise CannotRun(f"there is no {tool}: install Debian's package {package}")
 
 
-def make(root, packages):
+def install_debian(root, packages):
     """Installs an empty Debian with `packages` and their dependencies in the folder `root`.
 
-    Raises `Missing` if the installation fails.
+    Raises `CannotRun` if the installation fails.
     """
-    words = ["mmdebstrap", "--quiet", "--variant=minbase", f"--include={','.join(packages)}", release(), root]
-    ran = subprocess.run(words, stdin=subprocess.DEVNULL, capture_output=True, text=True, check=False)
-    if ran.returncode != 0:
-        raise Missing(f"mmdebstrap ended with status {ran.returncode}: {ran.stderr.strip()[-600:]}")
+    args = ["mmdebstrap", "--quiet", "--variant=minbase", f"--include={','.join(packages)}", release(), root]
+    result = subprocess.run(args, stdin=subprocess.DEVNULL, capture_output=True, text=True, check=False)
+    if result.returncode != 0:
+        raise CannotRun(f"mmdebstrap ended with status {result.returncode}: {result.stderr.strip()[-600:]}")
 
 
 def is_mounted(folder):
@@ -56,7 +56,7 @@ def is_mounted(folder):
     return any(f" {folder}/" in line for line in pathlib.Path("/proc/self/mountinfo").read_text(encoding="utf-8").splitlines())
 
 
-def take_away(folder):
+def remove_folder(folder):
     """Deletes `folder`. If there is a mount in it, prints a message and keeps the folder."""
     if is_mounted(folder):
         print(f"something is still mounted in {folder}, which stays", file=sys.stderr)
@@ -64,27 +64,27 @@ def take_away(folder):
         shutil.rmtree(folder)
 
 
-def with_room(packages, words):
+def run_in_debian(packages, args):
     """Installs a Debian, runs this script again in namespaces of its own, and returns the status.
 
-    The script gets the arguments `--inside ROOT` and `words`. ROOT is the folder of the Debian. It
+    The script gets the arguments `--inside ROOT` and `args`. ROOT is the folder of the Debian. It
     has no network except loopback. All its processes end with it, and the folder is deleted.
 
-    Raises `Missing` if the Debian cannot be installed.
+    Raises `CannotRun` if the Debian cannot be installed.
     """
     check_tools()
     folder = os.path.realpath(tempfile.mkdtemp(prefix="gadzilk-debian-"))
     try:
         os.chmod(folder, 0o755)
         root = f"{folder}/root"
-        make(root, packages)
+        install_debian(root, packages)
         apart = ["unshare", "--net", "--mount", "--pid", "--fork", "--kill-child", "--mount-proc"]
-        return subprocess.run([*apart, sys.executable, sys.argv[0], "--inside", root, *words], check=False).returncode
+        return subprocess.run([*apart, sys.executable, sys.argv[0], "--inside", root, *args], check=False).returncode
     finally:
-        take_away(folder)
+        remove_folder(folder)
 
 
-class Room:
+class Debian:
     """The Debian in the folder `root`, as seen by the script that runs with `--inside`."""
 
     def __init__(self, root):
@@ -93,20 +93,20 @@ class Room:
         subprocess.run(["ip", "link", "set", "lo", "up"], check=True)
         subprocess.run(["mount", "-t", "proc", "proc", self.root / "proc"], check=True)
 
-    def words(self, script, user=None):
-        apart = ["chroot", *([f"--userspec={user}"] if user else []), str(self.root)]
-        return [*apart, "/usr/bin/env", "-i", "HOME=/root", "LANG=C.UTF-8", "PATH=/usr/sbin:/usr/bin:/sbin:/bin", "bash", "-ec", script]
+    def command_line(self, script, user=None):
+        chroot = ["chroot", *([f"--userspec={user}"] if user else []), str(self.root)]
+        return [*chroot, "/usr/bin/env", "-i", "HOME=/root", "LANG=C.UTF-8", "PATH=/usr/sbin:/usr/bin:/sbin:/bin", "bash", "-ec", script]
 
     def run(self, script):
         """Runs a shell script as root in the Debian, and returns what it prints.
 
-        Raises `Wrong` if it fails.
+        Raises `CheckFailed` if it fails.
         """
         how = {"cwd": "/", "stdin": subprocess.DEVNULL, "capture_output": True, "text": True, "check": False}
-        ran = subprocess.run(self.words(f"cd\n{script}"), **how, timeout=120)
-        if ran.returncode != 0:
-            raise Wrong(f"status {ran.returncode} of\n{script}\n{ran.stdout}{ran.stderr}")
-        return ran.stdout
+        result = subprocess.run(self.command_line(f"cd\n{script}"), **how, timeout=120)
+        if result.returncode != 0:
+            raise CheckFailed(f"status {result.returncode} of\n{script}\n{result.stdout}{result.stderr}")
+        return result.stdout
 
     def start(self, script, user=None):
         """Starts a shell script in the Debian, and returns the process without waiting.
@@ -114,7 +114,7 @@ class Room:
         `user`: USER:GROUP, or `None` for root.
         """
         how = {"cwd": "/", "stdin": subprocess.DEVNULL, "stdout": subprocess.PIPE, "text": True, "start_new_session": True}
-        process = subprocess.Popen(self.words(script, user), **how)
+        process = subprocess.Popen(self.command_line(script, user), **how)
         self.processes.append(process)
         return process
 
@@ -124,7 +124,7 @@ class Room:
         This is how systemd stops a unit.
         """
         os.killpg(process.pid, signal.SIGTERM)
-        return process.wait(PATIENCE)
+        return process.wait(TIMEOUT_SECONDS)
 
     def serve(self):
         """Starts bayeuxd with the command line and settings of its systemd unit, as user nobody.
@@ -137,7 +137,7 @@ class Room:
         process = self.start(f"{settings}\n. /etc/default/bayeuxd\nexec {command}", "nobody:nogroup")
         line = process.stdout.readline()
         if not line.startswith("listening "):
-            raise Wrong(f"the service does not listen: {line!r}")
+            raise CheckFailed(f"the service does not listen: {line!r}")
         self.service = process
         return process
 

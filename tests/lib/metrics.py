@@ -2,8 +2,8 @@
 import re
 import time
 
-from base import Wrong
-from daemon import PATIENCE, Connection, get
+from base import CheckFailed
+from daemon import TIMEOUT_SECONDS, Connection, get
 
 # The two kinds of lines of a page: a comment, and a value with its name and labels.
 COMMENT = re.compile(r"# (HELP|TYPE) ([a-z_]+) (?:counter|gauge|[A-Z][^\\]*\.)")
@@ -13,34 +13,34 @@ SAMPLE = re.compile(r'([a-z_]+)(|\{[a-z]+="[^"\\]+"\}) ([0-9]+)')
 def ask_for(address, request):
     """Sends `request` to the metrics listener at `address`, and returns the response.
 
-    Raises `Wrong` if there is not exactly one response before the listener ends the connection.
+    Raises `CheckFailed` if there is not exactly one response before the listener ends the connection.
     """
     with Connection(address) as connection:
         connection.send(request)
-        responses = connection.rest()
+        responses = connection.read_to_end()
     if len(responses) != 1:
-        raise Wrong(f"not one response for {request!r}: {len(responses)}")
+        raise CheckFailed(f"not one response for {request!r}: {len(responses)}")
     return responses[0]
 
 
 def read_page(text):
     """Returns the values of a page of metrics, by name and labels.
 
-    Raises `Wrong` if the page is not in Prometheus' text format 0.0.4.
+    Raises `CheckFailed` if the page is not in Prometheus' text format 0.0.4.
     """
-    values, family, told = {}, None, set()
+    values, family, comments = {}, None, set()
     if not text.endswith("\n"):
-        raise Wrong(f"no end of a line at the end of the page: {text[-80:]!r}")
+        raise CheckFailed(f"no end of a line at the end of the page: {text[-80:]!r}")
     for line in text[:-1].split("\n"):
         comment, sample = COMMENT.fullmatch(line), SAMPLE.fullmatch(line)
         if comment:
-            word, name = comment.group(1, 2)
-            if (word, name) in told or (word == "TYPE") != (name == family):
-                raise Wrong(f"a comment at the wrong place: {line!r}")
-            told.add((word, name))
+            keyword, name = comment.group(1, 2)
+            if (keyword, name) in comments or (keyword == "TYPE") != (name == family):
+                raise CheckFailed(f"a comment at the wrong place: {line!r}")
+            comments.add((keyword, name))
             family = name
-        elif not sample or sample.group(1) != family or sample.group(1, 2) in values or ("TYPE", family) not in told:
-            raise Wrong(f"a line of no known form, or at the wrong place: {line!r}")
+        elif not sample or sample.group(1) != family or sample.group(1, 2) in values or ("TYPE", family) not in comments:
+            raise CheckFailed(f"a line of no known form, or at the wrong place: {line!r}")
         else:
             values[sample.group(1, 2)] = int(sample.group(3))
     return values
@@ -49,25 +49,25 @@ def read_page(text):
 def scrape(address):
     """Returns the values of the page of metrics at `address`, by name and labels.
 
-    Raises `Wrong` if there is no valid page.
+    Raises `CheckFailed` if there is no valid page.
     """
     response = ask_for(address, get(b"", b"/metrics"))
     if (response.status, response.fields[b"content-type"]) != (200, b"text/plain; version=0.0.4; charset=utf-8"):
-        raise Wrong(f"no page of figures: {response.status} {response.fields}")
+        raise CheckFailed(f"no page of figures: {response.status} {response.fields}")
     return read_page(response.body.decode())
 
 
 def expect_values(address, expected):
     """Waits until the metrics have the values `expected`, and returns all values.
 
-    Raises `Wrong` after `PATIENCE` seconds.
+    Raises `CheckFailed` after `TIMEOUT_SECONDS` seconds.
     """
-    end = time.monotonic() + PATIENCE
+    end = time.monotonic() + TIMEOUT_SECONDS
     while True:
         values = scrape(address)
         found = {name: values[name] for name in expected}
         if found == expected:
             return values
         if time.monotonic() > end:
-            raise Wrong(f"not {expected}: {found}")
+            raise CheckFailed(f"not {expected}: {found}")
         time.sleep(0.05)

@@ -1,13 +1,13 @@
 """Checks of how a page looks: on a narrow screen, in light and dark, and to a screen reader."""
 import time
 
-from base import Wrong
+from base import CheckFailed
 from browser import emulate
 
 # The least contrast, as WCAG 2 defines it, of small and of large text with its background.
 CONTRAST, LARGE_CONTRAST = 4.5, 3.0
 # A narrow screen, and the least sizes of fields, buttons and letters on it, in CSS pixels.
-NARROW, LEAST_TARGET, LEAST_LETTERS = (320, 640), 24, 11
+NARROW, MIN_TARGET, MIN_LETTERS = (320, 640), 24, 11
 # Returns each visible text and placeholder, with its contrast, the size of its letters in CSS
 # pixels, and whether WCAG 2 counts it as large.
 CONTRASTS = """
@@ -25,9 +25,9 @@ const found = [];
 for (const it of document.querySelectorAll('body *')) {
   const style = getComputedStyle(it), picture = it.closest('svg');
   if (it.closest('template, script') || !it.getClientRects().length) continue;
-  const says = [...it.childNodes].filter((node) => node.nodeType === 3).map((node) => node.textContent).join(' ').trim();
+  const text = [...it.childNodes].filter((node) => node.nodeType === 3).map((node) => node.textContent).join(' ').trim();
   const size = parseFloat(style.fontSize), isLarge = size >= 24 || (size >= 18.66 && style.fontWeight >= 700);
-  if (says) found.push([says, ratio(picture ? style.fill : style.color, ground(picture?.parentElement ?? it)), size, isLarge]);
+  if (text) found.push([text, ratio(picture ? style.fill : style.color, ground(picture?.parentElement ?? it)), size, isLarge]);
   if (it.placeholder) found.push([it.placeholder, ratio(getComputedStyle(it, '::placeholder').color, ground(it)), size, isLarge]);
 }
 return found;
@@ -45,32 +45,32 @@ return [...wide, ...small, ...cut, ...whole].map((it) => it.outerHTML.slice(0, 8
 """
 
 
-def check_sight(window):
-    """Raises `Wrong` if texts are hard to read, or if the page does not fit on a narrow screen.
+def check_accessibility(window):
+    """Raises `CheckFailed` if texts are hard to read, or if the page does not fit on a narrow screen.
 
     Checks contrast in light and dark colours, and the sizes of letters, fields and buttons.
     """
     for scheme in ("light", "dark"):
         emulate(window, *NARROW, scheme)
         time.sleep(1.2)
-        for says, ratio, size, is_large in window.run(CONTRASTS):
+        for text, ratio, size, is_large in window.run(CONTRASTS):
             if ratio < (LARGE_CONTRAST if is_large else CONTRAST):
-                raise Wrong(f"in {scheme} the contrast of {says!r} is {ratio:.2f}")
-            if size < LEAST_LETTERS:
-                raise Wrong(f"the letters of {says!r} are {size} points high")
-        found = window.run(TOO_WIDE, LEAST_TARGET)
+                raise CheckFailed(f"in {scheme} the contrast of {text!r} is {ratio:.2f}")
+            if size < MIN_LETTERS:
+                raise CheckFailed(f"the letters of {text!r} are {size} points high")
+        found = window.run(TOO_WIDE, MIN_TARGET)
         if found:
-            raise Wrong(f"on a narrow screen these do not fit, or are too small: {found}")
+            raise CheckFailed(f"on a narrow screen these do not fit, or are too small: {found}")
     emulate(window)
 
 
-def check_names(window, selectors):
-    """Raises `Wrong` if an element has no name that a screen reader can read aloud.
+def check_accessible_names(window, selectors):
+    """Raises `CheckFailed` if an element has no name that a screen reader can read aloud.
 
     `selectors`: one for each element. The page must also have a language and a title.
     """
     for selector in selectors:
         if not window.call("GET", f"/element/{window.element(selector)}/computedlabel"):
-            raise Wrong(f"{selector} has no name")
+            raise CheckFailed(f"{selector} has no name")
     if not (window.run("return document.documentElement.lang") and window.call("GET", "/title")):
-        raise Wrong("the page has no language or no title")
+        raise CheckFailed("the page has no language or no title")
