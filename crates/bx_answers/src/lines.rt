@@ -14,7 +14,7 @@ pub(crate) enum Noting {
     Open,
     /// The log ended because of this fault, which is not reported yet.
     Ended(RecordFault),
-    /// The log ended, and its fault, if any, was reported.
+    /// The log ended, and has no fault left to report.
     Over,
 }
 

@@ -14,12 +14,12 @@ use std::marker::Brand;
 use std::sync::{Arc, Wait};
 use std::thread::{Threads, join};
 
-// Number of sessions during the ticks.
+// Number of live sessions while `ticks` makes its ticks.
 const IDLE: u64 = 65_536;
 
 type Served<L, R> = Hub<L, ByRemainder, OpenGate, R>;
 
-/// Runs `load` in each of `threads` threads, and returns the number of events delivered.
+/// Runs `load` in each of `threads` threads, and returns how many events their connects get in all.
 ///
 /// `threads`: 1, 2 or 4.
 ///
@@ -68,7 +68,8 @@ fn serves<L: LogId + Send + Sync, R: Threads + Wait + Sync>(
     events.ok_or(anyhow!("not served"))
 }
 
-// Opens a thread's sessions: one that publishes, and those that receive.
+// Opens the sessions of `thread`: one that publishes, and those that receive. Returns `Some(0)`, or
+// `None` if memory runs out or the hub does not admit a request.
 fn opens<L: LogId, H: Wait + Drop, R: Wait>(
     rt: &R,
     alloc: Global,
@@ -93,7 +94,8 @@ fn opens<L: LogId, H: Wait + Drop, R: Wait>(
     Some(0)
 }
 
-// Runs a thread's load, and returns the number of events delivered.
+// Runs the load of `thread`, and returns the number of events that its connects get. Returns `None`
+// if memory runs out or the hub does not admit a request.
 fn works<L: LogId, H: Wait + Drop, R: Wait>(
     rt: &R,
     alloc: Global,
@@ -109,7 +111,8 @@ fn works<L: LogId, H: Wait + Drop, R: Wait>(
     Some(events)
 }
 
-// Publishes, and then connects each receiving session. Returns the number of events delivered.
+// Publishes, and then connects each receiving session. Returns the number of events that the
+// connects get, or `None` if memory runs out or the hub does not admit a request.
 fn round<L: LogId, H: Wait + Drop, R: Wait>(
     rt: &R,
     alloc: Global,
@@ -130,7 +133,8 @@ fn round<L: LogId, H: Wait + Drop, R: Wait>(
     Some(events)
 }
 
-// Posts `body` and takes the answers. Returns the number of their events.
+// Posts `body` and takes the answers. Returns the number of their events, or `None` if memory runs
+// out, the hub does not admit the request, or an answer is missing.
 fn post<L: LogId, H: Wait + Drop, R: Wait>(
     rt: &R,
     alloc: Global,
@@ -149,7 +153,8 @@ fn post<L: LogId, H: Wait + Drop, R: Wait>(
     Some(events)
 }
 
-// Runs `load` in each of two threads, numbered from `thread` on.
+// Runs `load` in two threads, numbered `thread` and `thread + 1`. Returns the number of events that
+// their connects get, or `None` if a thread fails.
 fn two<L: LogId + Send + Sync, H: Wait + Drop + Send, R: Threads + Wait + Sync>(
     rt: &R,
     alloc: Global,
@@ -166,7 +171,8 @@ fn two<L: LogId + Send + Sync, H: Wait + Drop + Send, R: Threads + Wait + Sync>(
     a?.checked_add(b?)
 }
 
-// Runs `load` in each of four threads.
+// Runs `load` in four threads. Returns the number of events that their connects get, or `None` if a
+// thread fails.
 fn four<L: LogId + Send + Sync, H: Wait + Drop + Send, R: Threads + Wait + Sync>(
     rt: &R,
     alloc: Global,

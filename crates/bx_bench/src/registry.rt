@@ -1,6 +1,4 @@
 //! Workloads of a registry, which plan and commit requests and ticks.
-//!
-//! Each returns the length of the list. `tick` adds the number of sessions closed.
 ghost use Rattle.std.specs.Prelude.{◌≤◌};
 
 use anyhow::{Result, anyhow};
@@ -14,7 +12,7 @@ const PUBLISHERS: u64 = 10_000;
 
 const PUBLISHES: u64 = 1_000_000;
 
-// Number of live sessions during the ticks, which is also the limit.
+// Number of live sessions while `tick` makes its ticks, which is also the limit of sessions.
 const SESSIONS: u64 = 65_536;
 
 const TICKS: u64 = 100_000;
@@ -49,7 +47,7 @@ fn new_registry(alloc: Global) -> Result<Registry> {
     Ok(Registry::new(alloc, config)?)
 }
 
-// Opens `sessions` sessions.
+// Opens `sessions` sessions, a request each.
 fn open_all(alloc: Global, registry: &mut Registry, sessions: u64) -> Result<()> {
     let request = [handshake(alloc)?];
     for _ in 0..sessions {
@@ -95,6 +93,8 @@ fn admit(alloc: Global, registry: &mut Registry, messages: &[Message]) -> Result
 
 /// Opens 10,000 sessions, a request each.
 ///
+/// Returns the length of the list.
+///
 /// # Errors
 ///
 /// If memory runs out.
@@ -106,6 +106,8 @@ pub fn open(alloc: Global) -> Result<usize> {
 
 /// Makes 1,000,000 publishes, a request each, by 10,000 sessions in turn.
 ///
+/// Returns the length of the list.
+///
 /// # Errors
 ///
 /// If memory runs out.
@@ -114,7 +116,9 @@ pub fn publish(alloc: Global) -> Result<usize> {
     publish_in(alloc, &mut registry, 1)
 }
 
-/// Makes the publishes of [`publish`], 100 in a request.
+/// Makes 1,000,000 publishes, 100 in a request, by 10,000 sessions in turn.
+///
+/// Returns the length of the list.
 ///
 /// # Errors
 ///
@@ -151,6 +155,8 @@ fn admit_each(
 }
 
 /// Makes 100,000 ticks with 65,536 live sessions, none of them due.
+///
+/// Returns the length of the list, plus the number of sessions closed.
 ///
 /// # Errors
 ///

@@ -1,7 +1,7 @@
 //! Workloads of rounds with several workers, from JSON to outs.
 //!
-//! Each returns the number of items in all responses. The rounds are never dropped: a server would
-//! continue to run, and the time that one thread needs to drop a round would distort the result.
+//! The rounds are never dropped: a server would continue to run, and the time that one thread needs
+//! to drop a round would distort the result.
 use crate::bodies::{HANDSHAKE, arrival, connect};
 use anyhow::{Result, anyhow};
 use bx_advice::Config;
@@ -17,7 +17,8 @@ const SHARDS: usize = 8;
 
 const SESSIONS: u64 = 10_000;
 
-// Each session subscribes to one room by two patterns. So a publish reaches 1,000 sessions.
+// Number of rooms. Each session subscribes to one room by two patterns, so a publish reaches 1,000
+// sessions.
 const ROOMS: u64 = 10;
 
 const TURNS: u64 = 10;
@@ -47,7 +48,7 @@ fn publish(alloc: Global, room: u64) -> Result<String> {
     )?)
 }
 
-// Creates the requests that open the sessions.
+// Creates a request for each session, with its handshake and its subscription.
 fn openings(alloc: Global) -> Result<Vec<Input>> {
     let mut inputs = Vec::new(alloc);
     for number in 1..=SESSIONS {
@@ -56,7 +57,7 @@ fn openings(alloc: Global) -> Result<Vec<Input>> {
     Ok(inputs)
 }
 
-// Creates the publishes of a turn, to each room in turn.
+// Creates the publishes of one turn, a request each, to the rooms in rotation.
 fn publishes(alloc: Global) -> Result<Vec<Input>> {
     let mut inputs = Vec::new(alloc);
     for _ in 0..PUBLISHES {
@@ -67,7 +68,7 @@ fn publishes(alloc: Global) -> Result<Vec<Input>> {
     Ok(inputs)
 }
 
-// Creates a connect of each session.
+// Creates a request for each session, with its connect.
 fn connects(alloc: Global) -> Result<Vec<Input>> {
     let mut inputs = Vec::new(alloc);
     for number in 1..=SESSIONS {
@@ -76,7 +77,7 @@ fn connects(alloc: Global) -> Result<Vec<Input>> {
     Ok(inputs)
 }
 
-// Runs `inputs`, and returns the number of items in their outs.
+// Runs `inputs`, and returns the number of items in the responses that the run appends.
 fn serve<R: Threads + Sync>(
     rt: &R,
     alloc: Global,
@@ -107,6 +108,8 @@ fn new_round(alloc: Global, workers: usize) -> Result<Round<ByRemainder>> {
 
 /// Opens 10,000 sessions, each subscribed to one of ten rooms by two patterns.
 ///
+/// Returns the number of items in all responses.
+///
 /// # Errors
 ///
 /// If `workers` is not 1 to 16, or memory runs out.
@@ -128,7 +131,7 @@ fn open_all<R: Threads + Sync>(
 /// Opens the sessions as [`opened`], and makes 5,000 publishes, a request each, in ten turns.
 ///
 /// Each publish reaches 1,000 sessions. After each turn, every session connects and gets its
-/// events.
+/// events. Returns the number of items in all responses.
 ///
 /// # Errors
 ///
@@ -152,7 +155,8 @@ fn run_in<R: Threads + Sync>(
     Ok(items.wrapping_add(more))
 }
 
-// Runs the publishes and then the connects, `TURNS` times.
+// Runs the publishes and then the connects, `TURNS` times. Returns the number of items in all
+// responses.
 fn serve_in_turns<R: Threads + Sync>(
     rt: &R,
     alloc: Global,
@@ -170,7 +174,8 @@ fn serve_in_turns<R: Threads + Sync>(
 
 /// Opens the sessions as [`opened`], and makes 10,000 publishes, a request each.
 ///
-/// Each publish reaches 1,000 sessions. The events wait, since no session connects.
+/// Each publish reaches 1,000 sessions. The events wait, since no session connects. Returns the
+/// number of items in all responses.
 ///
 /// # Errors
 ///

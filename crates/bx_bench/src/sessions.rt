@@ -1,6 +1,4 @@
 //! Workloads of 1,000 sessions.
-//!
-//! Each returns a number of sessions or of events.
 use anyhow::{Result, anyhow};
 use bx_advice::Config;
 use bx_message::{Event, RawJson, SharedEvent, Text};
@@ -53,7 +51,7 @@ impl Setting {
         Ok(sessions)
     }
 
-    // Delivers the event, and returns how many events the held connect gets.
+    // Delivers the event, and returns how many events the held connect gets: 0 if none is held.
     fn deliver(&self, session: &mut Session, place: u64) -> Result<u64> {
         session.reserve()?;
         let event = self.event.clone()?;
@@ -67,7 +65,8 @@ impl Setting {
         }
     }
 
-    // Connects and acknowledges all batches. Returns how many events the connect gets.
+    // Connects and acknowledges all batches. Returns how many events the connect gets: 0 if it is
+    // held.
     fn connect(&self, alloc: Global, session: &mut Session, hold: u64) -> Result<u64> {
         let number = session.last_batch();
         if number > MANY {
@@ -83,7 +82,7 @@ impl Setting {
     }
 }
 
-/// Opens 1,000 sessions.
+/// Opens 1,000 sessions, and returns their number.
 ///
 /// # Errors
 ///
@@ -93,7 +92,9 @@ pub fn open(alloc: Global) -> Result<usize> {
     Ok(setting.open(alloc)?.len())
 }
 
-/// Delivers 1,000 events to each of 1,000 sessions. They wait, since no session connects.
+/// Delivers 1,000 events to each of 1,000 sessions, and returns the number of sessions.
+///
+/// The events wait, since no session connects.
 ///
 /// # Errors
 ///
@@ -110,6 +111,8 @@ pub fn wait(alloc: Global) -> Result<usize> {
 }
 
 /// Delivers 100 events to each of 1,000 sessions and then connects each session, 10 times.
+///
+/// Returns the number of events that the connects get.
 ///
 /// # Errors
 ///
@@ -132,6 +135,8 @@ pub fn batches(alloc: Global) -> Result<usize> {
 }
 
 /// Holds a connect of each of 1,000 sessions and answers it with an event, 1,000 times.
+///
+/// Returns the number of events that the connects get.
 ///
 /// # Errors
 ///

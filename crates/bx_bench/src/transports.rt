@@ -1,6 +1,4 @@
 //! Workloads of reading the same JSON from a POST's body and from a form.
-//!
-//! Each returns the number of messages over all runs.
 use crate::inputs;
 use anyhow::{Result, anyhow};
 use bx_cut::Document;
@@ -15,6 +13,8 @@ const FORM: &[u8] = b"application/x-www-form-urlencoded";
 
 /// Reads a form of about 1 MB and cuts its document into messages, 20 times.
 ///
+/// Returns the number of messages over all runs.
+///
 /// # Errors
 ///
 /// If memory runs out.
@@ -25,7 +25,9 @@ pub fn form(alloc: Global) -> Result<usize> {
     take(alloc, Some(FORM), form.finish().as_bytes())
 }
 
-/// Reads the same document as JSON and cuts it into messages, 20 times.
+/// Reads the document of [`form`] from a JSON body and cuts it into messages, 20 times.
+///
+/// Returns the number of messages over all runs.
 ///
 /// # Errors
 ///

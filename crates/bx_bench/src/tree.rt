@@ -1,6 +1,4 @@
-//! Workloads of the pattern tree and of a plain list.
-//!
-//! Each returns a number of patterns or of sessions found.
+//! Workloads of the pattern tree and of a plain list of patterns.
 use anyhow::Result;
 use bx_names::{ChannelName, Pattern, matches};
 use bx_tree::Tree;
@@ -32,7 +30,9 @@ pub fn build(alloc: Global) -> Result<usize> {
     put_all(alloc, &mut tree)
 }
 
-/// Builds the same tree, and looks up 1,000,000 names in it.
+/// Builds the tree of 10,000 sessions with ten patterns each, and looks up 1,000,000 names in it.
+///
+/// Returns the number of sessions found in all look-ups.
 ///
 /// # Errors
 ///
@@ -57,7 +57,7 @@ fn find_all(alloc: Global, tree: &Tree, names: &[ChannelName]) -> Result<usize> 
     Ok(total)
 }
 
-/// Builds a list of the same sessions and patterns, and returns its length.
+/// Builds a list of the patterns of 10,000 sessions, ten each, and returns its length.
 ///
 /// # Errors
 ///
@@ -66,7 +66,10 @@ pub fn plain_build(alloc: Global) -> Result<usize> {
     Ok(pairs(alloc)?.len())
 }
 
-/// Builds the same list, and looks up 100 names in it, comparing each with all patterns.
+/// Builds a list of the patterns of 10,000 sessions, ten each, and compares 100 names with them
+/// all.
+///
+/// Returns the number of matches.
 ///
 /// # Errors
 ///
@@ -130,7 +133,7 @@ fn name(alloc: Global, text: &str) -> Result<ChannelName> {
     Ok(ChannelName::read(alloc, text)?)
 }
 
-// Adds the patterns of all sessions, and returns how many the first has.
+// Adds the patterns of all sessions to `tree`, and returns how many the first session has.
 fn put_all(alloc: Global, tree: &mut Tree) -> Result<usize> {
     for number in 0..SESSIONS {
         put(alloc, tree, number, &patterns(alloc, number)?)?;

@@ -1,6 +1,4 @@
 //! Workloads of cutting bodies and of writing responses.
-//!
-//! Each returns a total over all runs.
 use anyhow::{Result, anyhow};
 use bx_advice::{Config, Outcome};
 use bx_cut::Document;
@@ -30,6 +28,8 @@ const MEMBERS: [&str; 10] = [
 
 /// Reads `body` as a `serde_json` value, 20 times.
 ///
+/// Returns the number of values in the array that `body` is, summed over all runs.
+///
 /// # Errors
 ///
 /// If `body` is not UTF-8 or not JSON, or memory runs out.
@@ -44,6 +44,8 @@ pub fn check(alloc: Global, body: &[u8]) -> Result<usize> {
 }
 
 /// Cuts `body` into messages and looks up ten members of each, 20 times.
+///
+/// Returns the length in bytes of all members found, summed over all runs.
 ///
 /// # Errors
 ///
@@ -63,6 +65,8 @@ pub fn cut(alloc: Global, body: &[u8]) -> Result<usize> {
 
 /// Writes 1,000 events and 1,000 replies from a `serde_json` value, 100 times.
 ///
+/// Returns the number of bytes written in all runs.
+///
 /// # Errors
 ///
 /// If memory runs out.
@@ -76,7 +80,9 @@ pub fn value_texts(alloc: Global) -> Result<usize> {
     Ok(total)
 }
 
-/// Writes the same items from events and replies, 100 times.
+/// Writes 1,000 events and 1,000 replies from `Item` values, 100 times.
+///
+/// Returns the number of bytes written in all runs.
 ///
 /// # Errors
 ///

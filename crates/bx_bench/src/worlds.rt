@@ -1,6 +1,4 @@
 //! Workloads of a single-threaded server, from JSON to answers.
-//!
-//! Each returns a number of entries, of events, or their sum.
 use crate::bodies::{HANDSHAKE, arrival, connect, handshake, publish, subscription};
 use crate::load::Load;
 use anyhow::{Result, anyhow};
@@ -12,7 +10,7 @@ use std::sync::Arc;
 
 const SESSIONS: u64 = 10_000;
 
-// Ten sessions subscribe to each channel.
+// Number of channels. Ten sessions subscribe to each.
 const CHANNELS: u64 = 1_000;
 
 const ROUNDS: u64 = 10;
@@ -58,7 +56,7 @@ impl Server {
         Ok(events)
     }
 
-    // Advances a shard to the end of the list.
+    // Advances `shard` to the end of the list, or until memory runs out.
     fn bring_up(&mut self, alloc: Global, shard: usize) {
         for _ in 0..MAX_LENGTH {
             if self.world.apply(alloc, shard) != Applied::Done {
@@ -67,7 +65,8 @@ impl Server {
         }
     }
 
-    // Takes the answer filed under `ticket`, if any, and returns the number of its events.
+    // Takes the answer filed under `ticket`, and returns the number of its events: 0 without an
+    // answer.
     fn taken(&mut self, ticket: Ticket) -> u64 {
         match self.world.take(ticket) {
             Some(answer) => answer.events.len() as u64,
@@ -76,7 +75,7 @@ impl Server {
     }
 }
 
-// Opens the sessions, each with one subscription. Returns the number of entries.
+// Opens the sessions, each with one subscription. Returns the number of entries in the list.
 fn open(alloc: Global, server: &mut Server) -> Result<usize> {
     for number in 1..=SESSIONS {
         server.serve(alloc, opening(alloc, number)?)?;
@@ -111,6 +110,8 @@ fn publishes(alloc: Global, first: u64) -> Result<String> {
 
 /// Opens 10,000 sessions in `shards` shards, each with one subscription.
 ///
+/// Returns the number of entries in the list.
+///
 /// # Errors
 ///
 /// If `shards` is not 1 to 64, or memory runs out.
@@ -122,7 +123,8 @@ pub fn opened(alloc: Global, shards: usize) -> Result<usize> {
 /// Opens the sessions as [`opened`], and makes 900,000 publishes and 100,000 connects.
 ///
 /// Each request has 100 publishes or one connect. Each publish reaches ten sessions, which get the
-/// event by their connects. Returns the number of entries and events.
+/// event by their connects. Returns the number of entries in the list, plus the number of events
+/// that the connects get.
 ///
 /// # Errors
 ///

@@ -63,7 +63,7 @@ pub const ANSWER_THIRD: &str =
 pub const TICKED: &str =
     r#"[{"advice":{"interval":0,"reconnect":"retry","timeout":30000},"channel":"/meta/connect","clientId":"000000000000000000000000000000000000000000000001","successful":true}]"#;
 
-/// The answer to the first session's rider [`PUBLISH_OWN`], with its and [`PUBLISH`]'s events.
+/// The response to the rider [`PUBLISH_OWN`], with the events of [`PUBLISH`] and of the rider.
 pub const RIDDEN: &str =
     r#"[{"channel":"/a/b","data":7},{"channel":"/a/c","data":8},{"channel":"/a/c","successful":true}]"#;
 

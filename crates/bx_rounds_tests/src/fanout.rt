@@ -225,8 +225,8 @@ fn open_crowd<R: Threads + Sync>(
     run(rt, alloc, &OpenGate, round, &crowd(alloc)?, &mut outs)
 }
 
-// Checks that runs of at most `at_once` of `INPUTS` each append `OUTS`, in a new round of `sizes`
-// (shards and workers).
+// Checks that runs of at most `at_once` of `INPUTS` each append `OUTS`. `sizes`: the numbers of
+// shards and of workers of the round.
 fn check_round<R: Abort + Threads + Sync>(
     rt: &R,
     alloc: Global,
@@ -322,8 +322,8 @@ fn one_run_gives_what_several_give(rt: HostRuntime) -> Result<(), Fail> {
     Ok(())
 }
 
-// Checks the outs of `INPUTS`, then those of `RIDING` with the workers in `team`, and then that
-// worker 0 holds a connect alone.
+// Checks the outs of `INPUTS`, and then those of `RIDING`, for which the workers in `team` work.
+// Then checks that a connect is held, for which worker 0 works alone.
 fn check_riding<R: Abort + Threads + Sync>(
     rt: &R,
     alloc: Global,
@@ -336,8 +336,8 @@ fn check_riding<R: Abort + Threads + Sync>(
     check_team(rt, alloc, round, 0b1, &ALONE, &[])
 }
 
-// Checks that exactly the workers in `team` (bit k for worker k) take part in a run of the inputs
-// `asked`, and that the run appends the outs `right`.
+// Checks that a run of the inputs `asked` appends the outs `right`. The workers that take part must
+// be exactly those in `team`. Bit k of `team` is set for worker k.
 fn check_team<R: Abort + Threads + Sync>(
     rt: &R,
     alloc: Global,
@@ -489,8 +489,8 @@ fn workers_run_beside_one_another(rt: HostRuntime) -> Result<(), Fail> {
     Ok(())
 }
 
-// Creates a round of 4 shards with a held connect, and returns it with its sessions redistributed
-// among 64 shards.
+// Returns a round of 64 shards with a held connect. The round has 4 shards when the connect is
+// held, and its sessions are then redistributed.
 fn redistributed<R: Threads + Sync, G: Gate + Sync>(
     rt: &R,
     alloc: Global,
@@ -545,8 +545,8 @@ fn answer_held<R: Abort + Threads + Sync, G: Gate + Sync>(
     check_held(rt, alloc, round, 1_029, &[])
 }
 
-// Checks that a held connect moves with its session: after the sessions are redistributed, the
-// publish still answers it. `before` and `behind`: the gates of the runs before and after.
+// Checks that a publish answers a held connect after the sessions are redistributed. `before` and
+// `behind`: the gates of the runs before and after.
 fn check_redistributed<R: Abort + Threads + Sync, G: Gate + Sync>(
     rt: &R,
     alloc: Global,
@@ -601,8 +601,7 @@ impl Gate for Meeting {
     }
 }
 
-// Checks that exactly the workers of the team met at the gate, and that all of them finished their
-// work.
+// Checks that exactly the team's workers met at the gate, and that all finished their work.
 fn check_met<R: Abort>(rt: &R, meeting: &Meeting) {
     let (team, went) = (meeting.team, meeting.went.load(Ordering::SeqCst));
     assert!(rt; !meeting.gave_up.load(Ordering::SeqCst), "team {team:b}");
@@ -625,8 +624,8 @@ fn as_many_threads_run_as_workers(rt: HostRuntime) -> Result<(), Fail> {
     Ok(())
 }
 
-// Checks that a held connect is answered after its session moves to one of 64 shards, and that each
-// of 16 workers then has some of the shards.
+// Checks that a held connect is answered after its session moves to one of 64 shards. The 16
+// workers must all have some of the shards.
 #[test]
 fn each_worker_finds_a_shard_among_more(rt: HostRuntime) -> Result<(), Fail> {
     let alloc = rt.alloc();

@@ -157,8 +157,8 @@ const WHOLE: [(&str, &str); 4] = [
     ),
 ];
 
-// Replays the script in `lines` to `output`, with two workers and three shards, and returns the
-// replay's result.
+// Replays the script in `lines` to `output`, and returns the replay's result. It has two workers
+// and three shards.
 fn replayed<T, P, R, W>(
     rt: &T,
     alloc: Global,

@@ -109,8 +109,8 @@ impl Read for Slow {
     }
 }
 
-// Checks that the record in `reader` has the description `wanted`, or that reading it fails with
-// the fault `wanted`.
+// Checks that the lines of the record in `reader` have the descriptions `wanted`. If `wanted` is a
+// fault, checks that reading the record fails with that fault.
 fn check_told<R: BufRead>(
     rt: &impl Abort,
     alloc: Global,
@@ -156,8 +156,8 @@ fn lines_say_what_they_say(rt: HostRuntime) -> Result<(), Fail> {
     Ok(())
 }
 
-// Returns the number of lines of `script`, or `None` if one is not accepted or there are more than
-// 5,000.
+// Returns the number of lines of `script`, or `None` if a line is not accepted. Also returns `None`
+// if there are more than 5,000 lines.
 fn handed(alloc: Global, script: &str) -> Result<Option<u32>, ScriptFault> {
     let mut lines = Lines::new(alloc, Dialect::Script, script.as_bytes());
     for count in 0..5_001 {

@@ -351,7 +351,7 @@ fn ticked<P: Placing>(alloc: Global, world: &mut World<P>, moment: u64) -> Resul
     }
 }
 
-// Checks that a tick at a moment above the greatest is rejected and changes nothing, and that a
+// Checks that a tick above the greatest moment is rejected and changes nothing. Then checks that a
 // tick at the greatest moment becomes the first entry of the list.
 fn check_calls<R: Abort, P: Placing>(
     rt: &R,
