@@ -96,8 +96,9 @@ fn asks_for_session(messages: &[Message]) -> bool
         .any(|message| message.channel.as_str() == "/meta/handshake")
 }
 
-// Returns the document that a line can contain unchanged, if any: the only one of `bodies`, without
-// a newline.
+// Returns the document that a line can contain unchanged: the only one, without a newline.
+//
+// Returns `None` if there are other documents or a newline.
 fn plain_document(bodies: &Bodies) -> Option<&[u8]>
     ensures { option_map (λ d. d.now) result ≡ plain_document (texts_of bodies.now) }
 {
