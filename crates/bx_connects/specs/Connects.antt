@@ -93,8 +93,8 @@ abbrev pub completed : List Event → Option ConnectState → Option ConnectStat
 completed events (Some (Filed session place answer)) = Some (Filed session place (record answer { events = events }))
 completed events state = state
 
--- The connects after the entry at `place` gives at most one answer. An answer to an unknown connect
--- changes nothing.
+-- The connects after the entry at `place` gives an answer, if it gives one. An answer to an unknown
+-- connect changes nothing.
 abbrev pub filing : ℕ → Option Answered → (ℕ → Option ConnectState) → ℕ → Option ConnectState
 filing place None connects p = connects p
 filing place (Some a) connects p = if nat_eq a.place p then filed_as place a.answer (connects a.place) else connects p
@@ -104,7 +104,8 @@ abbrev pub filed_answer : Option ConnectState → Option Answer
 filed_answer (Some (Filed session place answer)) = Some answer
 filed_answer _ = None
 
--- A connect after a call of `take`: unknown if its answer was filed, otherwise unchanged.
+-- A connect after its filed answer, if any, was taken. It is then unknown. A connect without a
+-- filed answer is unchanged.
 abbrev pub taken_from : Option ConnectState → Option ConnectState
 taken_from (Some (Filed session place answer)) = None
 taken_from state = state

@@ -131,7 +131,8 @@ impl Connects {
     /// Files `answered`, the answer that the entry at `place` gives to a known connect.
     ///
     /// Appends the connect's waker, if any, to `wakers`. If an answer is already filed, replaces
-    /// it. Does nothing if the connect is not known.
+    /// it.
+    /// Does nothing if the connect is not known.
     pub fn file(&mut self, place: u64, answered: Answered, wakers: &mut Wakers)
         ensures filed { (p : ℕ) → connect_at self.new p
             ≡ (if nat_eq answered.place p then filed_as place answered.answer (connect_at self.old answered.place)

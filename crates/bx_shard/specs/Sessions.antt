@@ -36,8 +36,8 @@ pub record IsOwn (n : ℕ) (k : Kept) (patterns : List Glob) : Type 0 where
   pub patterns_are : k.patterns ≡ patterns
   pub emptied : k.overflow ≡ true → patterns ≡ []
 
--- If session `n` is in the shard, it is live, and the list of globs is its patterns. If not, the
--- list is empty.
+-- A session `n` of the shard is live, and a list is its patterns. If the session is not in the
+-- shard, the list is empty.
 abbrev pub IsCounted : ℕ → Option Kept → List Glob → Type 0
 IsCounted n None patterns = patterns ≡ []
 IsCounted n (Some k) patterns = IsOwn n k patterns

@@ -60,9 +60,9 @@ dropped_by numbers None = None
 dropped_by numbers (Some (Held session deadline waker)) = if list_any (λ m. m == session) numbers then None else Some (Held session deadline waker)
 dropped_by numbers (Some (Filed session place answer)) = Some (Filed session place answer)
 
--- The connects after an entry, before its answers are filed. A connect of a session in the shard is
--- added as held. A tick drops the connects that are held by the sessions that it closes. A tick of
--- a list drops none, since no session is due before its hold ends.
+-- The connects after an entry, before its answers are filed. The entry of a connect holds it, if
+-- its session is in the shard. A tick drops the connects that are held by the sessions that it
+-- closes. A tick of a list drops none, since no session is due before its hold ends.
 abbrev pub begun : (ℕ → Option Kept) → (ℕ → Option ConnectState) → Entry → EntryKind → ℕ → Option ConnectState
 begun sessions connects e (Connect m client id acked hold) p = if is_some (sessions m) then holding m (pending e.place client id e.moment hold) connects p else connects p
 begun sessions connects e (Tick numbers) p = dropped_by numbers (connects p)
