@@ -103,8 +103,9 @@ fn asks<L: LogId, P: Placing, G: Gate + Drop, H: Wait + Drop, R: Wait>(
     Some(())
 }
 
-// Returns the numbers of the events that `CONNECTS` connects of a session get. Returns `None` if a
-// call fails.
+// Returns the numbers of the events that `CONNECTS` connects of a session get.
+//
+// Those of session 1 are raised by `ALL_EVENTS`. Returns `None` if a call fails.
 fn receives<L: LogId, P: Placing, G: Gate + Drop, H: Wait + Drop, R: Wait>(
     rt: &R,
     alloc: Global,
