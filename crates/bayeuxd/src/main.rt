@@ -18,7 +18,7 @@ use futures::channel::oneshot;
 use futures::channel::oneshot::{Receiver, Sender};
 use log::{error, info, warn};
 use metrics::serve_metrics;
-use recorder::{RecordFile, make_record};
+use recorder::{NewRecordFile, make_record};
 use serve::{ListenAddress, ServeFault, Serving, listen, serve};
 use std::alloc::{AllocError, Global};
 use std::fs::File;
@@ -167,7 +167,7 @@ fn parts_of<'a>(rt: &HostRuntime, settings: &Settings<'a>) -> Result<Parts<'a>, 
 fn record_of(
     rt: &HostRuntime,
     settings: &Settings<'_>,
-) -> Result<Option<RecordFile<File>>, ExitCode> {
+) -> Result<Option<NewRecordFile<File>>, ExitCode> {
     let Some(path) = settings.record_file else {
         return Ok(None);
     };

@@ -23,7 +23,7 @@ const OWNERS: u32 = 0o600;
 
 /// The file of a record, after its first line was written.
 #[derive(Drop)]
-pub struct RecordFile<F> {
+pub struct NewRecordFile<F> {
     file: CountedFile<F>,
     /// Whether the digests of answers are recorded too.
     has_answers: bool,
@@ -40,7 +40,7 @@ pub fn make_record(
     path: &str,
     config: &Config,
     has_answers: bool,
-) -> io::Result<RecordFile<File>> {
+) -> io::Result<NewRecordFile<File>> {
     let file = OpenOptions::new()
         .write(true)
         .create_new(true)
@@ -49,7 +49,7 @@ pub fn make_record(
     let mut file = CountedFile::new(file);
     file.write_all(config_text(rt.alloc(), config)?.as_slice())?;
     info!(rt; target: "bayeuxd", "recording started file={path}");
-    Ok(RecordFile { file, has_answers })
+    Ok(NewRecordFile { file, has_answers })
 }
 
 /// The thread that writes the record, if there is one.
@@ -77,7 +77,7 @@ impl Recorder {
     pub fn start<L, R, F>(
         rt: R,
         hub: &Arc<Hub<L, ByRemainder, OpenGate, R>, Global>,
-        file: Option<RecordFile<F>>,
+        file: Option<NewRecordFile<F>>,
     ) -> io::Result<Recorder>
     where
         L: LogId + Send + Sync + 'static,
@@ -86,7 +86,7 @@ impl Recorder {
     {
         let alloc = rt.alloc();
         let stop = Arc::new(alloc, AtomicBool::new(false))?;
-        let Some(RecordFile { file, has_answers }) = file else {
+        let Some(NewRecordFile { file, has_answers }) = file else {
             return Ok(Recorder {
                 thread: None,
                 answers: None,

@@ -4,7 +4,7 @@ ghost use Rattle.bx_entry.specs.Placings.{by_remainder};
 
 use crate::clock::{Drawn, SinceStart};
 use crate::end::Closing;
-use crate::recorder::{RecordFile, Recorder};
+use crate::recorder::{NewRecordFile, Recorder};
 use crate::ticker::tick;
 use bx_advice::Config;
 use bx_answers::{AnswerLog, AnswerLogger};
@@ -131,7 +131,7 @@ pub fn serve<R, F, W>(
     rt: R,
     listening: Listening,
     arguments: Serving,
-    record_file: Option<RecordFile<F>>,
+    record_file: Option<NewRecordFile<F>>,
     counts: &Arc<Counts, Global>,
     shutdown: Receiver<()>,
     writer: &mut W,
@@ -177,7 +177,7 @@ fn run<L, R, F, W>(
     runtime: Runtime,
     listeners: Listeners,
     arguments: Serving,
-    record_file: Option<RecordFile<F>>,
+    record_file: Option<NewRecordFile<F>>,
     start: Instant,
     placing: Arc<ByRemainder, Global>,
     counts: &Arc<Counts, Global>,
