@@ -94,12 +94,13 @@ def squeezed(lines):
 
 
 def tests_of(top):
-    """Returns the text of all files that have tests, each with one space between its words."""
+    """Returns the text of each file with tests, or of a program that the gate runs, with one space between its words."""
     found = []
     for path in glob.glob(f"{top}/crates/*/src/**/*.rt", recursive=True):
         with open(path, encoding="utf-8") as file:
             text = file.read()
-        if "#[test]" in text:
+        crate = "/".join(path[len(top) + 1 :].split("/")[:2])
+        if "#[test]" in text or os.path.exists(f"{top}/{crate}/stdout"):
             found.append(squeezed(text.split("\n")))
     return found
 

@@ -58,13 +58,15 @@ impl<S: Drop> BayeuxService<S, ()> {
     /// # Examples
     ///
     /// ```
-    /// let backend = HubBackend::new(rt, alloc, hub, Access::ReadWrite, clock, nonces);
+    /// let backend = HubBackend::new(
+    ///     rt,
+    ///     alloc,
+    ///     Arc::try_clone(hub)?,
+    ///     Access::ReadWrite,
+    ///     Still,
+    ///     Zeros,
+    /// );
     /// let service = BayeuxService::new(alloc, backend)?;
-    /// let mut exchange = service.call(request);
-    /// let Poll::Ready(Ok(response)) = task.poll(&mut exchange) else {
-    ///     return Err(Fail::from("no response"));
-    /// };
-    /// assert_eq!(rt; response.status().as_u16(), 200);
     /// ```
     pub fn new(alloc: Global, backend: S) -> Result<BayeuxService<S>, AllocError>
         ensures backend { IfOk result (λ service. arc_value service.backend ≡ backend) }

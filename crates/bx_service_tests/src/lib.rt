@@ -10,8 +10,6 @@ mod bench;
 #[cfg(test)]
 mod connects;
 #[cfg(test)]
-mod examples;
-#[cfg(test)]
 mod exchanges;
 #[cfg(test)]
 mod observers;
