@@ -9,13 +9,14 @@ use Rattle.bx_advice.specs.declared.advice.Outcome.TheVariants.{Opened, Connecte
 abbrev pub retry : Config → Advice
 retry c = record { interval = c.interval; reconnect = Retry; timeout = Some c.timeout }
 
--- Advice other than to connect again: `reconnect`, without a timeout.
+-- Advice to do `reconnect`, which is not to connect again. It has no timeout.
 abbrev pub instead : Config → Reconnect → Advice
 instead c reconnect = record { interval = c.interval; reconnect = reconnect; timeout = None }
 
 -- What a client should do after an error, if anything. It should not reconnect if the server does
--- not support it, and handshake again if its session is unknown, has overflowed or found no room.
--- Other errors give no advice. Policy of this server.
+-- not support its version or connection types. It should handshake again if its client id is
+-- missing or unknown, if its session overflowed, or if there were too many sessions. There is no
+-- advice for other errors. Policy of this server.
 abbrev pub reconnect_of : Error → Option Reconnect
 reconnect_of UnsupportedVersion = Some Never
 reconnect_of NoSupportedConnectionType = Some Never

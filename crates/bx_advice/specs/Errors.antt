@@ -3,7 +3,7 @@ use Rattle.std.specs.Prelude.{ℕ, List, codes}
 use Rattle.bx_advice.specs.declared.error.Error.{Error}
 use Rattle.bx_advice.specs.declared.error.Error.TheVariants.{UnknownMetaChannel, SecondHandshake, UnsupportedVersion, NoSupportedConnectionType, TooManySessions, NoClientId, UnknownClient, UnknownConnectionType, InvalidChannel, InvalidPattern, TooManyPatterns, SubscriptionDenied, MissingSubscription, MissingData, SupersededConnect, QueueOverflow}
 
--- A code of three digits, two colons and a message.
+-- The text of an error in a reply: a code of three digits, two colons and a message.
 abbrev pub error_text : Error → List ℕ
 error_text UnknownMetaChannel = codes "404::Unknown meta channel"
 error_text SecondHandshake = codes "400::Second handshake"

@@ -4,11 +4,11 @@ use Rattle.std.proofs.Common.{lit≤}
 use Rattle.bx_advice.specs.declared.config.Limits.{Limits}
 use Rattle.bx_advice.specs.declared.config.TheConstants.{MAX_MOMENT, MAX_LENGTH, STANDARD_BATCH, STANDARD_BYTES, STANDARD_EVENTS, STANDARD_PATTERNS, STANDARD_SESSIONS, STANDARD_TEXTS}
 
--- The greatest moment of a request or a tick, in milliseconds.
+-- The greatest moment of a request or a tick, in milliseconds since the server started.
 abbrev pub greatest_moment : ℕ
 greatest_moment = MAX_MOMENT
 
--- The maximum number of elements of the list.
+-- The maximum number of entries in the list.
 abbrev pub greatest_length : ℕ
 greatest_length = MAX_LENGTH
 
@@ -24,7 +24,7 @@ standard_limits = record {
   some_batch = lit≤ tt;
 }
 
--- `limits` are the standard limits.
+-- Each limit in `limits` is the standard one.
 pub record IsStandard (limits : Limits) : Type 0 where
   pub events : limits.events ≡ standard_limits.events
   pub bytes : limits.bytes ≡ standard_limits.bytes

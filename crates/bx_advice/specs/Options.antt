@@ -3,7 +3,8 @@ use Rattle.std.specs.Prelude.{ℕ, if◌then◌else◌, true, false, List, codes
 use Rattle.std.specs.Str.{bytes_eq}
 use Rattle.bx_advice.specs.declared.options.Options.{Options}
 
--- The options of a text: `r` for `ride`, `a` for `anonymous`, `ra` for both and `-` for neither.
+-- The options that a text selects. `r` selects `ride`, `a` selects `anonymous`, `ra` both and `-`
+-- neither. The result is `None` for any other text.
 abbrev pub options_in : List ℕ → Option Options
 options_in word =
     if bytes_eq word (codes "-") then Some (record { ride = false; anonymous = false })

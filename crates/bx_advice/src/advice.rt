@@ -38,7 +38,7 @@ pub enum Reconnect {
 /// Bayeux 1.0, the field `advice`. Sending `timeout` with `Retry` only is a policy of this server.
 #[derive(Clone, Copy, Debug, PartialEq, Eq)]
 pub struct Advice {
-    /// How long the client should wait before it connects again, in milliseconds.
+    /// How long the client should wait before it connects or handshakes again, in milliseconds.
     pub interval: u32,
     /// What the client should do next.
     pub reconnect: Reconnect,
@@ -49,8 +49,12 @@ pub struct Advice {
 /// Returns the advice for `outcome`, if any.
 ///
 /// - `Retry`: a handshake or a connect succeeded.
-/// - `Handshake`: the session is unknown, overflowed, or found no room.
-/// - `Never`: the client is not supported or has disconnected.
+/// - `Handshake`: the client id is missing or unknown, the session overflowed, or too many sessions
+///   are live.
+/// - `Never`: the client's version or connection types are not supported, or its session
+///   disconnected.
+///
+/// Other outcomes have no advice.
 ///
 /// Bayeux 1.0, the field `advice`. The advice for each outcome is a policy of this server.
 pub fn advice_for(outcome: Outcome, config: &Config) -> Option<Advice>

@@ -17,18 +17,20 @@ pub const MAX_MOMENT: u64 = 4_611_686_018_427_387_904;
 /// The maximum number of entries in the list: 2^62.
 pub const MAX_LENGTH: u64 = 4_611_686_018_427_387_904;
 
-/// The greatest number of events that [`Config::with_limit`] accepts.
+/// The greatest limit of a session's events that [`Config::with_limit`] accepts.
 pub const MAX_EVENTS: u32 = 65_536;
 
-/// The greatest number of bytes that [`Config::with_bytes`] accepts: 2^32-1.
+/// The greatest limit, in bytes, of a session's events that [`Config::with_bytes`] accepts: 2^32-1.
 pub const MAX_BYTES: u32 = 4_294_967_295;
 
 /// The limits of a server, by default [`STANDARD_LIMITS`].
 #[derive(Clone, Copy, Debug)]
 pub struct Limits {
-    /// The maximum number of a session's waiting and outstanding events.
+    /// The maximum number of a session's events that wait or are sent but not acknowledged.
     pub events: usize,
-    /// The maximum size of these events' texts, in bytes.
+    /// The maximum total length of the texts of a session's events, in bytes.
+    ///
+    /// It counts the events that wait or are sent but not acknowledged.
     pub bytes: usize,
     /// The maximum number of a session's active patterns.
     pub patterns: usize,
@@ -41,22 +43,22 @@ pub struct Limits {
     pub ghost some_batch: { 1 ≤ batch },
 }
 
-/// The default of [`Limits::events`].
+/// The default of [`Limits::events`], the maximum number of a session's events.
 pub const STANDARD_EVENTS: usize = 1024;
 
-/// The default of [`Limits::bytes`]: 2^62, more than any session can have.
+/// The default of [`Limits::bytes`]: 2^62 bytes, more than the events of any session have.
 pub const STANDARD_BYTES: usize = 4_611_686_018_427_387_904;
 
-/// The default of [`Limits::patterns`], and the maximum for [`Config::with_patterns`].
+/// The default of [`Limits::patterns`], and the greatest that [`Config::with_patterns`] accepts.
 pub const STANDARD_PATTERNS: usize = 1024;
 
-/// The default of [`Limits::batch`].
+/// The default of [`Limits::batch`], the maximum number of events in one answer.
 pub const STANDARD_BATCH: usize = 256;
 
-/// The default of [`Limits::sessions`], and the maximum for [`Config::with_sessions`].
+/// The default of [`Limits::sessions`], and the greatest that [`Config::with_sessions`] accepts.
 pub const STANDARD_SESSIONS: usize = 65_536;
 
-/// The default of [`Limits::texts`].
+/// The default of [`Limits::texts`], the maximum number of strings in a `subscription`.
 pub const STANDARD_TEXTS: usize = 64;
 
 /// The default limits.
@@ -74,21 +76,22 @@ pub const STANDARD_LIMITS: Limits = Limits {
 pub struct Config {
     /// The number of shards, from 1 to [`MAX_SHARDS`].
     pub shards: usize,
-    /// The maximum hold of a connect, which is also the advised timeout.
+    /// The maximum hold of a connect and the advised timeout, in milliseconds.
     pub timeout: u32,
-    /// The advised interval between connects.
+    /// The advised interval between connects, in milliseconds.
     pub interval: u32,
-    /// How long a session lives after its last accepted message or, if later, the last deadline of
-    /// a hold.
+    /// How long a session lives without another accepted message, in milliseconds.
+    ///
+    /// The time starts at the last accepted message or, if later, at the last deadline of a hold.
     pub max_interval: u32,
     /// The limits of sessions and messages.
     pub limits: Limits,
     /// Whether the reply to a request's last message also carries the session's waiting events.
     ///
     /// This message must be a subscription, an unsubscription or a publish. All messages of the
-    /// request must come from one session, which must not acknowledge.
+    /// request must be accepted and come from one session, which must not use acknowledgements.
     pub ride: bool,
-    /// Whether a publish without a client id is accepted. It belongs to no session.
+    /// Whether a publish without a client id is accepted. Such a publish belongs to no session.
     pub anonymous: bool,
     pub ghost some_shard: { 1 ≤ shards },
     pub ghost shards_in_range: { shards ≤ MAX_SHARDS },

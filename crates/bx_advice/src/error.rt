@@ -20,7 +20,7 @@ pub enum Error {
     UnsupportedVersion,
     /// `supportedConnectionTypes` is not an array with at least one of the two polling types.
     NoSupportedConnectionType,
-    /// The message is a handshake, and the maximum number of sessions is live.
+    /// The message is a handshake, but the server already has its maximum number of live sessions.
     TooManySessions,
     /// `clientId` is not a string, or is absent although the message needs it.
     NoClientId,

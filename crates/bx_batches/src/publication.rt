@@ -1,4 +1,4 @@
-//! Ghost: queued events with their places.
+//! Ghost: queued events with the places of their publishes.
 ghost use Rattle.bx_entry.specs.Windows as windows;
 
 use bx_history::Lists;
@@ -21,7 +21,7 @@ impl Model for Publication {
     ghost also_owns = { λ _. ftrue };
 }
 
-// Ghost: lists an event with the place of its publish.
+// Ghost: the map from a place and an event to the list of that one publication.
 pub(crate) struct Published;
 
 impl<'a> Lists<(u64, &'a SharedEvent), Publication> for Published {

@@ -27,11 +27,11 @@ use std::marker::Model;
 #[derive(Drop)]
 pub struct Window {
     events: VecDeque<SharedEvent>,
-    // Ghost: the events with their places.
+    // Ghost: the events with the places of their publishes.
     queue: History<Publication>,
     // Number of outstanding events.
     out: usize,
-    // Number of the last batch.
+    // Number of the last batch, or 0 before the first.
     number: u64,
     // Length of the events' JSON texts, in bytes.
     bytes: usize,
@@ -115,7 +115,7 @@ impl Window {
     /// Appends the event published at `place`. Does not allocate.
     ///
     /// Call [`reserve`](Self::reserve) first. The texts of all events together must be less than
-    /// 2^64 bytes long. This is so if [`is_full`](Self::is_full) returned `false`.
+    /// 2^64 bytes long. This is so if [`is_full`](Self::is_full) returned `false` for `event`.
     #[tactic(auto, using(crate::proofs::Parts::bytes_in, crate::proofs::Parts::pushed_bytes))]
     pub fn push_reserved(&mut self, place: u64, event: SharedEvent)
         requires room { 0 < self.old.spare }
@@ -267,7 +267,7 @@ fn drop_front(events: &mut VecDeque<SharedEvent>, count: usize) -> usize
     bytes
 }
 
-// Moves up to `count` events from the front to the end of `into`, which has room.
+// Moves up to `count` events from the front to the end of `into`, which must have room for `count`.
 fn move_front(events: &mut VecDeque<SharedEvent>, count: usize, into: &mut Vec<SharedEvent>)
     requires { vec_len into.old + count ≤ vec_capacity into.old }
     ensures moved { into.new.items ≡ into.old.items ++ take count events.old.items }

@@ -18,7 +18,7 @@ pub record KnownConnects : Type 0 where
 abbrev pub hold_at : List (ℕ × HeldConnect) → ℕ → Option HeldConnect
 hold_at held place = lookup (nat_eq place) held
 
--- The answer that is filed for the connect at `place`, if any.
+-- The answer that is filed for the connect or rider at `place`, if any.
 abbrev pub filing_at : List (ℕ × FiledAnswer) → ℕ → Option FiledAnswer
 filing_at filed place = lookup (nat_eq place) filed
 

@@ -19,8 +19,8 @@ abbrev pub AreTaken : List Waker → (ℕ → Option Waker) → (ℕ → Option 
 AreTaken [] before after = (p : ℕ) → after p ≡ before p
 AreTaken (waker ∷ rest) before after = (place : ℕ) × (before place ≡ Some waker) × AreTaken rest (without place before) after
 
--- `new` is `old` followed by `added`: exactly the wakers that the connects have in `before` and no
--- longer in `after`.
+-- `new` is the list `old` followed by `added`. `added` has exactly the wakers that connects have in
+-- `before` and no longer in `after`.
 pub record AreWoken (before after : ℕ → Option ConnectState) (old new : List Waker) : Type 0 where
   pub added : List Waker
   pub behind : new ≡ old ++ added

@@ -131,8 +131,7 @@ impl Connects {
     /// Files `answered`, the answer that the entry at `place` gives to a known connect.
     ///
     /// Appends the connect's waker, if any, to `wakers`. If an answer is already filed, replaces
-    /// it.
-    /// Does nothing if the connect is not known.
+    /// that answer. Does nothing if the connect is not known.
     pub fn file(&mut self, place: u64, answered: Answered, wakers: &mut Wakers)
         ensures filed { (p : ℕ) → connect_at self.new p
             ≡ (if nat_eq answered.place p then filed_as place answered.answer (connect_at self.old answered.place)
@@ -207,9 +206,10 @@ impl Connects {
         }
     }
 
-    /// Returns a session that holds a connect with a deadline at or before `moment`, if any.
+    /// Returns the number of a session that holds a connect due at `moment`, if any.
     ///
-    /// `moment`: milliseconds since the server started.
+    /// A connect is due if its deadline is at or before `moment`. `moment`: milliseconds since the
+    /// server started. Of several sessions, returns the one with the earliest deadline.
     pub fn first_due(&self, moment: u64) -> Option<u64>
         ensures due { IfSome result (λ session. IsDue self.now session moment) }
         ensures none { IfNone result ((place session deadline : ℕ)
@@ -301,7 +301,7 @@ impl Connects {
         self.filed.keys().as_slice()
     }
 
-    /// Returns the session and the deadline of the connect at `place`, if it is known.
+    /// Returns the session's number and the deadline of the connect at `place`, if it is known.
     ///
     /// An answered connect has no deadline.
     pub fn known(&self, place: u64) -> Option<(u64, Option<u64>)>

@@ -109,7 +109,7 @@ impl HeldConnects {
         noted
     }
 
-    /// Takes the connect at `place`, if it is held.
+    /// Removes and returns the connect at `place`, if it is held.
     pub(crate) fn release(&mut self, place: u64) -> Option<HeldConnect>
         ensures was { result ≡ hold_at self.old place }
         ensures released { (p : ℕ) → hold_at self.new p ≡ (if nat_eq place p then None else hold_at self.old p) }
@@ -148,7 +148,7 @@ impl HeldConnects {
         }
     }
 
-    /// Drops all wakers, which wakes their tasks.
+    /// Drops the wakers of all held connects, which wakes their tasks.
     pub(crate) fn unwatch_all(&mut self)
         ensures unwatched { (p : ℕ) → hold_at self.new p ≡ option_map unwatched_hold (hold_at self.old p) }
         ensures bound { length self.new ≤ length self.old }
@@ -170,7 +170,7 @@ impl HeldConnects {
         self.by_place.keys().as_slice()
     }
 
-    /// Returns the session and the deadline of the connect at `place`, if it is held.
+    /// Returns the session's number and the deadline of the connect at `place`, if it is held.
     pub(crate) fn known(&self, place: u64) -> Option<(u64, Option<u64>)>
         ensures { result ≡ option_map hold_of (hold_at self.now place) }
     {

@@ -1,4 +1,4 @@
--- The last member of a name, found in a loop over the members.
+-- The last member with a given key, found in a loop over the members.
 use Rattle.std.proofs.Common.{◌≡◌, ℕ, Bool, cond, List, [], ◌∷◌, ◌++◌, Option, Some, option_map, refl, sym, ap, ◌∙◌}
 use Rattle.std.proofs.lemmas.{Bool.false≢true, Slice.Eq.bytes_eq-Decides}
 use Rattle.std.specs.{Bool.IsTrue, Borrow.Bor, Option.unwrap_or}

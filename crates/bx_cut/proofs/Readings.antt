@@ -48,7 +48,7 @@ value_front (suc d) = value_with_front (λ ts. items (value d) (length ts) ts) (
 
 -- ---- a whole text
 
--- A text that nests at most `levels` deep.
+-- The whole `text` parses as `d`, and its arrays and objects nest at most `levels` deep.
 pub record WholeWithin (levels : ℕ) (text : List ℕ) (d : Data) : Type 0 where
   pub json : Json
   pub tokens_are : tokens text ≡ json_tokens json

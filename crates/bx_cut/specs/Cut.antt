@@ -24,8 +24,9 @@ pub data Scan : Type 0 where
   quoted : Scan
   escaped : Scan
 
--- The length of the rest of an array or object, through its closing bracket, in bytes. The list
--- begins inside it, where `depth` more brackets are open.
+-- The length of the rest of an array or object, through its closing bracket, in bytes. The text
+-- begins inside it, with `depth` more brackets open. `Scan` is the state at the start of the text:
+-- outside strings, in a string (`quoted`), or after a backslash in a string (`escaped`).
 unfoldable pub nest_len : Scan → ℕ → List ℕ → ℕ
 nest_len m depth [] = 0
 nest_len outside depth (x ∷ xs) =
@@ -33,8 +34,8 @@ nest_len outside depth (x ∷ xs) =
 nest_len quoted depth (x ∷ xs) = 1 + cond (x == ascii.quote) (nest_len outside depth xs) (cond (x == ascii.backslash) (nest_len escaped depth xs) (nest_len quoted depth xs))
 nest_len escaped depth (x ∷ xs) = 1 + nest_len quoted depth xs
 
--- The length of the value at the start of a text, in bytes. The value is a string, an array, an
--- object, a number or a literal.
+-- The length of the value at the start of a text, in bytes, or 0 if there is none. The value is a
+-- string, an array, an object, a number or a literal.
 unfoldable pub value_len : List ℕ → ℕ
 value_len [] = 0
 value_len (x ∷ xs) = cond (x == ascii.quote) (1 + span in_string xs) (cond (opens x) (1 + nest_len outside 0 xs) (prefix_len is_word_byte (x ∷ xs)))
@@ -49,11 +50,12 @@ begins_with b (x ∷ xs) = x == b
 unfoldable pub after_first : ℕ → List ℕ → Option (List ℕ)
 after_first b t = cond (begins_with b t) (Some (drop 1 t)) None
 
--- The rest after whitespace and the byte `b`, if the text begins with them.
+-- The rest after any whitespace and then the byte `b`, if the text begins with them.
 abbrev pub past_byte : ℕ → List ℕ → Option (List ℕ)
 past_byte b t = after_first b (past_blank t)
 
--- The value that comes next after whitespace, and the rest.
+-- The first value of a text, which may follow whitespace, and the rest. `None` if the text does
+-- not begin with a value.
 unfoldable pub split_value : List ℕ → Option (List ℕ × List ℕ)
 split_value t = cond (value_len (past_blank t) == 0) None (Some (take (value_len (past_blank t)) (past_blank t), drop (value_len (past_blank t)) (past_blank t)))
 
@@ -67,7 +69,8 @@ with_value key v = option_map (λ p. ((key, p.0), p.1)) v
 abbrev pub after_key : List ℕ × List ℕ → Option (Member × List ℕ)
 after_key p = cond (begins_with ascii.quote p.0) (option_and_then (λ r. with_value p.0 (split_value r)) (past_byte ascii.colon p.1)) None
 
--- The member that comes next after whitespace, and the rest.
+-- The first member of a text, which may follow whitespace, and the rest. `None` if the text does
+-- not begin with a member.
 unfoldable pub split_member : List ℕ → Option (Member × List ℕ)
 split_member t = option_and_then after_key (split_value t)
 

@@ -23,6 +23,6 @@ abbrev pub value_fault : Option Data → Option CutError
 value_fault None = Some NotJson
 value_fault (Some d) = cond (is_some (as_object d)) None (array_fault (as_array d))
 
--- The first fault of a document, if any.
+-- The first fault of a document with the bytes `body`, if any.
 unfoldable pub fault : List ℕ → Option CutError
 fault body = cond (is_utf8 body) (value_fault (read body)) (Some NotJson)

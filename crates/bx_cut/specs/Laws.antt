@@ -21,8 +21,8 @@ abbrev pub IsBare : List ℕ → Type 0
 IsBare t = BeginsBare t × EndsBare t
 
 -- The text of `o` parses as `d`, and the members of `o` are those of its text. For each name, the
--- value of the last such member parses as the one that `get` finds in `d`. Neither the text nor a
--- value has whitespace around it.
+-- value of the last member with that key parses as the one that `get` finds in `d`. Neither the
+-- text nor a value has whitespace around it.
 pub record IsObjectOf (o : Object) (d : Data) : Type 0 where
   pub reads : read o.0 ≡ Some d
   pub trim : IsBare o.0
@@ -39,7 +39,7 @@ abbrev pub IsOnlyObject : List Object → Data → Type 0
 IsOnlyObject (o ∷ []) d = IsObjectOf o d
 IsOnlyObject _ d = ⊥
 
--- There is one message for each element of an array, in order, or one for an object. Nothing is
+-- The messages parse as the elements of an array, in order, or as the one object. Nothing is
 -- claimed about other values.
 abbrev pub ArePiecesOf : List Object → Data → Type 0
 ArePiecesOf os (array ds) = AreObjectsOf os ds
@@ -53,7 +53,7 @@ AreTextsOf [] no_items = ⊤
 AreTextsOf (v ∷ vs) (item d ds) = (read v ≡ Some d) × IsBare v × AreTextsOf vs ds
 AreTextsOf _ _ = ⊥
 
--- There is one text for each element of an array, in order, and none for any other value.
+-- The texts parse as the elements of an array, in order. There are none for any other value.
 abbrev pub AreElementsOf : List (List ℕ) → Data → Type 0
 AreElementsOf vs (array ds) = AreTextsOf vs ds
 AreElementsOf vs _ = vs ≡ []
@@ -67,8 +67,8 @@ IsBlank w = prefix_len is_space w ≡ length w
 abbrev pub IsShut : List ℕ → Type 0
 IsShut t = (w : List ℕ) × (rest : List ℕ) × (t ≡ w ++ (93 ∷ rest)) × IsBlank w × IsBlank rest
 
--- The messages are in order, followed by the closing bracket. Before the first message is only
--- whitespace, and before each later one only a comma and whitespace.
+-- The text is the messages in order, followed by the closing bracket. Before the first message is
+-- only whitespace, and before each later one only a comma and whitespace.
 abbrev mutual
   pub StandsIn : List Object → List ℕ → Type 0
   StandsIn [] t = IsShut t
@@ -78,7 +78,7 @@ abbrev mutual
   GoesOnIn [] t = IsShut t
   GoesOnIn (o ∷ os) t = (w : List ℕ) × (rest : List ℕ) × (t ≡ w ++ (44 ∷ rest)) × IsBlank w × (v : List ℕ) × (more : List ℕ) × (rest ≡ v ++ (o.0 ++ more)) × IsBlank v × GoesOnIn os more
 
--- The messages are between an opening and a closing bracket.
+-- The text is an array of the messages, in order, between an opening and a closing bracket.
 abbrev pub IsBracketed : List Object → List ℕ → Type 0
 IsBracketed os t = (w : List ℕ) × (rest : List ℕ) × (t ≡ w ++ (91 ∷ rest)) × IsBlank w × StandsIn os rest
 

@@ -43,14 +43,15 @@ member_text name object = last_member name (members object)
 
 -- ---- Messages
 
--- The text of an object, and its members.
+-- A message: the text of a JSON object, and its members.
 abbrev pub Object : Type 0
 Object = List ℕ × List Member
 
 abbrev pub closed : List ℕ → List Member × List ℕ → Option (Object × List ℕ)
 closed t ms = option_map (λ rest. ((take (length t - length rest) t, ms.0), rest)) (past_byte ascii.close_brace ms.1)
 
--- The object that comes next after whitespace, and the rest.
+-- The first object of a text, which may follow whitespace, and the rest. `None` if the text does
+-- not begin with an object.
 unfoldable pub split_object : List ℕ → Option (Object × List ℕ)
 split_object t = option_and_then (λ inside. closed (past_blank t) (listed split_member inside)) (after_first ascii.open_brace (past_blank t))
 

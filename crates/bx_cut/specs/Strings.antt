@@ -11,14 +11,15 @@ use Rattle.bx_cut.specs.declared.string.Part.TheVariants.{End, Escape, Fault}
 abbrev pub spelled : List ℕ → Option (List ℕ)
 spelled value = option_and_then (content plain) (after_first ascii.quote value)
 
--- A JSON string of bytes that need no escape.
+-- The JSON string with content `text`, if no byte of `text` needs an escape.
 abbrev pub quoted : List ℕ → List ℕ
 quoted text = ascii.quote ∷ (text ++ (ascii.quote ∷ []))
 
 -- ---- The next part of a string, for private clauses
 
--- `r` is the next character and the length of its escape in bytes. The last byte of the escape is
--- ASCII. If `r` is `None`, the text is not the rest of a string.
+-- `r` is the character of an escape, and the length in bytes of its part in `text`. `within`: its
+-- part before `text`, such as the backslash. The last byte of the escape is ASCII. If `r` is
+-- `None`, `text` is not the rest of a string.
 abbrev pub Unescapes : Within → List ℕ → Option (ℕ × ℕ) → Type 0
 Unescapes within text r =
     MatchOption r (content within text ≡ None)

@@ -1,4 +1,4 @@
--- What the types of the code represent in the definitions.
+-- Values of the code's types as the definitions represent them.
 use Rattle.bx_cut.specs.Cut as cut
 use Rattle.bx_cut.specs.declared.split.Member.{Member}
 

@@ -7,7 +7,7 @@ ghost use Rattle.bx_cut.specs.Bodies.{texts_of};
 pub enum Bodies {
     /// One document: the whole body.
     Whole(Vec<u8>),
-    /// The decoded documents of a form or a query.
+    /// The documents of a form or a query, already percent-decoded.
     Decoded(Vec<String>),
 }
 
@@ -29,7 +29,7 @@ impl Bodies {
         self.len() == 0
     }
 
-    /// Returns the bytes of document `index`, counted from 0.
+    /// Returns the bytes of document `index`, counted from 0 and less than [`len`](Self::len).
     pub fn get(&self, index: usize) -> &[u8]
         requires { index < length (texts_of self.now) }
         ensures { result.now ≡ get_or (texts_of self.now) index [] }

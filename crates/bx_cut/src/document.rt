@@ -193,7 +193,9 @@ fn cut(alloc: Global, text: &str) -> Result<Vec<Piece<'_>>, AllocError>
     Ok(pieces)
 }
 
-// Returns the next object, after whitespace, and the rest of `text`.
+// Splits `text` after its first object, which may follow whitespace, into the object and the rest.
+//
+// Returns `None` if `text` does not begin with an object.
 fn split_object<'a>(
     alloc: Global,
     text: &'a str,
@@ -213,7 +215,9 @@ fn split_object<'a>(
     Ok(Some((Piece { text, members }, after)))
 }
 
-// Returns the members of an object and the rest of `text`, which begins after the opening brace.
+// Returns the members of an object, and the rest of `text` after the last of them.
+//
+// `text` begins after the object's opening brace.
 fn split_members<'a>(alloc: Global, text: &'a str) -> Result<(Vec<Member<'a>>, &'a str), AllocError>
     ensures value { IfOk result (λ parts. (map member_view parts.0.items, parts.1.now)
         ≡ listed split_member text.now) }

@@ -15,7 +15,7 @@ fn is_space(byte: u8) -> bool
     matches!(byte, b' ' | b'\t' | b'\n' | b'\r')
 }
 
-// Returns the length of the whitespace at the front.
+// Returns the length of the whitespace at the start of `text`.
 pub(crate) fn blank_len(text: &str) -> usize
     ensures value { result ≡ prefix_len is_space text.now }
     ensures boundary { IsCharBoundary text.now result }
@@ -28,7 +28,7 @@ pub(crate) fn blank_len(text: &str) -> usize
     at
 }
 
-// Returns the length of the front up to a quote, a backslash or a control character.
+// Returns the length of `text` before its first quote, backslash or control character.
 pub(crate) fn plain_len(text: &str) -> usize
     ensures value { result ≡ prefix_len is_plain text.now }
     ensures boundary { IsCharBoundary text.now result }
@@ -41,7 +41,9 @@ pub(crate) fn plain_len(text: &str) -> usize
     at
 }
 
-// Returns the length of a string through its closing quote. `text` begins after the opening one.
+// Returns the length of a string through its closing quote, or of all `text` if none closes it.
+//
+// `text` begins after the opening quote.
 #[tactic(auto, using(crate::proofs::Reach::string_ends))]
 fn string_len(text: &[u8]) -> usize
     ensures value { result ≡ span in_string text.now }
@@ -60,8 +62,9 @@ fn string_len(text: &[u8]) -> usize
     text.len()
 }
 
-// Returns the length of an array or object through its closing bracket. `text` begins after the
-// opening one.
+// Returns the length of an array or object through its closing bracket.
+//
+// `text` begins after the opening bracket. If no bracket closes it, the result is its whole length.
 #[tactic(auto, using(crate::proofs::Reach::nest_ends))]
 fn nested_len(text: &[u8]) -> usize
     ensures value { result ≡ nest_len outside 0 text.now }
@@ -102,7 +105,7 @@ fn word_len(text: &[u8]) -> usize
     at
 }
 
-// Returns the length of the value at the front, or 0 if there is none.
+// Returns the length of the JSON value at the start of `text`, or 0 if there is none.
 #[tactic(auto, using(crate::proofs::Reach::value_ends))]
 pub(crate) fn value_len(text: &str) -> usize
     ensures value { result ≡ value_len text.now }

@@ -13,7 +13,7 @@ use crate::scan::{after_first, begins_with, blank_len, value_len};
 use crate::string::spells;
 use std::marker::Model;
 
-// A member of an object.
+// A member of a JSON object, as text.
 #[derive(Clone, Copy, Debug, Drop)]
 pub(crate) struct Member<'a> {
     // The text of the key, with its quotes.
@@ -28,7 +28,9 @@ pub(crate) fn past_blank(text: &str) -> &str
     text.split_at(blank_len(text)).1
 }
 
-// Returns the rest of `text` after whitespace and `byte`, or `None` if it does not begin with them.
+// Skips whitespace and then `byte`, and returns the rest of `text`.
+//
+// Returns `None` if the first byte that is not whitespace is not `byte`.
 pub(crate) fn past(text: &str, byte: u8) -> Option<&str>
     requires { byte < 128 }
     ensures value { option_map (λ rest. rest.now) result ≡ past_byte byte text.now }
@@ -38,7 +40,9 @@ pub(crate) fn past(text: &str, byte: u8) -> Option<&str>
     after_first(past_blank(text), byte)
 }
 
-// Returns the next value, after whitespace, and the rest of `text`.
+// Splits `text` after its first value, which may follow whitespace, into the value and the rest.
+//
+// Returns `None` if `text` does not begin with a value.
 #[tactic(auto, unfolding(crate::specs::Cut::split_value))]
 fn split_value(text: &str) -> Option<(&str, &str)>
     ensures value { option_map (λ parts. (parts.0.now, parts.1.now)) result
@@ -55,7 +59,9 @@ fn split_value(text: &str) -> Option<(&str, &str)>
     }
 }
 
-// Returns the next member, after whitespace, and the rest of `text`.
+// Splits `text` after its first member, which may follow whitespace, into the member and the rest.
+//
+// Returns `None` if `text` does not begin with a member.
 #[tactic(auto, unfolding(crate::specs::Cut::split_member))]
 pub(crate) fn split_member(text: &str) -> Option<(Member<'_>, &str)>
     ensures value { option_map (λ parts. (member_view parts.0, parts.1.now)) result
@@ -74,7 +80,7 @@ pub(crate) fn split_member(text: &str) -> Option<(Member<'_>, &str)>
 /// Returns the text of the value of member `name`, if `object` has that member.
 ///
 /// `object`: the text of a JSON value. If it is not an object, the result is `None`. Keys are
-/// compared as by [`Piece::member`](crate::Piece::member).
+/// compared after unescaping. If a key occurs more than once, the last member counts.
 pub fn member_of<'a>(object: &'a str, name: &str) -> Option<&'a str>
     ensures value { option_map (λ value. value.now) result ≡ member_text name.now object.now }
     ensures reads { (d : Data) → read object.now ≡ Some d

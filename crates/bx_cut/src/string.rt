@@ -13,7 +13,7 @@ ghost use Rattle.bx_cut.specs.Strings.{spelled, quoted, IsPart, Unescapes};
 use crate::scan::{after_first, begins_with, plain_len};
 use std::alloc::{AllocError, Global};
 
-// What follows a run of plain bytes in a string.
+// What follows the bytes before the first escape or closing quote of a JSON string.
 enum Part<'a> {
     End,
     // A decoded escape, and the text after it.
@@ -60,7 +60,9 @@ fn short_escape(letter: u8) -> Option<char>
     }
 }
 
-// Decodes a surrogate pair from `high` and the escape at the front of `text`.
+// Decodes a surrogate pair: its first half is `high`, its second the escape at the start of `text`.
+//
+// Returns `None` if `text` does not begin with the escape of a second half.
 #[tactic(auto, using(crate::proofs::Contents::low_half))]
 fn with_low_half(high: u32, text: &[u8]) -> Option<char>
     requires high { (0xd800 ≤ high) × (high < 0xdc00) }
@@ -80,7 +82,9 @@ fn with_low_half(high: u32, text: &[u8]) -> Option<char>
     char::from_u32(0x10000 + (high - 0xd800) * 1024 + (low - 0xdc00))
 }
 
-// Decodes the escape after a backslash, and returns its character and length.
+// Decodes an escape. Returns its character, and its length in bytes without the backslash.
+//
+// `text` begins after the backslash.
 #[tactic(auto, using(crate::proofs::Contents::escapes))]
 fn escape(text: &[u8]) -> Option<(char, usize)>
     ensures { Unescapes after_backslash text.now result }
@@ -132,8 +136,10 @@ fn without<'a>(text: &'a [u8], front: &[u8]) -> Option<&'a [u8]>
     }
 }
 
-// Returns `true` if the first bytes show that `rest` does not spell `text`. If `rest` begins with
-// an escape, they show nothing.
+// Returns `true` if the first bytes alone show that `rest` differs from `text` after unescaping.
+//
+// `rest`: the content of a JSON string and its closing quote. The result is `false` if `rest`
+// begins with an escape, or one of the two is empty.
 #[tactic(auto, using(crate::proofs::Contents::differing))]
 fn differs_at_once(rest: &str, text: &str) -> bool
     ensures { IsTrue result → content plain rest.now ≢ Some text.now }
@@ -181,7 +187,7 @@ pub fn spells(value: &str, text: &str) -> bool
 
 /// Returns the content of a JSON string without escapes, or `None` for any other value.
 ///
-/// Does not allocate.
+/// `value`: the text of a JSON value. Does not allocate.
 pub fn plain_text_of(value: &str) -> Option<&str>
     ensures value { IfSome result (λ text. spelled value.now ≡ Some text.now) }
     ensures plain { IfSome result (λ text. list_all is_plain text.now ≡ true) }
@@ -197,6 +203,8 @@ pub fn plain_text_of(value: &str) -> Option<&str>
 }
 
 /// Returns the unescaped content of a JSON string, or `None` for any other value.
+///
+/// `value`: the text of a JSON value.
 ///
 /// # Errors
 ///

@@ -32,7 +32,7 @@ refusal_of len (Request moment nonce ms) = refused_beyond moment (len + length m
 refusal_of len (Unread fault) = Some (Body fault)
 refusal_of len (Tick moment) = refused_beyond moment (len + 1)
 
--- The fault that a program may report: the refusal or, only if there is none, that memory ran out.
+-- A program may report this fault: the refusal or, only if there is none, that memory ran out.
 abbrev pub IsFault : Option Refusal → AdmitFault → Type 0
 IsFault refusal (Refused r) = refusal ≡ Some r
 IsFault refusal Memory = refusal ≡ None

@@ -78,7 +78,7 @@ pub record StepsAlike (config : Config) (s : Session) (e : Entry) : Type 0 where
 abbrev pub KeptSteps : Type 0
 KeptSteps = (config : Config) (s : Session) (e : Entry) → StepsAlike config s e
 
--- All entries, applied in order to what is kept.
+-- What is kept of session `number` after the entries `es`, computed from nothing but what is kept.
 abbrev pub kept_run : Config → ℕ → List Entry → Kept
 kept_run config number es = fold (kept_step config) (kept (unopened number)) es
 
@@ -89,7 +89,8 @@ KeptRuns = (config : Config) (number : ℕ) (es : List Entry) → kept (session 
 -- ---- Bounds
 
 -- The queue and the outstanding batch are within their limits, and the batch is the front of the
--- queue. A plain session has no batch. While a connect is held, the queue is empty.
+-- queue. A session that does not acknowledge has no batch. While a connect is held, the queue is
+-- empty.
 pub record InBounds (config : Config) (k : Kept) : Type 0 where
   pub queue : length k.queue ≤ config.limits.events
   pub bytes : bytes_of k.queue ≤ config.limits.bytes
@@ -98,6 +99,6 @@ pub record InBounds (config : Config) (k : Kept) : Type 0 where
   pub plain : k.ack ≡ false → k.out ≡ 0
   pub idle : is_some k.held ≡ true → k.queue ≡ []
 
--- What is kept is within these bounds after any entries, if a batch may have an event.
+-- What is kept of a session after any entries is `InBounds`, if the limit `batch` is at least 1.
 abbrev pub KeptInBounds : Type 0
 KeptInBounds = (config : Config) (number : ℕ) (es : List Entry) → 0 < config.limits.batch → InBounds config (kept (session config number es))

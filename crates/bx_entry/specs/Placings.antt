@@ -14,16 +14,16 @@ pub record Setup : Type 0 where
 abbrev pub placed_by : Config → ℕ → (ℕ → ℕ → ℕ) → Setup
 placed_by config shards placing = record { config = config; shards = shards; placing = placing }
 
--- Sessions are placed in the shards in turn.
+-- The shard of session `number`, if sessions are placed in the shards in turn. Shards count from 0.
 abbrev pub by_remainder : ℕ → ℕ → ℕ
 by_remainder number shards = number % shards
 
--- All sessions are placed in the first shard.
+-- The shard of a session, if all sessions are placed in the first shard, number 0.
 abbrev pub all_first : ℕ → ℕ → ℕ
 all_first number shards = 0
 
--- Sessions are placed in the shards of a table in turn, or in the first shard if it is empty. A
--- number in the table counts modulo `shards`.
+-- The shard of session `number`, if sessions take the numbers of a table in turn, modulo `shards`.
+-- With an empty table, it is the first shard.
 abbrev pub by_table : List ℕ → ℕ → ℕ → ℕ
 by_table [] number shards = 0
 by_table (x ∷ xs) number shards = slice_index (x ∷ xs) (number % length (x ∷ xs)) % shards

@@ -123,7 +123,7 @@ is_connection Absent = true
 is_connection NotText = false
 is_connection (Text text) = is_polling text
 
--- The errors of a handshake, in order.
+-- The errors of a handshake in order, each with whether it applies.
 abbrev pub handshake_cases : Config → List Registered → Posted → List (Bool × Error)
 handshake_cases config sessions p =
     (p.second, SecondHandshake)
@@ -138,19 +138,20 @@ needs_session config Absent = not config.anonymous
 needs_session config NotText = true
 needs_session config (Text client) = true
 
--- The errors of a message that needs a session, in order: it has no client id that is a string, or
--- the id names no live session.
+-- The errors of a message's client id in order, each with whether it applies: the id is not a
+-- string, or it names no live session. `needed`: whether the message needs a session. If not,
+-- neither applies.
 abbrev pub client_cases : Bool → List Registered → Message → List (Bool × Error)
 client_cases needed sessions m =
     (needed && not (is_text m.client), NoClientId)
     ∷ (needed && is_none (sender_of sessions m.client), UnknownClient)
     ∷ []
 
--- The further error of a connect.
+-- The error that only a connect can have, with whether it applies.
 abbrev pub connect_cases : Message → List (Bool × Error)
 connect_cases m = (not (is_connection m.connection), UnknownConnectionType) ∷ []
 
--- The further errors of a subscription or an unsubscription, in order.
+-- The errors of a message's `subscription` in order, each with whether it applies.
 abbrev pub subscription_cases : Config → Message → List (Bool × Error)
 subscription_cases config m =
     (list_any (λ text. is_some (pattern_fault text)) m.texts, InvalidPattern)
@@ -159,14 +160,15 @@ subscription_cases config m =
     ∷ (not m.listed, MissingSubscription)
     ∷ []
 
--- The further errors of a publish, in order.
+-- The errors of a publish's channel and data in order, each with whether it applies.
 abbrev pub publish_cases : Message → List (Bool × Error)
 publish_cases m =
     (is_some (name_fault m.channel), InvalidChannel)
     ∷ (is_none m.payload, MissingData)
     ∷ []
 
--- All errors of a message of this kind, in the order in which they are tested.
+-- All errors of a message of this kind in the order in which they are tested, each with whether it
+-- applies.
 abbrev pub cases_of : Config → List Registered → Posted → MessageKind → List (Bool × Error)
 cases_of config sessions p MessageKind.Handshake = handshake_cases config sessions p
 cases_of config sessions p MessageKind.Connect = client_cases true sessions p.message ++ connect_cases p.message
@@ -183,7 +185,8 @@ refusal config sessions p = first_case (cases_of config sessions p (message_kind
 -- ---- Accepted messages
 
 -- How long a message may be held, in milliseconds. A connect that is alone in its request may be
--- held for the smaller of the server's timeout and its own. Other messages are not held.
+-- held for the server's timeout or, if smaller, the timeout in its `advice`. Other messages are not
+-- held.
 abbrev pub hold_of : Config → Posted → ℕ
 hold_of config p = if p.sole && is_connect p.message then min config.timeout (unwrap_or p.message.timeout config.timeout) else 0
 
@@ -191,11 +194,11 @@ hold_of config p = if p.sole && is_connect p.message then min config.timeout (un
 abbrev pub due_of : Config → ℕ → ℕ → ℕ
 due_of config moment hold = moment + hold + config.max_interval
 
--- The due moment of session `number` becomes `due`, unless it is already later.
+-- The sessions after the due moment of session `number` becomes `due`, unless it is already later.
 abbrev pub extended : ℕ → ℕ → List Registered → List Registered
 extended number due sessions = map (λ (r : Registered). if r.number == number then record r { due = max r.due due } else r) sessions
 
--- The session with this number is closed.
+-- The sessions after session `number` is closed.
 abbrev pub closed : ℕ → List Registered → List Registered
 closed number sessions = map (λ (r : Registered). if r.number == number then record r { live = false } else r) sessions
 
@@ -203,7 +206,7 @@ closed number sessions = map (λ (r : Registered). if r.number == number then re
 abbrev pub is_overdue : ℕ → Registered → Bool
 is_overdue moment r = r.live && nat_lt r.due moment
 
--- The overdue sessions are closed.
+-- The sessions after a tick at `moment` closes the overdue ones.
 abbrev pub overdue_closed : ℕ → List Registered → List Registered
 overdue_closed moment sessions = map (λ (r : Registered). if is_overdue moment r then record r { live = false } else r) sessions
 
@@ -211,13 +214,13 @@ overdue_closed moment sessions = map (λ (r : Registered). if is_overdue moment 
 abbrev pub overdue : ℕ → List Registered → List ℕ
 overdue moment sessions = map (λ (r : Registered). r.number) (filter (is_overdue moment) sessions)
 
--- Whether a handshake opens an acknowledging session.
+-- Whether a handshake with this `ack` opens an acknowledging session.
 abbrev pub is_ack : AckMember → Bool
 is_ack NoAck = false
 is_ack AckTrue = true
 is_ack (AckNumber number) = false
 
--- The number of the batch that a connect acknowledges, if any.
+-- The number of the batch that a connect with this `ack` acknowledges, if any.
 abbrev pub acked_by : AckMember → Option ℕ
 acked_by NoAck = None
 acked_by AckTrue = None
@@ -269,14 +272,15 @@ rider_for true number (Waiting session) = None
 rider_for true number NoSlot = None
 rider_for false number slot = None
 
--- The slot of a message with this rider. A rider waits for the answer of its session.
+-- The slot of a message: `slot`, unless the message is a rider. A rider waits for the answer of its
+-- session.
 abbrev pub slot_with : Option Rider → PlaceSlot → PlaceSlot
 slot_with None slot = slot
 slot_with (Some rider) slot = Waiting rider.session
 
 -- ---- Verdicts
 
--- A rejected message changes no session and gets its error at once.
+-- The verdict on a rejected message, which changes no session and gets its error at once.
 abbrev pub refused : Config → State → Posted → Error → Option Registered → Verdict
 refused config state p error sender = record {
   state = record state { senders = senders_after p Mixed };
@@ -292,7 +296,7 @@ abbrev pub newcomer : Config → ℕ → Posted → ℕ → Registered
 newcomer config moment p number =
     record { number = number; client = client_id p.nonce number; ack = is_ack p.message.ack; due = due_of config moment 0; live = true }
 
--- An accepted handshake opens session `number` and is answered at once.
+-- The verdict on an accepted handshake, which opens session `number` and is answered at once.
 abbrev pub opened : Config → State → ℕ → Posted → ℕ → Verdict
 opened config state moment p number = record {
   state = record { sessions = state.sessions ++ newcomer config moment p number ∷ []; opened = number; senders = senders_after p Mixed };
@@ -334,7 +338,8 @@ left_by _ number sessions = sessions
 abbrev pub rider_by : Config → Senders → MessageKind → Posted → Registered → Option Rider
 rider_by config senders message_kind p s = rider_for (is_rider config senders message_kind p s) s.number (slot_for config message_kind p s)
 
--- An accepted message of a live session sets a due moment. A disconnect also closes the session.
+-- The verdict on an accepted message of live session `s`. The message sets a due moment. A
+-- disconnect also closes the session.
 abbrev pub served : Config → State → ℕ → Posted → MessageKind → Registered → ℕ → Verdict
 served config state moment p message_kind s hold = record {
   state = record {
@@ -354,7 +359,7 @@ abbrev pub sessionless_kind : MessageKind → Message → EntryKind
 sessionless_kind MessageKind.Publish m = Publish (event_of m)
 sessionless_kind _ m = Refused
 
--- An accepted publish without a session changes no session and succeeds at once.
+-- The verdict on an accepted publish without a session. It changes no session and succeeds at once.
 abbrev pub sessionless : Config → State → Posted → MessageKind → Verdict
 sessionless config state p message_kind = record {
   state = record state { senders = senders_after p Mixed };
@@ -365,17 +370,19 @@ sessionless config state p message_kind = record {
   slot = Ready (reply_to config message_kind p.message None Done replies.NoAck);
 }
 
--- An accepted message that names no session is a handshake or a publish.
+-- The verdict on an accepted message that names no session: a handshake, if the flag is true, and
+-- otherwise a publish.
 abbrev pub unnamed : Config → State → ℕ → Posted → Bool → Verdict
 unnamed config state moment p true = opened config state moment p (state.opened + 1)
 unnamed config state moment p false = sessionless config state p (message_kind_of p.message.channel)
 
--- The verdict on an accepted message, by the session that it names.
+-- The verdict on an accepted message, by the live session that it names, if any.
 abbrev pub accepted : Config → State → ℕ → Posted → Option Registered → Verdict
 accepted config state moment p None = unnamed config state moment p (is_handshake p.message)
 accepted config state moment p (Some s) = served config state moment p (message_kind_of p.message.channel) s (hold_of config p)
 
--- A message is rejected with this error, or accepted if there is none.
+-- The verdict on a message, which is rejected with this error, or accepted if there is none.
+-- `sender`: the live session that the message names, if any.
 abbrev pub judged_by : Config → State → ℕ → Posted → Option Registered → Option Error → Verdict
 judged_by config state moment p sender (Some error) = refused config state p error sender
 judged_by config state moment p sender None = accepted config state moment p sender

@@ -67,7 +67,8 @@ objects_of cs = flat_map objects_in cs
 
 -- ---- Requests
 
--- The first of these faults that applies to any document. Messages are counted over all documents.
+-- The first fault that applies to any document: `NotJson`, `NotObject` or `TooMany`. Messages are
+-- counted over all documents.
 abbrev pub cut_fault : List Cut → Option BodyError
 cut_fault cs = first_case (
     (list_any is_not_json cs, NotJson)
@@ -115,7 +116,8 @@ let_in ReadOnly (Err f) = Err f
 abbrev pub arrival_messages : Arrival → Result (List Message) BodyError
 arrival_messages a = let_in a.access (request_messages (texts_of a.bodies))
 
--- The fault that a program may report instead of messages: theirs, or that memory ran out.
+-- A program may report this fault instead of `messages`: the fault of their documents, or that
+-- memory ran out.
 abbrev pub IsUnread : Result (List Message) BodyError → AdmitFault → Type 0
 IsUnread messages (Refused (Body fault)) = messages ≡ Err fault
 IsUnread messages (Refused BadMoment) = ⊥

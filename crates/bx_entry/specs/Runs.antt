@@ -1,5 +1,6 @@
--- The outs of a run: the responses to its inputs, in the order in which they are whole. An input is
--- whole once all its messages are answered. Inputs that are not whole at the end are held.
+-- The outs of a run: the responses to its inputs, in the order in which they become complete. A
+-- response is complete once all messages of its input are answered. At the end, an input without a
+-- complete response is held.
 use Rattle.std.specs.Prelude.{ℕ, zero, suc, ◌+◌, ◌==◌, ◌&&◌, max, Bool, false, List, [], ◌∷◌, ◌++◌, length, filter, map, fold, nat_lt, nat_le, is_none, Option, Some, None, Result, Ok, Err, flat_map, position}
 use Rattle.bx_entry.specs.Listing.{Listed}
 use Rattle.bx_advice.specs.declared.config.Config.{Config}
@@ -22,7 +23,8 @@ pub record Taking : Type 0 where
   pub list : List Listed
   pub intake : List Intake
 
--- An input is rejected, or its elements are appended to the list.
+-- What `t` becomes after `input`, which is rejected with the refusal, if there is one. Otherwise
+-- its elements are appended to the list.
 abbrev pub taken_as : Taking → ReadInput → Option Refusal → Taking
 taken_as t input (Some refusal) = record t { intake = t.intake ++ record { input = input; first = length t.list; count = 0; refusal = Some refusal } ∷ [] }
 taken_as t input None = record {
@@ -30,7 +32,7 @@ taken_as t input None = record {
   intake = t.intake ++ record { input = input; first = length t.list; count = length (added_by input); refusal = None } ∷ [];
 }
 
--- The next input is admitted or rejected.
+-- What `t` becomes after the next input, which is admitted or rejected.
 abbrev pub take_in : Taking → ReadInput → Taking
 take_in t input = taken_as t input (refusal_of (length t.list) input)
 
@@ -43,14 +45,15 @@ pub record Out : Type 0 where
   pub input : ℕ
   pub result : Result (List Item) Refusal
 
--- ---- When an input is whole
+-- ---- When a response is complete
 
 -- The `count` numbers from `first` on.
 abbrev pub numbers_from : ℕ → ℕ → List ℕ
 numbers_from first zero = []
 numbers_from first (suc count) = first ∷ numbers_from (first + 1) count
 
--- The places of an input's messages, for which it waits to be answered. A tick waits for nothing.
+-- The places of the messages that an input waits for until they are answered. A tick and a rejected
+-- input wait for none.
 abbrev pub places_of : Intake → ReadInput → List ℕ
 places_of d (Request moment nonce ms) = numbers_from d.first d.count
 places_of d (Unread fault) = []
@@ -66,8 +69,8 @@ latest place (Some a ∷ answers) = latest (max place a.place) answers
 abbrev pub has_place : ℕ → Intake → Bool
 has_place place d = nat_le d.first place && nat_lt place (d.first + d.count)
 
--- The number of the input that makes input `i` whole, if any. That input gives the last of these
--- answers. If there are no answers to wait for, it is `i` itself.
+-- The number of the input that completes the response to input `i`, if any: the one that gives the
+-- last of these answers. If there are no answers to wait for, it is `i` itself.
 abbrev pub whole_by : List Intake → ℕ → List (Option PlacedAnswer) → Option ℕ
 whole_by intake i [] = Some i
 whole_by intake i (a ∷ answers) = elim (latest 0 (a ∷ answers)) [ None ↦ None | Some place ↦ position (has_place place) intake ]
@@ -87,49 +90,50 @@ abbrev pub result_by : List (Option PlacedAnswer) → Option Refusal → Result 
 result_by answers None = Ok (answered_items answers)
 result_by answers (Some refusal) = Err refusal
 
--- The out of an input, and the number of the input that makes it whole, if any.
+-- The out of an input, and the number of the input that completes this out, if any.
 pub record Whole : Type 0 where
   pub at : Option ℕ
   pub out : Out
 
--- The out of input `i`, and the input that makes it whole.
+-- The out of input `i`, and the number of the input that completes it, if any. `d`: what input `i`
+-- appended to the list.
 abbrev pub whole_of : Config → Registry → List Intake → ℕ → Intake → Whole
 whole_of config r intake i d =
     let answers = map (answer_in config r) (places_of d d.input) in
     record { at = whole_by intake i answers; out = record { input = i; result = result_by answers d.refusal } }
 
--- The outs of these inputs, numbered from `i` on, each with the input that makes it whole.
+-- The outs of these inputs, numbered from `i` on, each with the input that completes it, if any.
 abbrev pub wholes_from : Config → Registry → List Intake → ℕ → List Intake → List Whole
 wholes_from config r intake i [] = []
 wholes_from config r intake i (d ∷ ds) = whole_of config r intake i d ∷ wholes_from config r intake (i + 1) ds
 
--- The outs of all inputs over their list, each with the input that makes it whole.
+-- The outs of all inputs over their list, each with the input that completes it, if any.
 abbrev pub wholes_in : Config → Taking → List Whole
 wholes_in config t = wholes_from config (registry config t.list) t.intake 0 t.intake
 
--- The outs of the inputs of a run, each with the input that makes it whole.
+-- The outs of the inputs of a run, each with the input that completes it, if any.
 abbrev pub wholes : Config → List ReadInput → List Whole
 wholes config inputs = wholes_in config (taken_in inputs)
 
 -- ---- The outs
 
--- Whether input `j` makes an input whole.
+-- Whether an out is completed by an input, and that input is `j`.
 abbrev pub is_at : ℕ → Option ℕ → Bool
 is_at j None = false
 is_at j (Some i) = i == j
 
--- The outs of the inputs that input `j` makes whole, in the order of their numbers.
+-- The outs that input `j` completes, in the order of their inputs.
 abbrev pub whole_at : ℕ → List Whole → List Out
 whole_at j ws = map (λ (w : Whole). w.out) (filter (λ (w : Whole). is_at j w.at) ws)
 
--- The outs that each of the first `count` inputs makes whole, in order.
+-- The outs that the first `count` inputs complete, in the order of the inputs that complete them.
 abbrev pub outs_in : ℕ → List Whole → List Out
 outs_in count ws = flat_map (λ j. whole_at j ws) (numbers_from 0 count)
 
--- All outs of a run, in the order of the inputs that make them whole.
+-- All complete outs of a run, in the order of the inputs that complete them.
 abbrev pub outs : Config → List ReadInput → List Out
 outs config inputs = outs_in (length inputs) (wholes config inputs)
 
--- The numbers of the inputs that are not whole at the end of a run.
+-- The numbers of the inputs without a complete response at the end of a run.
 abbrev pub held : Config → List ReadInput → List ℕ
 held config inputs = map (λ (w : Whole). w.out.input) (filter (λ (w : Whole). is_none w.at) (wholes config inputs))

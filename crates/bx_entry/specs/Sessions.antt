@@ -38,10 +38,10 @@ pub data Stage : Type 0 where
   Live : Stage
   Closed : Stage
 
--- A session. It acknowledges batches (`ack`) or is plain. The first `out` events of its `queue` are
--- the outstanding batch, and the others wait. `num` is the number of the last batch. No rule reads
--- its history: all `events` that it received, how many of them are never sent again (`done`), and
--- all its `answers`.
+-- A session. `ack`: whether it acknowledges batches. The first `out` events of its `queue` are the
+-- outstanding batch, and the others wait. `num` is the number of the last batch. No rule reads its
+-- history: all `events` that it received, how many of them are never sent again (`done`), and all
+-- its `answers`.
 pub record Session : Type 0 where
   pub number : ℕ
   pub stage : Stage
@@ -73,7 +73,7 @@ unopened number = record {
   answers = [];
 }
 
--- Whether a session is live.
+-- Whether a session in this stage is live.
 abbrev pub is_live : Stage → Bool
 is_live Unopened = false
 is_live Live = true
@@ -83,7 +83,7 @@ is_live Closed = false
 abbrev pub pending_count : Session → ℕ
 pending_count s = length s.queue
 
--- The size of those events, in bytes.
+-- The size of the JSON texts of all waiting and outstanding events, in bytes.
 abbrev pub pending_bytes : Session → ℕ
 pending_bytes s = bytes_of s.queue
 
@@ -91,7 +91,7 @@ pending_bytes s = bytes_of s.queue
 abbrev pub window_in : Session → Window
 window_in s = record { queue = s.queue; out = s.out; number = s.num }
 
--- The session with the queue and batches of another `Window`.
+-- The session `s` with the queue and batches of `w`.
 abbrev pub with_window : Window → Session → Session
 with_window w s = record s { queue = w.queue; out = w.out; num = w.number }
 
@@ -108,35 +108,38 @@ ack_given ack num Connected = if ack then AckNumber num else NoAck
 ack_given ack num Disconnected = if ack then AckNumber num else NoAck
 ack_given ack num _ = NoAck
 
--- The answer to a connect, given at `place`.
+-- The answer that the entry at `place` gives to connect `p`: the events `given`, and a reply with
+-- `outcome`.
 abbrev pub filing : Config → Pending → ℕ → List Publication → Outcome → Session → Filed
 filing config p place given outcome s = record { connect = p.place; place = place; publications = given; reply = connect_reply config p.client p.id outcome (ack_given s.ack s.num outcome) }
 
--- A connect is answered at `place`.
+-- The session `s` after the entry at `place` answers connect `p` with the events `given` and with
+-- `outcome`.
 abbrev pub answered : Config → Pending → ℕ → List Publication → Outcome → Session → Session
 answered config p place given outcome s = record s { answers = s.answers ++ filing config p place given outcome s ∷ [] }
 
--- No connect is held any longer.
+-- The session without a held connect.
 abbrev pub unheld : Session → Session
 unheld s = record s { held = None }
 
--- This held connect, if any, is answered without events.
+-- What `released` gives for a session `s` with this held connect, if any.
 abbrev pub released_from : Config → ℕ → Outcome → Session → Option Pending → Session
 released_from config place outcome s None = s
 released_from config place outcome s (Some p) = answered config p place [] outcome (unheld s)
 
--- The session's held connect is answered without events.
+-- The session `s` after the entry at `place` answers the held connect, if any, without events and
+-- with `outcome`.
 abbrev pub released : Config → ℕ → Outcome → Session → Session
 released config place outcome s = released_from config place outcome s s.held
 
 -- ---- Connects
 
--- The outstanding batch is acknowledged.
+-- The session after its outstanding batch is acknowledged and dropped.
 abbrev pub cleared : Session → Session
 cleared s = record (with_window (windows.cleared (window_in s)) s) { done = s.done + s.out }
 
--- A connect with a high enough number acknowledges the outstanding batch. In a plain session it
--- acknowledges nothing.
+-- The session `s` after a connect that acknowledges this number, if any. The outstanding batch is
+-- dropped if the session acknowledges batches and the number is at least that of the last batch.
 abbrev pub acknowledged : Option ℕ → Session → Session
 acknowledged None s = s
 acknowledged (Some n) s = if s.ack && acknowledges n (window_in s) then cleared s else s
@@ -145,101 +148,112 @@ acknowledged (Some n) s = if s.ack && acknowledges n (window_in s) then cleared 
 abbrev pub portion : Config → Session → ℕ
 portion config s = windows.portion config.limits.batch (window_in s)
 
--- The first `count` events become the next batch.
+-- The session `s` with its first `count` events as the next batch, which is then outstanding.
 abbrev pub with_batch : ℕ → Session → Session
 with_batch count s = with_window (windows.with_batch count (window_in s)) s
 
--- A batch is formed from waiting events unless one is outstanding.
+-- The session `s` after it forms the next batch from waiting events. Unchanged if a batch is
+-- outstanding or no events wait.
 abbrev pub formed : Config → Session → Session
 formed config s = if forms config.limits.batch (window_in s) then with_batch (portion config s) s else s
 
--- The first `count` events are sent and dropped.
+-- The session `s` after its first `count` events are sent without a batch and dropped.
 abbrev pub forgotten : ℕ → Session → Session
 forgotten count s = record (with_window (windows.forgotten count (window_in s)) s) { done = s.done + count }
 
--- Sent events become a batch, or are dropped in a plain session.
+-- The session `s` after it sends the events that a connect gets. They are then the outstanding
+-- batch or, if the session does not acknowledge, dropped.
 abbrev pub gives : Config → Session → Session
 gives config s = if s.ack then formed config s else forgotten (portion config s) s
 
--- The events that a connect gets.
+-- The events that a connect gets: the outstanding or the next batch. If the session does not
+-- acknowledge: its first events, up to the size of a batch.
 abbrev pub given : Config → Session → List Publication
 given config s = if s.ack then batch (formed config s) else take (portion config s) s.queue
 
--- A connect is held.
+-- The session `s` with `p` as its held connect.
 abbrev pub holding : Pending → Session → Session
 holding p s = record s { held = Some p }
 
--- A connect that gets no events is held, if it may be. Otherwise it is answered.
+-- The session `s` after connect `p`, if there are no events to send. The connect is held, if it may
+-- be, and otherwise answered.
 abbrev pub idle : Config → Pending → Session → Session
 idle config p s = if p.hold == 0 then answered config p p.place [] Connected s else holding p s
 
--- A connect that gets events is answered at once. One that gets none is held, if it may be.
+-- The session `s` after connect `p`, which is answered at once if there are events to send. If
+-- there are none, it is held or, if it may not be held, answered.
 abbrev pub answered_or_held : Config → Pending → Session → Session
 answered_or_held config p s =
     if length (given config s) == 0 then idle config p s
     else answered config p p.place (given config s) Connected (gives config s)
 
--- A connect acknowledges a batch and then gets events. After an overflow, it fails.
+-- The session `s` after connect `p`, which acknowledges `acked` and is then answered or held. If
+-- `overflow` is true, the connect fails instead.
 abbrev pub admitted : Config → Pending → Option ℕ → Bool → Session → Session
 admitted config p acked overflow s =
     if overflow then answered config p p.place [] (Failed QueueOverflow) s
     else answered_or_held config p (acknowledged acked s)
 
--- A new connect ends the held one, which fails as superseded.
+-- The session `s` after a held connect, if any, fails as superseded, and connect `p` is admitted.
 abbrev pub connected : Config → Pending → Option ℕ → Session → Session
 connected config p acked s = admitted config p acked s.overflow (released config p.place (Failed SupersededConnect) s)
 
 -- ---- Overflow and patterns
 
--- A session overflows: it drops all patterns and events.
+-- The session `s` after it overflows: without patterns and events, and marked as overflowed.
 abbrev pub overflowed : Session → Session
 overflowed s = record (with_window (emptied (window_in s)) s) { overflow = true; patterns = [] }
 
--- More patterns than the limit make a session overflow.
+-- The session `s` with `patterns` as its active patterns, or overflowed if they exceed the limit.
 abbrev pub with_patterns : Config → List Glob → Session → Session
 with_patterns config patterns s = if nat_lt config.limits.patterns (length patterns) then overflowed s else record s { patterns = patterns }
 
--- A subscription adds its patterns, except after an overflow.
+-- The session `s` after a subscription to `ps`, which are added. Unchanged if `s` has overflowed.
 abbrev pub subscribed : Config → List Glob → Session → Session
 subscribed config ps s = if s.overflow then s else with_patterns config (fold with_pattern s.patterns ps) s
 
--- An unsubscription removes its patterns.
+-- The session `s` after an unsubscription from `ps`, which are removed.
 abbrev pub unsubscribed : List Glob → Session → Session
 unsubscribed ps s = record s { patterns = fold without_pattern s.patterns ps }
 
 -- ---- Events
 
--- Whether a publish hits the session. Its channel is a broadcast channel that a pattern of the
--- session matches. The session is live and has not overflowed.
+-- Whether session `s` receives a publish of event `e`. The session must be live and not overflowed,
+-- and one of its patterns must match the event's channel, a broadcast channel.
 abbrev pub is_hit : Session → Event → Bool
 is_hit s e = is_live s.stage && not s.overflow && is_broadcast e.channel && any_matches s.patterns (segments e.channel)
 
--- Whether the queue has room for one more event.
+-- Whether the queue of `s` has room for event `e` within the limits of `config`.
 abbrev pub has_room : Config → Event → Session → Bool
 has_room config e s = windows.has_room config.limits.events config.limits.bytes e (window_in s)
 
--- One event is sent: as a batch or, in a plain session, without one and dropped.
+-- The session `s` after its first event is sent: as the next batch or, if the session does not
+-- acknowledge, without a batch and dropped.
 abbrev pub gives_one : Session → Session
 gives_one s = if s.ack then with_batch 1 s else forgotten 1 s
 
--- This held connect, if any, is answered with the event.
+-- The session `s` after this held connect, if any, is answered with event `e`, which is already
+-- queued.
 abbrev pub delivered_to : Config → Publication → Session → Option Pending → Session
 delivered_to config e s None = s
 delivered_to config e s (Some p) = answered config p e.place (e ∷ []) Connected (gives_one (unheld s))
 
--- The event is appended to the queue.
+-- The session `s` with event `e` appended to its queue.
 abbrev pub with_event : Publication → Session → Session
 with_event e s = record (with_window (windows.with_event e (window_in s)) s) { events = s.events ++ e ∷ [] }
 
--- An event is queued, and sent if a connect is held.
+-- The session `s` after event `e` is queued and, if a connect is held, sent as the answer to that
+-- connect.
 abbrev pub delivered : Config → Publication → Session → Session
 delivered config e s = delivered_to config e (with_event e s) s.held
 
--- An event that does not fit makes a session overflow.
+-- The session `s` after it receives event `e`. If the queue has no room for the event, the session
+-- overflows.
 abbrev pub received : Config → Publication → Session → Session
 received config e s = if has_room config e.event s then delivered config e s else overflowed s
 
--- A session receives each publish that hits it.
+-- The session `s` after publish `e`. The session receives the event if `is_hit` is true: it is live
+-- and not overflowed, and one of its patterns matches the broadcast channel.
 abbrev pub published : Config → Publication → Session → Session
 published config e s = if is_hit s e.event then received config e s else s
 
@@ -253,34 +267,38 @@ deadline p = p.moment + p.hold
 abbrev pub ends_by : ℕ → Pending → Bool
 ends_by moment p = nat_le (deadline p) moment
 
--- A tick at or after the deadline answers this held connect, if any.
+-- What `expired` gives for a session `s` with this held connect, if any.
 abbrev pub expired_from : Config → ℕ → ℕ → Session → Option Pending → Session
 expired_from config place moment s None = s
 expired_from config place moment s (Some p) = if ends_by moment p then released config place Connected s else s
 
--- A tick at or after the deadline ends the session's hold.
+-- The session `s` after a tick at `place`, which answers the held connect if the hold has ended by
+-- `moment`.
 abbrev pub expired : Config → ℕ → ℕ → Session → Session
 expired config place moment s = expired_from config place moment s s.held
 
--- Only a live session can be closed.
+-- The stage of a session after it ends: a live session becomes closed, and any other does not
+-- change.
 abbrev pub stage_after : Stage → Stage
 stage_after Unopened = Unopened
 stage_after Live = Closed
 stage_after Closed = Closed
 
--- The session is closed, if it is live.
+-- The session after it ends: closed if it was live, and otherwise unchanged.
 abbrev pub ended : Session → Session
 ended s = record s { stage = stage_after s.stage }
 
--- A tick closes the sessions that it names.
+-- The session `s` after a tick closes the sessions with these `numbers`.
 abbrev pub closed_by : List ℕ → Session → Session
 closed_by numbers s = if list_any (λ n. n == s.number) numbers then ended s else s
 
--- A disconnect answers the held connect and closes the session.
+-- The session `s` after a disconnect at `place`, which answers the held connect and closes the
+-- session.
 abbrev pub disconnected : Config → ℕ → Session → Session
 disconnected config place s = ended (released config place Disconnected s)
 
--- A session is opened only once.
+-- The session `s`, in this stage, after a handshake. It becomes live only if it is unopened. `ack`:
+-- whether it then acknowledges batches.
 abbrev pub begun : Bool → Session → Stage → Session
 begun ack s Unopened = record s { stage = Live; ack = ack }
 begun ack s Live = s
@@ -293,11 +311,12 @@ begun ack s Closed = s
 abbrev pub ride_portion : Config → Session → ℕ
 ride_portion config s = if s.ack then 0 else portion config s
 
--- The answer to the rider at `place`.
+-- The answer to the rider at `place`: the waiting events that it gets, and `reply`.
 abbrev pub ride_filing : Config → ℕ → Reply → Session → Filed
 ride_filing config place reply s = record { connect = place; place = place; publications = take (ride_portion config s) s.queue; reply = reply }
 
--- A rider is answered with waiting events, which are then dropped.
+-- The session `s` after the rider at `place` is answered with `reply` and waiting events, which are
+-- then dropped.
 abbrev pub ridden : Config → ℕ → Reply → Session → Session
 ridden config place reply s = record (forgotten (ride_portion config s) s) { answers = s.answers ++ ride_filing config place reply s ∷ [] }
 
@@ -305,7 +324,8 @@ ridden config place reply s = record (forgotten (ride_portion config s) s) { ans
 abbrev pub is_riding : Rider → Session → Bool
 is_riding rider s = (rider.session == s.number) && is_live s.stage
 
--- A rider, if any, is answered by its session.
+-- The session `s` after the rider at `place`, if any, is answered. Unchanged if `s` is not live or
+-- the rider is of another session.
 abbrev pub ridden_by : Config → ℕ → Session → Option Rider → Session
 ridden_by config place s None = s
 ridden_by config place s (Some rider) = if is_riding rider s then ridden config place rider.reply s else s
@@ -319,7 +339,8 @@ rider_of _ rides = None
 
 -- ---- Entries
 
--- What an entry does to the session, apart from its rider.
+-- The session `s` after an entry of this kind at `place`, when the clock is at `moment`. The
+-- entry's rider is left out.
 abbrev pub step_by : Config → ℕ → ℕ → Session → EntryKind → Session
 step_by config place moment s (entries.Opened n ack) = if n == s.number then begun ack s s.stage else s
 step_by config place moment s (Connect n client id acked hold) =
@@ -331,10 +352,10 @@ step_by config place moment s (Disconnect n) = if n == s.number then disconnecte
 step_by config place moment s Refused = s
 step_by config place moment s (Tick numbers) = closed_by numbers (expired config place moment s)
 
--- What an entry does to the session; its rider is answered last.
+-- The session `s` after entry `e`. If the entry has a rider, the rider is answered last.
 abbrev pub step : Config → Session → Entry → Session
 step config s e = ridden_by config e.place (step_by config e.place e.moment s e.kind) (rider_of e.kind e.rides)
 
--- The session after all entries.
+-- Session `number` after the entries `es`, which are applied in order.
 abbrev pub session : Config → ℕ → List Entry → Session
 session config number es = fold (step config) (unopened number) es

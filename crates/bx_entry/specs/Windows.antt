@@ -28,7 +28,7 @@ bytes_of (p ∷ ps) = event_size p.event + bytes_of ps
 unfoldable pub has_room : ℕ → ℕ → Event → Window → Bool
 has_room events bytes e w = nat_lt (length w.queue) events && nat_le (bytes_of w.queue + event_size e) bytes
 
--- An event is appended to the queue.
+-- `w` with event `e` appended to its queue.
 abbrev pub with_event : Publication → Window → Window
 with_event e w = record w { queue = w.queue ++ e ∷ [] }
 
@@ -36,7 +36,7 @@ with_event e w = record w { queue = w.queue ++ e ∷ [] }
 abbrev pub outstanding : Window → List Publication
 outstanding w = take w.out w.queue
 
--- The outstanding batch is acknowledged and dropped.
+-- `w` after its outstanding batch is acknowledged and dropped.
 abbrev pub cleared : Window → Window
 cleared w = record w { queue = drop w.out w.queue; out = 0 }
 
@@ -44,7 +44,8 @@ cleared w = record w { queue = drop w.out w.queue; out = 0 }
 abbrev pub acknowledges : ℕ → Window → Bool
 acknowledges number w = nat_le w.number number
 
--- The outstanding batch is dropped if `number` acknowledges it.
+-- `w` without its outstanding batch, if `number` acknowledges that batch. Otherwise `w` is
+-- unchanged.
 abbrev pub acknowledged : ℕ → Window → Window
 acknowledged number w = if acknowledges number w then cleared w else w
 
@@ -52,22 +53,23 @@ acknowledged number w = if acknowledges number w then cleared w else w
 abbrev pub portion : ℕ → Window → ℕ
 portion most w = min most (length w.queue)
 
--- The first `count` events become the next batch.
+-- `w` with its first `count` events as the next batch, which is then outstanding.
 abbrev pub with_batch : ℕ → Window → Window
 with_batch count w = record w { out = count; number = w.number + 1 }
 
--- Whether the next batch is formed: none is outstanding, and events wait.
+-- Whether the next batch can be formed: no batch is outstanding, and events wait. `most`: how many
+-- events a batch may have.
 abbrev pub forms : ℕ → Window → Bool
 forms most w = (w.out == 0) && nat_lt 0 (portion most w)
 
--- The next batch is formed, if it can be, of up to `most` events.
+-- `w` after the next batch is formed from up to `most` events. Unchanged if none can be formed.
 abbrev pub formed : ℕ → Window → Window
 formed most w = if forms most w then with_batch (portion most w) w else w
 
--- The first `count` events are sent without a batch and dropped.
+-- `w` after its first `count` events are sent without a batch and dropped.
 abbrev pub forgotten : ℕ → Window → Window
 forgotten count w = record w { queue = drop count w.queue }
 
--- All events are dropped. The number of the last batch stays.
+-- `w` after all its events are dropped. The number of the last batch stays.
 abbrev pub emptied : Window → Window
 emptied w = record w { queue = []; out = 0 }

@@ -22,7 +22,7 @@ pub enum EntryKind {
         id: Option<RawJson>,
         /// The number of the batch that the connect acknowledges, if any.
         acked: Option<u64>,
-        /// How long it may be held, in milliseconds; 0 to answer it at once.
+        /// How long the connect may be held, in milliseconds; 0 to answer it at once.
         hold: u64,
     },
     /// An accepted subscription.
@@ -43,7 +43,7 @@ pub enum EntryKind {
     Publish(SharedEvent),
     /// An accepted disconnect.
     Disconnect {
-        /// The number of the session that it closes.
+        /// The number of the session that the disconnect closes.
         session: u64,
     },
     /// A rejected message. It changes no session.
@@ -68,7 +68,7 @@ pub struct Rider {
 /// An entry of the list: an admitted message or tick.
 #[derive(Drop)]
 pub struct Entry {
-    /// The place, counted from 0.
+    /// The entry's place in the list, counted from 0.
     pub place: u64,
     /// The greatest moment in the list up to this entry, in milliseconds since the server started.
     pub moment: u64,

@@ -24,9 +24,9 @@ pub enum Access {
 pub struct Arrival {
     /// The moment of arrival, in milliseconds since the server started.
     pub moment: u64,
-    /// 128 bits for the client id of a session that the request opens.
+    /// 128 random bits, from which the client id of a session that the request opens is made.
     pub nonce: u128,
-    /// What the listener that received it allows.
+    /// What the listener that received the request allows.
     pub access: Access,
     /// The request's documents.
     pub bodies: Bodies,

@@ -95,7 +95,7 @@ struct Request<'a> {
     messages: &'a [Message],
 }
 
-// The elements that a request and a tick append.
+// Ghost: the maps from a request and from a tick's moment to the elements that each appends.
 
 struct Messages;
 

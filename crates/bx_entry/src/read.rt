@@ -67,7 +67,9 @@ pub fn read_messages(alloc: Global, bodies: &Bodies) -> Result<Vec<Message>, Adm
     }
 }
 
-// Splits every document, since the errors are ordered over all of them.
+// Splits every document into its messages.
+//
+// Goes on after an error, since a later document may have an error that is tested earlier.
 fn cut_all(alloc: Global, bodies: &Bodies) -> Result<Vec<Cut<'_>>, AllocError>
     ensures { IfOk result (λ cuts. cuts.items ≡ map cut_of (texts_of bodies.now)) }
 {

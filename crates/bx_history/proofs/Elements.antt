@@ -7,7 +7,7 @@ pub or_none : {X : Type 0} (o : Option X) → option_or o None ≡ o
 or_none None = refl
 or_none (Some x) = refl
 
--- `y` is the image of element `k` of `xs`.
+-- `y` is the image under `f` of element `k` of `xs`. `one` is this element.
 pub record Mapped {X Y : Type 0} (f : X → Y) (xs : List X) (k : ℕ) (y : Y) : Type 0 where
   pub one : X
   pub there : slice_get xs k ≡ Some one

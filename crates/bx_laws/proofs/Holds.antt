@@ -23,7 +23,7 @@ pub held_reading : HeldReading
 held_reading config s p [] h n = h
 held_reading config s p (e ∷ es) h n = held_reading config (step config s e) p es (ride_held config e.place (step_by config e.place e.moment s e.kind) (rider_of e.kind e.rides) (Some p) (step_by_held config e.place e.moment s p e.kind h n.0)) n.1
 
--- ---- Entries that end it
+-- ---- Entries that end the hold
 
 record Ends (config : Config) (p : Pending) (now : ℕ) (given : List Publication) (outcome : Outcome) (s t : Session) : Type 0 where
   answer : Filed

@@ -149,7 +149,7 @@ pub fn queue_bounded()
 
 /// Proves that the due moment of a session is the greatest that its accepted messages set.
 ///
-/// Each sets the sum of its moment, its hold and the configured interval.
+/// Each sets the sum of its moment, the time that it may be held, and `config.max_interval`.
 pub fn due_reading()
     ensures { DueReading }
 {}

@@ -59,7 +59,7 @@ closed-with_members before [] = append_assoc before (123 ∷ []) (125 ∷ [])
 closed-with_members before (m ∷ ms) =
     rw (text-with_members ((before ++ 123 ∷ []) ++ m) ms, joined m ms) (simp append_assoc)
 
--- The object begins after the bytes `before`, and has these members so far.
+-- Evidence that object `o` begins after the bytes `before` and has `members` so far.
 pub record Holds (before : List ℕ) (members : List (List ℕ)) (o : OpenObject) : Type 0 where
   pub same : o ≡ with_members (opened before) members
 

@@ -33,10 +33,10 @@ event_members e =
     ++ raw_member (codes "data") (Some e.payload)
     ++ raw_member (codes "id") e.id
 
--- The text of an event.
+-- The JSON text of an event.
 abbrev pub event_text : Event → List ℕ
 event_text e = object (event_members e)
 
--- The size of an event's text, in bytes.
+-- The size of an event's JSON text, in bytes.
 unfoldable pub event_size : Event → ℕ
 event_size e = length (event_text e)

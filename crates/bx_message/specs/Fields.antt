@@ -8,7 +8,8 @@ use Rattle.bx_message.specs.declared.message.AckMember.TheVariants.{NoAck, AckTr
 
 -- ---- Values
 
--- A member that should be a text, with its escapes decoded.
+-- A member that should be a text: `Absent` without a value, the decoded text if the value is one,
+-- and otherwise `NotText`.
 abbrev pub text_field : Option (List ℕ) → TextMember
 text_field None = Absent
 text_field (Some json) = option_map_or Text (spelled json) NotText

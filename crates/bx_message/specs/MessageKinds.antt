@@ -15,10 +15,10 @@ message_kind_of channel =
     else (if bytes_eq channel (codes "/meta/disconnect") then Disconnect
     else (if is_meta channel then UnknownMeta else Publish)))))
 
--- Whether a message is a handshake.
+-- Whether a message is a handshake: its channel is `/meta/handshake`.
 abbrev pub is_handshake : Message → Bool
 is_handshake m = bytes_eq m.channel (codes "/meta/handshake")
 
--- Whether a message is a connect.
+-- Whether a message is a connect: its channel is `/meta/connect`.
 abbrev pub is_connect : Message → Bool
 is_connect m = bytes_eq m.channel (codes "/meta/connect")

@@ -5,7 +5,7 @@ use Rattle.json.specs.Print.{quoted}
 use Rattle.bx_message.specs.declared.object.Name.{Name}
 use Rattle.bx_message.specs.declared.object.Name.TheVariants.{Ack, Advice, Channel, ClientId, Data, Error, Ext, Id, Interval, Reconnect, Subscription, Successful, SupportedConnectionTypes, Timeout, Version}
 
--- The bytes so far, and whether the object has no member yet.
+-- A JSON object while it is written: all bytes so far, and whether it has no member yet.
 pub record OpenObject : Type 0 where
   pub text : List ℕ
   pub is_empty : Bool
@@ -23,7 +23,7 @@ opened before = record { text = before ++ 123 ∷ []; is_empty = true }
 abbrev pub separator : OpenObject → List ℕ
 separator o = if o.is_empty then [] else 44 ∷ []
 
--- The bytes through the name and colon of the next member, before its value.
+-- The bytes so far, then a comma if the object has members, and the quoted `name` and a colon.
 abbrev pub with_name : OpenObject → List ℕ → List ℕ
 with_name o name = o.text ++ (separator o ++ (quoted name ++ 58 ∷ []))
 
@@ -31,11 +31,11 @@ with_name o name = o.text ++ (separator o ++ (quoted name ++ 58 ∷ []))
 abbrev pub resumed : List ℕ → OpenObject
 resumed text = record { text = text; is_empty = false }
 
--- The object with another member.
+-- The object with one more member. `member`: the text of that member.
 abbrev pub with_member : OpenObject → List ℕ → OpenObject
 with_member o member = resumed (o.text ++ (separator o ++ member))
 
--- The object with more members, in order.
+-- The object with more members, in order. Each is given by its text.
 abbrev pub with_members : OpenObject → List (List ℕ) → OpenObject
 with_members o [] = o
 with_members o (m ∷ ms) = with_members (with_member o m) ms
@@ -44,7 +44,7 @@ with_members o (m ∷ ms) = with_members (with_member o m) ms
 abbrev pub closed : OpenObject → List ℕ
 closed o = o.text ++ 125 ∷ []
 
--- The text of a name.
+-- The name of a member as it is in JSON, without quotation marks.
 abbrev pub name_text : Name → List ℕ
 name_text Ack = codes "ack"
 name_text Advice = codes "advice"

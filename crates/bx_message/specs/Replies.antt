@@ -18,7 +18,8 @@ subscription_for Subscribe subscription = subscription
 subscription_for Unsubscribe subscription = subscription
 subscription_for _ subscription = None
 
--- The reply that a message gets at once. `client`: the client id of its session, if any.
+-- The reply to message `m` with `outcome` and `ack`, unless `m` is an accepted connect. `client`:
+-- the client id of the message's session, if any.
 abbrev pub reply_to : Config → MessageKind → Message → Option (List ℕ) → Outcome → AckReply → Reply
 reply_to config message_kind m client outcome ack = record {
   message_kind = message_kind;
@@ -31,7 +32,7 @@ reply_to config message_kind m client outcome ack = record {
   ack = ack;
 }
 
--- The reply to a connect, whether it was held or not.
+-- The reply to an accepted connect, whether it was held or not.
 abbrev pub connect_reply : Config → List ℕ → Option (List ℕ) → Outcome → AckReply → Reply
 connect_reply config client id outcome ack = record {
   message_kind = Connect;

@@ -16,7 +16,7 @@ abbrev pub number_member : List ℕ → Option ℕ → List (List ℕ)
 number_member name None = []
 number_member name (Some n) = member name (decimal n) ∷ []
 
--- The value of `reconnect`.
+-- The value of the advice's field `reconnect`, without quotation marks.
 abbrev pub reconnect_text : Reconnect → List ℕ
 reconnect_text Retry = codes "retry"
 reconnect_text Handshake = codes "handshake"
@@ -29,7 +29,7 @@ advice_members a =
     ∷ member (codes "reconnect") (quoted (reconnect_text a.reconnect))
     ∷ number_member (codes "timeout") a.timeout
 
--- The text of an advice.
+-- The JSON text of an advice.
 abbrev pub advice_text : Advice → List ℕ
 advice_text a = object (advice_members a)
 
@@ -49,17 +49,17 @@ abbrev pub error_member : Outcome → List (List ℕ)
 error_member (Failed error) = member (codes "error") (quoted (error_text error)) ∷ []
 error_member _ = []
 
--- `false` if there is an error, otherwise `true`.
+-- The value of `successful`: `false` if there is an error, otherwise `true`.
 abbrev pub success_text : Outcome → List ℕ
 success_text (Failed error) = codes "false"
 success_text _ = codes "true"
 
--- The supported connection types, in every reply to a handshake.
+-- The member `supportedConnectionTypes`, which only replies to handshakes have.
 abbrev pub types_member : MessageKind → List (List ℕ)
 types_member MessageKind.Handshake = member (codes "supportedConnectionTypes") (array (quoted (codes "long-polling") ∷ quoted (codes "callback-polling") ∷ [])) ∷ []
 types_member _ = []
 
--- The protocol's version, in every reply to a handshake.
+-- The member `version`, the protocol's version, which only replies to handshakes have.
 abbrev pub version_member : MessageKind → List (List ℕ)
 version_member MessageKind.Handshake = member (codes "version") (quoted (codes "1.0")) ∷ []
 version_member _ = []
@@ -81,16 +81,16 @@ reply_members r =
     ++ raw_member (codes "successful") (Some (success_text r.outcome))
     ++ handshake_members r.message_kind
 
--- The text of a reply.
+-- The JSON text of a reply.
 abbrev pub reply_text : Reply → List ℕ
 reply_text r = object (reply_members r)
 
--- The text of an event or a reply.
+-- The JSON text of an event or a reply.
 abbrev pub item_text : Item → List ℕ
 item_text (EventItem e) = event_text e
 item_text (ReplyItem r) = reply_text r
 
--- The text of a response: the array of its items.
+-- The JSON text of a response: the array of its items.
 abbrev pub body_text : List Item → List ℕ
 body_text items = array (map item_text items)
 
@@ -102,7 +102,7 @@ line_separator = 226 ∷ 128 ∷ 168 ∷ []
 abbrev pub paragraph_separator : List ℕ
 paragraph_separator = 226 ∷ 128 ∷ 169 ∷ []
 
--- The text with the separator at its start escaped, if there is one.
+-- The text with a line or paragraph separator at its start escaped, if it begins with one.
 abbrev pub guarded : List ℕ → List ℕ
 guarded xs =
     if starts_with nat_eq xs line_separator then codes "\\u2028" ++ drop 3 xs
@@ -113,6 +113,7 @@ abbrev pub script_safe : List ℕ → List ℕ
 script_safe [] = []
 script_safe (x ∷ xs) = guarded (x ∷ script_safe xs)
 
--- The response to a callback: `name`, and the array in parentheses.
+-- The response to callback-polling: the function's `name`, then the array of `items` in
+-- parentheses.
 abbrev pub callback_text : List ℕ → List Item → List ℕ
 callback_text name items = name ++ (40 ∷ (script_safe (body_text items) ++ 41 ∷ []))

@@ -36,9 +36,9 @@ const EVENT_BYTES: usize = 22;
 
 const ID_BYTES: usize = 6;
 
-/// A handle to an event. All receivers of the event share it.
+/// A handle to an event. Its clones share the event instead of copying it.
 ///
-/// The channel's name is parsed only once, and the size is computed only once.
+/// The event's channel is parsed only once, and the size of its JSON text is computed only once.
 ///
 /// Model: the event.
 #[derive(Drop)]
@@ -100,7 +100,7 @@ impl SharedEvent {
     }
 }
 
-// Returns the size of an event's JSON text. Formats it only if the channel needs escapes.
+// Returns the size of an event's JSON text, in bytes. Formats the text only if `plain_size` fails.
 #[tactic(auto, unfolding(crate::specs::Events::event_size))]
 fn size_of(alloc: Global, event: &Event) -> Result<usize, AllocError>
     ensures { IfOk result (λ size. size ≡ event_size event.now) }
@@ -111,8 +111,9 @@ fn size_of(alloc: Global, event: &Event) -> Result<usize, AllocError>
     }
 }
 
-// Computes the size without formatting. Returns `None` if the channel needs escapes, or if the size
-// overflows.
+// Computes the size of an event's JSON text in bytes, without formatting the text.
+//
+// Returns `None` if the channel needs escapes, or if the size overflows.
 #[tactic(auto, using(crate::proofs::Sizes::size_without_id, crate::proofs::Sizes::size_with_id))]
 fn plain_size(event: &Event) -> Option<usize>
     ensures { IfSome result (λ size. size ≡ event_size event.now) }

@@ -5,7 +5,7 @@ use crate::text::{RawJson, Text};
 /// A member that should be a JSON string.
 #[derive(Drop)]
 pub enum TextMember {
-    /// The message has no such member.
+    /// The message does not have the member.
     Absent,
     /// The member is not a string.
     NotText,
@@ -18,7 +18,7 @@ pub enum TextMember {
 /// CometD's acknowledgement extension.
 #[derive(Clone, Copy, Debug, PartialEq, Eq)]
 pub enum AckMember {
-    /// Absent, or any other value.
+    /// The member is absent, or has a value that no other variant describes.
     NoAck,
     /// The literal `true`.
     AckTrue,
@@ -28,7 +28,7 @@ pub enum AckMember {
 
 /// The fields of a message.
 ///
-/// If a name occurs more than once, the last member counts. Members of other names are ignored.
+/// If a member occurs more than once, the last one counts. Members without a field are ignored.
 ///
 /// Bayeux 1.0, message fields, and CometD's acknowledgement extension.
 #[derive(Drop)]

@@ -12,7 +12,7 @@ use json::Writer;
 use std::alloc::AllocError;
 use std::marker::Model;
 
-/// The name of a member that this server writes.
+/// The name of a member of the JSON objects that this server writes.
 ///
 /// In JSON, its first letter is in lower case.
 #[derive(Clone, Copy, Debug)]
@@ -188,7 +188,7 @@ impl ObjectWriter {
         push_number(&mut self.out, n)
     }
 
-    // Appends the name of the next member, and a comma before it unless it is the first.
+    // Appends `name`, quoted and with a colon. Before it comes a comma, except in an empty object.
     fn name(&mut self, name: Name) -> Result<(), AllocError>
         ensures { OnOk result (self.new ≡ resumed (with_name self.old (name_text name))) }
     {
@@ -214,7 +214,9 @@ fn push_plain(out: &mut Vec<u8>, text: &str) -> Result<(), AllocError>
     Ok(())
 }
 
-// Appends a string with escapes. Uses a new buffer, since `Writer` fills the spare room of its own.
+// Appends the string `text`, quoted and with escapes.
+//
+// It is first written to a new buffer, because `Writer` initializes much spare room of its buffer.
 fn push_escaped(out: &mut Vec<u8>, text: &str) -> Result<(), AllocError>
     ensures { OnOk result (out.new.items ≡ out.old.items ++ quoted text.now) }
 {

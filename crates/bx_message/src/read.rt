@@ -114,7 +114,7 @@ fn is_array(json: &str) -> bool
     }
 }
 
-// Parses the strings among the elements of an array. Any other value has none.
+// Parses the strings among the elements of `array`. There are none if it is not an array.
 fn listed_texts(alloc: Global, array: Option<&str>) -> Result<Sequence<Text>, AllocError>
     ensures { IfOk result (λ texts. texts ≡ listed_texts (option_map (λ t. t.now) array.entry)) }
 {
@@ -124,7 +124,7 @@ fn listed_texts(alloc: Global, array: Option<&str>) -> Result<Sequence<Text>, Al
     }
 }
 
-// Parses the strings among the elements, and returns whether all elements are strings.
+// Parses the strings among the elements of `array`, and returns whether all elements are strings.
 fn texts_among(alloc: Global, array: &str) -> Result<(Sequence<Text>, bool), AllocError>
     ensures texts { IfOk result (λ r. r.0 ≡ texts_among (elements array.now)) }
     ensures all { IfOk result (λ r. r.1 ≡ list_all is_text (elements array.now)) }
@@ -169,7 +169,7 @@ fn nested_member<'a>(piece: &Piece<'a>, outer: &str, inner: &str) -> Option<&'a 
     member_of(piece.member(outer)?, inner)
 }
 
-// Parses `ext.ack`.
+// Parses member `ack` of member `ext`: `true`, a number, or neither.
 //
 // CometD's acknowledgement extension.
 fn ack_member(piece: &Piece<'_>) -> AckMember
@@ -185,7 +185,7 @@ fn ack_member(piece: &Piece<'_>) -> AckMember
     }
 }
 
-// Parses `advice.timeout`.
+// Parses member `timeout` of member `advice`, if it is a number in digits only.
 //
 // Bayeux 1.0, the field `advice`.
 fn timeout_member(piece: &Piece<'_>) -> Option<u64>

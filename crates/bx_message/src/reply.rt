@@ -80,7 +80,7 @@ impl Reply {
         })
     }
 
-    /// Creates the reply to a connect, whether it was held or not.
+    /// Creates the reply to an accepted connect, whether it was held or not.
     ///
     /// `client`: the session's client id. `id`: the `id` of the connect. Does not allocate.
     ///
@@ -107,7 +107,7 @@ impl Reply {
     }
 }
 
-// Returns the client id for the reply to a message of this kind.
+// Returns `client`, if the reply to a message of kind `message_kind` carries the client id.
 fn client_of(message_kind: MessageKind, client: Option<&Text>) -> Result<Option<Text>, AllocError>
     ensures { IfOk result (λ c. c ≡ client_for message_kind (option_copied client.entry)) }
 {
@@ -117,7 +117,7 @@ fn client_of(message_kind: MessageKind, client: Option<&Text>) -> Result<Option<
     }
 }
 
-// Returns the subscription for the reply to a message of this kind.
+// Returns `subscription`, if the reply to a message of kind `message_kind` repeats it.
 fn subscription_of(
     message_kind: MessageKind,
     subscription: Option<&RawJson>,

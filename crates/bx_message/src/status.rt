@@ -28,7 +28,7 @@ pub enum Status {
 }
 
 impl Status {
-    /// Returns the status code.
+    /// Returns the status code as a number, such as 404.
     pub fn code(self) -> u16
         ensures { result ≡ code_of self }
     {

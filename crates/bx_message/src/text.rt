@@ -10,7 +10,7 @@ use std::sync::ArcStr;
 // Where a text is stored.
 #[derive(Drop)]
 enum Stored {
-    // In memory that its clones share.
+    // In memory that the text shares with its clones.
     Shared(ArcStr),
     // In the program itself: the text is `/meta/connect`, the channel of connects.
     Connect,
@@ -22,8 +22,8 @@ enum Stored {
 #[derive(Drop)]
 pub struct Text {
     stored: Stored,
-    // Whether the text needs no escapes in JSON. It is stored, because the channel of an event is
-    // written once for each session that gets it.
+    // Whether the text needs no escapes in JSON. This is computed only once, because an event's
+    // channel is written for each session that gets the event.
     plain: bool,
 }
 
@@ -55,7 +55,7 @@ impl Text {
         Ok(Text { stored, plain })
     }
 
-    // Creates a copy of `text`, which needs no escapes in JSON.
+    // Creates a copy of `text`, which must need no escapes in JSON.
     pub(crate) fn plain(alloc: Global, text: &str) -> Result<Text, AllocError>
         requires { list_all is_plain text.now ≡ true }
         ensures { IfOk result (λ t. t ≡ text.now) }
@@ -112,7 +112,7 @@ impl Text {
     }
 }
 
-// Returns `true` if `text` has no quotation mark, backslash or control character.
+// Returns `true` if `text` has no quotation mark, no backslash and no byte below 32.
 fn needs_no_escape(text: &str) -> bool
     ensures { result ≡ list_all is_plain text.now }
 {

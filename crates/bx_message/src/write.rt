@@ -16,7 +16,7 @@ use crate::text::{RawJson, Text};
 use bx_advice::{Advice, Outcome, Reconnect};
 use std::alloc::{AllocError, Global};
 
-// Values of this server, in every reply to a handshake.
+// The supported connection types and the protocol version, in every reply to a handshake.
 //
 // Bayeux 1.0, handshake response.
 const SUPPORTED_TYPES: &str = "[\"long-polling\",\"callback-polling\"]";
@@ -246,7 +246,7 @@ fn success_text(outcome: Outcome) -> &'static str
     }
 }
 
-// Appends `ext` with the acknowledgement.
+// Appends member `ext` with the acknowledgement, if there is one.
 //
 // CometD's acknowledgement extension.
 fn write_ack(object: &mut ObjectWriter, ack: AckReply) -> Result<(), AllocError>
@@ -263,7 +263,7 @@ fn write_ack(object: &mut ObjectWriter, ack: AckReply) -> Result<(), AllocError>
     }
 }
 
-// Appends the members that every reply to a handshake carries, even on failure.
+// Appends the members that only replies to handshakes carry, even on failure.
 fn write_handshake(object: &mut ObjectWriter, message_kind: MessageKind) -> Result<(), AllocError>
     ensures { OnOk result (object.new ≡ with_members object.old (handshake_members message_kind)) }
 {

@@ -11,7 +11,7 @@ past_case : {E : Type 0} (test : Bool) (fault : E) (others : Option E) → cond 
 past_case true fault others h = (cc, cc)
 past_case false fault others h = (refl, h)
 
--- What is known of a text without a fault.
+-- What holds of a text without a fault as a name or a pattern.
 pub record IsSound (text : List ℕ) : Type 0 where
   pub absolute : IsTrue (is_absolute text)
   pub short : length text ≤ 256
@@ -27,7 +27,7 @@ pub read_by-ok : {V : Type 0} (fault : Option NameError) (v w : V) → read_by f
 read_by-ok None v w h = (refl, cc)
 read_by-ok (Some fault) v w h = (cc, cc)
 
--- What is known of a text that reads as a name.
+-- What holds of a `text` that parses as the name with segments `name`.
 pub record IsNameText (text : List ℕ) (name : List (List ℕ)) : Type 0 where
   pub path : IsTrue (is_path text)
   pub is : segments text ≡ name

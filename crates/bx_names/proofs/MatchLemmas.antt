@@ -150,7 +150,7 @@ pub one_by_last_slash : (text : List ℕ) (r : Option ℕ) → MatchOption r ((i
 one_by_last_slash text None none = sym (none_if_absent text none)
 one_by_last_slash text (Some k) last = one_by_test text k (eqb k 0) last (Decides-eqb k 0)
 
--- ---- the same, for equal patterns and names
+-- ---- matching of equal patterns and names
 
 pub matches_at : {s t : Tail} {ss ts : List (List ℕ)} {ms ns : List (List ℕ)} → s ≡ t → ss ≡ ts → ms ≡ ns → matches_by s ss ms ≡ matches_by t ts ns
 matches_at {s} {t} {ss} {ts} {ms} {ns} p q r = ap (λ x. matches_by x ss ms) p ∙ ap (λ x. matches_by t x ms) q ∙ ap (λ x. matches_by t ts x) r

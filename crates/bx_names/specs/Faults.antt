@@ -28,8 +28,8 @@ is_star byte = byte == 42
 abbrev pub has_star : List ℕ → Bool
 has_star = list_any is_star
 
--- The first fault of a path, if any, in this order. `own`: the segments that must not contain `*`,
--- which are those of a name, or those of a pattern without its wildcard.
+-- The first fault of the path `text`, if any, in the order of `NameError`. `own`: the segments that
+-- must not contain `*`. For a name, these are all. For a pattern, they are all except its wildcard.
 abbrev pub path_fault : List ℕ → List (List ℕ) → Option NameError
 path_fault text own = first_case (
     (not (is_absolute text), NoSlash)
@@ -40,15 +40,15 @@ path_fault text own = first_case (
     ∷ (nat_lt MAX_NAME_SEGMENTS (length (segments text)), TooDeep)
     ∷ [])
 
--- The first fault of a text as a channel name, which is an absolute path without `*`.
+-- The first fault of a text as a channel name, if any. No segment of a name may contain `*`.
 abbrev pub name_fault : List ℕ → Option NameError
 name_fault text = path_fault text (segments text)
 
--- The first fault of a text as a pattern, which is an absolute path with `*` only in its wildcard.
+-- The first fault of a text as a pattern, if any. Only the wildcard of a pattern may contain `*`.
 abbrev pub pattern_fault : List ℕ → Option NameError
 pattern_fault text = path_fault text (glob_of (segments text)).segments
 
--- `v`, or the fault if there is one.
+-- The result of parsing: the fault if there is one, and otherwise the given value.
 abbrev pub read_by : {V : Type 0} → Option NameError → V → Result V NameError
 read_by None v = Ok v
 read_by (Some fault) v = Err fault

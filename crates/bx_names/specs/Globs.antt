@@ -22,19 +22,21 @@ last_segment (s ∷ t ∷ ts) = last_segment (t ∷ ts)
 abbrev pub tail_of : List ℕ → Tail
 tail_of segment = if bytes_eq segment (codes "*") then One else (if bytes_eq segment (codes "**") then Many else Exact)
 
--- The pattern with all segments `ss`. If it has a wildcard, the wildcard is the last of them.
+-- The pattern with this wildcard that is written with the segments `ss`. Unless the wildcard is
+-- `Exact`, it is the last of `ss`, and the pattern's `segments` are the others.
 abbrev pub ending_in : Tail → List (List ℕ) → Glob
 ending_in Exact ss = record { segments = ss; tail = Exact }
 ending_in One ss = record { segments = take (length ss - 1) ss; tail = One }
 ending_in Many ss = record { segments = take (length ss - 1) ss; tail = Many }
 
--- The pattern with segments `ss`. The last one may be a wildcard.
+-- The pattern that is written with the segments `ss`. If the last one is `*` or `**`, it is the
+-- wildcard.
 abbrev pub glob_of : List (List ℕ) → Glob
 glob_of ss = ending_in (tail_of (last_segment ss)) ss
 
 -- ---- Back to a text
 
--- The text of a wildcard, with its slash.
+-- The text of a wildcard with the slash before it. Without a wildcard, it is empty.
 abbrev pub ending_text : Tail → List ℕ
 ending_text Exact = []
 ending_text One = codes "/*"
@@ -52,11 +54,11 @@ same_tail One One = true
 same_tail Many Many = true
 same_tail _ _ = false
 
--- Equality of lists of segments.
+-- Whether two lists of segments are equal.
 abbrev pub same_segments : List (List ℕ) → List (List ℕ) → Bool
 same_segments = pointwise bytes_eq
 
--- Equality of patterns.
+-- Whether two patterns are equal.
 abbrev pub same_glob : Glob → Glob → Bool
 same_glob p q = same_segments p.segments q.segments && same_tail p.tail q.tail
 
@@ -74,6 +76,6 @@ matches_by Many own name = nat_lt (length own) (length name) && starts_with byte
 abbrev pub matches : Glob → List (List ℕ) → Bool
 matches p name = matches_by p.tail p.segments name
 
--- Whether any pattern matches the name.
+-- Whether any of the patterns `ps` matches the name with segments `name`.
 abbrev pub any_matches : List Glob → List (List ℕ) → Bool
 any_matches ps name = list_any (λ p. matches p name) ps

@@ -12,7 +12,8 @@ is_meta text = starts_with nat_eq text (codes "/meta/")
 abbrev pub is_service : List ℕ → Bool
 is_service text = starts_with nat_eq text (codes "/service/")
 
--- The kind of a channel. `/meta` and `/service` themselves are broadcast channels.
+-- The kind of a channel, by the beginning of its name. `/meta` and `/service` themselves are
+-- broadcast channels.
 abbrev pub kind_of : List ℕ → ChannelKind
 kind_of text = if is_meta text then Meta else (if is_service text then Service else Broadcast)
 

@@ -30,7 +30,9 @@ pub fn pattern_fault(text: &str) -> Option<NameError>
     path_fault(text, own)
 }
 
-/// Splits a pattern into the text before its wildcard and the wildcard.
+/// Splits the text of a pattern into its segments without the wildcard, and the wildcard.
+///
+/// The slash before the wildcard is in neither: `/a/*` results in `/a` and `One`.
 #[tactic(auto, using(crate::proofs::GlobLemmas::cut))]
 pub(crate) fn split_tail(text: &str) -> (&str, Tail)
     ensures parts { text.now ≡ result.0.now ++ ending_text result.1 }
@@ -49,8 +51,8 @@ pub(crate) fn split_tail(text: &str) -> (&str, Tail)
 
 /// Returns the first error of `path`, if any.
 ///
-/// `own`: the part of `path` that must have no stars, which is all of a name, and all of a pattern
-/// except its wildcard.
+/// `own`: the part of `path` that must have no stars. For a name, this is all of it. For a pattern,
+/// it is all except the wildcard.
 #[tactic(auto, using(crate::proofs::WalkLemmas::star_segments))]
 fn path_fault(path: &str, own: &str) -> Option<NameError>
     requires { IsTrue (is_absolute path.now) → IsTrue (is_path own.now) }

@@ -8,14 +8,16 @@ ghost use Rattle.bx_names.specs.declared.tail.Tail.TheVariants.{Exact, One, Many
 use crate::name::ChannelName;
 use crate::pattern::Pattern;
 
-/// Proves that a pattern without a wildcard matches exactly the name with its segments.
+/// Proves that a pattern without a wildcard matches the name with the same segments, and no other.
 #[tactic(auto, using(crate::proofs::MatchLemmas::exact_decides))]
 pub fn exact_pattern_matches_one_name(pattern: &Pattern, name: &ChannelName)
     requires { pattern.now.tail ≡ Exact }
     ensures { IsTrue (matches pattern.now name.now) ↔ (name.now ≡ pattern.now.segments) }
 {}
 
-/// Proves that a pattern with `*` matches exactly the names with its segments and one more.
+/// Proves that `/a/*` matches a name if and only if it is `/a` followed by one more segment.
+///
+/// The same holds with any other segments in place of `/a`.
 #[tactic(auto, using(crate::proofs::MatchLemmas::one_decides))]
 pub fn star_matches_one_more_segment(pattern: &Pattern, name: &ChannelName)
     requires { pattern.now.tail ≡ One }
@@ -24,7 +26,9 @@ pub fn star_matches_one_more_segment(pattern: &Pattern, name: &ChannelName)
         × (take (length pattern.now.segments) name.now ≡ pattern.now.segments)) }
 {}
 
-/// Proves that a pattern with `**` matches exactly the names that continue its segments.
+/// Proves that `/a/**` matches a name if and only if it is `/a` followed by one or more segments.
+///
+/// The same holds with any other segments in place of `/a`.
 #[tactic(auto, using(crate::proofs::MatchLemmas::many_decides))]
 pub fn double_star_matches_any_longer_name(pattern: &Pattern, name: &ChannelName)
     requires { pattern.now.tail ≡ Many }
@@ -32,7 +36,9 @@ pub fn double_star_matches_any_longer_name(pattern: &Pattern, name: &ChannelName
         ↔ ((rest : List (List ℕ)) × (0 < length rest) × (name.now ≡ pattern.now.segments ++ rest)) }
 {}
 
-/// Proves that `/a/*` matches the names that `/a/**` matches with just one segment after `/a`.
+/// Proves that `/a/*` matches the names that `/a/**` matches and that have one segment after `/a`.
+///
+/// The same holds with any other segments in place of `/a`.
 pub fn stars_differ_on_depth(one: &Pattern, many: &Pattern, name: &ChannelName)
     requires one { one.now.tail ≡ One }
     requires many { many.now.tail ≡ Many }
@@ -41,7 +47,7 @@ pub fn stars_differ_on_depth(one: &Pattern, many: &Pattern, name: &ChannelName)
         ↔ (IsTrue (matches many.now name.now) × (length name.now ≡ length many.now.segments + 1)) }
 {}
 
-/// Proves that a channel name is also a pattern, without a wildcard.
+/// Proves that the text of a name parses as the pattern with the same segments and no wildcard.
 #[tactic(auto, using(crate::proofs::FaultLemmas::name_as_pattern))]
 pub fn name_reads_as_pattern(name: &ChannelName)
     ensures { read_pattern (path_of name.now) ≡ Ok (record { segments = name.now; tail = Exact }) }
@@ -50,7 +56,7 @@ pub fn name_reads_as_pattern(name: &ChannelName)
     let _text = name.as_str();
 }
 
-/// Proves that the text of a name parses as the name.
+/// Proves that parsing the text of a channel name results in the same name.
 pub fn name_reads_back(name: &ChannelName)
     ensures { read_name (path_of name.now) ≡ Ok name.now }
 {
@@ -58,7 +64,7 @@ pub fn name_reads_back(name: &ChannelName)
     let _text = name.as_str();
 }
 
-/// Proves that the text of a pattern parses as the pattern.
+/// Proves that parsing the text of a pattern results in the same pattern.
 pub fn pattern_reads_back(pattern: &Pattern)
     ensures { read_pattern (glob_text pattern.now) ≡ Ok pattern.now }
 {

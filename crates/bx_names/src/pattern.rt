@@ -89,7 +89,9 @@ impl Pattern {
         kind_of(self.as_str())
     }
 
-    /// Splits the pattern into the text of its segments, possibly empty, and its wildcard.
+    /// Splits the pattern into its segments without the wildcard, as text, and the wildcard.
+    ///
+    /// The text is a path such as `/a`, or empty if the wildcard is the only segment.
     pub(crate) fn split(&self) -> (&str, Tail)
         ensures path { IsTrue (is_path result.0.now) }
         ensures own { segments result.0.now ≡ self.now.segments }

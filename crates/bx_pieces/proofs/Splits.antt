@@ -19,7 +19,7 @@ cond-append : (b : Bool) (x y z : List ℕ) → cond b x y ++ z ≡ cond b (x ++
 cond-append true x y z = refl
 cond-append false x y z = refl
 
--- The byte occurs in no separator.
+-- The byte `c` occurs in neither U+2028 nor U+2029 in UTF-8.
 pub record IsApart (c : ℕ) : Type 0 where
   pub lead : (226 == c) ≡ false
   pub middle : (128 == c) ≡ false

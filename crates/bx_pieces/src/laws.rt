@@ -1,7 +1,7 @@
 //! Laws of bodies that are sent in pieces.
 ghost use Rattle.bx_pieces.specs.Laws.{PiecesJoin};
 
-/// Proves that the frames of a body that was read to its end join to the body's text.
+/// Proves that the frames of a body join to its text, if it was read to its end without errors.
 #[tactic(auto, using(crate::proofs::Joined::pieces_join))]
 pub fn pieces_join()
     ensures { PiecesJoin }

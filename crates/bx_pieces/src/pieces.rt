@@ -67,8 +67,8 @@ impl<D> Pieces<D> {
 
     /// Creates the body of a response with `items`.
     ///
-    /// `callback`: the name of the function that a script passes the items to. Without it, the body
-    /// is their JSON array.
+    /// `callback`: the name of a function. If given, the body is a script that calls the function
+    /// with the array of `items`. Otherwise, the body is this array as JSON.
     ///
     /// # Errors
     ///
@@ -86,7 +86,7 @@ impl<D> Pieces<D> {
         Pieces::begun(alloc, callback, items)
     }
 
-    // Creates the body, and writes all of it.
+    // Creates the body of a response, and writes all of it.
     fn at_once(
         alloc: Global,
         callback: Option<&str>,
@@ -114,7 +114,7 @@ impl<D> Pieces<D> {
         })
     }
 
-    // Creates the body, and writes it through its first element.
+    // Creates the body of a response, and writes only its beginning, through the first element.
     fn begun(alloc: Global, callback: Option<&str>, items: &[Item]) -> Result<Pieces<D>, AllocError>
         ensures { IfOk result (λ pieces. pieces ≡ answer_text (option_map (λ name. name.now) callback.entry) items.now) }
     {
@@ -136,7 +136,9 @@ impl<D> Pieces<D> {
         })
     }
 
-    // Takes the next piece, if any. On error, `self` is unchanged.
+    // Removes the next piece from the remaining text and returns it, or `None` at the end.
+    //
+    // On error, `self` is unchanged.
     fn take_piece(&mut self) -> Result<Option<Bytes>, AllocError>
         ensures ok { IfOk result (λ given. MatchOption given ((self.old ≡ []) × (self.new ≡ [])) (λ piece. self.old ≡ piece ++ self.new)) }
         ensures err { OnErr result ((self.new ≡ self.old) × (0 < length self.old)) }
@@ -156,7 +158,7 @@ impl<D> Pieces<D> {
     }
 }
 
-// Returns `true` if there is a callback.
+// Returns `true` if the response is a script, because it has a callback.
 fn is_call(callback: Option<&str>) -> bool
     ensures { result ≡ is_call (option_map (λ name. name.now) callback.entry) }
 {

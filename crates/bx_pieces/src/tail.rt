@@ -25,9 +25,9 @@ pub(crate) fn sent_as(alloc: Global, is_script: bool, text: Vec<u8>) -> Result<V
     Ok(out)
 }
 
-// Returns `true` if `items` should be written at once.
+// Returns `true` if a response with `items` should be written at once.
 //
-// Their text then fits one piece, or takes no more memory than their elements.
+// Its text then fits one piece, or takes no more memory than the list of its elements.
 pub(crate) fn are_short(items: &[Item]) -> bool {
     let mut room = 0usize;
     for item in items {
@@ -36,7 +36,7 @@ pub(crate) fn are_short(items: &[Item]) -> bool {
     room <= PIECE || room <= items.len().saturating_mul(size_of::<Element>())
 }
 
-// Returns how many of the first elements the next piece takes: those that fit, but at least one.
+// Returns how many of `elements` the next piece takes: those that fit, but at least the first.
 pub(crate) fn fitting(elements: &[Element]) -> usize
     ensures within { result ≤ length elements.now }
     ensures some { 0 < length elements.now → 0 < result }
@@ -51,7 +51,9 @@ pub(crate) fn fitting(elements: &[Element]) -> usize
     elements.len()
 }
 
-// Returns the length of the elements' texts, each with a comma, in bytes.
+// Returns the length of the texts of `elements`, each with a comma, in bytes.
+//
+// Escapes for a script are not counted.
 fn room_of(elements: &[Element]) -> usize {
     let mut room = 0usize;
     for element in elements {
@@ -60,12 +62,12 @@ fn room_of(elements: &[Element]) -> usize {
     room
 }
 
-// Returns the length of an element's text with a comma, in bytes.
+// Returns the length of an element's text with a comma, in bytes, without escapes for a script.
 fn led_room(element: &Element) -> usize {
     element.size().saturating_add(1)
 }
 
-// Appends a comma and an element.
+// Appends a comma and the text of `element` to `out`, and returns `out`.
 fn push_led(out: Vec<u8>, element: &Element) -> Result<Vec<u8>, AllocError>
     ensures { IfOk result (λ text. text.items ≡ out.items ++ (44 ∷ element_text element.now)) }
 {
@@ -74,7 +76,7 @@ fn push_led(out: Vec<u8>, element: &Element) -> Result<Vec<u8>, AllocError>
     element.write(out)
 }
 
-// Writes the elements, each after a comma, and leaves room for the end of the response.
+// Writes the elements, each after a comma, and reserves room for the end of the response.
 fn led_text(alloc: Global, elements: &[Element]) -> Result<Vec<u8>, AllocError>
     ensures { IfOk result (λ out. out.items ≡ led_text elements.now) }
 {
@@ -85,8 +87,10 @@ fn led_text(alloc: Global, elements: &[Element]) -> Result<Vec<u8>, AllocError>
     Ok(out)
 }
 
-// Writes the next piece, and returns it with the number of its elements. The last piece includes
-// the end of the response.
+// Writes the next piece, and returns it with the number of its elements.
+//
+// `elements`: those that are not written yet. The piece with the last of them includes the end of
+// the response.
 pub(crate) fn piece_of(
     alloc: Global,
     elements: &[Element],
@@ -105,7 +109,9 @@ pub(crate) fn piece_of(
     }
 }
 
-// Writes the elements as they are sent, followed by the end of the response if they are the last.
+// Writes a part of the response: `elements` as they are sent, each after a comma.
+//
+// If `is_last`, the end of the response follows.
 fn part_of(
     alloc: Global,
     elements: &[Element],
@@ -135,7 +141,9 @@ fn ended(alloc: Global, is_script: bool, array: Vec<u8>) -> Result<Vec<u8>, Allo
     Ok(text)
 }
 
-// Returns the length of the response from these elements to its end, in bytes.
+// Returns the length of the rest of a response, in bytes.
+//
+// `elements`: its elements that are not written yet, which may be none.
 pub(crate) fn rest_size(
     alloc: Global,
     elements: &[Element],
@@ -150,7 +158,7 @@ pub(crate) fn rest_size(
     }
 }
 
-// Returns the length of the text after the array, in bytes.
+// Returns the length of the text after the array, in bytes: 1 for a script's parenthesis, or 0.
 fn end_size(is_script: bool) -> u64
     ensures { result ≡ length (end_text is_script) }
 {

@@ -6,7 +6,7 @@ use Rattle.bx_entry.specs.declared.input.Input.{Input}
 use Rattle.bx_record.specs.Record.{input_text}
 
 -- The line of an answer: `A`, `place`, and `digest` in hexadecimal digits. `place` is the place of
--- the request's first message. `digest` is the SHA-256 of the answer's items.
+-- the request's first message. `digest` is the SHA-256 of the replies and events in the response.
 abbrev pub answer_text : ℕ → List ℕ → List ℕ
 answer_text place digest = codes "A " ++ (decimal place ++ 32 ∷ (encode_lower digest ++ 10 ∷ []))
 

@@ -16,16 +16,16 @@ use Rattle.bx_record.specs.Record.{can_say, config_text, config_words, options_w
 
 -- ---- Inputs
 
--- Lines can express the request `a`: its messages are readable and its listener allows them, its
--- documents fit in a line, and its moment and nonce have at most 64 and 128 bits.
+-- Lines can express the request `a`. Its messages are readable, its listener allows them, and its
+-- documents fit in a line. Its moment has at most 64 bits, and its nonce at most 128.
 pub record IsRecordable (a : Arrival) : Type 0 where
   pub moment : a.moment < 2 ^ 64
   pub nonce : a.nonce < 2 ^ 128
   pub readable : is_ok (arrival_messages a) ≡ true
   pub sayable : can_say (texts_of a.bodies) ≡ true
 
--- A record can have the input: lines can express it if it is a request, and its moment is below
--- 2^64 if it is a tick.
+-- A record can have the input. This holds for a request that lines can express, and for a tick with
+-- a moment below 2^64.
 abbrev pub CanRecord : Input → Type 0
 CanRecord (Post a) = IsRecordable a
 CanRecord (Tick moment) = moment < 2 ^ 64
@@ -54,8 +54,8 @@ pub record ReadsBack (inputs : List Input) : Type 0 where
 abbrev pub RecordsReadBack : Type 0
 RecordsReadBack = (inputs : List Input) → AllByRecursion CanRecord inputs → ReadsBack inputs
 
--- Under `config`, the inputs read from the record of `inputs` have the same outs as `inputs`, and
--- the same inputs are held.
+-- Under `config`, the inputs read from the record of `inputs` have the same outs as `inputs`: the
+-- same responses and rejections. The same inputs are not completely answered at the end.
 pub record AnswersAlike (config : Config) (inputs : List Input) : Type 0 where
   pub outs_are : outs config (inputs_in (recorded_lines inputs)) ≡ outs config (map read_input inputs)
   pub held_are : held config (inputs_in (recorded_lines inputs)) ≡ held config (map read_input inputs)
@@ -66,7 +66,7 @@ RecordsAnswerAlike = (config : Config) (inputs : List Input) → AllByRecursion 
 
 -- ---- Answers
 
--- The first line of `text` is read as one to skip, and `rest` follows it.
+-- The reader of a record skips the first line of `text`, and `rest` follows that line.
 pub record SaysAnswer (text rest : List ℕ) : Type 0 where
   pub noted : line_of Recorded (first_of text) ≡ Noted
   pub left : rest_of text ≡ rest
@@ -88,7 +88,7 @@ is_of_either line = is_of_record line
 
 -- Reading the record with `parts` gives the inputs among `parts`, in order. All other lines are
 -- nonces and answers. Under every configuration, the inputs that are read have the same outs as
--- those among `parts`, and the same inputs are held.
+-- those among `parts`. The same inputs are not completely answered at the end.
 pub record ReadsWith (parts : List Part) : Type 0 where
   pub inputs_are : inputs_in (record_lines (record_with parts)) ≡ map (λ input. as_recorded (read_input input)) (taken_inputs parts)
   pub nothing_else : list_all is_of_either (record_lines (record_with parts)) ≡ true

@@ -11,7 +11,8 @@ const ANSWER_LENGTH: usize = 1 + 20 + 64 + 2 + 1;
 
 /// Formats the line that records the answer to a request.
 ///
-/// `place`: the place of the request's first message. `digest`: the SHA-256 of the answer's items.
+/// `place`: the place of the request's first message. `digest`: the SHA-256 of the replies and
+/// events in the response.
 ///
 /// # Errors
 ///

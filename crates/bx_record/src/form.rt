@@ -1,4 +1,4 @@
-//! The form that carries a request's documents, each in a parameter `message`.
+//! The URL-encoded form that carries a request's documents, each in a parameter `message`.
 ghost use Rattle.std.specs.Prelude.{◌≡◌, ◌+◌, ◌<◌, ◌≤◌, ◌++◌, MatchOption, OnOk, length};
 ghost use Rattle.form_urlencoded.specs.Form.{byte_serialize, is_unchanged, serialize_byte};
 ghost use Rattle.bx_advice.specs.declared.config.TheConstants.{BODY_LIMIT};
@@ -15,7 +15,7 @@ const LEAD: usize = 9;
 
 /// Returns the length of the form that carries `bodies`, or `None` if it exceeds `BODY_LIMIT`.
 ///
-/// Lengths are in bytes. `bodies` must not be empty.
+/// The form is URL-encoded. Lengths are in bytes. `bodies` must not be empty.
 #[tactic(auto, using(crate::proofs::Forms::all_counted))]
 pub(crate) fn form_len(bodies: &Bodies) -> Option<usize>
     requires { 0 < length (texts_of bodies.now) }
@@ -45,7 +45,7 @@ fn room_after(room: usize, document: &[u8]) -> Option<usize>
     Some(left)
 }
 
-// Returns how many bytes a form has for `byte`.
+// Returns the length of `byte` in a URL-encoded form, in bytes: 1 or 3.
 #[tactic(auto, using(crate::proofs::Forms::serialized_len))]
 fn encoded_len(byte: u8) -> usize
     ensures { result ≡ length (serialize_byte byte) }
@@ -57,14 +57,14 @@ fn encoded_len(byte: u8) -> usize
     }
 }
 
-// Returns `true` if a form contains `byte` without encoding it.
+// Returns `true` if a URL-encoded form contains `byte` itself: a letter, a digit or one of `*-._`.
 fn is_unchanged(byte: u8) -> bool
     ensures { result ≡ is_unchanged byte }
 {
     byte.is_ascii_alphanumeric() || matches!(byte, b'*' | b'-' | b'.' | b'_')
 }
 
-/// Appends the form that carries `bodies`.
+/// Appends the URL-encoded form that carries `bodies`, each in a parameter `message`.
 ///
 /// # Errors
 ///
@@ -91,7 +91,7 @@ fn push_parameter(text: &mut Vec<u8>, document: &[u8]) -> Result<(), AllocError>
     push_encoded(text, document)
 }
 
-// Appends `bytes` in the encoding of a form.
+// Appends the URL encoding of `bytes`.
 fn push_encoded(text: &mut Vec<u8>, bytes: &[u8]) -> Result<(), AllocError>
     ensures { OnOk result (text.new.items ≡ text.old.items ++ byte_serialize bytes.now) }
 {

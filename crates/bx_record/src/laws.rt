@@ -5,8 +5,8 @@ ghost use Rattle.bx_record.specs.Laws.{AnswersAreSkipped, AnswersBreakOff, Answe
 
 /// Proves that reading a record gives the inputs that it was made from, in order.
 ///
-/// All its other lines are nonces. A request without a handshake uses no nonce, and is read with
-/// nonce 0.
+/// All other lines of the record are nonces. A request without a handshake uses no nonce, and is
+/// read with nonce 0.
 pub fn records_read_back()
     ensures { RecordsReadBack }
 {}
@@ -14,7 +14,7 @@ pub fn records_read_back()
 /// Proves that the inputs read from a record have the same results as the original ones.
 ///
 /// For every configuration, the responses and rejections are the same, in the same order. The same
-/// inputs are held.
+/// inputs are not completely answered at the end.
 pub fn records_answer_alike()
     ensures { RecordsAnswerAlike }
 {}
@@ -35,8 +35,8 @@ pub fn answers_are_skipped()
 
 /// Proves that lines of answers between inputs do not change what a record gives.
 ///
-/// The inputs and, for every configuration, their results are the same as without them. All other
-/// lines are nonces or answers.
+/// The inputs and, for every configuration, the results of the inputs are the same as without these
+/// lines. All lines that are not inputs are nonces or answers.
 pub fn answers_change_nothing()
     ensures { AnswersChangeNothing }
 {}
@@ -48,9 +48,10 @@ pub fn answers_break_off()
     ensures { AnswersBreakOff }
 {}
 
-/// Proves that the line of a configuration has 13 arguments, which describe it.
+/// Proves that the line of a configuration has 13 arguments, which describe the configuration.
 ///
-/// They give all its numbers and options that can be set. Any text may follow the line.
+/// The arguments give every number and option of a configuration that can be set. Any text may
+/// follow the line.
 pub fn configs_read_back()
     ensures { ConfigsReadBack }
 {}

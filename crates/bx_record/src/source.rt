@@ -31,8 +31,8 @@ pub trait Source {
 
     /// Takes all waiting lines of answers, and leaves the empty buffer `empty` in their place.
     ///
-    /// The request of an answer may be in text that the next [`take`](Self::take) takes, but not in
-    /// later text. If the text ends, it may lack the requests of some answers.
+    /// The request of each answer is in text that was taken before, or that the next call of
+    /// [`take`](Self::take) takes. If the text ends, it may lack the requests of some answers.
     fn take_answers(&mut self, empty: Vec<u8>) -> Vec<u8>
         requires empty { empty.items ≡ [] };
 

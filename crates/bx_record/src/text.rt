@@ -24,7 +24,7 @@ use std::alloc::{AllocError, Global};
 // to 20 digits, a letter, two spaces and a newline. A nonce has 32 digits.
 const BESIDE: usize = 2 * (20 + 4) + 32;
 
-/// Formats the request `arrival` as lines, or returns `None` if no line can express it.
+/// Formats the request `arrival` as lines of a record, or returns `None` if no line can express it.
 ///
 /// `messages` must be the messages of `arrival`. If one of them is a handshake, there are two
 /// lines: one with the nonce, and one with the documents. Otherwise there is only the second.
@@ -70,7 +70,7 @@ fn nonce_of(arrival: &Arrival) -> u128
     arrival.nonce
 }
 
-/// Formats a tick as a line.
+/// Formats a tick as a line of a record.
 ///
 /// `moment`: milliseconds since the server started.
 ///
@@ -87,7 +87,7 @@ pub fn tick_text(alloc: Global, moment: u64) -> Result<Vec<u8>, AllocError>
     Ok(text)
 }
 
-// Returns `true` if a message is a handshake.
+// Returns `true` if one of `messages` is a handshake.
 fn asks_for_session(messages: &[Message]) -> bool
     ensures { result ≡ list_any is_handshake messages.now }
 {
@@ -98,7 +98,7 @@ fn asks_for_session(messages: &[Message]) -> bool
 
 // Returns the document that a line can contain unchanged: the only one, without a newline.
 //
-// Returns `None` if there are other documents or a newline.
+// Returns `None` if there is not exactly one document, or if it has a newline.
 fn plain_document(bodies: &Bodies) -> Option<&[u8]>
     ensures { option_map (λ d. d.now) result ≡ plain_document (texts_of bodies.now) }
 {
@@ -136,7 +136,7 @@ fn carrier_len(plain: Option<&[u8]>, bodies: &Bodies) -> Option<usize>
     }
 }
 
-// Appends the line that gives the next request `nonce`.
+// Appends the line that assigns `nonce` to the request in the next line.
 fn push_nonce(text: &mut Vec<u8>, moment: u64, nonce: u128) -> Result<(), AllocError>
     ensures { OnOk result (text.new.items ≡ text.old.items ++ line_text moment (codes "N " ++ nonce_digits nonce)) }
 {
@@ -146,7 +146,7 @@ fn push_nonce(text: &mut Vec<u8>, moment: u64, nonce: u128) -> Result<(), AllocE
     Ok(())
 }
 
-// Appends the line with `bodies`.
+// Appends the line of a request with `bodies`: the document itself (`P`) or a form (`F`).
 //
 // `plain`: the document that a line can contain unchanged, if any.
 fn push_documents(

@@ -58,7 +58,7 @@ impl Waiting {
         }
     }
 
-    /// Returns how many bytes wait, at most [`MOST_WAITING`].
+    /// Returns the number of bytes in the buffer, at most [`MOST_WAITING`].
     pub fn len(&self) -> usize
         ensures count { result ≡ length self.now }
         ensures bound { result ≤ MOST_WAITING }

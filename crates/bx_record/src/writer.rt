@@ -13,7 +13,7 @@ use std::{io, thread};
 // Milliseconds between two checks of how many bytes wait. Policy of this server.
 const REST: u64 = 10;
 
-// After this many checks of how many bytes wait, all of them are written. Policy of this server.
+// After this many checks, all waiting bytes are written, however few. Policy of this server.
 const LOOKS: u32 = 10;
 
 // If a check finds at least this many waiting bytes, they are written. Policy of this server.

@@ -12,7 +12,7 @@ pub record Amendment : Type 0 where
   pub clock : ℕ
   pub length : ℕ
 
--- The roll after a change, with the same senders.
+-- The `roll` after the change `c`, with the same configuration and senders.
 abbrev pub changed : Roll → Amendment → Roll
 changed roll c = record { config = roll.config; members = edited_by roll.members c.edits; clock = c.clock; length = c.length; senders = roll.senders }
 

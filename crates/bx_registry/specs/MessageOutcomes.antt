@@ -15,7 +15,8 @@ use Rattle.bx_registry.specs.Rolls.{members_after}
 use Rattle.bx_registry.specs.Slots.{given_by}
 use Rattle.bx_registry.specs.declared.judge.MessageOutcome.{MessageOutcome}
 
--- An accepted message extends its session's due moment; a disconnect closes the session.
+-- The edit for an accepted message of session `number`. A disconnect closes the session; any other
+-- message extends its due moment to `due`.
 abbrev pub edit_for : MessageKind → ℕ → ℕ → Edit
 edit_for message_kinds.Disconnect number due = Close number
 edit_for _ number due = Extend number due
@@ -25,7 +26,8 @@ abbrev pub is_needed : Config → MessageKind → TextMember → Bool
 is_needed config message_kinds.Publish client = needs_session config client
 is_needed config _ client = true
 
--- The outcome has the edit, senders, entry kind, rider and slot of the verdict at `place`.
+-- The outcome `j` has the senders, entry kind, rider and slot of the verdict `o` on a message at
+-- `place`. Its edit changes the sessions `ms` as the verdict does.
 pub record IsVerdict (setup : Setup) (ms : Members) (place : ℕ) (o : Verdict) (j : MessageOutcome) : Type 0 where
   pub members : fold edited ms (option_to_list j.edit) ≡ members_after ms o
   pub can : CanEditEach ms (option_to_list j.edit)
@@ -34,8 +36,8 @@ pub record IsVerdict (setup : Setup) (ms : Members) (place : ℕ) (o : Verdict) 
   pub rider : j.rides ≡ o.rides
   pub answer : given_by setup place o.slot ≡ j.slot ∷ []
 
--- A message with the slot `answer` of the definitions and this rider, if any, has the program's
--- `rides`, and `slot` at `place`.
+-- `rides` is `rider`. `slot` is that of `answer` for a message at `place` or, if there is a rider,
+-- the ticket for the answer of the rider's session.
 pub record IsRidden (setup : Setup) (place : ℕ) (rider : Option Rider) (answer : PlaceSlot) (rides : Option Rider) (slot : Slot) : Type 0 where
   pub same : rides ≡ rider
   pub answered : given_by setup place (slot_with rider answer) ≡ slot ∷ []

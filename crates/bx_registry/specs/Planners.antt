@@ -11,22 +11,24 @@ use Rattle.bx_registry.specs.Rolls.{Roll, after, found, members_after}
 use Rattle.bx_registry.specs.Plans.{entries_in, slots_in}
 use Rattle.bx_registry.specs.Slots.{given_by}
 
--- The sessions, senders, entry and slot are those of the verdict at `place`.
+-- `ms`, `senders`, `entry` and `slot` are those that the verdict `o` gives for a message at
+-- `place`, if the sessions were `before` and the clock is at `moment`.
 pub record IsFoundAt (setup : Setup) (place moment : ℕ) (before : Members) (o : Verdict) (ms : Members) (senders : Senders) (entry : Entry) (slot : Slot) : Type 0 where
   pub members : ms ≡ members_after before o
   pub behind : senders ≡ o.state.senders
   pub noted : entry ≡ record { place = place; moment = moment; kind = o.kind; rides = o.rides }
   pub answer : given_by setup place o.slot ≡ slot ∷ []
 
--- The roll with these sessions and senders.
+-- The roll with these parts. `ms`: the sessions.
 abbrev pub roll_with : Config → Members → Senders → ℕ → ℕ → Roll
 roll_with config ms senders clock length = record { config = config; members = ms; clock = clock; length = length; senders = senders }
 
--- The roll between requests.
+-- The roll with these parts between requests, when there are no senders yet. `ms`: the sessions.
 abbrev pub roll_between : Config → Members → ℕ → ℕ → Roll
 roll_between config ms clock length = roll_with config ms NoneYet clock length
 
--- The list turns one roll between requests into another, with these entries and slots.
+-- Judging the elements of `list`, from place `first` on, gives `entries` and `slots`. It turns the
+-- sessions `before` into `behind`, and the clock `clock` into `now`.
 pub record IsPlannedBy (setup : Setup) (before behind : Members) (clock first : ℕ) (list : List Listed) (entries : List Entry) (slots : List Slot) (now : ℕ) : Type 0 where
   pub roll : after (roll_between setup.config before clock first) list ≡ roll_between setup.config behind now (first + length list)
   pub listed : entries ≡ entries_in (found (roll_between setup.config before clock first) list)

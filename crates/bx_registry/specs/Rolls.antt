@@ -30,7 +30,7 @@ roll_of config r = record {
 abbrev pub state_of : Members → Senders → State
 state_of ms senders = record { sessions = ms.live; opened = ms.opened; senders = senders }
 
--- The live sessions after a verdict.
+-- The live sessions after the verdict `v`, with the limit of `ms`.
 abbrev pub members_after : Members → Verdict → Members
 members_after ms v = record { limit = ms.limit; opened = v.state.opened; live = live_in v.state.sessions }
 
@@ -39,15 +39,15 @@ pub record Step : Type 0 where
   pub roll : Roll
   pub found : Judged
 
--- The step of a verdict, which makes the list one element longer.
+-- The step from `roll` that the verdict `v` at `moment` makes. The list gets one element longer.
 abbrev pub noted : Roll → ℕ → Verdict → Step
 noted roll moment v = record {
   roll = record { config = roll.config; members = members_after roll.members v; clock = moment; length = roll.length + 1; senders = v.state.senders };
   found = found_at roll.length moment v;
 }
 
--- The step of the next element. It is judged by the sessions before it, at the greatest moment so
--- far, its own included.
+-- The step from `roll` for the next `element`, which is judged by the sessions before it. Its
+-- moment is the greatest so far, including the element's own.
 abbrev pub step : Roll → Listed → Step
 step roll (Post p) = noted roll (max roll.clock p.moment) (verdict roll.config (state_of roll.members roll.senders) (max roll.clock p.moment) p)
 step roll (messages.Tick moment) = noted roll (max roll.clock moment) (tick_verdict (state_of roll.members roll.senders) (max roll.clock moment))

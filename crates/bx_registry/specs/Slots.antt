@@ -5,7 +5,8 @@ use Rattle.bx_entry.specs.Placings.{Setup}
 use Rattle.bx_entry.specs.declared.entry.Slot.{Slot}
 use Rattle.bx_entry.specs.declared.entry.Slot.TheVariants as answers
 
--- What a slot gives its sender: a reply, the ticket of a connect or rider, or nothing for a tick.
+-- What the slot of the message at `place` gives its sender: a reply, the ticket of a connect or
+-- rider, or nothing for a tick.
 abbrev pub given_by : Setup → ℕ → PlaceSlot → List Slot
 given_by setup place (Ready reply) = answers.Ready reply ∷ []
 given_by setup place (Waiting session) = answers.Waiting (record { place = place; shard = setup.placing session setup.shards }) ∷ []
@@ -16,10 +17,10 @@ abbrev pub given_from : Setup → ℕ → List PlaceSlot → List Slot
 given_from setup place [] = []
 given_from setup place (slot ∷ slots) = given_by setup place slot ++ given_from setup (place + 1) slots
 
--- The slots of all places.
+-- The slots of the registry `r`, one for each place, in order.
 abbrev pub slots_of : Registry → List PlaceSlot
 slots_of r = map (λ (j : Judged). j.slot) r.judged
 
--- What the slots of a request's messages give, if it is appended to the list.
+-- What the slots of a request's messages `added` give, if they are appended to `list`.
 abbrev pub admitted_slots : Setup → List Listed → List Listed → List Slot
 admitted_slots setup list added = given_from setup (length list) (drop (length list) (slots_of (registry setup.config (list ++ added))))

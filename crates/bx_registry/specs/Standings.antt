@@ -19,8 +19,8 @@ pub record Standing : Type 0 where
 abbrev pub roll_at : Config → List Listed → Roll
 roll_at config list = roll_of config (registry config list)
 
--- The change can be made at the end of the list. It leads to the roll of the list with `elements`,
--- which is within the greatest length.
+-- The change can be made at the end of the list of `s`. It leads to the state of the registry after
+-- `elements` are appended to the list, which is then within the greatest length.
 pub record LeadsTo (s : Standing) (change : Amendment) (elements : List Listed) : Type 0 where
   pub planned : CanCommit (roll_at s.config s.list) s.ready change
   pub registered : changed (roll_at s.config s.list) change ≡ roll_at s.config (s.list ++ elements)

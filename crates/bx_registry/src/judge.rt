@@ -41,7 +41,7 @@ use std::alloc::{AllocError, AllocFailed, Global};
 /// The result of judging a message.
 #[derive(Drop)]
 pub(crate) struct MessageOutcome {
-    /// The change to the sessions.
+    /// The change to the sessions, if any.
     pub(crate) edit: Option<Edit>,
     /// The kind of the message's entry.
     pub(crate) kind: EntryKind,
@@ -95,7 +95,7 @@ pub(crate) fn judge<P: Placing>(
     }
 }
 
-// Rejects a message with `error`, which changes no session.
+// Rejects a message with `error`. No session changes.
 fn refuse(
     config: &Config,
     posted: Posted<'_>,
@@ -216,7 +216,8 @@ fn serve<P: Placing>(
     })
 }
 
-// Returns the senders before the next message: `NoneYet` if that begins another request.
+// Returns the senders for judging the next message: `NoneYet` if `posted` is its request's last
+// one, otherwise `senders`.
 fn senders_after(posted: Posted<'_>, senders: Senders) -> Senders
     ensures { result ≡ senders_after (posted_of posted.entry) senders }
 {
@@ -252,7 +253,8 @@ fn may_ride(message_kind: MessageKind) -> bool
     )
 }
 
-// Moves a rider's reply from its slot into the rider. The slot then waits for the answer.
+// Moves the reply of a rider from its slot into the rider. The slot then waits for the answer. The
+// slot of any other message is returned as it is.
 fn ridden<P: Placing>(
     setup: &Setup<'_, P>,
     is_rider: bool,
@@ -443,7 +445,8 @@ fn due_after(config: &Config, moment: u64, hold: u64) -> u64
     moment + hold + u64::from(interval)
 }
 
-// Returns an accepted message's change: a disconnect closes its session, others extend it.
+// Returns an accepted message's edit: a disconnect closes session `number`, any other message
+// extends its due moment to `due`.
 fn edit_for(message_kind: MessageKind, number: u64, due: u64) -> Edit
     ensures { result ≡ edit_for message_kind number due }
 {

@@ -8,7 +8,10 @@ pub fn steps_agree()
     ensures { StepsAgree }
 {}
 
-/// Proves that a registry and its roll judge any list alike, such as a request, and agree after it.
+/// Proves that a registry and its roll judge any list alike, for example a request.
+///
+/// The roll is the part of a registry that the program stores. Registry and roll agree after the
+/// list, too.
 pub fn runs_agree()
     ensures { RunsAgree }
 {}

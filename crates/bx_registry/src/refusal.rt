@@ -143,7 +143,7 @@ fn has_no_pattern(message: &Message) -> bool
         .any(|text| pattern_fault(text.as_str()).is_some())
 }
 
-// Returns `true` if one of the subscription's texts is that of a meta channel.
+// Returns `true` if one of the subscription's texts names a meta channel.
 fn has_meta(message: &Message) -> bool
     ensures { result ≡ list_any is_meta message.now.texts }
 {

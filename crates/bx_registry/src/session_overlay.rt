@@ -104,7 +104,7 @@ impl<'a> SessionOverlay<'a> {
         }
     }
 
-    // Returns the data of live session `number`, if any.
+    // Returns the client id and `ack` of session `number`, if it is live.
     #[tactic(auto, using(crate::proofs::Overlays::knowing))]
     fn known_at(&self, number: u64) -> Option<Known<'_>>
         ensures { option_map (λ k. (k.client.now, k.ack)) result ≡ known_at number (members_of self.now).live }

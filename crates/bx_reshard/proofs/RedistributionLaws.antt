@@ -56,7 +56,7 @@ there [] j h = absurd (omega (arith, h))
 there (s ∷ ss) zero h = record { shard = s; at = refl }
 there (s ∷ ss) (suc j) h = let w = there ss j (omega (arith, h)) in record { shard = w.shard; at = w.at }
 
--- ---- the sessions of the definitions' shard
+-- ---- the sessions of a shard by its definition
 
 abbrev kept_of : ℕ → List Session → Option Kept
 kept_of m us = find_kept m (map kept (live_among us))

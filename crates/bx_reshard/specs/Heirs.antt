@@ -108,7 +108,8 @@ pub record AreLent (placing : ℕ → ℕ → ℕ) (count : ℕ) (olds : List Se
 
 -- ---- Moves
 
--- A reserved session after the moved session, if any, replaced it. `None` if none was reserved.
+-- A reserved session after the moved session, if any, replaced it. The result is `None` if no
+-- session was reserved.
 abbrev pub overlaid : Option Kept → Option Kept → Option Kept
 overlaid None lent = lent
 overlaid (Some k) lent = option_map (λ (x : Kept). k) lent

@@ -32,8 +32,8 @@ abbrev pub AreApart : List State → Type 0
 AreApart shards = (i j : ℕ) (s t : State) → i ≢ j → slice_get shards i ≡ Some s → slice_get shards j ≡ Some t →
     ((n : ℕ) → is_some (session_in s n) ≡ true → session_in t n ≡ None) × ((p : ℕ) → is_some (connect_in s p) ≡ true → connect_in t p ≡ None)
 
--- Shards that agree with the definitions have the same configuration and place, and share no
--- session or connect.
+-- Shards that agree with their definition `shard_at` after `n` entries have the same configuration
+-- and place, and share no session or connect.
 abbrev pub HoldersAreApart : Type 0
 HoldersAreApart = (setup : Setup) (list : List Listed) (taken : List ℕ) (n : ℕ) (shards : List State) → ((k : ℕ) (s : State) → slice_get shards k ≡ Some s → Refines setup list taken k n s) →
     AreAlike shards × AreApart shards
@@ -63,8 +63,8 @@ pub record Redistributed (placing : ℕ → ℕ → ℕ) (count : ℕ) (old new 
   pub many : length new ≡ count
   pub each : (k : ℕ) (s : State) → slice_get new k ≡ Some s → IsRedistributed placing count old k s
 
--- If the old shards agree with the definitions, the new shards agree too, with the new count and
--- placing.
+-- If the old shards agree with their definition `shard_at`, the new shards agree with it for the
+-- new number of shards and the new placing.
 abbrev pub RefinesRedistributed : Type 0
 RefinesRedistributed = (setup : Setup) (list : List Listed) (taken : List ℕ) (n count : ℕ) (placing : ℕ → ℕ → ℕ) (old new : List State) → 0 < setup.config.limits.batch →
     length old ≡ setup.shards → ((m : ℕ) → setup.placing m setup.shards < setup.shards) → ((k : ℕ) (s : State) → slice_get old k ≡ Some s → Refines setup list taken k n s) →

@@ -33,7 +33,8 @@ impl Heirs {
 
     /// Reserves session `number` in shard `slot`, and copies its patterns from `from`.
     ///
-    /// `slot`: the index of the shard, counted from 0.
+    /// `slot`: the index of the shard, counted from 0. Does nothing if the shard already has
+    /// session `number`.
     pub(crate) fn lend_session(
         &mut self,
         alloc: Global,
@@ -59,7 +60,8 @@ impl Heirs {
 
     /// Reserves in shard `slot` the connect that `session` holds at `place` until `deadline`.
     ///
-    /// `deadline`: milliseconds since the server started. Without one, no tick ends the hold.
+    /// `slot`: the index of the shard, counted from 0. `deadline`: milliseconds since the server
+    /// started. Without one, no tick ends the hold. Does nothing if a connect is known at `place`.
     pub(crate) fn lend_connect(
         &mut self,
         slot: usize,
@@ -79,7 +81,7 @@ impl Heirs {
         heir.lend_connect(place, session, deadline)
     }
 
-    /// Stores `session` in shard `slot` as session `number`, if that is reserved there.
+    /// Stores `session` in shard `slot` as session `number`, if that number is reserved there.
     pub(crate) fn settle(&mut self, slot: usize, number: u64, session: Session)
         requires within { slot < length self.old.shards.items }
         ensures sessions { (k n : ℕ) → kept_of self.new.shards.items k n
@@ -95,7 +97,7 @@ impl Heirs {
 
     /// Files the answer to a connect in shard `slot`, if the connect is reserved there.
     ///
-    /// `place`: that of the entry that gave the answer. Moves the connect's waker to `wakers`.
+    /// `place`: the place of the entry that gave the answer. Moves the connect's waker to `wakers`.
     pub(crate) fn file(&mut self, slot: usize, place: u64, answered: Answered, wakers: &mut Wakers)
         requires within { slot < length self.old.shards.items }
         ensures connects { (k p : ℕ) → connect_of self.new.shards.items k p

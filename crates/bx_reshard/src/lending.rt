@@ -14,6 +14,8 @@ use bx_shard::{Sessions, Shard};
 use std::alloc::{AllocError, Global};
 
 /// Reserves in `heirs` the sessions `numbers` of the old shard `old`, with their patterns.
+///
+/// Each is reserved in the one of `count` shards that `placing` chooses.
 pub(crate) fn lend_sessions<P: Placing>(
     alloc: Global,
     heirs: &mut Heirs,
@@ -41,6 +43,8 @@ pub(crate) fn lend_sessions<P: Placing>(
 }
 
 /// Reserves in `heirs` the connects of `old`, held or answered, that are at `places`.
+///
+/// Each is reserved in the one of `count` shards that `placing` chooses for its session.
 pub(crate) fn lend_connects<P: Placing>(
     heirs: &mut Heirs,
     old: &Connects,
@@ -65,6 +69,8 @@ pub(crate) fn lend_connects<P: Placing>(
 }
 
 /// Reserves in `heirs` all sessions and connects of the old shard `old`.
+///
+/// Each is reserved in the one of `count` shards that `placing` chooses for the session.
 pub(crate) fn lend_from<P: Placing>(
     alloc: Global,
     heirs: &mut Heirs,

@@ -37,7 +37,7 @@ abbrev pub CanEditEach : Members → List Edit → Type 0
 CanEditEach ms [] = Unit {0}
 CanEditEach ms (e ∷ es) = CanEdit ms e × CanEditEach (edited ms e) es
 
--- All edits of a change can be made.
+-- All edits of a change can be made, one after another.
 abbrev pub CanEditBy : Members → Edits → Type 0
 CanEditBy ms (Each edits) = CanEditEach ms edits
 CanEditBy ms (Expire moment) = Unit {0}
@@ -64,6 +64,7 @@ abbrev pub opens : Edits → ℕ
 opens (Each edits) = opened_by_each edits
 opens (Expire moment) = 0
 
--- How many sessions can be opened before another record must be reserved.
+-- How many sessions can be opened without allocating: one if a record is reserved (`ready`),
+-- otherwise none.
 abbrev pub room_of : Bool → ℕ
 room_of ready = if ready then 1 else 0

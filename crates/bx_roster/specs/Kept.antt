@@ -12,17 +12,17 @@ abbrev pub session_of : Option (Option Registered) → Option Registered
 session_of None = None
 session_of (Some record_there) = record_there
 
--- The sessions, followed by one more, if any.
+-- The sessions `rs`, followed by the optional one.
 abbrev pub with_one : List Registered → Option Registered → List Registered
 with_one rs None = rs
 with_one rs (Some r) = rs ++ r ∷ []
 
--- The sessions with numbers from 1 to `n`, in ascending order.
+-- The sessions with numbers from 1 to `n` in the map `at`, in ascending order.
 unfoldable pub sessions_to : (ℕ → Record) → ℕ → List Registered
 sessions_to at zero = []
 sessions_to at (suc n) = with_one (sessions_to at n) (session_of (at (suc n)))
 
--- The session is live and stored under its own number.
+-- Session `r`, which is stored under number `n`, is live. Its number is `n`, also in its client id.
 pub record Stands (n : ℕ) (r : Registered) : Type 0 where
   pub number : r.number ≡ n
   pub above : 0 < n
@@ -37,8 +37,9 @@ later due r = record r { due = max r.due due }
 abbrev pub vacant_count : Record → ℕ
 vacant_count o = if is_some o then 1 else 0
 
--- Each live session has a record. There is at most one other record: a vacant one, under the next
--- number to be opened.
+-- The map `at` has a record for each of the `count` live sessions, of which there are at most
+-- `limit`. It may have one other record, a vacant one, under the number `opened + 1`. `records`:
+-- how many records the map has.
 pub record IsKept (at : ℕ → Record) (records limit count opened : ℕ) : Type 0 where
   pub fits : count ≤ limit
   pub small : limit < 2 ^ 64

@@ -7,7 +7,8 @@ use Rattle.bx_roster.specs.Live.{Members}
 use Rattle.bx_roster.specs.Tables.{AllLive, IsTable, due_at}
 use Rattle.bx_roster.specs.declared.due_queue.Due.{Due}
 
--- For how many entries there is room, the late entries, and the waiting ones.
+-- A queue of due moments, with room for `room` entries. A tick moves the entries before its moment
+-- from `waiting` to `late`.
 pub record Queue : Type 0 where
   pub room : ℕ
   pub late : List Due
@@ -30,7 +31,7 @@ IsFrom moment dues = All (λ (d : Due). moment ≤ d.moment.0) dues
 abbrev pub IsLateBy : ℕ → List Due → List Due → Type 0
 IsLateBy moment before after = (moved : List Due) × (after ≡ before ++ moved) × All (λ (d : Due). d.moment.0 < moment) moved
 
--- Whether an entry is for session `r` and at its due moment or before.
+-- Whether entry `d` is for session `r`, at the due moment of the session or before.
 abbrev pub files : Registered → Due → Bool
 files r d = (d.number == r.number) && nat_le d.moment.0 r.due
 
@@ -63,6 +64,7 @@ abbrev pub is_past : ℕ → Option ℕ → Bool
 is_past moment None = false
 is_past moment (Some due) = nat_lt due moment
 
--- The sessions that have an entry, are live, and were due before `moment`, by number.
+-- The numbers in the entries `dues` whose sessions are live and were due before `moment`. Each
+-- number comes as often as it has entries.
 abbrev pub past_numbers : ℕ → List Registered → List Due → List ℕ
 past_numbers moment live dues = filter (λ n. is_past moment (due_at n live)) (map (λ (d : Due). d.number) dues)

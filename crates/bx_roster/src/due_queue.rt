@@ -8,12 +8,12 @@ use std::cmp::Reverse;
 use std::collections::BinaryHeap;
 use std::marker::Model;
 
-/// An entry: when to look at a session, at its due moment or before.
+/// An entry of the queue: a session, and a moment at or before the session's due moment.
 ///
 /// The earliest entry compares as the greatest, so that the heap returns it first.
 #[derive(Clone, Copy, PartialEq, Eq, PartialOrd, Ord)]
 pub(crate) struct Due {
-    /// Milliseconds since the server started.
+    /// The moment, in milliseconds since the server started.
     pub(crate) moment: Reverse<u64>,
     pub(crate) number: u64,
 }
@@ -105,7 +105,7 @@ impl DueQueue {
         self.late.as_slice()
     }
 
-    /// Takes one of the late entries, if any.
+    /// Removes and returns one of the late entries, if any.
     pub(crate) fn take_late(&mut self) -> Option<Due>
         ensures waiting { self.new.waiting ≡ self.old.waiting }
         ensures room { self.new.room ≡ self.old.room }
@@ -133,7 +133,7 @@ fn move_before(waiting: &mut BinaryHeap<Due>, late: &mut Vec<Due>, moment: u64)
     }
 }
 
-// Takes the first entry, if it is before `moment`.
+// Removes and returns the earliest entry, if it is before `moment`.
 fn pop_before(waiting: &mut BinaryHeap<Due>, moment: u64) -> Option<Due>
     requires { IsHeap due_order (heap_items waiting.old) }
     ensures heap { IsHeap due_order (heap_items waiting.new) }

@@ -180,7 +180,7 @@ fn file_each(queue: &mut DueQueue, records: &IndexMap<u64, Option<LiveSession>>)
     }
 }
 
-// Moves a session's due moment to `due`, but never back.
+// Moves the due moment of `session`, if any, to `due`, but never back.
 fn move_on(session: &mut Option<LiveSession>, due: u64)
     ensures { session.new ≡ option_map (later due) session.old }
 {

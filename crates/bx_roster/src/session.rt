@@ -5,7 +5,7 @@ ghost use Rattle.bx_roster.specs.Tables.{known_of};
 use bx_message::Text;
 use std::marker::Model;
 
-/// A session that was opened.
+/// A session that is in the table of live sessions, or is about to be added to it.
 #[derive(Drop)]
 pub struct LiveSession {
     /// The session's number, from 1 in the order of opening.

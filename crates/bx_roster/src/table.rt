@@ -23,7 +23,10 @@ use std::marker::Model;
 ///
 /// So a tick looks only at the entries before its moment. It takes logarithmic time for each
 /// session that it closes, and for each entry of a session that was closed or extended in the
-/// meantime. Making room takes logarithmic time for each opening, on average.
+/// meantime.
+///
+/// If the queue is full when a session is opened, its entries are replaced by one for each live
+/// session. This takes logarithmic time for each opening, on average.
 ///
 /// Model: the live sessions in ascending order of number, and whether one more can be opened
 /// without allocating.

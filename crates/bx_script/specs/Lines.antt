@@ -25,7 +25,7 @@ meaning_of (Resharded shards) = replay.Resharded shards
 meaning_of (Announced nonce) = replay.Announced nonce
 meaning_of Noted = replay.Noted
 
--- The bytes of the script that are left.
+-- The bytes of the script that are left, if they are known. `remaining`: those of a reader.
 abbrev pub unread : {R : Type 0} → (R → Option (List ℕ)) → Lines R → Option (List ℕ)
 unread remaining lines = remaining lines.reader
 
@@ -37,11 +37,12 @@ reads_left lines = lines.reads.left
 abbrev pub CannotRead : {R : Type 0} → Lines R → Type 0
 CannotRead lines = HasEnded lines.reads
 
--- The faults of an operation that reads lines.
+-- `fault` is one that reading `lines` may give: memory ran out, or the script cannot be read any
+-- more.
 abbrev pub IsFault : {R : Type 0} → Lines R → ScriptFault → Type 0
 IsFault lines fault = IsReadFault lines.reads fault
 
--- The dialect of the script.
+-- The dialect in which `lines` are parsed.
 abbrev pub read_as : {R : Type 0} → Lines R → Dialect
 read_as lines = dialect_of lines.dialect
 

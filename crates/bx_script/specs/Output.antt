@@ -3,7 +3,7 @@ use Rattle.std.specs.Prelude.{ℕ, ⊤, IsTrue, List, Option}
 use Rattle.bx_script.specs.declared.{error.ScriptFault.ScriptFault, output.Output.Output}
 use Rattle.bx_script.specs.declared.error.ScriptFault.TheVariants.{Memory, Read, Write}
 
--- The writer's contents.
+-- The bytes that were written to `output`, if they are known. `contents`: those of a writer.
 abbrev pub written : {W : Type 0} → (W → Option (List ℕ)) → Output W → Option (List ℕ)
 written contents output = contents output.writer
 
@@ -15,7 +15,7 @@ interruptions_left output = output.interruptions_left
 abbrev pub HasFailed : {W : Type 0} → Output W → Type 0
 HasFailed output = IsTrue output.failed
 
--- The faults of an operation that writes: memory ran out, or a write failed.
+-- `fault` is one that writing may give: memory ran out, or a write failed, as `output` records.
 abbrev pub IsWriteFault : {W : Type 0} → Output W → ScriptFault → Type 0
 IsWriteFault output Memory = ⊤
 IsWriteFault output Read = ⊥

@@ -14,13 +14,14 @@ is_tick (Tick moment) = true
 abbrev pub numbered : ℕ → Option (List ℕ) → ReadInput → Numbered
 numbered number name read = record { line = number; callback = name; input = read }
 
--- The known bytes grew by a prefix of the text.
+-- The known bytes grew from `old` to `new` by a prefix of `text`.
 pub record AppendsFront (old new : Option (List ℕ)) (text : List ℕ) : Type 0 where
   pub written : List ℕ
   pub unwritten : List ℕ
   pub whole : text ≡ written ++ unwritten
   pub appends : Appends old new written
 
--- The known bytes grew by the text or, on error, by a prefix of it.
+-- The known bytes grew from `old` to `new` by `text` or, if the result `r` is an error, by a prefix
+-- of it.
 abbrev pub Writes : {A E : Type 0} → Option (List ℕ) → Option (List ℕ) → Result A E → List ℕ → Type 0
 Writes old new r text = MatchResult r (λ _. Appends old new text) (λ _. AppendsFront old new text)

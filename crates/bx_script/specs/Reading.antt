@@ -6,31 +6,37 @@ use Rattle.bx_script.specs.Kept.{kept_with}
 use Rattle.bx_script.specs.declared.part.ReadOutcome.{ReadOutcome}
 use Rattle.bx_script.specs.declared.part.ReadOutcome.TheVariants.{Again, More, Line, End}
 
--- The first line of a script, and what follows it.
+-- The first line of a script, without its line feed.
 abbrev pub first_of : List ℕ → List ℕ
 first_of script = before_first is_newline script
 
+-- The bytes of a script after its first line and the line feed.
 abbrev pub rest_of : List ℕ → List ℕ
 rest_of script = after_first is_newline script
 
--- What one read does to the bytes that are left and to those that are kept.
+-- What one read with this outcome changes: the bytes that are left, from `before` to `after`, and
+-- the bytes that are kept of the line, from `kept` to `now`.
 abbrev pub PartRead : ReadOutcome → List ℕ → List ℕ → List ℕ → List ℕ → Type 0
 PartRead Again before after kept now = (after ≡ before) × (now ≡ kept)
 PartRead More before after kept now = (before ≢ []) × (kept_with now (first_of after) ≡ kept_with kept (first_of before)) × (rest_of after ≡ rest_of before)
 PartRead Line before after kept now = (before ≢ []) × (now ≡ kept_with kept (first_of before)) × (after ≡ rest_of before)
 PartRead End before after kept now = (before ≡ []) × (after ≡ before) × (now ≡ kept)
 
--- The same for bytes that are left, as far as the reader's bytes are known.
+-- What one read with the outcome `step` changes, as in `PartRead`. Nothing is stated if the bytes
+-- before it are not known.
 abbrev pub ReadsPart : ReadOutcome → Option (List ℕ) → Option (List ℕ) → List ℕ → List ℕ → Type 0
 ReadsPart step None new kept now = ⊤
 ReadsPart step (Some before) None kept now = ⊥
 ReadsPart step (Some before) (Some after) kept now = PartRead step before after kept now
 
--- A line was read, and `kept` is what is kept of it. Or no line was left.
+-- If a line was found, it is the first one of `before`: `kept` is what is kept of it, and `after`
+-- comes after it. Otherwise no byte was left.
 abbrev pub LineRead : Bool → List ℕ → List ℕ → List ℕ → Type 0
 LineRead true before after kept = (before ≢ []) × (kept ≡ kept_with [] (first_of before)) × (after ≡ rest_of before)
 LineRead false before after kept = (before ≡ []) × (after ≡ [])
 
+-- The result of reading a line, as in `LineRead`. Nothing is stated if the bytes before it are not
+-- known.
 abbrev pub ReadsLine : Bool → Option (List ℕ) → Option (List ℕ) → List ℕ → Type 0
 ReadsLine found None new kept = ⊤
 ReadsLine found (Some before) None kept = ⊥
@@ -41,13 +47,15 @@ abbrev pub IsBegun : Bool → List ℕ → List ℕ → Type 0
 IsBegun true before after = before ≢ []
 IsBegun false before after = after ≡ before
 
--- What is kept so far and what is left of the line add up to what is kept of the whole line.
+-- While a line is read, `kept` and the rest of the line give what is kept of the whole line.
+-- Nothing is stated if the bytes before the line are not known.
 abbrev pub ReadingOn : Bool → Option (List ℕ) → Option (List ℕ) → List ℕ → Type 0
 ReadingOn began None new kept = ⊤
 ReadingOn began (Some before) None kept = ⊥
 ReadingOn began (Some before) (Some after) kept = IsBegun began before after × (kept_with kept (first_of after) ≡ kept_with [] (first_of before)) × (rest_of after ≡ rest_of before)
 
--- The first `n` of the shown bytes belong to the line, and `used` are consumed, including its end.
+-- The first `n` of the `shown` bytes belong to the line, and `used` are consumed, including the
+-- line feed, if any.
 abbrev pub IsCut : List ℕ → ℕ → ℕ → ReadOutcome → Type 0
 IsCut shown n used Again = ⊥
 IsCut shown n used More = (shown ≢ []) × (n ≡ length shown) × (used ≡ length shown) × (position_or_len is_newline shown ≡ length shown)

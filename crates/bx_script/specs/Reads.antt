@@ -7,7 +7,7 @@ use Rattle.bx_script.specs.declared.error.ScriptFault.TheVariants.{Memory, Read,
 abbrev pub HasEnded : Reads → Type 0
 HasEnded reads = IsTrue reads.failed ⊎ (reads.left ≡ 0)
 
--- The faults of an operation that reads: memory ran out, or the script cannot be read any more.
+-- The faults that reading may give: memory ran out, or the script cannot be read any more.
 abbrev pub IsReadFault : Reads → ScriptFault → Type 0
 IsReadFault reads Memory = ⊤
 IsReadFault reads Read = HasEnded reads

@@ -45,11 +45,11 @@ pub data Taken : Type 0 where
   Refused : (status : ℕ) → Taken
   Documents : (callback : Option (List ℕ)) → (documents : List (List ℕ)) → Taken
 
--- A transport error, with its status.
+-- A body or query that is rejected for a transport error, with the status of the error.
 abbrev pub not_taken : TransportError → Taken
 not_taken error = Refused (code_of (transport_status error))
 
--- The documents of a body, without a callback.
+-- What a body is read as: its documents, without a callback, or an error.
 abbrev pub body_by : Result (List (List ℕ)) TransportError → Taken
 body_by (Ok documents) = Documents None documents
 body_by (Err error) = not_taken error
@@ -62,7 +62,7 @@ body_taken body = body_by (post_taken None body)
 abbrev pub form_taken : List ℕ → Taken
 form_taken form = body_by (post_taken (Some (codes "application/x-www-form-urlencoded")) form)
 
--- The documents of a query, with the name of its callback.
+-- What a query is read as: its documents with the name of its callback, or an error.
 abbrev pub query_by : Result (List ℕ × List (List ℕ)) TransportError → Taken
 query_by (Ok query) = Documents (Some query.0) query.1
 query_by (Err error) = not_taken error
@@ -81,7 +81,8 @@ pub data Line : Type 0 where
   Announced : (nonce : ℕ) → Line
   Noted : Line
 
--- The line of a request at `moment`. Its nonce is 0 until `with_nonces` sets it.
+-- The line of a request at `moment`, or a rejected line. The nonce of the request is 0 until
+-- `with_nonces` sets it.
 abbrev pub handed_by : ℕ → Taken → Line
 handed_by moment (Refused status) = Rejected status
 handed_by moment (Documents callback documents) = Accepted callback (read_by moment 0 (request_messages documents))
@@ -91,7 +92,8 @@ abbrev pub reshards : Option ℕ → Line
 reshards None = Bad
 reshards (Some shards) = if nat_lt 0 shards && nat_le shards 64 then Resharded shards else Bad
 
--- The same, from the digits of the number. More than `BODY_LIMIT` bytes are bad, too.
+-- A line that changes the number of shards to that in `digits`. It is bad if `digits` has more than
+-- `BODY_LIMIT` bytes, or its number is not from 1 to 64.
 abbrev pub resharded_by : List ℕ → Line
 resharded_by digits = if nat_lt BODY_LIMIT (length digits) then Bad else reshards (number_of digits)
 
@@ -214,19 +216,20 @@ abbrev pub response_text : Option (List ℕ) → List Item → List ℕ
 response_text None items = body_text items
 response_text (Some name) items = callback_text name items
 
--- What is printed for an input that is whole: the status of its refusal, nothing for a tick, or 200
--- and the response.
+-- What is printed for an input once all its messages are answered: the status of a rejected input,
+-- nothing for a tick, or 200 and the response.
 abbrev pub result_text : Numbered → ReadInput → Result (List Item) Refusal → List ℕ
 result_text n input (Err refusal) = line_text n.line (decimal (code_of (refusal_status refusal)))
 result_text n (Tick moment) (Ok items) = []
 result_text n _ (Ok items) = line_text n.line (codes "200 " ++ response_text n.callback items)
 
--- What is printed for an out, by its input.
+-- What is printed for the out `o` of the input `n`, or nothing if there is no such input.
 abbrev pub out_by : Out → Option Numbered → List ℕ
 out_by o None = []
 out_by o (Some n) = result_text n n.input o.result
 
--- What is printed for the inputs that the input `index` makes whole.
+-- What is printed when the input number `index` is applied: the results of all inputs that it
+-- completes. An input is complete once all its messages are answered.
 abbrev pub outs_at : List Whole → List Numbered → ℕ → List ℕ
 outs_at ws numbered index = flat_map (λ (o : Out). out_by o (slice_get numbered o.input)) (whole_at index ws)
 

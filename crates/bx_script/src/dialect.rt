@@ -1,6 +1,6 @@
 //! The dialects of a script.
 
-/// The dialect in which lines are parsed.
+/// Which kinds of lines are allowed: those of a script, or those of a record.
 #[derive(Clone, Copy, Debug, PartialEq, Eq)]
 pub enum Dialect {
     /// A script of requests, ticks and changes of the number of shards.

@@ -7,8 +7,8 @@ use std::alloc::AllocError;
 
 /// The most bytes of a line that are kept.
 ///
-/// The body or query of a longer line is too large in any case. Before it, at most a zero, 20
-/// digits, a letter and two spaces are kept.
+/// The body or query of a longer line is too large in any case. Before the body or query, at most a
+/// zero, 20 digits, a letter and two spaces are kept.
 pub(crate) const KEPT_LIMIT: usize = BODY_LIMIT + 32;
 
 // Appends the next part of the line to `kept`, up to `KEPT_LIMIT` bytes. If the line begins with
@@ -26,7 +26,8 @@ pub(crate) fn keep(kept: &mut Vec<u8>, part: &[u8]) -> Result<(), AllocError>
     keep_on(kept, rest)
 }
 
-// Appends `part` to `kept` as `keep` does, if `kept` is not empty.
+// Appends `part` to `kept`, up to `KEPT_LIMIT` bytes. `kept` must not be empty. If it is a single
+// zero, leading zeros of `part` are dropped.
 fn keep_on(kept: &mut Vec<u8>, part: &[u8]) -> Result<(), AllocError>
     requires { 0 < vec_len kept.old }
     ensures { OnOk result (kept.new.items ≡ kept_with kept.old.items part.now) }
@@ -36,8 +37,7 @@ fn keep_on(kept: &mut Vec<u8>, part: &[u8]) -> Result<(), AllocError>
     kept.extend_from_slice(&part[..room])
 }
 
-// Returns `part`. If only a zero is kept, omits the leading zeros of `part`, since they change no
-// number.
+// Returns `part`, without its leading zeros if `kept` is a single zero. They change no number.
 fn significant_part<'a>(kept: &[u8], part: &'a [u8]) -> &'a [u8]
     ensures { result.now ≡ (if is_lone_zero kept.now then without_zeros part.now else part.now) }
 {

@@ -53,7 +53,7 @@ pub enum Line {
 }
 
 impl Line {
-    /// Parses a line.
+    /// Parses a line of a script or a record, without its line feed.
     ///
     /// A line is a moment in milliseconds, in decimal digits, a space, and one of:
     ///
@@ -72,7 +72,9 @@ impl Line {
     /// The note of an answer has no moment. It is `A`, a space, a place, a space, and the 64
     /// hexadecimal digits of a SHA-256. Only records have notes.
     ///
-    /// Any other line is [`Bad`](Line::Bad). Copies a body once.
+    /// A line is [`Rejected`](Line::Rejected) if no documents can be read from its body or query,
+    /// for example because it is too large. A line that has none of the forms above is
+    /// [`Bad`](Line::Bad). Documents are not parsed, and a body is copied once.
     ///
     /// # Errors
     ///
@@ -109,7 +111,7 @@ fn cut_at_space(text: &[u8]) -> (&[u8], &[u8])
     }
 }
 
-// Returns the index of the first space.
+// Returns the index of the first space in `text`, if any.
 fn space_in(text: &[u8]) -> Option<usize>
     ensures { result ≡ position is_space text.now }
 {

@@ -77,7 +77,7 @@ impl<W: Write> Output<W> {
         error.kind() == ErrorKind::Interrupted && self.interruptions_left > 0
     }
 
-    // Marks the writer as failed, and converts `error`.
+    // Records that a write failed, and converts `error` to a fault.
     fn fail(&mut self, error: &Error) -> ScriptFault
         ensures failed { HasFailed self.new }
         ensures bytes { written W.contents self.new ≡ written W.contents self.old }

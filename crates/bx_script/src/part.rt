@@ -35,7 +35,7 @@ pub struct Reads {
 impl Reads {
     ghost use Rattle.bx_script.specs.Reads.{HasEnded, IsReadFault};
 
-    // Allows [`MAX_READS`] reads.
+    // Creates a count that allows [`MAX_READS`] reads.
     pub(crate) fn new() -> Reads
         ensures left { result.left ≡ 2 ^ 40 }
         ensures sound { ¬ HasEnded result }
@@ -46,8 +46,8 @@ impl Reads {
         }
     }
 
-    // Reads a line into `kept`, without the bytes that do not matter. Returns `false` if there is
-    // no line.
+    // Reads a line, and stores at most `KEPT_LIMIT` bytes of it in `kept`. Returns `false` if the
+    // script has no more lines.
     pub(crate) fn read_text<R: BufRead>(
         &mut self,
         reader: &mut R,
@@ -71,7 +71,8 @@ impl Reads {
         Err(ScriptFault::Read)
     }
 
-    // Reads what the reader has buffered, up to the end of the line.
+    // Reads what the reader has buffered, up to the end of the line, and adds to `kept` the part of
+    // it that is kept.
     fn read_part<R: BufRead>(
         &mut self,
         reader: &mut R,
@@ -97,7 +98,7 @@ impl Reads {
     }
 }
 
-// Returns how many of the bytes belong to the line, how many to consume, and the outcome.
+// Returns how many bytes of `shown` belong to the line, how many to consume, and the outcome.
 fn cut(shown: &[u8]) -> (usize, usize, ReadOutcome)
     ensures parts { IsCut shown.now result.0 result.1 result.2 }
     ensures before { result.0 ≤ length shown.now }
@@ -112,7 +113,7 @@ fn cut(shown: &[u8]) -> (usize, usize, ReadOutcome)
     }
 }
 
-// Returns the index of the first line feed.
+// Returns the index of the first line feed in `shown`, if any.
 fn newline_in(shown: &[u8]) -> Option<usize>
     ensures { result ≡ position is_newline shown.now }
 {

@@ -29,7 +29,7 @@ pub fn write_bad<W: Write>(writer: &mut Output<W>, number: u64) -> Result<(), Sc
     write_line(writer, number, b"bad", b"")
 }
 
-/// Writes `held` for line `number`, which has a message without an answer at the end.
+/// Writes `held` for line `number`, a request that is still held at the end of the script.
 ///
 /// # Errors
 ///

@@ -6,12 +6,12 @@ use Rattle.bx_entry.specs.Words.{PlacedAnswer, answer_of, Filed, Kept, kept_answ
 use Rattle.bx_session.specs.declared.answered.Answered.{Answered}
 use Rattle.bx_session.specs.Views.{answered_of}
 
--- The place of the connect or rider, and its answer.
+-- A filed answer as a pair: the place of its connect or rider, and the answer.
 abbrev pub filed_as : Filed → ℕ × PlacedAnswer
 filed_as f = (f.connect, answer_of f)
 
--- The place of the connect or rider, and its answer, from what the program returns. `place`: the
--- place of the entry that gives the answer.
+-- Answer `a`, as the program returns it, as a pair: the place of its connect or rider, and the
+-- answer. `place`: the place of the entry that gives it.
 abbrev pub filed_at : ℕ → Answered → ℕ × PlacedAnswer
 filed_at place a = (a.place, record { place = place; events = a.answer.events; reply = a.answer.reply })
 

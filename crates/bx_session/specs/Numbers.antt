@@ -4,7 +4,7 @@ use Rattle.bx_advice.specs.declared.config.Config.{Config}
 use Rattle.bx_entry.specs.Words.{Kept, kept_step, session}
 use Rattle.bx_entry.specs.declared.entry.Entry.{Entry}
 
--- An entry forms at most one batch.
+-- A session forms at most one batch for each entry.
 abbrev pub NumbersStep : Type 0
 NumbersStep = (config : Config) (k : Kept) (e : Entry) → (kept_step config k e).num ≤ k.num + 1
 

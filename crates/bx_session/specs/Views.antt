@@ -38,11 +38,11 @@ deadline_of p = if nat_lt (deadline p) (2 ^ 64) then Some (deadline p) else None
 
 -- ---- Answers
 
--- An answer with these parts.
+-- The answer to the connect or rider at `place`: the events `given`, and `reply`.
 abbrev pub answered : ℕ → List Event → Reply → Answered
 answered place given reply = record { place = place; answer = record { events = given; reply = reply } }
 
--- The answer to a connect, with the events `given`.
+-- The answer to connect `p`: the events `given`, and a reply with `outcome` and `ack`.
 abbrev pub answer_to : Config → Pending → List Event → Outcome → AckReply → Answered
 answer_to config p given outcome ack = answered p.place given (connect_reply config p.client p.id outcome ack)
 

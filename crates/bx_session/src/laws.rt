@@ -7,7 +7,7 @@ pub fn files_alike()
     ensures { FilesAlike }
 {}
 
-/// Proves that an entry forms at most one batch.
+/// Proves that a session forms at most one batch for each entry.
 pub fn numbers_step()
     ensures { NumbersStep }
 {}

@@ -23,7 +23,7 @@ pub struct PendingConnect {
     id: Option<RawJson>,
     moment: u64,
     hold: u64,
-    // Empty, with room for one event.
+    // An empty list with room for one event.
     room: Vec<SharedEvent>,
 }
 

@@ -6,7 +6,7 @@ use bx_message::SharedEvent;
 use std::alloc::{AllocError, Global};
 use std::marker::Model;
 
-/// Room for the events of an answer, so that sending them does not allocate.
+/// Room for the events of the answer to a rider, so that sending them does not allocate.
 ///
 /// Model: for how many events there is room.
 #[derive(Drop)]

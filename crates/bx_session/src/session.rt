@@ -27,7 +27,7 @@ use std::marker::Model;
 /// One session: its queued events, its held connect and its number of patterns.
 ///
 /// A connect asks for events, and is held if there are none. An acknowledging session keeps the
-/// events that it sends until its client acknowledges them. A plain session drops them.
+/// events that it sends until its client acknowledges them. Any other session drops them at once.
 ///
 /// With too many patterns or events a session overflows. It drops its events, and later connects
 /// fail. The caller, which stores the patterns, must then remove them. A held connect stays held.
@@ -93,7 +93,7 @@ impl Session {
         }
     }
 
-    /// Returns the session's number.
+    /// Returns the number with which the session was opened.
     pub fn number(&self) -> u64
         ensures { result ≡ self.now.kept.number }
     {
@@ -192,8 +192,9 @@ impl Session {
         self.has_overflowed = true;
     }
 
-    // Returns the acknowledgement for the reply to a connect with this outcome. It is the number of
-    // the last batch if the connect succeeds and the session acknowledges.
+    // Returns the acknowledgement for the reply to a connect with `outcome`.
+    //
+    // It is the number of the last batch, if the connect succeeds and the session acknowledges.
     fn ack_for(&self, outcome: Outcome) -> AckReply
         ensures { result ≡ ack_given self.now.kept.ack self.now.kept.num outcome }
     {
@@ -205,7 +206,7 @@ impl Session {
         }
     }
 
-    // Answers the held connect, if any, without events.
+    // Answers the held connect, if any, without events and with `outcome`.
     fn release(&mut self, config: &Config, outcome: Outcome) -> Option<Answered>
         ensures answer { (place : ℕ) → option_to_list result ≡ map answered_of (answers_of (released config.now place outcome) self.old.kept) }
         ensures kept { self.new.kept ≡ after unheld self.old.kept }
@@ -256,7 +257,7 @@ impl Session {
         }
     }
 
-    // Answers `connect` with `events`. Without events, holds it if it may be held.
+    // Answers `connect` with `events`. If there are none and it may be held, holds it instead.
     fn settle(
         &mut self,
         config: &Config,
@@ -283,7 +284,9 @@ impl Session {
         None
     }
 
-    // Marks the events just sent as outstanding. A plain session drops them.
+    // Marks the `count` events just sent as outstanding.
+    //
+    // If the session does not acknowledge, drops them instead.
     fn give(&mut self, config: &Config, count: usize)
         requires given { count ≡ length (given config.now (resumed self.old.kept)) }
         requires countable { Countable self.old.kept }
@@ -303,7 +306,8 @@ impl Session {
     /// An acknowledging session drops the outstanding batch if `acked` is at least its number. If a
     /// batch is still outstanding, the session sends it again. If not, it forms the next one.
     ///
-    /// A plain session sends its first events, at most one batch, and drops them.
+    /// If the session does not acknowledge, it sends its first events, at most one batch, and drops
+    /// them.
     ///
     /// If there are no events to send, the connect is held if it may be, and otherwise answered.
     ///
@@ -335,7 +339,9 @@ impl Session {
         })
     }
 
-    // Answers or holds `connect`, while no other is held.
+    // Acknowledges `acked`, and answers or holds `connect`. After an overflow, fails it instead.
+    //
+    // No other connect may be held.
     fn admit(
         &mut self,
         config: &Config,
@@ -357,9 +363,9 @@ impl Session {
         self.settle(config, connect, events)
     }
 
-    /// Clones `event` for [`deliver`](Self::deliver) if an acknowledging session holds a connect.
+    /// Clones `event` for [`deliver`](Self::deliver) if it is to be both sent and kept.
     ///
-    /// The event is then both sent and kept. In all other cases, returns `None`.
+    /// This is so if the session acknowledges and holds a connect. Otherwise returns `None`.
     ///
     /// # Errors
     ///
@@ -450,8 +456,8 @@ impl Session {
 
     /// Removes the events to send with the reply to a rider, and returns them in `room`.
     ///
-    /// A plain session sends its first events, at most one batch. An acknowledging session sends
-    /// none. Does not allocate.
+    /// These are the first queued events, at most one batch; none if the session acknowledges.
+    /// Does not allocate.
     ///
     /// Policy of this server.
     pub fn ride(&mut self, config: &Config, room: RideRoom) -> Vec<SharedEvent>
@@ -493,7 +499,7 @@ impl Session {
     }
 }
 
-// Clones a part of `events`: at most `count`, after those to skip.
+// Clones at most `count` of `events`, after skipping the first `behind`.
 fn clone_part(
     alloc: Global,
     events: Iter<'_, SharedEvent>,

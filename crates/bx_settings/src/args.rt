@@ -8,7 +8,7 @@ use bx_advice::{BODY_LIMIT, Config, Options};
 use bx_message::number_of;
 use std::net::SocketAddr;
 
-/// Parses positional arguments, or returns `None` if they are wrong.
+/// Parses the positional arguments of `bayeuxd`, or returns `None` if they are wrong.
 ///
 /// The arguments are, in this order:
 ///
@@ -17,7 +17,7 @@ use std::net::SocketAddr;
 /// - `timeout`, `interval` and `max_interval`: in milliseconds, up to 32 bits
 /// - the seed: 64 hexadecimal digits
 /// - the number of connections after which the server ends: 0 for any number
-/// - optionally the options: as for [`Options::read`]
+/// - optionally the options: `r` for `ride`, `a` for `anonymous`, `ra` for both, `-` for neither
 /// - optionally the number of events that may wait for a session: 1 to 65,536, by default 1,024
 pub fn parse_args(args: &[String]) -> Option<Settings<'_>>
     ensures { IfSome result (IsSaidBy (map string_bytes args.now)) }
@@ -67,7 +67,9 @@ fn config_of(shards: &[u8], timeout: &[u8], interval: &[u8], max_interval: &[u8]
     )
 }
 
-// Applies the optional arguments to `config`, or returns `None` if they are wrong.
+// Applies the optional arguments `args` to `config`, or returns `None` if they are wrong.
+//
+// They are the options and the maximum number of a session's events.
 fn with_more(config: Config, args: &[String]) -> Option<Config>
     ensures shards { IfSome result (λ c. c.shards ≡ config.shards) }
     ensures times { IfSome result (λ c. (c.timeout ≡ config.timeout) × (c.interval ≡ config.interval) × (c.max_interval ≡ config.max_interval)) }

@@ -29,7 +29,9 @@ const BODY: &str = "a number from 1 to 1048576";
 
 const CONNECTIONS: &str = "a number";
 
-/// Parses the flags in `args`.
+/// Parses the command-line flags of `bayeuxd`.
+///
+/// `args`: the arguments without the program's name.
 ///
 /// `processors`: the number of processors. Without `--shards`, there is one shard for each of them,
 /// but at least 1 and at most 64.
@@ -118,7 +120,9 @@ fn config_of(
     Config::new(shards, timeout, interval, max_interval)
 }
 
-// Applies `with` to the value of flag `name`, if it is given, or returns `None` if it is wrong.
+// Applies `with` to `config` and the value of flag `name`, or returns `config` without the flag.
+//
+// Returns `None` if the value is wrong.
 fn with_number<F: FnOnce(Config, u32) -> Option<Config>>(
     config: Config,
     matches: &ArgMatches<'_>,
@@ -148,7 +152,9 @@ fn body_of(matches: &ArgMatches<'_>) -> Option<usize>
     Some(bytes)
 }
 
-// Returns the value of flag `name` in milliseconds, by default that of `standard`.
+// Returns the time that flag `name` gives, in milliseconds. Without the flag, it is `standard`.
+//
+// Returns the error for the user if the value is wrong.
 fn read_time(
     alloc: Global,
     command: &mut Command<'_>,
@@ -170,7 +176,7 @@ fn value_of<'a>(matches: &ArgMatches<'a>, name: &str, standard: &'static str) ->
     }
 }
 
-// Creates the error for a wrong value of flag `name`. `right`: the accepted values.
+// Creates the error for a wrong value of flag `name`. `right`: what values are accepted, in words.
 fn wrong(
     alloc: Global,
     command: &mut Command<'_>,
@@ -298,7 +304,7 @@ fn with_running<'a>(alloc: Global, command: Command<'a>) -> Result<Command<'a>, 
         "Record the SHA-256 of each answer too",
     )
     .requires_arg("record")?;
-    // `--figures` is its former name.
+    // `--figures` is the former name of `--metrics`.
     let metrics = value(
         alloc,
         "metrics",

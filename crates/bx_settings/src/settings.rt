@@ -7,11 +7,13 @@ use bx_advice::Config;
 /// The source of the seed of the generator of nonces.
 #[derive(Clone, Copy, Debug, PartialEq, Eq)]
 pub enum Seed<'a> {
-    /// The operating system.
+    /// The operating system, which provides random bytes.
     Drawn,
-    /// The file with this name, which [`read_seed`](crate::read_seed) reads.
+    /// The file with this name, which contains the seed as hexadecimal digits.
+    ///
+    /// [`read_seed`](crate::read_seed) reads it.
     File(&'a str),
-    /// The arguments. The value is the seed itself.
+    /// The positional arguments, which gave this seed.
     Said([u8; 32]),
 }
 
@@ -20,17 +22,17 @@ pub enum Seed<'a> {
 pub struct Settings<'a> {
     /// The address to listen on: a host name or IP address, and a port, as in `localhost:8087`.
     pub listen: &'a str,
-    /// The address of the read-only listener, if any, in the form of `listen`.
+    /// The address of the read-only listener, if any: a host name or IP address, and a port.
     pub readers: Option<&'a str>,
     /// The number of shards, the times in milliseconds, the limits and the options.
     pub config: Config,
     /// The greatest length in bytes of a request's body or query: 1 to [`bx_advice::BODY_LIMIT`].
     pub body: usize,
-    /// The seed of the generator of nonces.
+    /// The source of the seed of the generator of nonces.
     pub seed: Seed<'a>,
     /// The number of connections after which the server ends, or 0 if it serves any number.
     pub connections: u64,
-    /// The address of the listener for metrics, if any, in the form of `listen`.
+    /// The address of the listener for metrics, if any: a host name or IP address, and a port.
     pub metrics: Option<&'a str>,
     /// The file to create for the record, if any.
     pub record_file: Option<&'a str>,

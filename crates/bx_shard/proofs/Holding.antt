@@ -1,4 +1,4 @@
--- A shard still agrees with the definitions over a longer list, or if nothing has changed.
+-- A shard still agrees with its definition `shard_at` if the list grows or nothing has changed.
 use Rattle.std.proofs.Common.{◌≡◌, ℕ, ◌<◌, Option, Some, None, List, ◌++◌, length, take, map, filter, find, option_map, slice_get, ◌==◌, sym, ap, ◌∙◌, arith, length-append}
 use Rattle.std.proofs.lemmas.List.{take-append-le}
 use Rattle.bx_advice.specs.declared.config.Config.{Config}

@@ -1,4 +1,4 @@
--- A shard still agrees with the definitions after it applies the next entry.
+-- A shard still agrees with its definition `shard_at` after it applies the next entry.
 use Rattle.std.proofs.Common.{◌≡◌, ◌≢◌, ⊎_elim, get_or, ℕ, ◌+◌, ◌<◌, ◌≤◌, Bool, true, false, is_some, Option, Some, None, List, [], ◌∷◌, ◌++◌, length, take, map, filter, flat_map, option_map, slice_get, ◌==◌, refl, sym, ap, ◌∙◌, subst, arith, eq-eqb, length-take}
 use Rattle.std.proofs.lemmas.Bool.{both_ways}
 use Rattle.std.proofs.lemmas.{Grind.common_steps, List.length_push, List.map-append, List.Elements.All-map, List.Elements.filter-append, List.Folds.find-append}

@@ -1,4 +1,4 @@
--- The next entry can be applied to a shard that agrees with the definitions.
+-- The next entry can be applied to a shard that agrees with its definition `shard_at`.
 use Rattle.std.proofs.Common.{◌≡◌, ℕ, ◌<◌, ◌≤◌, Bool, Option, Some, None, List, slice_get, refl, sym, ◌∙◌, subst, arith}
 use Rattle.std.specs.Option.{IfSome}
 use Rattle.bx_advice.specs.Limits.{greatest_length}

@@ -1,4 +1,4 @@
--- A tick ends all due holds one by one, with the effect that the definitions give it.
+-- Ending all due holds one by one has the effect that the definition of a tick has on each session.
 use Rattle.std.proofs.Common.{⊎_elim, Contains, ◌≡◌, ◌≢◌, ◌⊎◌, inl, inr, ℕ, nat_eq, ◌+◌, ◌<◌, ◌≤◌, ◌^◌, true, false, cond, Option, Some, option_map, [], ◌∷◌, refl, sym, ap, ◌∙◌, arith}
 use Rattle.std.proofs.lemmas.{Bool.eqb-true, Bool.eq-eqb, Bool.ne_eqb, Grind.common_steps}
 use Rattle.bx_history.proofs.Tests.{either}

@@ -1,4 +1,4 @@
--- A shard still agrees with the definitions after its wakers change.
+-- A shard still agrees with its definition `shard_at` after its wakers change.
 use Rattle.std.proofs.Common.{arith, ◌≡◌, ℕ, nat_eq, if◌then◌else◌, Bool, Option, None, option_map, refl, sym, ap, ◌∙◌}
 use Rattle.futures.specs.declared.task.waker.Waker.{Waker}
 use Rattle.bx_connects.specs.declared.connects.ConnectState.{ConnectState}

@@ -15,8 +15,8 @@ abbrev pub filing_each : ℕ → List Answered → (ℕ → Option ConnectState)
 filing_each place [] connects p = connects p
 filing_each place (a ∷ rest) connects p = filing_each place rest (filing place (Some a) connects) p
 
--- The answers that a session gives when `change` is applied to it, as values of the program's type.
--- A session that is not in the shard gives none.
+-- The answers that a session gives when `change` is applied to it, each with the place of its
+-- connect. A session that is not in the shard gives no answers.
 abbrev pub answers_by : (Session → Session) → Option Kept → List Answered
 answers_by change None = []
 answers_by change (Some k) = map answered_of (answers_of change k)
@@ -27,7 +27,7 @@ abbrev pub connect_filing : ℕ → Pending → (Session → Session) → Option
 connect_filing number connect change None connects p = connects p
 connect_filing number connect change (Some k) connects p = filing_each connect.place (answers_by change (Some k)) (holding number connect connects) p
 
--- The connects without the one at a place, if a place is given.
+-- The connects without the one at the given place. If no place is given, they are unchanged.
 abbrev pub forgetting : Option ℕ → (ℕ → Option ConnectState) → ℕ → Option ConnectState
 forgetting None connects p = connects p
 forgetting (Some place) connects p = if nat_eq place p then None else connects p

@@ -1,4 +1,4 @@
--- When a shard of the program agrees with the definitions.
+-- When a shard of the program agrees with its definition `shard_at` in `Shards.antt`.
 use Rattle.std.specs.Prelude.{ℕ, ◌+◌, ◌<◌, ◌≤◌, ◌==◌, ◌≡◌, ◌≢◌, length, Bool, true, false, List, [], ◌∷◌, ◌++◌, filter, find, slice_get, nat_eq, if◌then◌else◌, Option, Some, None, option_map, IsSome, take}
 use Rattle.std.specs.Map.{keys_of}
 use Rattle.futures.specs.declared.task.waker.Waker.{Waker}
@@ -26,7 +26,7 @@ filed_with_place None = None
 filed_with_place (Some (states.Held session deadline waker)) = None
 filed_with_place (Some (states.Filed session place answer)) = Some (placed place answer)
 
--- The message at `place` is an accepted connect or rider of `session`, which is placed in `shard`.
+-- The message at `place` is an accepted connect or rider of a session that is placed in `shard`.
 pub record IsConnectOf (setup : Setup) (list : List Listed) (shard place : ℕ) : Type 0 where
   pub session : ℕ
   pub waits : option_map (λ (j : Judged). j.slot) (slice_get (registry setup.config list).judged place) ≡ Some (Waiting session)
@@ -37,10 +37,11 @@ pub record IsOwn (setup : Setup) (list : List Listed) (shard place session : ℕ
   pub waits : option_map (λ (j : Judged). j.slot) (slice_get (registry setup.config list).judged place) ≡ Some (Waiting session)
   pub stands : is_placed_in setup shard session ≡ true
 
--- The program's shard `s` agrees with the definitions' shard `shard` after `n` entries of `list`,
--- without the answers to the connects at the places in `taken`. All places in `taken` are in the
--- list. A connect of the shard at one of them is below `n` and no longer known. Each known connect
--- has a session that is placed in the shard.
+-- The program's shard `s` agrees with its definition `shard_at` after `n` entries of `list`. It has
+-- the same sessions and filed answers. The answers to the messages at the places in `taken` were
+-- taken or dropped. All these places are in the list. If one of them is the place of a connect of
+-- the shard, it is below `n`, and the connect is no longer known. Each known connect has a session
+-- that is placed in the shard.
 pub record Refines (setup : Setup) (list : List Listed) (taken : List ℕ) (shard n : ℕ) (s : State) : Type 0 where
   pub setup_is : s.setup ≡ setup
   pub index_is : s.index ≡ shard
@@ -53,23 +54,23 @@ pub record Refines (setup : Setup) (list : List Listed) (taken : List ℕ) (shar
   pub gone : (p : ℕ) → is_taken taken p ≡ true → IsConnectOf setup list shard p → (p < n) × (connect_in s p ≡ None)
   pub owned : (p m : ℕ) → session_at (connect_in s p) ≡ Some m → IsOwn setup list shard p m
 
--- A shard without sessions, connects and applied entries agrees with the definitions over an empty
--- list.
+-- A shard without sessions, connects and applied entries agrees with its definition `shard_at`, if
+-- the list is empty.
 abbrev pub RefinesAtFirst : Type 0
 RefinesAtFirst = (setup : Setup) (shard : ℕ) (s : State) → s.setup ≡ setup → s.index ≡ shard → s.place ≡ 0 → IsSound s →
     ((m : ℕ) → session_in s m ≡ None) → ((p : ℕ) → connect_in s p ≡ None) → Refines setup [] [] shard 0 s
 
--- A shard still agrees with the definitions after it applies the next entry of the list.
+-- A shard still agrees with its definition `shard_at` after it applies the next entry of the list.
 abbrev pub RefinesOnwards : Type 0
 RefinesOnwards = (setup : Setup) (list : List Listed) (taken : List ℕ) (shard n : ℕ) (e : Entry) (old new : State) → 0 < setup.config.limits.batch →
     slice_get (entries setup.config list) n ≡ Some e → Refines setup list taken shard n old → Applied old e new → IsSound new → Refines setup list taken shard (n + 1) new
 
--- A shard still agrees with the definitions after a call that changes nothing.
+-- A shard still agrees with its definition `shard_at` after a call that changes nothing.
 abbrev pub RefinesStill : Type 0
 RefinesStill = (setup : Setup) (list : List Listed) (taken : List ℕ) (shard n : ℕ) (old new : State) →
     Refines setup list taken shard n old → IsAsBefore old new → IsSound new → Refines setup list taken shard n new
 
--- A shard still agrees with the definitions when the list grows.
+-- A shard still agrees with its definition `shard_at` when the list grows.
 abbrev pub RefinesLonger : Type 0
 RefinesLonger = (setup : Setup) (list more : List Listed) (taken : List ℕ) (shard n : ℕ) (s : State) → Refines setup list taken shard n s → Refines setup (list ++ more) taken shard n s
 
@@ -82,23 +83,23 @@ pub record Took (place : ℕ) (old new : State) : Type 0 where
   pub sessions : (n : ℕ) → session_in new n ≡ session_in old n
   pub connects : (p : ℕ) → connect_in new p ≡ (if nat_eq place p then taken_from (connect_in old place) else connect_in old p)
 
--- A shard still agrees with the definitions after an answer is taken from it.
+-- A shard still agrees with its definition `shard_at` after an answer is taken from it.
 abbrev pub RefinesTaken : Type 0
 RefinesTaken = (setup : Setup) (list : List Listed) (taken : List ℕ) (shard n place : ℕ) (old new : State) → 0 < setup.config.limits.batch →
     Refines setup list taken shard n old → IsSome (filed_answer (connect_in old place)) → Took place old new → IsSound new → Refines setup list (taken ++ place ∷ []) shard n new
 
--- A shard still agrees with the definitions after an answer is taken from another shard.
+-- A shard still agrees with its definition `shard_at` after an answer is taken from another shard.
 abbrev pub RefinesBeside : Type 0
 RefinesBeside = (setup : Setup) (list : List Listed) (taken : List ℕ) (shard n place : ℕ) (s : State) (other m : ℕ) (beside : State) → 0 < setup.config.limits.batch →
     Refines setup list taken shard n s → IsSome (filed_answer (connect_in s place)) → other ≢ shard → Refines setup list taken other m beside →
     Refines setup list (taken ++ place ∷ []) other m beside
 
--- A shard still agrees with the definitions after a call of `watch`.
+-- A shard still agrees with its definition `shard_at` after a call of `watch`.
 abbrev pub RefinesWatched : Type 0
 RefinesWatched = (setup : Setup) (list : List Listed) (taken : List ℕ) (shard n connect : ℕ) (waker : Waker) (old new : State) →
     Refines setup list taken shard n old → Watched connect waker old new → IsSound new → Refines setup list taken shard n new
 
--- A shard still agrees with the definitions after it is shut.
+-- A shard still agrees with its definition `shard_at` after it is shut.
 abbrev pub RefinesShut : Type 0
 RefinesShut = (setup : Setup) (list : List Listed) (taken : List ℕ) (shard n : ℕ) (old new : State) →
     Refines setup list taken shard n old → WasShut old new → IsSound new → Refines setup list taken shard n new
@@ -112,21 +113,22 @@ is_swept before (Some state) = is_filed_below before state
 abbrev pub swept_places : ℕ → State → List ℕ
 swept_places before s = filter (λ (place : ℕ). is_swept before (connect_in s place)) (keys_of s.sessions.connects.filed)
 
--- A shard still agrees with the definitions after it drops the answers given by entries before
--- place `before`.
+-- A shard still agrees with its definition `shard_at` after it drops the answers given by entries
+-- before place `before`. These count as taken.
 abbrev pub RefinesSwept : Type 0
 RefinesSwept = (setup : Setup) (list : List Listed) (taken : List ℕ) (shard n before : ℕ) (old new : State) →
     Refines setup list taken shard n old → Swept before old new → IsSound new → Refines setup list (taken ++ swept_places before old) shard n new
 
--- A shard still agrees with the definitions after another shard drops the answers given by entries
--- before place `before`.
+-- A shard still agrees with its definition `shard_at` after another shard drops the answers given
+-- by entries before place `before`. These count as taken.
 abbrev pub RefinesBesideSwept : Type 0
 RefinesBesideSwept = (setup : Setup) (list : List Listed) (taken : List ℕ) (shard n before : ℕ) (s : State) (other m : ℕ) (beside : State) →
     Refines setup list taken shard n s → other ≢ shard → Refines setup list taken other m beside → Refines setup list (taken ++ swept_places before s) other m beside
 
 -- ---- Answers
 
--- A filed answer is the one that the definitions give over the entries that the shard has applied.
+-- A filed answer is the one that the definition `answer` gives for the message at `place`, over the
+-- entries that the shard has applied.
 abbrev pub FiledIsGiven : Type 0
 FiledIsGiven = (setup : Setup) (list : List Listed) (taken : List ℕ) (shard n place : ℕ) (s : State) (a : Answer) → Refines setup list taken shard n s →
     filed_answer (connect_in s place) ≡ Some a → option_map given_of (answer setup.config (take n list) place) ≡ Some a

@@ -1,4 +1,4 @@
--- The program's shard as a state of the definitions.
+-- The program's shard as a `State`, for the definitions.
 use Rattle.std.specs.Prelude.{ℕ}
 use Rattle.std.specs.Arc.{arc_value}
 use Rattle.bx_shard.specs.declared.shard.Shard.{Shard}

@@ -36,8 +36,8 @@ pub record IsOwn (n : ℕ) (k : Kept) (patterns : List Glob) : Type 0 where
   pub patterns_are : k.patterns ≡ patterns
   pub emptied : k.overflow ≡ true → patterns ≡ []
 
--- A session `n` of the shard is live, and a list is its patterns. If the session is not in the
--- shard, the list is empty.
+-- The shard's session `n` is live and has exactly the given patterns. If the session is not in the
+-- shard, there are no patterns.
 abbrev pub IsCounted : ℕ → Option Kept → List Glob → Type 0
 IsCounted n None patterns = patterns ≡ []
 IsCounted n (Some k) patterns = IsOwn n k patterns
@@ -73,8 +73,8 @@ AreCounted s = (n : ℕ) → IsCounted n (kept_in s n) (patterns_in s n)
 abbrev pub AreHeld : Sessions → Type 0
 AreHeld s = (place n : ℕ) → held_until (connect_at s.connects place) n ≡ holds_until (kept_in s n) place
 
--- In the shard's sessions `s`, the tree has exactly the patterns of the sessions, and a connect is
--- held if and only if its session holds it.
+-- In the shard's sessions `s`, the tree has exactly the patterns of the sessions. A connect is held
+-- if and only if its session holds it.
 pub record AreTied (s : Sessions) : Type 0 where
   pub patterns : AreCounted s
   pub holds : AreHeld s

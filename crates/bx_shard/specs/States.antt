@@ -36,8 +36,8 @@ session_in s number = kept_in s.sessions number
 
 -- ---- Sessions
 
--- Session `n` before it is opened, if an entry of the given kind opens it and `stands` is `true`:
--- the session is placed in the shard.
+-- Session `n` as it is before it opens, if an entry of the given kind opens it in the shard, and
+-- otherwise `None`. `stands`: whether the session is placed in the shard.
 abbrev pub opening : Bool → EntryKind → ℕ → Option Kept
 opening stands (Opened m ack) n = if (m == n) && stands then Some (kept (unopened m)) else None
 opening stands _ n = None
@@ -60,9 +60,10 @@ dropped_by numbers None = None
 dropped_by numbers (Some (Held session deadline waker)) = if list_any (λ m. m == session) numbers then None else Some (Held session deadline waker)
 dropped_by numbers (Some (Filed session place answer)) = Some (Filed session place answer)
 
--- The connects after an entry, before its answers are filed. The entry of a connect holds it, if
--- its session is in the shard. A tick drops the connects that are held by the sessions that it
--- closes. A tick of a list drops none, since no session is due before its hold ends.
+-- The connects after an entry, before its answers are filed. After the entry of a connect, this
+-- connect is held, if its session is in the shard. A tick drops the connects that are held by the
+-- sessions that it closes. A tick that was admitted drops no connects, since no session is due
+-- before its hold ends.
 abbrev pub begun : (ℕ → Option Kept) → (ℕ → Option ConnectState) → Entry → EntryKind → ℕ → Option ConnectState
 begun sessions connects e (Connect m client id acked hold) p = if is_some (sessions m) then holding m (pending e.place client id e.moment hold) connects p else connects p
 begun sessions connects e (Tick numbers) p = dropped_by numbers (connects p)

@@ -31,8 +31,9 @@ ShardsStep = (setup : Setup) (list : List Listed) (taken : List ℕ) (shard n : 
 abbrev pub answers_by : Config → Entry → List Kept → List Filed
 answers_by config e ks = flat_map (λ (k : Kept). kept_answers config k e) ks
 
--- If the answer to a connect was not taken, the one that is filed after an entry is the one filed
--- before or, if none was, the one that a live session of the shard gives at the entry.
+-- Which answer to a connect is filed after an entry, if it was not taken: the answer that was filed
+-- before the entry. If there was none, it is the one that a live session of the shard gives at the
+-- entry.
 abbrev pub ShardsFile : Type 0
 ShardsFile = (setup : Setup) (list : List Listed) (taken : List ℕ) (shard n : ℕ) (e : Entry) (place : ℕ) → 0 < setup.config.limits.batch → slice_get (entries setup.config list) n ≡ Some e → is_taken taken place ≡ false →
     find (λ (f : Filed). f.connect == place) (shard_at setup list taken shard (n + 1)).filed

@@ -1,7 +1,7 @@
 //! Laws of shards, for every configuration, placing and list.
 //!
-//! A shard agrees with the definitions if it holds what `shard_at` of `specs/Shards.antt` gives.
-//! The laws about entries and calls assume that the shard agreed before.
+//! A shard agrees with its definition if it has the sessions and filed answers that `shard_at` of
+//! `specs/Shards.antt` gives. The laws about entries and calls assume that the shard agreed before.
 ghost use Rattle.bx_shard.specs.Refining.{FiledIsGiven, RefinesAtFirst, RefinesBeside, RefinesBesideSwept, RefinesLonger, RefinesOnwards, RefinesShut, RefinesStill, RefinesSwept, RefinesTaken, RefinesWatched};
 ghost use Rattle.bx_shard.specs.Holdings.{SessionsReached, NumbersAscend, OpenedIsFresh};
 ghost use Rattle.bx_shard.specs.Steps.{ShardsFile, ShardsStep};
@@ -13,8 +13,9 @@ pub fn shards_step()
 
 /// Proves which answers are filed after an entry.
 ///
-/// If the answer to a connect was not taken, the one that is filed after the entry is the one filed
-/// before or, if none was, the one that a live session of the shard gives at the entry.
+/// The law is about the answer to a connect that was not taken. An answer that was filed before the
+/// entry stays filed. If there was none, the answer that a live session of the shard gives at the
+/// entry is filed.
 pub fn shards_file()
     ensures { ShardsFile }
 {}
@@ -36,59 +37,62 @@ pub fn opened_is_fresh()
     ensures { OpenedIsFresh }
 {}
 
-/// Proves that a shard that has applied no entry agrees with the definitions.
+/// Proves that a shard that has applied no entry agrees with its definition `shard_at`.
 pub fn refines_at_first()
     ensures { RefinesAtFirst }
 {}
 
-/// Proves that a shard still agrees with the definitions after a call that changes nothing.
+/// Proves that a shard still agrees with its definition `shard_at` after a call without effect.
 pub fn refines_still()
     ensures { RefinesStill }
 {}
 
-/// Proves that a shard still agrees with the definitions when the list grows.
+/// Proves that a shard still agrees with its definition `shard_at` when the list grows.
 pub fn refines_longer()
     ensures { RefinesLonger }
 {}
 
-/// Proves that a shard still agrees with the definitions after it applies the next entry.
+/// Proves that a shard still agrees with its definition `shard_at` after it applies the next entry.
 pub fn refines_onwards()
     ensures { RefinesOnwards }
 {}
 
-/// Proves that a shard still agrees with the definitions after an answer is taken from it.
+/// Proves that taking an answer from a shard leaves it in agreement with its definition `shard_at`.
 pub fn refines_taken()
     ensures { RefinesTaken }
 {}
 
-/// Proves that a shard still agrees with the definitions after another shard's answer is taken.
+/// Proves that a shard still agrees with its definition `shard_at` after another's answer is taken.
 pub fn refines_beside()
     ensures { RefinesBeside }
 {}
 
-/// Proves that a shard still agrees with the definitions after a call of `watch`.
+/// Proves that a shard still agrees with its definition `shard_at` after a call of `watch`.
 pub fn refines_watched()
     ensures { RefinesWatched }
 {}
 
-/// Proves that a shard still agrees with the definitions after it is shut.
+/// Proves that a shard still agrees with its definition `shard_at` after it is shut.
 pub fn refines_shut()
     ensures { RefinesShut }
 {}
 
-/// Proves that a shard still agrees with the definitions after a sweep.
+/// Proves that a shard still agrees with its definition `shard_at` after a sweep.
 ///
-/// The answers that the sweep drops count as taken.
+/// A sweep drops old answers, which then count as taken.
 pub fn refines_swept()
     ensures { RefinesSwept }
 {}
 
-/// Proves that a shard still agrees with the definitions after another shard is swept.
+/// Proves that a shard still agrees with its definition `shard_at` after another shard is swept.
 pub fn refines_beside_swept()
     ensures { RefinesBesideSwept }
 {}
 
-/// Proves that filed answers are those of the definitions over the entries that the shard applied.
+/// Proves that each filed answer is the one that the definition `answer` gives for its message.
+///
+/// The definition is applied to the entries that the shard has applied. It describes a server that
+/// handles one message at a time.
 pub fn filed_is_given()
     ensures { FiledIsGiven }
 {}

@@ -67,7 +67,7 @@ impl Sessions {
 
     /// Delivers `parcel` to its session, which must not have overflowed.
     ///
-    /// `place`: that of the publish. If the session overflows, removes all its patterns. Moves the
+    /// `place`: the publish's place. If the session overflows, removes all its patterns. Moves the
     /// waker of an answered connect to `wakers`. Does nothing if the session is not in this shard.
     #[tactic(auto, using(crate::proofs::Receiving::received_patterns, crate::proofs::Receiving::received_hold))]
     pub(crate) fn receive(&mut self, place: u64, parcel: Parcel, wakers: &mut Wakers)

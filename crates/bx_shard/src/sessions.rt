@@ -144,7 +144,7 @@ impl Sessions {
 
     /// Answers the connect held by session `number`, if its deadline is at or before `moment`.
     ///
-    /// `place`: that of the tick. `moment`: milliseconds since the server started. Moves the
+    /// `place`: the place of the tick. `moment`: milliseconds since the server started. Moves the
     /// connect's waker to `wakers`.
     pub(crate) fn tick(&mut self, place: u64, moment: u64, number: u64, wakers: &mut Wakers)
         ensures sessions { (n : ℕ) → kept_in self.new n
@@ -192,7 +192,7 @@ impl Sessions {
 
     /// Closes session `number`, for a disconnect, and answers its held connect.
     ///
-    /// `place`: that of the disconnect. Moves the connect's waker to `wakers`.
+    /// `place`: the place of the disconnect. Moves the connect's waker to `wakers`.
     pub(crate) fn disconnect(&mut self, place: u64, number: u64, wakers: &mut Wakers)
         ensures sessions { (n : ℕ) → kept_in self.new n ≡ (if nat_eq number n then None else kept_in self.old n) }
         ensures patterns { (n : ℕ) → patterns_in self.new n ≡ (if nat_eq number n then [] else patterns_in self.old n) }
@@ -292,7 +292,8 @@ impl Sessions {
 
     /// Files the answer in `answered`, if the connect that it answers is known.
     ///
-    /// `place`: that of the entry that gives the answer. Moves the connect's waker to `wakers`.
+    /// `place`: the place of the entry that gives the answer. Moves the connect's waker to
+    /// `wakers`.
     pub fn file(&mut self, place: u64, answered: Answered, wakers: &mut Wakers)
         ensures connects { (p : ℕ) → connect_at self.new.connects p
             ≡ (if nat_eq answered.place p then filed_as place answered.answer (connect_at self.old.connects p)

@@ -78,7 +78,7 @@ step_by_forms config place moment s (Connect n client id acked hold) i =
 step_by_forms config place moment s (Publish e) i = published_forms config (record { place = place; event = e }) s i
 step_by_forms config place moment s _ i = inl (grind (arith, common_steps))
 
--- ---- A rider after it
+-- ---- The rider of an entry that forms a batch
 
 step_num : (config : Config) (s : Session) (e : Entry) → (step config s e).num ≡ (step_by config e.place e.moment s e.kind).num
 step_num config s e = ride_num config e.place (step_by config e.place e.moment s e.kind) (rider_of e.kind e.rides)

@@ -37,18 +37,18 @@ pub record EachVerdict (config : Config) (r : Registry) (P : Listed → Verdict 
       P (Post p) (served config (state_of r) (max r.clock p.moment) p (message_kind_of p.message.channel) s (hold_of config p))
   pub ticks : (moment : ℕ) → P (messages.Tick moment) (tick_verdict (state_of r) (max r.clock moment))
 
--- So it holds for the verdict on any element.
+-- If `P` holds for each kind of verdict, it holds for the verdict on any element.
 pub each_verdict : (config : Config) (r : Registry) (P : Listed → Verdict → Type 0) → EachVerdict config r P → (x : Listed) → P x (verdict_of config r x)
 each_verdict config r P e (Post p) =
     let named : Option Registered = named_by r.sessions (message_kind_of p.message.channel) p.message in
     by_verdict (P (Post p)) config (state_of r) (max r.clock p.moment) p named (refusal config r.sessions p) (e.refuses p named) (e.opens p) (e.none p) (e.serves p)
 each_verdict config r P e (messages.Tick moment) = e.ticks moment
 
--- The result of the next element.
+-- The result of the next element `x` after the registry `r`.
 abbrev pub next_found : Config → Registry → Listed → Judged
 next_found config r x = found_at (length r.judged) (max r.clock (moment_of x)) (verdict_of config r x)
 
--- The registry after it.
+-- The registry after `r` and the element `x`, on which the verdict is `v`.
 abbrev pub next_noted : Registry → Listed → Verdict → Registry
 next_noted r x v = noted r (max r.clock (moment_of x)) v
 
@@ -88,7 +88,7 @@ slotted config r x = each_verdict config r (λ y v. Slotted y v.slot) (record {
 pub registry_next : (config : Config) (ys : List Listed) (x : Listed) → registry config (ys ++ x ∷ []) ≡ judge config (registry config ys) x
 registry_next config ys x = fold-append (judge config) empty_registry ys (x ∷ [])
 
--- What holds at first, and for each next registry, holds for the whole list.
+-- What holds for the empty registry, and for each next one, holds for the registry of every list.
 pub each_registry : (config : Config) (P : Registry → Type 0) → P empty_registry → ((ys : List Listed) (x : Listed) → P (registry config ys) → P (judge config (registry config ys) x)) → (list : List Listed) → P (registry config list)
 each_registry config P first next list = onwards [] list first
   where
@@ -96,7 +96,7 @@ each_registry config P first next list = onwards [] list first
     onwards ys [] d = subst (λ (zs : List Listed). P (registry config zs)) (sym (append-nil ys)) d
     onwards ys (x ∷ xs) d = subst (λ (zs : List Listed). P (registry config zs)) (append_assoc ys (x ∷ []) xs) (onwards (ys ++ x ∷ []) xs (subst P (sym (registry_next config ys x)) (next ys x d)))
 
--- The results of more elements.
+-- The results of more elements, judged in order after the registry `r`.
 abbrev pub found_from : Config → Registry → List Listed → List Judged
 found_from config r [] = []
 found_from config r (x ∷ xs) = next_found config r x ∷ found_from config (judge config r x) xs

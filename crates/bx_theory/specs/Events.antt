@@ -14,9 +14,10 @@ use Rattle.bx_theory.specs.Readings.{since_opening, unclosed, mention_by, last_o
 
 -- ---- Which publishes are events
 
--- A publish of `e` after the entries `before` reaches the session. Its channel is a broadcast
+-- A publish of `e` after the entries `before` reaches session `number`. Its channel is a broadcast
 -- channel, and a pattern that was last mentioned in a subscription matches it. The session was
--- opened and not closed since. It has not overflowed, and its queue has room for the event.
+-- opened and not closed since. The session has not overflowed, and its queue has room for the
+-- event.
 pub record IsEvent (config : Config) (number : ℕ) (before : List Entry) (e : Event) : Type 0 where
   pub broadcast : is_broadcast e.channel ≡ true
   pub live : unclosed number (since_opening number before) ≡ true
@@ -27,7 +28,8 @@ pub record IsEvent (config : Config) (number : ℕ) (before : List Entry) (e : E
   pub room : pending_count (session config number before) < config.limits.events
   pub fits : pending_bytes (session config number before) + event_size e ≤ config.limits.bytes
 
--- An entry at the place of `p` publishes its event, which reaches the session.
+-- An entry of `es`, at the place of `p`, publishes the event of `p`, which reaches session
+-- `number`.
 pub record GetsPublish (config : Config) (number : ℕ) (es : List Entry) (p : Publication) : Type 0 where
   pub before : List Entry
   pub entry : Entry
@@ -41,7 +43,7 @@ pub record GetsPublish (config : Config) (number : ℕ) (es : List Entry) (p : P
 abbrev pub EventsWerePublished : Type 0
 EventsWerePublished = (config : Config) (number : ℕ) (es : List Entry) → EachOf (GetsPublish config number es) (session config number es).events
 
--- In `all`, the event comes right after the `earlier` ones.
+-- `all` begins with the `earlier` publications, followed by `p`.
 pub record StandsBehind (earlier : List Publication) (p : Publication) (all : List Publication) : Type 0 where
   pub later : List Publication
   pub events : all ≡ earlier ++ p ∷ later
@@ -69,8 +71,8 @@ abbrev pub EachEvent : (Event → Type 0) → List Event → Type 0
 EachEvent P [] = ⊤
 EachEvent P (e ∷ es) = P e × EachEvent P es
 
--- An accepted publish has this event, byte for byte. It reaches the session of the connect or rider
--- at `place`.
+-- An accepted publish of `list` has the event `e`, byte for byte. The event reaches the session of
+-- the connect or rider at `place`.
 pub record WasPublished (config : Config) (list : List Listed) (place : ℕ) (e : Event) : Type 0 where
   pub number : ℕ
   pub asked : option_map (λ (j : Judged). j.slot) (slice_get (registry config list).judged place) ≡ Some (Waiting number)
@@ -81,7 +83,8 @@ pub record WasPublished (config : Config) (list : List Listed) (place : ℕ) (e 
   pub event : e ≡ event_of message.message
   pub gets : GetsPublish config number (entries config list) (record { place = source; event = e })
 
--- Each event of each answer was published, as `WasPublished` states.
+-- Each event in an answer is that of an accepted publish, byte for byte, which reached the session
+-- that is answered.
 abbrev pub GivenWasPublished : Type 0
 GivenWasPublished = (config : Config) (list : List Listed) (place : ℕ) (a : PlacedAnswer) → 0 < config.limits.batch →
     answer config list place ≡ Some a → EachEvent (WasPublished config list place) a.events

@@ -14,9 +14,10 @@ use Rattle.bx_entry.specs.Sessions.{Session, Publication, Filed, Unopened, step,
 abbrev pub DoneNeverFalls : Type 0
 DoneNeverFalls = (config : Config) (number : ℕ) (xs ys : List Entry) → (session config number xs).done ≤ (session config number (xs ++ ys)).done
 
--- What always holds of a session. Its queue has the events after the first `done`, or none after an
--- overflow, which also drops all patterns. The outstanding batch is the queue's front, within its
--- limit. A plain session has no batch. While a connect is held, no event waits.
+-- What always holds of a session `s`. Its queue has the events after the first `done` ones, which
+-- are never sent again. After an overflow, queue and patterns are empty. The outstanding batch is
+-- at the start of the queue, within its limit. A session that does not acknowledge has no batch.
+-- While a connect is held, no event waits.
 pub record InStep (config : Config) (s : Session) : Type 0 where
   pub queue : s.queue ≡ (if s.overflow then [] else drop s.done s.events)
   pub emptied : s.overflow ≡ true → s.patterns ≡ []
@@ -53,15 +54,16 @@ pub record Slice (events : List Publication) (low : ℕ) (given : List Publicati
   pub within : from + count ≤ length events
   pub is : given ≡ take count (drop from events)
 
--- The session is `s` before an entry, `u` after it, and `t` later. The answers that are only in `t`
--- contain no event that is done in `s`. If the session acknowledges, they contain none that is done
--- in `u`.
+-- The session is `s` before an entry, `u` after it, and `t` later. An event is done if it is never
+-- sent again. The answers that are only in `t` contain no event that is done in `s`. If the session
+-- acknowledges, they contain none that is done in `u`.
 pub record GivesFrom (config : Config) (s u t : Session) : Type 0 where
   pub filed : List Filed
   pub answers : t.answers ≡ s.answers ++ filed
   pub slices : Each (λ f. Slice t.events (if u.ack then u.done else s.done) f.publications) filed
 
--- An event that is acknowledged, or sent by a plain session, is never sent again.
+-- An event is never sent again after it is acknowledged, or sent by a session that does not
+-- acknowledge.
 abbrev pub NeverGivenAgain : Type 0
 NeverGivenAgain = (config : Config) (number : ℕ) (xs : List Entry) (e : Entry) (ys : List Entry) → 0 < config.limits.batch →
     GivesFrom config (session config number xs) (step config (session config number xs) e) (fold (step config) (step config (session config number xs) e) ys)
@@ -79,13 +81,16 @@ abbrev pub PlacesFrom : ℕ → List Entry → Type 0
 PlacesFrom n [] = ⊤
 PlacesFrom n (e ∷ es) = (e.place ≡ n) × PlacesFrom (n + 1) es
 
--- The answers that are only in `t` contain only events at later places than the done ones.
+-- The session is `s` before an entry, `u` after it, and `t` later. An event is done if it is never
+-- sent again. The answers that are only in `t` contain only events at later places than those that
+-- are done in `s` or, if the session acknowledges, in `u`.
 pub record GivesLater (s u t : Session) : Type 0 where
   pub filed : List Filed
   pub answers : t.answers ≡ s.answers ++ filed
   pub apart : Each (λ f. AllBelow (take (if u.ack then u.done else s.done) t.events) f.publications) filed
 
--- Over a list's entries, an answer's events have later places than the events done before it.
+-- The events in an answer have later places than all events that were done before it. An event is
+-- done if it is acknowledged, or sent by a session that does not acknowledge.
 abbrev pub NoEventTwice : Type 0
 NoEventTwice = (config : Config) (number : ℕ) (xs : List Entry) (e : Entry) (ys : List Entry) → 0 < config.limits.batch → PlacesFrom 0 (xs ++ e ∷ ys) →
     GivesLater (session config number xs) (step config (session config number xs) e) (fold (step config) (step config (session config number xs) e) ys)
@@ -98,8 +103,8 @@ EntriesInOrder = (config : Config) (list : List Listed) → PlacesFrom 0 (entrie
 abbrev pub given_in : List Filed → List Publication
 given_in answers = flat_map (λ (f : Filed). f.publications) answers
 
--- A plain session's answers, to connects and riders, have its first `done` events, each once, in
--- order.
+-- The answers of a session that does not acknowledge, to connects and riders, have its events in
+-- order, each once. They have the first `done` events, which are never sent again.
 abbrev pub GivenOnce : Type 0
 GivenOnce = (config : Config) (number : ℕ) (es : List Entry) → 0 < config.limits.batch →
     (session config number es).ack ≡ false → given_in (session config number es).answers ≡ take (session config number es).done (session config number es).events
@@ -126,7 +131,7 @@ abbrev pub Repeats : ℕ → Option ℕ → Type 0
 Repeats num None = ⊤
 Repeats num (Some n) = n < num
 
--- The session's last answer.
+-- `f` is the last answer of session `s`.
 abbrev pub LastAnswer : Session → Filed → Type 0
 LastAnswer s f = (rest : List Filed) × (s.answers ≡ rest ++ f ∷ [])
 
@@ -137,7 +142,8 @@ pub record EmptyRide (place : ℕ) (rides : Option Rider) (number : ℕ) (answer
   pub session : rider.session ≡ number
   pub alone : answers ≡ record { connect = place; place = place; publications = []; reply = rider.reply } ∷ []
 
--- The last answer of the session, apart from one without events to the rider of the entry.
+-- `f` is the last answer of session `s`, apart from an answer without events to the rider `rides`
+-- at `place`, if any.
 pub record LastGiven (place : ℕ) (rides : Option Rider) (s : Session) (f : Filed) : Type 0 where
   pub rest : List Filed
   pub behind : List Filed

@@ -18,7 +18,8 @@ abbrev pub AddsOuts : Config → List ReadInput → Line → List Out → Type 0
 AddsOuts config inputs (Accepted callback input) more = outs config (inputs ++ input ∷ []) ≡ outs config inputs ++ more
 AddsOuts config inputs _ more = ⊤
 
--- What outs print, if their inputs are numbered by their lines.
+-- What a replay prints for the outs `os`. `numbered`: the run's inputs, with the numbers of their
+-- lines.
 abbrev pub outs_text : List Numbered → List Out → List ℕ
 outs_text numbered os = flat_map (λ (o : Out). out_by o (slice_get numbered o.input)) os
 
@@ -31,7 +32,7 @@ line_prints number numbered (Resharded shards) more = []
 line_prints number numbered (Announced nonce) more = []
 line_prints number numbered Noted more = []
 
--- The input of the next line, if any, comes after the earlier ones.
+-- The input of the next line, if any, comes after the inputs of the earlier lines.
 abbrev pub InputsGoOn : Type 0
 InputsGoOn = (ls : List Line) (l : Line) → inputs_from 1 (ls ++ l ∷ []) ≡ inputs_from 1 ls ++ inputs_from (length ls + 1) (l ∷ [])
 
@@ -40,7 +41,7 @@ abbrev pub LinesGoOn : Type 0
 LinesGoOn = (config : Config) (ls : List Line) (l : Line) (more : List Out) → 0 < config.limits.batch → AddsOuts config (inputs_in ls) l more →
     printed_so_far config (ls ++ l ∷ []) ≡ printed_so_far config ls ++ line_prints (length ls + 1) (inputs_from 1 (ls ++ l ∷ [])) l more
 
--- The held lines come after all that the lines print.
+-- A replay prints the lines of held inputs after everything else.
 abbrev pub HeldComeLast : Type 0
 HeldComeLast = (config : Config) (ls : List Line) →
     printed config (inputs_from 1 ls) ls ≡ printed_so_far config ls ++ flat_map (λ index. held_text (slice_get (inputs_from 1 ls) index)) (held config (inputs_in ls))
@@ -50,11 +51,12 @@ abbrev pub says_no_nonce : Line → Bool
 says_no_nonce (Announced nonce) = false
 says_no_nonce _ = true
 
--- The request of the next line gets the nonce that the earlier lines leave. Their own nonces stay.
+-- The request of the next line gets the nonce that the earlier lines leave. The requests of the
+-- earlier lines keep their nonces.
 abbrev pub NoncesGoOn : Type 0
 NoncesGoOn = (ls : List Line) (l : Line) → with_nonces 0 (ls ++ l ∷ []) ≡ with_nonces 0 ls ++ line_with (nonce_at ls) l ∷ []
 
--- If no line announces a nonce, lines stay as they are read.
+-- If no line announces a nonce, all lines stay as they are read.
 abbrev pub NoncesStay : Type 0
 NoncesStay = (dialect : Dialect) (texts : List (List ℕ)) → list_all says_no_nonce (map (line_of dialect) texts) ≡ true →
     with_nonces 0 (map (line_of dialect) texts) ≡ map (line_of dialect) texts

@@ -48,7 +48,8 @@ LiveReading = (config : Config) (number : ℕ) (es : List Entry) → is_live (se
 
 -- ---- Active: last mentioned in a subscription
 
--- Whether the session's entry subscribes to a pattern, unsubscribes from it, or does neither.
+-- `Some true` if an entry of this kind subscribes session `number` to the pattern `p`, `Some false`
+-- if it unsubscribes the session from `p`, and otherwise `None`.
 abbrev pub mention_by : ℕ → Glob → EntryKind → Option Bool
 mention_by number p (Subscribe n ps) = if (n == number) && in_force ps p then Some true else None
 mention_by number p (Unsubscribe n ps) = if (n == number) && in_force ps p then Some false else None
@@ -67,8 +68,9 @@ InForceReading = (config : Config) (number : ℕ) (es : List Entry) (p : Glob) �
 
 -- ---- Held: not ended since
 
--- Whether an entry of this kind ends the hold: an event of the session, its newer connect, its
--- disconnect, or a tick at or after the deadline.
+-- Whether an entry of this kind, at `moment`, ends the hold of the connect `p`: an event that
+-- session `s` gets, a newer connect or a disconnect of the session, or a tick at or after the
+-- deadline.
 abbrev pub ends_by : Config → Session → Pending → ℕ → EntryKind → Bool
 ends_by config s p moment (Connect n client id acked hold) = n == s.number
 ends_by config s p moment (Publish e) = is_hit s e && has_room config e s
@@ -76,11 +78,11 @@ ends_by config s p moment (Disconnect n) = n == s.number
 ends_by config s p moment (Tick numbers) = nat_le (deadline p) moment
 ends_by config s p moment _ = false
 
--- Whether an entry ends the hold.
+-- Whether the entry `e` ends the hold of the connect `p` of session `s`.
 abbrev pub ends : Config → Session → Pending → Entry → Bool
 ends config s p e = ends_by config s p e.moment e.kind
 
--- No entry ends the hold.
+-- None of the entries ends the hold of the connect `p`. `s`: the session before them.
 abbrev pub NoneEnds : Config → Pending → Session → List Entry → Type 0
 NoneEnds config p s [] = ⊤
 NoneEnds config p s (e ∷ es) = (ends config s p e ≡ false) × NoneEnds config p (step config s e) es
@@ -97,8 +99,9 @@ ending_outcome (Connect n client id acked hold) = Failed SupersededConnect
 ending_outcome (Disconnect n) = Disconnected
 ending_outcome _ = Connected
 
--- The first answer that the entry gives is to the held connect, with the ending events and outcome.
--- If the session acknowledges and the connect succeeds, the reply has the number of the last batch.
+-- Entry `e` turns session `s` into `t`. Its first answer is to the held connect `p`, with the
+-- events and the outcome that end the hold. If the session acknowledges and the connect succeeds,
+-- the reply has the number of the last batch.
 pub record AnsweredAt (config : Config) (p : Pending) (e : Entry) (s t : Session) : Type 0 where
   pub answer : Filed
   pub others : List Filed
@@ -119,13 +122,15 @@ EndingReading = (config : Config) (s : Session) (p : Pending) (es : List Entry) 
 
 -- ---- Overflow: some earlier entry found no room
 
--- Whether an entry of this kind finds no room.
+-- Whether an entry of this kind overflows session `s`: a publish that its patterns match but its
+-- queue has no room for, or a subscription to too many patterns.
 abbrev pub overfills_by : Config → Session → EntryKind → Bool
 overfills_by config s (Subscribe n ps) = (n == s.number) && nat_lt config.limits.patterns (length (fold with_pattern s.patterns ps))
 overfills_by config s (Publish e) = is_hit s e && not (has_room config e s)
 overfills_by config s _ = false
 
--- Whether some entry is a hit without room in the queue, or a subscription to too many patterns.
+-- Whether some entry overflows session `s`: a publish that its patterns match but its queue has no
+-- room for, or a subscription to too many patterns.
 abbrev pub some_overfills : Config → Session → List Entry → Bool
 some_overfills config s [] = false
 some_overfills config s (e ∷ es) = overfills_by config s e.kind || some_overfills config (step config s e) es
@@ -146,7 +151,8 @@ QueueBounded = (config : Config) (number : ℕ) (es : List Entry) → Bounded co
 
 -- ---- Due: the greatest moment that an accepted message set
 
--- Whether the sender of a message is the session. A rejected message has no sender.
+-- Whether the sender of a message is session `number`. A rejected or sessionless message has no
+-- sender.
 abbrev pub is_from : ℕ → Option ℕ → Bool
 is_from number None = false
 is_from number (Some n) = number == n
@@ -160,12 +166,12 @@ abbrev pub EachSession : (Registered → Type 0) → List Registered → Type 0
 EachSession P [] = ⊤
 EachSession P (r ∷ rs) = P r × EachSession P rs
 
--- The due moment of a session is the greatest that its accepted messages set. Each sets the sum of
--- its moment, its hold and the configured interval.
+-- The due moment of a session is the greatest that its accepted messages set. Each sets its moment,
+-- plus the time that it may be held, plus `config.max_interval`.
 abbrev pub DueReading : Type 0
 DueReading = (config : Config) (list : List Listed) → EachSession (λ r. r.due ≡ fold max 0 (given_moments config r.number (registry config list).judged)) (registry config list).sessions
 
--- The registry and the entries agree on who is live.
+-- The registry and the entries agree on which sessions are live.
 abbrev pub SameLive : Type 0
 SameLive = (config : Config) (list : List Listed) → EachSession (λ r. r.live ≡ unclosed r.number (since_opening r.number (entries_of (registry config list)))) (registry config list).sessions
 
@@ -181,7 +187,8 @@ AcceptedWhileLive = (config : Config) (list : List Listed) (before : List Judged
 abbrev pub entry_without_client : Config → Message → EntryKind
 entry_without_client config m = if config.anonymous && (not (is_some (name_fault m.channel)) && not (is_none m.payload)) then Publish (event_of m) else Refused
 
--- A sessionless publish changes no session and no due moment, has no sender and is no rider.
+-- The publish `m`, which has no session, turns the registry `r` into `t`. It changes no session and
+-- no due moment, has no sender and is no rider.
 pub record IsOfNone (config : Config) (m : Message) (r t : Registry) : Type 0 where
   pub found : Judged
   pub judged : t.judged ≡ r.judged ++ found ∷ []
@@ -195,7 +202,7 @@ abbrev pub PublishesOfNone : Type 0
 PublishesOfNone = (config : Config) (list : List Listed) (p : Posted) → message_kind_of p.message.channel ≡ MessageKind.Publish → p.message.client ≡ Absent →
     IsOfNone config p.message (registry config list) (registry config (list ++ Post p ∷ []))
 
--- The session is closed and holds no connect. Its events and answers are unchanged.
+-- Session `t` is closed and holds no connect. Its events and answers are those of `s`.
 pub record NothingMore (s t : Session) : Type 0 where
   pub stage : t.stage ≡ Closed
   pub held : t.held ≡ None

@@ -11,11 +11,12 @@ use Rattle.bx_theory.specs.Readings.{is_from, opens_by}
 
 -- ---- Which messages are riders
 
--- The results for the elements `these` of a longer list.
+-- The results for the elements `these` of a longer list, which has `before` before them and
+-- `behind` after them.
 abbrev pub found_after : Config → List Listed → List Listed → List Listed → List Judged
 found_after config before these behind = take (length these) (drop (length before) (registry config (before ++ (these ++ behind))).judged)
 
--- Whether a result is for an accepted message of the session, except its handshake.
+-- Whether the result `j` is for an accepted message of session `number`, except its handshake.
 abbrev pub is_own : ℕ → Judged → Bool
 is_own number j = is_from number j.sender && not (opens_by number j.entry.kind)
 
@@ -26,10 +27,11 @@ may_have_rider (Unsubscribe n ps) = true
 may_have_rider (Publish e) = true
 may_have_rider _ = false
 
--- What makes a message a rider of session `number`. The last arguments are the earlier results of
--- its request, its own result, and the later ones. `--ride` is set, and the session does not
--- acknowledge. The message ends the request. All messages of the request are accepted, come from
--- the session, and are no handshakes. The rider is a subscription, an unsubscription or a publish.
+-- The message with the result `j` is a rider of session `number`. `before` and `behind`: the
+-- results of the earlier and the later messages of its request. `--ride` is set, and the session
+-- does not acknowledge. The message ends the request. All messages of the request are accepted,
+-- come from the session, and are no handshakes. The rider is a subscription, an unsubscription or a
+-- publish.
 pub record IsRiderOf (number : ℕ) (config : Config) (es : List Entry) (before : List Judged) (j : Judged) (behind : List Judged) : Type 0 where
   pub asked : config.ride ≡ true
   pub plain : (session config number es).ack ≡ false
@@ -41,7 +43,8 @@ pub record IsRiderOf (number : ℕ) (config : Config) (es : List Entry) (before 
 abbrev pub rider_session : Option Rider → Option ℕ
 rider_session rides = option_map (λ (rider : Rider). rider.session) rides
 
--- A message is a rider exactly under these conditions, whatever comes before and after its request.
+-- A message is a rider of a session exactly if `IsRiderOf` holds, whatever comes before and after
+-- its request.
 abbrev pub RiderReading : Type 0
 RiderReading = (config : Config) (inputs : List ReadInput) (moment nonce : ℕ) (ms : List Message) (more : List Listed)
     (before : List Judged) (j : Judged) (behind : List Judged) (number : ℕ) →
@@ -70,7 +73,8 @@ pub record GivesRider (most place : ℕ) (rider : Rider) (s t : Session) : Type 
   pub count : length given ≡ min most (length s.queue)
   pub left : length t.queue ≡ length s.queue - most
 
--- A live session that does not acknowledge answers its rider, after the entry's own effect.
+-- A live session that does not acknowledge answers its rider with the first waiting events, after
+-- the entry has taken effect.
 abbrev pub RiderGiven : Type 0
 RiderGiven = (config : Config) (s : Session) (e : Entry) (rider : Rider) → rider_of e.kind e.rides ≡ Some rider → rider.session ≡ s.number → s.stage ≡ Live → s.ack ≡ false →
     GivesRider config.limits.batch e.place rider (step_by config e.place e.moment s e.kind) (step config s e)

@@ -1,4 +1,4 @@
--- An open input is a held connect, and the only message of its request.
+-- An input with an unanswered message is a request of one message, a held connect.
 use Rattle.std.specs.Prelude.{ℕ, ◌<◌, ◌≡◌, List, [], ◌∷◌, map, slice_get, option_map, None, Some}
 use Rattle.std.specs.{List.AllByRecursion, List.Sorted.IsStrictlyIncreasing}
 use Rattle.bx_advice.specs.declared.config.Config.{Config}
@@ -14,12 +14,13 @@ pub record IsConnect (config : Config) (list : List Listed) (o : Numbered) : Typ
   pub waits : option_map (λ (j : Judged). j.slot) (slice_get (registry config list).judged o.intake.first) ≡ Some (Waiting session)
   pub unridden : option_map (λ (j : Judged). j.entry.rides) (slice_get (registry config list).judged o.intake.first) ≡ Some None
 
--- Every open input is such a connect. Riders are answered at once, and so are connects with other
--- messages in their requests.
+-- Every input with an unanswered message is a request of one message, an accepted connect. Riders
+-- are answered at once, and so are connects with other messages in their requests.
 abbrev pub OpenAreSole : Type 0
 OpenAreSole = (config : Config) (inputs : List ReadInput) → 0 < config.limits.batch → AllByRecursion (IsConnect config (taken_in inputs).list) (open_after config inputs)
 
--- The numbers of open inputs ascend, and so do the places of their connects.
+-- The numbers of the inputs with an unanswered message ascend, and so do the places of their
+-- connects.
 abbrev pub OpensAscend : Type 0
 OpensAscend = (config : Config) (inputs : List ReadInput) → 0 < config.limits.batch →
     IsStrictlyIncreasing (map (λ (o : Numbered). o.number) (open_after config inputs)) × IsStrictlyIncreasing (map (λ (o : Numbered). o.intake.first) (open_after config inputs))

@@ -18,7 +18,7 @@ behind_blanks text = drop (prefix_len is_ascii_whitespace text) text
 abbrev pub before_blanks : List ℕ → List ℕ
 before_blanks text = take (length text - suffix_len is_ascii_whitespace text) text
 
--- The media type in a content type: the text before the first semicolon, without surrounding
+-- The media type in a content type. It is the text before the first semicolon, without surrounding
 -- whitespace.
 abbrev pub media_type_of : List ℕ → List ℕ
 media_type_of content_type = before_blanks (behind_blanks (before_first is_semicolon content_type))
@@ -42,15 +42,15 @@ text_of encoded = utf8_lossy (decode encoded)
 abbrev pub Pair : Type 0
 Pair = List ℕ × List ℕ
 
--- Whether a pair has this name.
+-- Whether the decoded name of a pair is `name`.
 abbrev pub is_named : List ℕ → Pair → Bool
 is_named name pair = bytes_eq (text_of pair.0) name
 
--- The values of the pairs with this name, in order.
+-- The decoded values of the `pairs` with name `name`, in order.
 abbrev pub values_among : List ℕ → List Pair → List (List ℕ)
 values_among name pairs = map (λ (pair : Pair). text_of pair.1) (filter (is_named name) pairs)
 
--- The values of the parameters with this name, in order.
+-- The decoded values of the parameters `name` of a form or a query, in order.
 abbrev pub values_of : List ℕ → List ℕ → List (List ℕ)
 values_of name form = values_among name (raw_pairs form)
 
@@ -58,7 +58,7 @@ values_of name form = values_among name (raw_pairs form)
 abbrev pub latest : Option (List ℕ) → List (List ℕ) → Option (List ℕ)
 latest earlier values = fold (λ _ value. Some value) earlier values
 
--- The last of a list, if any.
+-- The last of `values`, if any.
 abbrev pub last_of : List (List ℕ) → Option (List ℕ)
 last_of values = latest None values
 
@@ -68,7 +68,8 @@ last_of values = latest None values
 abbrev pub is_callback_byte : ℕ → Bool
 is_callback_byte byte = is_ascii_alphanumeric byte || list_any (λ other. other == byte) (codes "_$.-[]")
 
--- Whether a callback's name is valid: it has 1 to 256 bytes, and only such bytes.
+-- Whether a callback's name is valid. It must have 1 to 256 bytes, and each must be an ASCII letter
+-- or digit, or one of `_ $ . - [ ]`.
 abbrev pub is_callback : List ℕ → Bool
 is_callback name = nat_lt 0 (length name) && nat_le (length name) 256 && list_all is_callback_byte name
 

@@ -4,7 +4,7 @@ use Rattle.bx_message.specs.declared.status.Status.TheVariants.{BadRequest, TooL
 use Rattle.bx_transport.specs.declared.error.TransportError.{TransportError}
 use Rattle.bx_transport.specs.declared.error.TransportError.TheVariants as transports
 
--- The status of the response to a body or a query that is rejected.
+-- The HTTP status of the response if a body or a query is rejected with this error.
 abbrev pub transport_status : TransportError → Status
 transport_status transports.TooLarge = TooLarge
 transport_status transports.BadName = BadRequest

@@ -5,23 +5,23 @@ use Rattle.bx_transport.specs.declared.error.TransportError.{TransportError}
 use Rattle.bx_transport.specs.declared.error.TransportError.TheVariants.{TooLarge, BadName, NoMessage}
 use Rattle.bx_transport.specs.Forms.{is_form, values_of, callback_of, is_callback}
 
--- The documents, or an error if there are none.
+-- The documents, or the error `NoMessage` if there are none.
 abbrev pub some_documents : List (List ℕ) → Result (List (List ℕ)) TransportError
 some_documents [] = Err NoMessage
 some_documents (d ∷ ds) = Ok (d ∷ ds)
 
--- The documents of a form or a query.
+-- The documents of a form or a query: its parameters `message`. `NoMessage` if there are none.
 abbrev pub documents_of : List ℕ → Result (List (List ℕ)) TransportError
 documents_of form = some_documents (values_of (codes "message") form)
 
 -- The documents of a body, or its error. A body must not be too large. The documents of a form are
--- its parameters `message`. Any other body is one document.
+-- its parameters `message`; it must have one. Any other body is one document.
 abbrev pub post_taken : Option (List ℕ) → List ℕ → Result (List (List ℕ)) TransportError
 post_taken content_type body =
     if nat_lt BODY_LIMIT (length body) then Err TooLarge
     else (if is_form content_type then documents_of body else Ok (body ∷ []))
 
--- The documents of a query, with the name of its callback.
+-- The callback's `name` with the documents of a query, or the query's error.
 abbrev pub with_callback : List ℕ → Result (List (List ℕ)) TransportError → Result (List ℕ × List (List ℕ)) TransportError
 with_callback name (Ok documents) = Ok (name, documents)
 with_callback name (Err error) = Err error

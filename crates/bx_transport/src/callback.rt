@@ -1,4 +1,4 @@
-// Names of callbacks.
+// Names of callbacks, the functions that a script of callback-polling calls.
 ghost use Rattle.std.specs.Prelude.{◌≡◌};
 ghost use Rattle.std.specs.List.{list_all};
 ghost use Rattle.bx_transport.specs.Forms.{is_callback, is_callback_byte};
@@ -9,7 +9,10 @@ pub(crate) const DEFAULT_CALLBACK: &str = "jsonpcallback";
 // The maximum length of a callback's name, in bytes. Policy of this server.
 const CALLBACK_LIMIT: usize = 256;
 
-// Returns `true` if `name` is valid. A script contains it without escapes.
+// Returns `true` if `name` is a valid name of a callback.
+//
+// It has 1 to 256 characters. Each is an ASCII letter or digit, or one of `_ $ . - [ ]`. A script
+// contains the name without escapes.
 pub(crate) fn is_callback(name: &str) -> bool
     ensures { result ≡ is_callback name.now }
 {

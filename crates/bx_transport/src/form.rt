@@ -21,14 +21,14 @@ pub(crate) fn is_form(content_type: Option<&[u8]>) -> bool
     }
 }
 
-// Returns the media type without its parameters and without surrounding whitespace.
+// Returns the media type in `content_type`, without its parameters and surrounding whitespace.
 fn media_type(content_type: &[u8]) -> &[u8]
     ensures { result.now ≡ media_type_of content_type.now }
 {
     before_parameters(content_type).trim_ascii()
 }
 
-// Returns the part before the first semicolon.
+// Returns the part of `content_type` before its first semicolon, or all of it if it has none.
 fn before_parameters(content_type: &[u8]) -> &[u8]
     ensures { result.now ≡ before_first is_semicolon content_type.now }
 {
@@ -38,7 +38,7 @@ fn before_parameters(content_type: &[u8]) -> &[u8]
     }
 }
 
-// Returns the index of the first semicolon.
+// Returns the index of the first semicolon in `content_type`, if any.
 fn semicolon_in(content_type: &[u8]) -> Option<usize>
     ensures { result ≡ position is_semicolon content_type.now }
 {
@@ -96,7 +96,7 @@ fn add_parameter(
     Ok(())
 }
 
-// Decodes a name or a value.
+// Decodes the name or the value of a parameter. Bytes that are not UTF-8 become U+FFFD.
 fn read_text(alloc: Global, encoded: &[u8]) -> Result<CowStr<'_>, AllocError>
     ensures { IfOk result (λ text. cow_str_bytes text ≡ text_of encoded.now) }
 {

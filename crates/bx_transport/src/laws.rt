@@ -1,7 +1,7 @@
-//! The law of callback-polling responses.
+//! The law of responses to a GET.
 ghost use Rattle.bx_transport.specs.Laws.{ScriptsReadTheSame};
 
-/// Proves that a JSON text keeps its value if U+2028 and U+2029 are escaped, as callbacks need.
+/// Proves that a JSON text has the same value if U+2028 and U+2029 are escaped, as in scripts.
 #[tactic(auto, using(crate::proofs::Safe::scripts))]
 pub fn scripts_read_the_same()
     ensures { ScriptsReadTheSame }

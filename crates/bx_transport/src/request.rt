@@ -14,7 +14,7 @@ use std::alloc::Global;
 ///
 /// `content_type`: the value of the request's header `Content-Type`, if any. If its media type is
 /// `application/x-www-form-urlencoded`, the documents are the values of the form's parameters
-/// `message`, in order. Otherwise the body is the only document. Case and the parameters of the
+/// `message`, in order. Otherwise the body is the only document. The case and the parameters of the
 /// media type do not matter.
 ///
 /// Bayeux 1.0, long-polling. The media types are a policy of this server.
@@ -64,9 +64,9 @@ pub fn read_post(
 ///
 /// `query`: the part of the request's target after the question mark.
 ///
-/// The name is the value of the last parameter `jsonp`, or `jsonpcallback` if there is none. It has
-/// 1 to 256 characters. Each is an ASCII letter or digit, or one of `_ $ . - [ ]`. The documents
-/// are the values of the parameters `message`, in order.
+/// The name is the value of the last parameter `jsonp`, or `jsonpcallback` if there is none. It
+/// must have 1 to 256 characters. Each must be an ASCII letter or digit, or one of `_ $ . - [ ]`.
+/// The documents are the values of the parameters `message`, in order.
 ///
 /// Bayeux 1.0, callback-polling. Which names are valid is a policy of this server.
 ///

@@ -1,6 +1,6 @@
-//! Responses to a GET.
+//! Responses to a GET: scripts that call a function with the array of replies and events.
 //!
-//! The response to a POST is the text of its items, without a call.
+//! The response to a POST is the array alone.
 ghost use Rattle.std.specs.Prelude.{◌≡◌, ◌<◌, ◌++◌, length, IfOk, OnOk, MatchOption, option_map, ⊤, ◌≤◌};
 ghost use Rattle.bx_message.specs.Texts.{callback_text, script_safe};
 ghost use Rattle.bx_transport.specs.Scripts.{escape_at};
@@ -13,9 +13,9 @@ const LINE_SEPARATOR: &[u8] = b"\xe2\x80\xa8";
 
 const PARAGRAPH_SEPARATOR: &[u8] = b"\xe2\x80\xa9";
 
-/// Returns the response to a GET: a call of the function `name` with the array of `items`.
+/// Creates the response to a GET: a script that calls function `name` with the array of `items`.
 ///
-/// Escapes U+2028 and U+2029 in the array, since they end lines in scripts.
+/// U+2028 and U+2029 are escaped in the array, since they end lines in scripts.
 ///
 /// Bayeux 1.0, callback-polling.
 ///
@@ -54,7 +54,7 @@ pub fn push_script_safe(out: &mut Vec<u8>, text: &[u8]) -> Result<(), AllocError
 
 // Returns the text before the first separator, the separator's escape, and the text after it.
 //
-// Returns `None` if there is no separator.
+// A separator is U+2028 or U+2029. Returns `None` if there is none.
 fn cut_at_separator(text: &[u8]) -> Option<(&[u8], &'static str, &[u8])>
     ensures value { MatchOption result (script_safe text.now ≡ text.now)
         (λ parts. script_safe text.now ≡ parts.0.now ++ (parts.1.now ++ script_safe parts.2.now)) }
@@ -68,7 +68,7 @@ fn cut_at_separator(text: &[u8]) -> Option<(&[u8], &'static str, &[u8])>
     None
 }
 
-// Returns the escape of the separator at the front of `text`, if there is one.
+// Returns the escape of the first character of `text`, if it is U+2028 or U+2029.
 fn escape_at(text: &[u8]) -> Option<&'static str>
     ensures value { option_map (λ escape. escape.now) result ≡ escape_at text.now }
     ensures long { MatchOption result ⊤ (λ _. 3 ≤ length text.now) }

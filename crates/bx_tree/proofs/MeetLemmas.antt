@@ -12,7 +12,7 @@ use Rattle.std.proofs.lemmas.Grind.{common_steps}
 
 -- ---- the rest of a name after the segments of a pattern
 
--- How many segments of a name a pattern with this tail leaves.
+-- A pattern with this tail matches if `n` segments of the name are left after its own segments.
 abbrev pub Leaves : Tail → ℕ → Type 0
 Leaves Exact n = n ≡ 0
 Leaves One n = n ≡ 1

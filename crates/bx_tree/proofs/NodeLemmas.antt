@@ -1,4 +1,4 @@
--- How a change in one of the three maps changes the numbers of each pattern.
+-- How a change in one of the three maps changes which sessions are stored for each pattern.
 use Rattle.std.proofs.Common.{◌≡◌, ℕ, Bool, true, false, ◌==◌, ◌&&◌, List}
 use Rattle.std.specs.Str.{bytes_eq}
 use Rattle.std.proofs.Math.Bool.{and-false}
@@ -14,7 +14,7 @@ use Rattle.std.proofs.Common.{arith}
 and_true : (b : Bool) → (b && true) ≡ b
 and_true b = grind (arith, common_steps)
 
--- The maps of the other tails are equal.
+-- `old` and `new` have the same lists for every tail except `tail`.
 abbrev OthersSame : Nodes → Nodes → Tail → Type 0
 OthersSame old new tail = (other : Tail) → same_tail other tail ≡ false → lists_of new other ≡ lists_of old other
 

@@ -1,4 +1,4 @@
--- How a change at one path changes the numbers at each path.
+-- How a change at one path changes which sessions are stored at each path.
 use Rattle.std.proofs.Common.{◌≡◌, ℕ, eqb, Bool, false, not, cond, ◌==◌, ◌&&◌, ◌||◌, Option, Some, None, is_some, Result, Ok, Err, OnErr, List, length, refl, ap, ◌∙◌, arith}
 use Rattle.std.specs.{Map.lookup, Map.update, Option.option_map_or, Ordering.is_eq, Ordering.nat_cmp, Str.bytes_eq}
 use Rattle.std.specs.BTreeMap.{BTreeMap, UpdatesBy, is_at}

@@ -2,7 +2,7 @@
 use Rattle.std.specs.Prelude.{ℕ, Bool, true, false, List, [], ◌∷◌, Option}
 use Rattle.std.specs.{Option.option_map_or, BTreeMap.BTreeMap}
 
--- Whether a list is not empty.
+-- Whether a list of numbers with stamps is not empty.
 abbrev pub is_occupied : List (ℕ × ℕ) → Bool
 is_occupied [] = false
 is_occupied (n ∷ ns) = true

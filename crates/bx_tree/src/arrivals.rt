@@ -13,8 +13,8 @@ use std::marker::Model;
 
 /// The patterns of one session, each once, in the order in which they were added.
 ///
-/// Each pattern has a stamp, and stamps ascend. A pattern is found by its stamp or, if a caller's
-/// stamp is wrong, by comparing all patterns.
+/// Each pattern is stored under a stamp, a number greater than the stamps of the patterns before
+/// it. A pattern is found by its stamp or, if a caller's stamp is wrong, by comparing all patterns.
 ///
 /// Model: the patterns, in order.
 #[derive(Drop)]
@@ -64,7 +64,11 @@ impl Arrivals {
         Ok(copy)
     }
 
-    /// Appends `pattern`, which must be new, and returns its stamp. On error, nothing has changed.
+    /// Appends `pattern`, which must be new, and returns the stamp under which it is stored.
+    ///
+    /// # Errors
+    ///
+    /// `AllocError` if no greater stamp is left, or memory runs out; nothing has changed.
     pub(crate) fn push(&mut self, pattern: Pattern) -> Result<u64, AllocError>
         requires { in_force self.old pattern ≡ false }
         ensures ok { OnOk result (self.new ≡ self.old ++ pattern ∷ []) }
@@ -75,7 +79,7 @@ impl Arrivals {
         Ok(stamp)
     }
 
-    /// Removes and returns the pattern that was added last.
+    /// Removes and returns the pattern that was added last, if any.
     pub(crate) fn pop(&mut self) -> Option<Pattern>
         ensures some { IfSome result (λ pattern. self.old ≡ self.new ++ pattern ∷ []) }
         ensures once { IfSome result (λ pattern. in_force self.new pattern ≡ false) }
@@ -87,7 +91,9 @@ impl Arrivals {
         Some(last.1)
     }
 
-    /// Removes `pattern`, if the session has it. If `stamp` is its stamp, this needs no search.
+    /// Removes `pattern`, if the session has it.
+    ///
+    /// If `stamp` is the stamp of `pattern`, this needs no search.
     pub(crate) fn remove(&mut self, pattern: &Pattern, stamp: u64)
         ensures { self.new ≡ without_pattern self.old pattern.now }
     {
@@ -99,7 +105,7 @@ impl Arrivals {
     }
 }
 
-/// Returns `true` if `pattern` has the stamp `stamp`.
+/// Returns `true` if `by_stamp` has `pattern` under `stamp`.
 fn stands_at(by_stamp: &BTreeMap<u64, Pattern>, stamp: u64, pattern: &Pattern) -> bool
     ensures { result ≡ true → get nat_cmp by_stamp.now stamp ≡ Some pattern.now }
 {
@@ -109,7 +115,7 @@ fn stands_at(by_stamp: &BTreeMap<u64, Pattern>, stamp: u64, pattern: &Pattern) -
     }
 }
 
-/// Returns a stamp greater than all others, or an error if no number is left.
+/// Returns a stamp greater than all in `by_stamp`, or an error if no greater number is left.
 fn stamp_behind(by_stamp: &BTreeMap<u64, Pattern>) -> Result<u64, AllocError>
     ensures { IfOk result (λ stamp. All (λ (k : ℕ). k < stamp) (keys by_stamp.now)) }
 {

@@ -23,8 +23,8 @@ use std::alloc::{AllocError, Global};
 /// The path of a pattern is its text without a wildcard. A path has up to three lists of sessions:
 /// for the pattern that is the path, for the path and `*`, and for the path and `**`.
 ///
-/// The lists have the numbers of sessions, each with the stamp of the pattern in that session's own
-/// list. The index cannot list the patterns of a session.
+/// A list has the numbers of sessions, each with a stamp: the key of the pattern in the list of
+/// that session. The index cannot list the patterns of a session.
 #[derive(Drop)]
 pub struct Nodes {
     exact: PathLists,
@@ -46,7 +46,7 @@ impl Nodes {
 
     /// Adds session `number` to the list of `pattern`. On error, no list has changed.
     ///
-    /// `stamp`: the pattern's stamp in the session's own list.
+    /// `stamp`: the key of `pattern` in the session's list of patterns.
     pub(crate) fn add(
         &mut self,
         alloc: Global,
@@ -79,7 +79,8 @@ impl Nodes {
         }
     }
 
-    /// Removes session `number` from the list of `pattern`, and returns its stamp if it was there.
+    /// Removes session `number` from the list of `pattern`, and returns the stamp stored there, if
+    /// any.
     pub(crate) fn remove(&mut self, pattern: &Pattern, number: u64) -> Option<u64>
         ensures gone { (other : Glob) → AreWhole other.segments → (n : ℕ)
             → stands_for self.new other n ≡ (stands_for self.old other n && not (same_glob other pattern.now && (n == number))) }
@@ -111,7 +112,7 @@ impl Nodes {
         self.settled(alloc, name)
     }
 
-    /// Returns the sessions that `walk` finds, in ascending order, each once.
+    /// Finds the sessions with a pattern that matches `name`, in ascending order, each once.
     fn settled(&self, alloc: Global, name: &ChannelName) -> Result<Found, AllocError>
         ensures numbers { IfOk result (λ found. (n : ℕ) → is_among found.numbers.items n ≡ is_met self.now [] name.now n) }
         ensures ascending { IfOk result (λ found. IsStrictlyIncreasing found.numbers.items) }
@@ -123,7 +124,8 @@ impl Nodes {
         Ok(found)
     }
 
-    /// Collects the sessions along `name`, as `find` describes, possibly with duplicates.
+    /// Finds the sessions with a pattern that matches `name`, unsorted and possibly with
+    /// duplicates.
     fn walk(&self, alloc: Global, name: &ChannelName) -> Result<Found, AllocError>
         ensures numbers { IfOk result (λ found. (n : ℕ) → is_among found.numbers.items n ≡ is_met self.now [] name.now n) }
         ensures visited { IfOk result (λ found. found.visited ≡ length name.now + 2) }
@@ -134,7 +136,7 @@ impl Nodes {
             visited: 0,
         };
         let text = name.as_str();
-        // Length of the path, in bytes.
+        // Length, in bytes, of the path: the part of the name before the next segment.
         let mut len = 0;
         let mut left = name.segment_count();
         for segment in name.segments() {

@@ -5,7 +5,7 @@ ghost use Rattle.bx_tree.specs.Whole.{AreWhole};
 
 use bx_names::{Pattern, Tail};
 
-/// Returns the pattern's text without its wildcard. It may be empty.
+/// Returns the text of `pattern` without a final `/*` or `/**`. It may be empty.
 pub(crate) fn own_path(pattern: &Pattern) -> &str
     ensures path { result.now ≡ path_of pattern.now.segments }
     ensures whole { AreWhole pattern.now.segments }

@@ -62,7 +62,7 @@ impl SessionPatterns {
         }
     }
 
-    /// Adds `patterns` for session `number`, in order, here and in the index.
+    /// Adds `patterns` for session `number`, in order, in `self` and in the index `nodes`.
     ///
     /// On error, nothing has changed.
     pub(crate) fn add_all(
@@ -94,7 +94,9 @@ impl SessionPatterns {
         Ok(())
     }
 
-    /// Removes `pattern` of session `number`. If `stamp` is its stamp, this needs no search.
+    /// Removes `pattern` of session `number`, but not from the index.
+    ///
+    /// If `stamp` is the stamp of `pattern`, this needs no search.
     pub(crate) fn remove(&mut self, number: u64, pattern: &Pattern, stamp: u64)
         ensures own { patterns_of self.new number ≡ without_pattern (patterns_of self.old number) pattern.now }
         ensures others { (n : ℕ) → n ≢ number → patterns_of self.new n ≡ patterns_of self.old n }
@@ -108,7 +110,7 @@ impl SessionPatterns {
         }
     }
 
-    /// Removes and returns all patterns of session `number`.
+    /// Removes and returns all patterns of session `number`, if any, but not from the index.
     pub(crate) fn remove_all(&mut self, number: u64) -> Option<Arrivals>
         ensures own { patterns_of self.new number ≡ [] }
         ensures others { (n : ℕ) → n ≢ number → patterns_of self.new n ≡ patterns_of self.old n }

@@ -14,8 +14,9 @@ use std::slice;
 
 /// The active patterns of each session, with an index by path.
 ///
-/// The index is flat: for each [`Tail`](bx_names::Tail), one map from paths to the sessions with
-/// that pattern. A search looks up each prefix of the name. Empty lists are dropped.
+/// The index is flat: for each [`Tail`](bx_names::Tail), it maps a path to the sessions that have
+/// the pattern of that path and tail. A search looks up each prefix of the name. Empty lists are
+/// dropped.
 ///
 /// Model: the sessions that have patterns, each with its patterns in the order in which they were
 /// added.
@@ -88,7 +89,7 @@ impl Tree {
         Ok(self.count(number) - before)
     }
 
-    /// Copies the patterns of session `number` from another tree, in the same order.
+    /// Copies the patterns of session `number` from the tree `from`, in the same order.
     ///
     /// The session must have no pattern in `self`.
     ///
@@ -172,7 +173,7 @@ impl Tree {
         self.sessions.patterns(alloc, number)
     }
 
-    /// Returns the index, with which sessions are found by a channel name.
+    /// Returns the index, which finds the sessions for a channel name.
     pub fn nodes(&self) -> &Nodes
         ensures { IsIndexOf result.now self.now }
     {

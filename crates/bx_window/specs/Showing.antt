@@ -1,4 +1,4 @@
--- What is shown of a log, compared with the log.
+-- What readers are shown of a log, compared with the whole log.
 use Rattle.std.specs.Prelude.{◌≡◌, List, Option}
 use Rattle.std.specs.Option.{MatchOption}
 use Rattle.bx_window.specs.declared.{law.LogStep.LogStep, showing.Late.Late}

@@ -5,12 +5,12 @@ ghost use Rattle.bx_window.specs.Places.{IsOf};
 use bx_entry::{Batch, Entry, Input, Listing};
 use bx_history::History;
 
-/// A batch to publish, with the inputs that it results from.
+/// A batch to publish, with the requests and ticks that it results from.
 #[derive(Drop)]
 pub struct Bundle {
     /// The batch, which begins at the end of the list.
     pub batch: Batch,
-    /// Ghost: the elements of the list for the batch's entries.
+    /// Ghost: the messages and ticks that the batch appends to the list, in order.
     pub elements: Listing,
     /// Ghost: the requests and ticks that the batch results from.
     pub inputs: History<Input>,

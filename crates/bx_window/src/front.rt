@@ -1,4 +1,4 @@
-//! Fronts of the window's log, and the writer's end of the log.
+//! Prefixes of the window's log of publishes and trims, and the writer's end of the log.
 ghost use Rattle.std.specs.Prelude.{◌≡◌, ◌+◌, ◌<◌, ◌≤◌, ◌^◌, ◌++◌, ◌∷◌, ◌⊎◌, ◌↔◌, ◌==◌, [], length, IsTrue, IfSome};
 ghost use mathlib.Core.List.{IsPrefix};
 ghost use Rattle.bx_advice.specs.Limits.{greatest_length};
@@ -67,8 +67,8 @@ impl Opened {
     }
 }
 
-// Adds a cell to the `logbook` book, and returns its pen. The pen can write the cell until a step
-// spends it.
+// Adds a cell to the book in which the crate `logbook` keeps the log, and returns the pen of the
+// cell. Only the holder of this pen can append the step that names the cell.
 fn spare(head: &Word<Logged, u64, Law>, seen: &Seen<Logged, u64, Law>) -> Pen
     requires { head.now ≡ head_of seen.now.book }
     ensures book { result.book ≡ seen.now.book }
@@ -82,9 +82,9 @@ fn spare(head: &Word<Logged, u64, Law>, seen: &Seen<Logged, u64, Law>) -> Pen
     pen
 }
 
-/// The writer's end of the log.
+/// The writer's end of a window's log of publishes and trims.
 ///
-/// It has the only pen that can append a step, so its front is the whole log.
+/// Only its holder can append a step to the log, so its front is the whole log.
 ///
 /// Model: the steps of the log.
 #[derive(Drop)]
@@ -127,7 +127,7 @@ impl<L: LogId> Book<L> {
         }
     }
 
-    // Returns the front that is the whole log. `other` is a prefix of it, because only the pen can
+    // Returns the front that is the whole log. `other` is a prefix of it, because only `self` can
     // append steps.
     pub(crate) fn beyond(&mut self, other: &Front<L>) -> Front<L>
         ensures same { self.new ≡ self.old }
@@ -144,7 +144,8 @@ impl<L: LogId> Book<L> {
         self.front()
     }
 
-    // Appends a step. The list then has `len` elements, and the window begins at `begin`.
+    // Appends the step that adds `elements`, the result of `inputs`, to the list and drops the
+    // `dropped` oldest batches. The list then has `len` elements, and the window begins at `begin`.
     fn step(
         &mut self,
         elements: &Listing,
@@ -181,7 +182,8 @@ impl<L: LogId> Book<L> {
         self.seen = seen;
     }
 
-    // Appends `count` elements, which result from `inputs`.
+    // Appends the step that adds `elements` to the list. `count`: their number. They result from
+    // `inputs`.
     pub(crate) fn add(&mut self, elements: &Listing, inputs: &History<Input>, count: u64)
         requires room { length self.old < 2 ^ 62 }
         requires count { length elements.now ≡ count }
@@ -192,7 +194,7 @@ impl<L: LogId> Book<L> {
         self.step(elements, inputs, 0, front.len() + count, front.begin());
     }
 
-    // Drops the `count` oldest batches. The window then begins at `begin`.
+    // Appends the step that drops the `count` oldest batches. The window then begins at `begin`.
     pub(crate) fn trim(&mut self, count: u64, begin: u64)
         requires room { length self.old < 2 ^ 62 }
         requires begin { begin ≡ begin_of (self.old ++ trimming count ∷ []) }
@@ -250,7 +252,7 @@ impl<L: LogId> Front<L> {
         self.begin
     }
 
-    /// Returns the number of steps, each of them a publish or a trim.
+    /// Returns the number of steps in this front. Each step is a publish or a trim.
     pub fn steps(&self) -> u64
         ensures { result ≡ length self.now }
     {

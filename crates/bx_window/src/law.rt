@@ -18,17 +18,17 @@ pub struct LogStep {
 pub struct Logged {
     /// The recorded step. In the first record of the log, it only opens the log.
     pub step: LogStep,
-    /// The key of the cell (a word of the `logbook` book) that the next step spends.
+    /// The key of the cell of the `logbook` book that the next step spends.
     ///
     /// Only the holder of the cell's pen can append that step.
     pub next: u64,
 }
 
-/// Ghost: the rule of the log.
+/// Ghost: the rule that the window's log keeps at all times.
 ///
-/// A cell is a word of the `logbook` book, and has a key. Its pen can write it until a step spends
-/// it. The first cell has the number of the log's records. The cell of each record's key is spent,
-/// except for the last record's.
+/// The crate `logbook` keeps the log in a book of cells. A cell has a key, and a pen that can write
+/// the cell until a step spends it. The first cell has the number of records in the log. Each
+/// record has the key of one more cell. All of these cells are spent, except for the last record's.
 pub struct Law;
 
 impl Rule<Logged, u64> for Law {
@@ -49,7 +49,10 @@ impl Rule<Logged, u64> for Law {
     ghost moves = { λ ask before after answer. Unit {0} };
 }
 
-/// Ghost: an empty gain, from which a caller learns only what the move itself states.
+/// Ghost: the gain that states nothing.
+///
+/// A gain is what a caller of `logbook` learns from a move, in addition to what the move itself
+/// states.
 pub struct NoGain;
 
 impl Gain<Logged, u64> for NoGain {
@@ -58,7 +61,7 @@ impl Gain<Logged, u64> for NoGain {
     ghost after = { λ names about answer. ftrue };
 }
 
-/// Ghost: the move that adds a cell, for the pen of a later step.
+/// Ghost: the move that adds a cell to the log's book. The pen of the cell can append a later step.
 pub struct Spare;
 
 impl Play<Logged, u64> for Spare {
@@ -85,9 +88,9 @@ impl Play<Logged, u64> for Add {
     ghost then = { Adds };
 }
 
-/// Ghost: the move that proves that the expected number of records is not exceeded.
+/// Ghost: the move that proves that a caller has seen at most the expected number of records.
 ///
-/// It changes nothing.
+/// The move changes nothing.
 pub struct Whole;
 
 impl Play<Logged, u64> for Whole {
@@ -117,7 +120,7 @@ impl<'a> Plain<StepRequest<'a>, Logged, u64> for Add {
     ghost state = { λ a. None };
 }
 
-// Adding a cell appends no step, so the step asked for is not used.
+// Adding a cell appends no step, so the step in `ask` has no effect.
 impl Plain<u64, Logged, u64> for Spare {
     ghost use Rattle.std.specs.Prelude.{None, []};
 
@@ -134,7 +137,7 @@ pub trait LogId {
     ghost use Rattle.logbook.specs.Pages.{Book};
     ghost use Rattle.bx_advice.specs.declared.config.Config.{Config};
 
-    /// Ghost: the book of the window's steps.
+    /// Ghost: the `logbook` book in which the window's steps are recorded.
     ghost book: { Book };
 
     /// Ghost: the configuration that determines the entries of the list.

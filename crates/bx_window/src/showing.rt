@@ -21,8 +21,8 @@ pub(crate) struct Late<O: Drop> {
 
 /// Shows `change` to readers.
 ///
-/// Returns `None`, or the change as late if it cannot be shown. Readers then see what they saw
-/// before.
+/// Returns `None`, or the change as late if it cannot be shown. In that case, readers see what they
+/// saw before.
 pub(crate) fn show<L: LogId, R: Wait + Drop>(
     handle: &mut WriteHandle<Ring<L>, RingChange<L>, R>,
     change: RingChange<L>,
@@ -60,10 +60,10 @@ pub(crate) fn catch_up<L: LogId, R: Wait + Drop>(
     }
 }
 
-/// Makes room in the log of `left_right`, so that showing a change never allocates.
+/// Makes room in the log of the crate `left_right`, so that showing a change never allocates.
 ///
-/// The log has at most two operations: the next one, and the last one, which the next publish
-/// applies to the other ring.
+/// `left_right` has two copies of the ring. Its log has at most two changes: the next one, and the
+/// last one, which is still to be applied to the other copy.
 ///
 /// # Errors
 ///

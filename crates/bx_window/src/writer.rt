@@ -116,7 +116,7 @@ pub fn log_pair<L: LogId, R: Wait + Drop>(
     Ok((writer, all))
 }
 
-// Creates a ring without batches.
+// Creates a ring without batches, with the empty front `front`.
 fn empty_ring<L: LogId>(alloc: Global, front: &Front<L>) -> Result<Ring<L>, AllocError>
     requires { front.now ≡ [] }
     ensures { IfOk result (λ r. r.front ≡ []) }
@@ -148,7 +148,7 @@ impl<L: LogId, R: Wait + Drop> Writer<L, R, Ring<L>, RingChange<L>> {
         self.book.beyond(front)
     }
 
-    /// Returns how many batches the window has.
+    /// Returns the number of batches in the window, at most [`MAX_BATCHES`].
     pub fn batches(&self) -> usize
         ensures { result ≡ length (firsts_of self.now) }
     {
@@ -170,7 +170,7 @@ impl<L: LogId, R: Wait + Drop> Writer<L, R, Ring<L>, RingChange<L>> {
     ///
     /// # Blocking
     ///
-    /// Waits for readers that still use the older copy of the ring.
+    /// Waits for readers that still use the copy of the window that is to be changed.
     #[tactic(auto, using(crate::proofs::Places::stands_newest, crate::proofs::Places::many_elements, crate::proofs::Lists::firsts_of_adding, crate::proofs::Rooms::room_full, crate::proofs::Rings::newest_bundle, crate::proofs::Rings::ends_bundle))]
     pub fn publish(&mut self, alloc: Global, bundle: Bundle) -> Result<(), (Bundle, PublishFault)>
         requires continues { Continues L.config (list_of self.old) bundle }
@@ -209,7 +209,8 @@ impl<L: LogId, R: Wait + Drop> Writer<L, R, Ring<L>, RingChange<L>> {
     ///
     /// # Blocking
     ///
-    /// If it drops batches, waits for readers that still use the older copy of the ring.
+    /// If it drops batches, waits for readers that still use the copy of the window that is to be
+    /// changed.
     #[tactic(auto, using(crate::proofs::Lists::begin_of_trimming, crate::proofs::Lists::list_of_trimming, crate::proofs::Lists::inputs_of_trimming, crate::proofs::Lists::firsts_of_trimming, crate::proofs::Rings::trimmed))]
     pub fn trim(&mut self, n: u64) -> Result<(), AllocError>
         requires steps { length self.old < 2 ^ 62 }
@@ -282,7 +283,7 @@ fn count_below(firsts: &HeapCircularBuffer<u64>, n: u64, end: u64) -> usize
     len
 }
 
-// Appends the place `first`, for which there must be room.
+// Appends `first`, the place where a new batch begins. There must be room for it.
 #[tactic(auto, using(crate::proofs::Firsts::kept_all))]
 fn put_last(firsts: &mut HeapCircularBuffer<u64>, first: u64)
     requires { length firsts.old.items < firsts.old.capacity }

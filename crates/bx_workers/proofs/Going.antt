@@ -9,7 +9,7 @@ use Rattle.bx_shard.specs.declared.shard.Shard.{Shard}
 use Rattle.bx_shard.proofs.{Holding.refines_still, Onwards.refines_onwards}
 use Rattle.bx_workers.specs.Upward.{AreConsecutive, AreOf, IsWithin, WentOn, end_of, first_of}
 
--- The shard has applied the first `n` of the entries that it lacked.
+-- `new` is the shard `old` after it applied `n` more entries of `es`.
 pub record Goes {P : Type 0} (place_of : P → ℕ → ℕ → ℕ) (es : List Entry) (n : ℕ) (old new : Shard P) : Type 0 where
   pub place : new.place ≡ old.place + n
   pub setup : setup_in place_of new ≡ setup_in place_of old

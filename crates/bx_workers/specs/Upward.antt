@@ -36,9 +36,9 @@ abbrev pub is_behind : {P : Type 0} → List Entry → Shard P → Bool
 is_behind [] s = false
 is_behind (e ∷ es) s = nat_lt s.place (end_of (e ∷ es))
 
--- `new` is the shard `old` after it advanced, at most to the end of the entries `es`. It agrees
--- with the definitions over each list that has the entries, if `old` does. It is at the end, or the
--- next entry is one that may allocate.
+-- `new` is the shard `old` after it advanced, at most to the end of the entries `es`. If `old`
+-- agrees with its definition `shard_at` for a list that has the entries, `new` does too. `new` is
+-- at the end, or the next entry is one that may allocate.
 pub record WentOn {P : Type 0} (place_of : P → ℕ → ℕ → ℕ) (es : List Entry) (old new : Shard P) : Type 0 where
   pub onward : old.place ≤ new.place
   pub within : IsWithin es old → IsWithin es new

@@ -68,8 +68,8 @@ fn catch_up_each<P: Placing>(alloc: Global, shards: &mut [Shard<P>], entries: &[
     }
 }
 
-// Applies the entries that the shard lacks, and stops with an error if memory runs out. In both
-// cases, wakes the tasks of the answered connects at the end.
+// Applies the entries that `shard` has not applied yet, and stops with an error if memory runs out.
+// In both cases, wakes the tasks of the answered connects at the end.
 fn catch_up<P: Placing>(
     alloc: Global,
     shard: &mut Shard<P>,

@@ -29,8 +29,8 @@ pub record IsTicket (setup : Setup) (list : List Listed) (here : ℕ) (t : Ticke
   pub place : t.place ≡ here
   pub shard : t.shard ≡ setup.placing session setup.shards
 
--- The slot has the reply to the message at `place`, which comes without events, or the ticket for
--- the answer to that message.
+-- The slot is right for the message at `place`: it has the reply, which is given at once and
+-- without events, or the ticket for the answer.
 abbrev pub IsSlot : Setup → List Listed → ℕ → Slot → Type 0
 IsSlot setup list place (answers.Ready reply) = answer setup.config list place ≡ Some (record { place = place; events = []; reply = reply })
 IsSlot setup list place (answers.Waiting ticket) = IsTicket setup list place ticket
@@ -202,9 +202,9 @@ PlainGivenOnce = (setup : Setup) (first : WorldState) (steps : List Step) (outs 
 pub record AsOneThread (setup : Setup) (first : WorldState) (steps : List Step) (outs : List StepOut) (last : WorldState) : Type 0 where
   -- The list grows by what was admitted, in order.
   pub list : last.list ≡ first.list ++ admitted_in steps outs
-  -- Each taken answer is what one thread gives over the list.
+  -- Each taken answer is that of a server that handles one message at a time.
   pub taken : EachTook setup.config last.list steps outs
-  -- Each immediate reply is what one thread gives over the list.
+  -- Each immediate reply is that of a server that handles one message at a time.
   pub replied : EachReplied setup last.list steps outs
   -- No answer is taken twice.
   pub once : EachNew first.taken (taken_places steps outs)

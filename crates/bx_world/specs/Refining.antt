@@ -1,4 +1,4 @@
--- When the shards of a world agree with the definitions.
+-- When the shards of a world agree with their definition `shard_at`.
 use Rattle.std.specs.Prelude.{ℕ, ◌≡◌, ◌≤◌, ◌==◌, Bool, false, List, map, slice_get, Some, None}
 use Rattle.std.specs.List.{list_any}
 use Rattle.bx_entry.specs.Listing.{Listed}
@@ -9,13 +9,14 @@ use Rattle.bx_shard.specs.declared.shard.Shard.{Shard}
 use Rattle.bx_world.specs.declared.step.Applied.{Applied}
 use Rattle.bx_world.specs.declared.step.Applied.TheVariants.{Done, Level, Memory}
 
--- The shard `s` agrees with the definitions' shard `k`, and has applied every entry below `first`.
+-- The shard `s` agrees with its definition `shard_at` for index `k`, and has applied every entry
+-- below `first`.
 pub record RefinesFrom {P : Type 0} (place_of : P → ℕ → ℕ → ℕ) (setup : Setup) (list : List Listed) (taken : List ℕ) (first k : ℕ) (s : Shard P) : Type 0 where
   pub holds : Refines setup list taken k s.place (state place_of s)
   pub past : first ≤ s.place
 
--- Each shard agrees with the definitions' shard of its index, and has applied every entry below
--- `first`.
+-- Each shard agrees with its definition `shard_at` for its index, and has applied every entry
+-- below `first`.
 abbrev pub EachRefines : {P : Type 0} → (P → ℕ → ℕ → ℕ) → Setup → List Listed → List ℕ → ℕ → List (Shard P) → Type 0
 EachRefines {P} place_of setup list taken first shards = (k : ℕ) → (s : Shard P) → slice_get shards k ≡ Some s → RefinesFrom place_of setup list taken first k s
 

@@ -34,18 +34,20 @@ ListIsAdmitted = (setup : Setup) (first : WorldState) (steps : List Step) (outs 
 
 -- ---- Taken answers
 
--- If the output is a taken answer, it is the one that one thread gives over `list` to the message
--- at the ticket's place.
+-- If the output is a taken answer, it is right for the message at the ticket's place: a server that
+-- handles the messages of `list` one at a time gives the same answer.
 abbrev pub TookBy : Config → List Listed → Ticket → StepOut → Type 0
 TookBy config list t (Taken (Some a)) = option_map given_of (answer config list t.place) ≡ Some a
 TookBy config list t _ = ⊤
 
--- If the step took an answer, it is the one that one thread gives over `list`.
+-- If the step took an answer, it is the one that a server gives that handles the messages of `list`
+-- one at a time.
 abbrev pub Took : Config → List Listed → Step → StepOut → Type 0
 Took config list (Take t) out = TookBy config list t out
 Took config list _ out = ⊤
 
--- Each taken answer is the one that one thread gives over `list`.
+-- Each taken answer is the one that a server gives that handles the messages of `list` one at a
+-- time.
 abbrev pub EachTook : Config → List Listed → List Step → List StepOut → Type 0
 EachTook config list [] outs = ⊤
 EachTook config list (step ∷ steps) [] = ⊤
@@ -90,7 +92,7 @@ taken_places [] outs = []
 taken_places (step ∷ steps) [] = []
 taken_places (step ∷ steps) (out ∷ outs) = taken_by step out ++ taken_places steps outs
 
--- No place occurs twice or is in `seen`.
+-- In a list of places, no place occurs twice or is in `seen`.
 abbrev pub EachNew : List ℕ → List ℕ → Type 0
 EachNew seen [] = ⊤
 EachNew seen (p ∷ ps) = (is_taken seen p ≡ false) × EachNew (seen ++ p ∷ []) ps

@@ -1,4 +1,4 @@
--- The program's world as a world of the definitions.
+-- The program's world as a `WorldState`, for the definitions.
 use Rattle.std.specs.Prelude.{ℕ, ◌≡◌, ◌++◌, ◌<◌, List, map, length, slice_get, take, Some, Result, Ok, Err}
 use Rattle.std.specs.Arc.{arc_value}
 use Rattle.bx_entry.specs.declared.Placing.{Ghosts}
@@ -14,25 +14,26 @@ module _ {P : Type 0} {g : Ghosts P} where
   abbrev pub setup_of : World P g → Setup
   setup_of w = placed_by w.admission.config w.admission.shards (g.place_of (arc_value w.placing))
 
-  -- The program's world as a world of the definitions: the list, how many entries each shard has
-  -- applied, and the places of the taken answers.
+  -- The program's world as a `WorldState`: the list, how many entries each shard has applied, and
+  -- the places of the taken answers.
   abbrev pub world_of : World P g → WorldState
   world_of w = record { list = w.admission.list; applied = map (λ (s : Shard P). s.place) w.shards.items; taken = w.taken }
 
-  -- In the definitions, `step` may give `out`, and takes the world from that of `old` to that of
-  -- `new`.
+  -- `new` is the world `old` after `step` with the output `out`, which is one that the definition
+  -- `IsOutput` allows. The setup is unchanged.
   pub record Steps (old : World P g) (step : Step) (out : StepOut) (new : World P g) : Type 0 where
     pub output : IsOutput (setup_of old) (world_of old) step out
     pub world : world_of new ≡ after (world_of old) step out
     pub setup : setup_of new ≡ setup_of old
 
-  -- Each shard agrees with the definitions' shard of its index at the same place. It has the same
-  -- live sessions, with queue, batch and counts, and the same filed answers.
+  -- Each shard agrees with its definition `shard_at` for its index and place. It has the same live
+  -- sessions, with queue, batch and counts, and the same filed answers.
   abbrev pub ShardsRefine : World P g → Type 0
   ShardsRefine w = (k : ℕ) (s : Shard P) → slice_get w.shards.items k ≡ Some s → Refines (setup_of w) w.admission.list w.taken k s.place (state g.place_of s)
 
-  -- `steps` ran in order and took `old` to `new`. `outs` is `before` followed by their outputs. The
-  -- outputs are what one thread gives, and the shards of `new` agree with the definitions.
+  -- `steps` ran in order and changed the world `old` to `new`. `outs` is `before` followed by their
+  -- outputs. The outputs are those of a server that handles one message at a time. The shards of
+  -- `new` agree with their definition `shard_at`.
   pub record Ran (old : World P g) (steps : List Step) (before outs : List StepOut) (new : World P g) : Type 0 where
     pub given : List StepOut
     pub behind : outs ≡ before ++ given

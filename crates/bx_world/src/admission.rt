@@ -67,7 +67,8 @@ impl Intake {
     ///
     /// # Errors
     ///
-    /// As [`World::admit`](crate::World::admit).
+    /// `Refused` if the request is rejected, for the reasons of
+    /// [`World::admit`](crate::World::admit); `Memory` if memory runs out. Nothing has changed.
     pub(crate) fn post<P: Placing>(
         &mut self,
         alloc: Global,
@@ -87,7 +88,8 @@ impl Intake {
     ///
     /// # Errors
     ///
-    /// As [`World::admit_tick`](crate::World::admit_tick).
+    /// `Refused` if the moment is too large or the list would become too long; `Memory` if memory
+    /// runs out. Nothing has changed.
     pub(crate) fn tick(&mut self, alloc: Global, moment: u64) -> Result<Admitted, AdmitFault>
         ensures admission { (placing : ℕ → ℕ → ℕ) → IsAdmission placing self.old (read_input (Tick moment)) result self.new }
         ensures refused { IfSome (refusal_of (length self.old.list) (read_input (Tick moment))) (λ refusal. result ≡ Err (Refused refusal)) }
@@ -145,7 +147,8 @@ impl Intake {
 
     /// Advances every shard to the end of the list, and returns how many shards still lack entries.
     ///
-    /// A shard still lacks entries only if memory runs out. `workers` and `gate` are as for
+    /// A shard still lacks entries only if memory runs out. `workers`: the number of workers that
+    /// share the shards. Each calls `gate` before and after its work, as in
     /// [`bring_up`](bx_workers::bring_up) of `bx_workers`.
     pub(crate) fn bring_up<R: Threads + Sync, G: Gate + Sync, P: Placing + Send + Sync>(
         &mut self,

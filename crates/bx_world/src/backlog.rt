@@ -14,7 +14,7 @@ use std::collections::VecDeque;
 use std::marker::Model;
 use std::thread::Threads;
 
-/// The entries of the list from place `first` on.
+/// The entries of the list from place `first` on, which some shard has yet to apply.
 ///
 /// Model: all entries of the list, the place of the first kept one, and how many more fit.
 #[derive(Drop)]
@@ -114,7 +114,8 @@ impl Backlog {
 
     /// Advances every shard to the end of the list, and returns how many shards still lack entries.
     ///
-    /// A shard still lacks entries only if memory runs out. `workers` and `gate` are as for
+    /// A shard still lacks entries only if memory runs out. `workers`: the number of workers that
+    /// share the shards. Each calls `gate` before and after its work, as in
     /// [`bring_up`](bx_workers::bring_up) of `bx_workers`.
     pub(crate) fn bring_up<R: Threads + Sync, G: Gate + Sync, P: Placing + Send + Sync>(
         &mut self,

@@ -1,10 +1,11 @@
 //! Laws of a world, for every configuration, placing and schedule.
 //!
-//! "What one thread gives": the results of a server that handles one message after another.
+//! A schedule is a list of steps, in any order: admissions, applications of entries, and takings of
+//! answers.
 ghost use Rattle.bx_world.specs.Schedules.{AnswersAreFiled, AnswersCanBeTaken, ListIsAdmitted, NoneTakenTwice, SchedulesCompose, TakesAreAnswers};
 ghost use Rattle.bx_world.specs.Headline.{BatchesRepeat, Headline, NoneGivenAgain, PlainGivenOnce, RepliesAreAnswers};
 
-/// Proves that the list grows by exactly what is admitted, in order.
+/// Proves that the list grows by exactly the messages and ticks that are admitted, in order.
 pub fn list_is_admitted()
     ensures { ListIsAdmitted }
 {}
@@ -14,14 +15,14 @@ pub fn takes_are_answers()
     ensures { TakesAreAnswers }
 {}
 
-/// Proves that an answer is filed once the session's shard has applied the answering entry.
+/// Proves that an answer is filed once its session's shard has applied the entry that gives it.
 ///
-/// It stays filed until it is taken.
+/// The answer stays filed until it is taken.
 pub fn answers_are_filed()
     ensures { AnswersAreFiled }
 {}
 
-/// Proves that `Take` returns a filed answer that was not taken, even if memory has run out.
+/// Proves that the step `Take` returns the answer filed under its ticket, even without free memory.
 pub fn answers_can_be_taken()
     ensures { AnswersCanBeTaken }
 {}
@@ -31,7 +32,9 @@ pub fn none_taken_twice()
     ensures { NoneTakenTwice }
 {}
 
-/// Proves that one schedule run after another is a schedule of the steps of both.
+/// Proves that two schedules run in sequence have the result of one schedule with all their steps.
+///
+/// A schedule is a list of steps.
 pub fn schedules_compose()
     ensures { SchedulesCompose }
 {}
@@ -41,9 +44,9 @@ pub fn replies_are_answers()
     ensures { RepliesAreAnswers }
 {}
 
-/// Proves that no answer has an event that was acknowledged, or sent by a plain session, before it.
+/// Proves that no answer repeats an event that its session has already acknowledged.
 ///
-/// A plain session does not acknowledge.
+/// If the session does not acknowledge batches, no answer repeats an event that was already sent.
 pub fn none_given_again()
     ensures { NoneGivenAgain }
 {}
@@ -58,12 +61,12 @@ pub fn batches_repeat()
     ensures { BatchesRepeat }
 {}
 
-/// Proves that, under every schedule, many shards give what one thread gives.
+/// Proves that a world answers like a server that handles one message at a time.
 ///
-/// For every number of shards and every placing:
+/// For every number of shards, every placing and every schedule (a list of steps in any order):
 ///
-/// - Each immediate reply and each taken answer is what one thread gives that handles one message
-///   at a time.
+/// - Each immediate reply and each taken answer is that of a server that handles one message at a
+///   time.
 /// - No answer is taken twice.
 /// - A connect that acknowledges nothing new while a batch is outstanding gets that batch again.
 /// - An acknowledged event is never sent again.

@@ -147,7 +147,8 @@ impl<P: Placing> World<P> {
 
     /// Advances every shard to the end of the list, and returns how many shards still lack entries.
     ///
-    /// A shard still lacks entries only if memory runs out. `workers` and `gate` are as for
+    /// A shard still lacks entries only if memory runs out. `workers`: the number of workers that
+    /// share the shards. Each calls `gate` before and after its work, as in
     /// [`bring_up`](bx_workers::bring_up) of `bx_workers`.
     pub fn bring_up<R: Threads + Sync, G: Gate + Sync>(
         &mut self,

@@ -17,7 +17,7 @@ pub struct Found {
 }
 
 impl Found {
-    /// Looks up the list at `path`, counts the lookup, and appends the numbers in the list.
+    /// Looks up the list at `path` in `lists`, counts the lookup, and appends the list's numbers.
     pub(super) fn reach(&mut self, lists: &PathLists, path: &str) -> Result<(), AllocError>
         requires { self.old.visited + 1 < 2 ^ 64 }
         ensures numbers { OnOk result ((n : ℕ)

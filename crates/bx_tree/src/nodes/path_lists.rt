@@ -6,7 +6,9 @@ ghost use Rattle.bx_tree.specs.Kept.{is_kept};
 use std::alloc::{AllocError, Global};
 use std::collections::BTreeMap;
 
-/// The sessions at each path, with their stamps. No list is empty.
+/// The sessions at each path, each with the stamp of its pattern. No list is empty.
+///
+/// A stamp is the key of a pattern in the session's own list of patterns.
 ///
 /// A path is, for example, `/a/b`, or empty. The map is ordered, because clients choose the paths:
 /// in a hash map, they could send paths that collide.
@@ -31,7 +33,7 @@ impl PathLists {
         }
     }
 
-    /// Returns the sessions at `path`, if any, in ascending order, and adds 1 to `visited`.
+    /// Returns the sessions at `path` and their stamps, if any, and adds 1 to `visited`.
     ///
     /// A search uses only this function, so that each lookup is counted.
     pub(super) fn reach(&self, path: &str, visited: &mut usize) -> Option<&BTreeMap<u64, u64>>
@@ -76,7 +78,7 @@ impl PathLists {
         Ok(())
     }
 
-    /// Removes session `number` from `path`, and returns its stamp if it was there.
+    /// Removes session `number` from `path`, and returns the stamp stored with it, if any.
     ///
     /// Drops the path's list if it is then empty.
     pub(super) fn remove(&mut self, path: &str, number: u64) -> Option<u64>
