@@ -1,6 +1,6 @@
 //! Serves HTTP connections, each as a task of a runtime.
 use crate::answer::Bare;
-use bx_serve::{Connections, MakeTask, most_of};
+use bx_serve::{Connections, MakeTask, accept_limit};
 use bytes::Bytes;
 use futures::task::{Context, Poll};
 use futures::{Future, StreamExt};
@@ -127,5 +127,5 @@ where
         service: Bare(rt.alloc()),
     };
     let connections = Connections::new(rt, listener.incoming(), server, pause);
-    runtime.run_all(&rt, connections.take(most_of(count)))
+    runtime.run_all(&rt, connections.take(accept_limit(count)))
 }

@@ -38,14 +38,14 @@ fn millis_of(passed: Duration) -> u64
 
 /// A source of nonces: a generator that all connections of both listeners share.
 #[derive(Drop)]
-pub struct Drawn<R> {
+pub struct RandomNonces<R> {
     /// The right to wait for the generator's lock.
     pub rt: R,
     /// The generator of random numbers, under a lock.
     pub generator: Arc<Mutex<ChaCha20Rng>, Global>,
 }
 
-impl<R: Wait> Nonces for Drawn<R> {
+impl<R: Wait> Nonces for RandomNonces<R> {
     // Draws the upper 64 bits of the nonce, and then the lower 64 bits.
     fn next(&self) -> u128 {
         let mut generator = self.generator.lock(&self.rt);

@@ -29,7 +29,7 @@ pub fn signal_at_eof<R: Input>(rt: &R, shutdown: Sender<()>) {
 ///
 /// Polling it locks as [`Hub::close`] does.
 #[derive(Drop)]
-pub struct Closing<L: LogId, P: Placing, G: Gate + Drop, R: Wait + Drop, A> {
+pub struct CloseOnShutdown<L: LogId, P: Placing, G: Gate + Drop, R: Wait + Drop, A> {
     /// The right to wait for the hub's locks.
     pub rt: R,
     /// The hub to close.
@@ -40,7 +40,7 @@ pub struct Closing<L: LogId, P: Placing, G: Gate + Drop, R: Wait + Drop, A> {
     pub shutdown: A,
 }
 
-impl<L, P, G, R, A, T> Future for Closing<L, P, G, R, A>
+impl<L, P, G, R, A, T> Future for CloseOnShutdown<L, P, G, R, A>
 where
     L: LogId,
     P: Placing + Drop,

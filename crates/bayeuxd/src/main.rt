@@ -19,7 +19,7 @@ use futures::channel::oneshot::{Receiver, Sender};
 use log::{error, info, warn};
 use metrics::serve_metrics;
 use recorder::{NewRecordFile, make_record};
-use serve::{ListenAddress, ServeFault, Serving, listen, serve};
+use serve::{ListenAddress, ServeFault, ServeSettings, listen, serve};
 use std::alloc::{AllocError, Global};
 use std::fs::File;
 use std::net::{SocketAddr, ToSocketAddrs};
@@ -121,7 +121,7 @@ fn main(rt: HostRuntime) -> ExitCode {
 
 // The parts of a server that are created before it listens.
 struct Parts<'a> {
-    arguments: Serving,
+    arguments: ServeSettings,
     listen_address: ListenAddress<'a>,
     readers: Option<ListenAddress<'a>>,
     counts: Arc<Counts, Global>,
@@ -136,7 +136,7 @@ fn parts_of<'a>(rt: &HostRuntime, settings: &Settings<'a>) -> Result<Parts<'a>, 
         return Err(failed(rt, "bayeuxd: cannot read the seed"));
     };
     let listen_address = listen_address_of(rt, settings.listen)?;
-    let readers = match settings.readers {
+    let readers = match settings.read_only_listen {
         Some(name) => Some(listen_address_of(rt, name)?),
         None => None,
     };
@@ -147,7 +147,7 @@ fn parts_of<'a>(rt: &HostRuntime, settings: &Settings<'a>) -> Result<Parts<'a>, 
         return Err(failed(rt, OUT_OF_MEMORY));
     };
     Ok(Parts {
-        arguments: Serving {
+        arguments: ServeSettings {
             config: settings.config,
             body: body_of(settings),
             seed,
@@ -227,7 +227,7 @@ fn settings_text(alloc: Global, settings: &Settings<'_>) -> Result<String, Alloc
     let mut text = format!(in alloc;
         "listen={} readers={} shards={}",
         settings.listen,
-        settings.readers.unwrap_or("-"),
+        settings.read_only_listen.unwrap_or("-"),
         config.shards
     )?;
     write!(
@@ -303,9 +303,9 @@ fn are_flags(args: &[String]) -> bool {
 // Returns the seed for nonces, which comes from the arguments, a file or the system.
 fn seed_of(rt: &HostRuntime, seed: Seed<'_>) -> io::Result<[u8; 32]> {
     match seed {
-        Seed::Said(seed) => Ok(seed),
+        Seed::FromArguments(seed) => Ok(seed),
         Seed::File(path) => read_seed(rt, path),
-        Seed::Drawn => {
+        Seed::FromSystem => {
             let mut seed = [0; 32];
             rt.fill_bytes(&mut seed)?;
             Ok(seed)

@@ -1,10 +1,11 @@
 //! The record of a hub's list: its file, and the thread that writes it.
 use bx_advice::Config;
-use bx_answers::{AnswerLog, TakenAnswers};
+use bx_answers::{TakenAnswerLines, WaitingAnswerLines};
 use bx_entry::ByRemainder;
 use bx_hub::{Hub, OpenGate, RecordFront};
 use bx_record::{
-    CountedFile, End, RecordFault, RecordFile, Source, Taken, Written, config_text, write_out,
+    CountedFile, RecordFault, RecordFile, Source, TakenText, WriteSummary, WriterEnd, config_text,
+    write_until_stopped,
 };
 use bx_window::LogId;
 use log::{Log, info, warn};
@@ -56,7 +57,7 @@ pub fn make_record(
 #[derive(Drop)]
 pub struct Recorder {
     thread: Option<JoinHandle<()>>,
-    answers: Option<Arc<AnswerLog, Global>>,
+    answers: Option<Arc<WaitingAnswerLines, Global>>,
     stop: Arc<AtomicBool, Global>,
 }
 
@@ -93,7 +94,7 @@ impl Recorder {
                 stop,
             });
         };
-        let log = Arc::new(alloc, AnswerLog::new(alloc))?;
+        let log = Arc::new(alloc, WaitingAnswerLines::new(alloc))?;
         let record = HubRecord {
             rt,
             alloc,
@@ -107,7 +108,7 @@ impl Recorder {
         let out = RecordFile::new(file, start);
         let thread = thread::spawn(
             &rt,
-            move || tell(&rt, &write_out(&rt, alloc, record, out, &*over)),
+            move || tell(&rt, &write_until_stopped(&rt, alloc, record, out, &*over)),
         )?;
         Ok(Recorder {
             thread: Some(thread),
@@ -121,7 +122,7 @@ impl Recorder {
     /// # Errors
     ///
     /// `AllocError` if memory runs out.
-    pub fn answers(&self) -> Result<Option<Arc<AnswerLog, Global>>, AllocError> {
+    pub fn answers(&self) -> Result<Option<Arc<WaitingAnswerLines, Global>>, AllocError> {
         match &self.answers {
             Some(log) => Ok(Some(Arc::try_clone(log)?)),
             None => Ok(None),
@@ -155,22 +156,22 @@ struct HubRecord<L: LogId, R: Wait + Drop> {
     rt: R,
     alloc: Global,
     hub: Arc<Hub<L, ByRemainder, OpenGate, R>, Global>,
-    log: Arc<AnswerLog, Global>,
+    log: Arc<WaitingAnswerLines, Global>,
 }
 
 impl<L: LogId, R: Wait + Log + Drop> Source for HubRecord<L, R> {
-    type Extent = RecordFront<L>;
+    type TextPosition = RecordFront<L>;
 
     type Fault = Ended;
 
     fn waiting(&self) -> usize {
-        self.hub.record_waiting(&self.rt)
+        self.hub.waiting_record_bytes(&self.rt)
     }
 
-    fn take(&mut self, empty: Vec<u8>) -> Option<Taken<RecordFront<L>, Ended>> {
-        let Taken { chunk, fault } = self.hub.take_record(&self.rt, empty).ok()?;
+    fn take(&mut self, empty: Vec<u8>) -> Option<TakenText<RecordFront<L>, Ended>> {
+        let TakenText { chunk, fault } = self.hub.take_record(&self.rt, empty).ok()?;
         let place = chunk.upto().place();
-        Some(Taken {
+        Some(TakenText {
             chunk,
             fault: fault.map(|fault| Ended { fault, place }),
         })
@@ -179,7 +180,7 @@ impl<L: LogId, R: Wait + Log + Drop> Source for HubRecord<L, R> {
     // Takes the lines of answers that wait, and leaves the buffer `empty`. Logs a warning if the
     // log of answers ended early. The list has each request before the log has its answer.
     fn take_answers(&mut self, empty: Vec<u8>) -> Vec<u8> {
-        let TakenAnswers { bytes, fault, .. } = self.log.take(&self.rt, empty);
+        let TakenAnswerLines { bytes, fault, .. } = self.log.take(&self.rt, empty);
         if let Some(fault) = fault {
             let why = why_of(fault);
             warn!(&self.rt; target: "bayeuxd", "recording of answers ended early reason=\"{why}\"");
@@ -194,18 +195,19 @@ impl<L: LogId, R: Wait + Log + Drop> Source for HubRecord<L, R> {
 }
 
 // Logs how much was written, and why the record ended.
-fn tell<R: Log>(rt: &R, written: &Written<Ended>) {
+fn tell<R: Log>(rt: &R, written: &WriteSummary<Ended>) {
     let count = written.count;
     match &written.end {
-        End::Told => info!(rt; target: "bayeuxd", "recording complete bytes={count}"),
-        End::Ended(Ended { fault, place }) => {
+        WriterEnd::StopRequested =>
+            info!(rt; target: "bayeuxd", "recording complete bytes={count}"),
+        WriterEnd::Ended(Ended { fault, place }) => {
             let why = why_of(*fault);
             warn!(rt; target: "bayeuxd", "recording ended early bytes={count} place={place} reason=\"{why}\"");
         }
-        End::Gone => {
+        WriterEnd::AlreadyEnded => {
             warn!(rt; target: "bayeuxd", "recording ended early bytes={count} reason=\"nothing is recorded\"");
         }
-        End::Refused(error) => {
+        WriterEnd::WriteFailed(error) => {
             warn!(rt; target: "bayeuxd", "recording ended early bytes={count} reason=\"{error}\"");
         }
     }
@@ -215,7 +217,7 @@ fn tell<R: Log>(rt: &R, written: &Written<Ended>) {
 fn why_of(fault: RecordFault) -> &'static str {
     match fault {
         RecordFault::Full => "more than 64 MiB waiting to be written",
-        RecordFault::Unsayable => "a request is too large for a record line",
+        RecordFault::Unrecordable => "a request is too large for a record line",
         RecordFault::Memory => "out of memory",
     }
 }

@@ -26,7 +26,7 @@ const CAUSES: [(Metric, &str); 10] = [
         "internal error: the window has dropped entries that a shard needs",
     ),
     (
-        Metric::Refused(Reason::Misplaced),
+        Metric::Refused(Reason::WrongShard),
         "internal error: shard lock mismatch",
     ),
     (
@@ -37,26 +37,26 @@ const CAUSES: [(Metric, &str); 10] = [
         Metric::Refused(Reason::Closed),
         "the server is shutting down",
     ),
-    (Metric::Unanswered, "answer unavailable"),
-    (Metric::Missing, "out of memory for a response"),
+    (Metric::UnansweredRequests, "answer unavailable"),
+    (Metric::MissingResponses, "out of memory for a response"),
 ];
 
 /// How many rejected or unanswered requests are already logged, by cause.
 ///
 /// With these counts, [`tell`](Self::tell) logs only new ones.
 #[derive(Clone, Copy)]
-pub struct Refusals {
+pub struct RefusalLogger {
     logged: [u64; 10],
 }
 
-impl Refusals {
+impl RefusalLogger {
     /// Creates counts of 0.
-    pub fn new() -> Refusals {
-        Refusals { logged: [0; 10] }
+    pub fn new() -> RefusalLogger {
+        RefusalLogger { logged: [0; 10] }
     }
 
     /// Logs each cause that has occurred since the last call, with its count since then.
-    pub fn tell<R: Log>(&mut self, rt: &R, counts: &Counts) {
+    pub fn log_new<R: Log>(&mut self, rt: &R, counts: &Counts) {
         for ((metric, text), logged) in CAUSES.iter().zip(self.logged.iter_mut()) {
             let count = counts.get(*metric);
             let more = count.saturating_sub(*logged);

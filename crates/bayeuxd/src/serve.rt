@@ -2,19 +2,19 @@
 ghost use Rattle.std.specs.Prelude.{◌≡◌};
 ghost use Rattle.bx_entry.specs.Placings.{by_remainder};
 
-use crate::clock::{Drawn, SinceStart};
-use crate::end::Closing;
+use crate::clock::{RandomNonces, SinceStart};
+use crate::end::CloseOnShutdown;
 use crate::recorder::{NewRecordFile, Recorder};
-use crate::ticker::tick;
+use crate::ticker::run_ticker;
 use bx_advice::Config;
-use bx_answers::{AnswerLog, AnswerLogger};
+use bx_answers::{AnswerLogger, WaitingAnswerLines};
 use bx_entry::{Access, ByRemainder};
 use bx_hub::{Hub, OpenGate};
 use bx_message::Item;
 use bx_metrics::Counts;
 use bx_serve::{Endpoint, serve_until};
 use bx_service::{Backend, BayeuxService, BodyLimit, HubBackend, Observer, Unanswered};
-use bx_window::{LogId, Opened};
+use bx_window::{EmptyWindow, LogId};
 use futures::Future;
 use futures::channel::oneshot::Receiver;
 use log::{Log, info};
@@ -35,7 +35,7 @@ use tokio::runtime::Runtime;
 
 /// The settings with which the server runs.
 #[derive(Clone, Copy)]
-pub struct Serving {
+pub struct ServeSettings {
     /// The number of shards, the times in milliseconds, the limits and the options.
     pub config: Config,
     /// The size limit of bodies and queries.
@@ -130,7 +130,7 @@ where
 pub fn serve<R, F, W>(
     rt: R,
     listening: Listening,
-    arguments: Serving,
+    arguments: ServeSettings,
     record_file: Option<NewRecordFile<F>>,
     counts: &Arc<Counts, Global>,
     shutdown: Receiver<()>,
@@ -157,7 +157,7 @@ where
     let placing = Arc::new(rt.alloc(), ByRemainder)?;
     run::<Brand, R, F, W>(
         rt,
-        Opened::new(),
+        EmptyWindow::new(),
         runtime,
         listeners,
         arguments,
@@ -173,10 +173,10 @@ where
 // Serves connections over a new hub until all have ended, while a thread posts ticks.
 fn run<L, R, F, W>(
     rt: R,
-    opened: Opened,
+    opened: EmptyWindow,
     runtime: Runtime,
     listeners: Listeners,
-    arguments: Serving,
+    arguments: ServeSettings,
     record_file: Option<NewRecordFile<F>>,
     start: Instant,
     placing: Arc<ByRemainder, Global>,
@@ -229,7 +229,7 @@ where
     if arguments.until_eof {
         runtime.set_shutdown_timeout(Some(Duration::from_millis(LEAVE)));
     }
-    let end = Closing {
+    let end = CloseOnShutdown {
         rt,
         hub: Arc::try_clone(&hub)?,
         counts: Arc::try_clone(counts)?,
@@ -252,7 +252,7 @@ where
     };
     let ticker = thread::spawn(
         &rt,
-        move || tick(&rt, alloc, &*ticked, &clock, &*counted, crowd, &*over),
+        move || run_ticker(&rt, alloc, &*ticked, &clock, &*counted, crowd, &*over),
     )?;
     let served = serve_endpoints(rt, &mut runtime, first, other, arguments, end);
     counts.set_listens(false);
@@ -301,7 +301,7 @@ struct SharedParts<L: LogId, R: Wait + Drop> {
     clock: SinceStart<R>,
     generator: Arc<Mutex<ChaCha20Rng>, Global>,
     counts: Arc<Counts, Global>,
-    answers: Option<Arc<AnswerLog, Global>>,
+    answers: Option<Arc<WaitingAnswerLines, Global>>,
 }
 
 // A listener with its backend and its observer.
@@ -320,12 +320,12 @@ impl<L: LogId, R: Wait + Clock + AllocGlobal + Copy + Drop> SharedParts<L, R> {
         access: Access,
     ) -> io::Result<
         EndpointParts<
-            HubBackend<L, ByRemainder, OpenGate, R, SinceStart<R>, Drawn<R>>,
+            HubBackend<L, ByRemainder, OpenGate, R, SinceStart<R>, RandomNonces<R>>,
             (Arc<Counts, Global>, AnswerLogger<R>),
         >,
     > {
         let (rt, alloc) = (self.rt, self.rt.alloc());
-        let nonces = Drawn {
+        let nonces = RandomNonces {
             rt,
             generator: Arc::try_clone(&self.generator)?,
         };
@@ -353,7 +353,7 @@ fn serve_endpoints<S, I, O, R, A>(
     runtime: &mut Runtime,
     first: EndpointParts<S, O>,
     other: Option<EndpointParts<S, O>>,
-    arguments: Serving,
+    arguments: ServeSettings,
     end: A,
 ) -> io::Result<()>
 where
@@ -379,6 +379,6 @@ fn endpoint_of<S: Backend, O: Observer>(
     body: BodyLimit,
     parts: EndpointParts<S, O>,
 ) -> io::Result<Endpoint<BayeuxService<S, O>>> {
-    let service = BayeuxService::observed(alloc, parts.backend, parts.observer)?;
+    let service = BayeuxService::with_observer(alloc, parts.backend, parts.observer)?;
     Ok((parts.listener, service.with_limit(body)))
 }

@@ -1,5 +1,5 @@
 //! The thread that posts ticks.
-use crate::refusals::Refusals;
+use crate::refusals::RefusalLogger;
 use bx_entry::Placing;
 use bx_hub::{Gate, Hub, Lagging, Pass, ShardSurvey, Survey};
 use bx_metrics::{Counts, Metric};
@@ -35,7 +35,7 @@ const TELLING: u64 = 10;
 /// # Blocking
 ///
 /// Sleeps between ticks. Locks and wakes tasks as [`Hub::tick`] does.
-pub fn tick<L, P, G, H, R, C>(
+pub fn run_ticker<L, P, G, H, R, C>(
     rt: &R,
     alloc: Global,
     hub: &Hub<L, P, G, H>,
@@ -54,17 +54,17 @@ where
 {
     let mut pass = hub.pass();
     let mut places = VecDeque::new(alloc);
-    let mut refusals = Refusals::new();
+    let mut refusals = RefusalLogger::new();
     let mut turn: u64 = 0;
     for _ in rt.forever() {
         if stop.load(Ordering::SeqCst) {
-            refusals.tell(rt, counts);
+            refusals.log_new(rt, counts);
             break;
         }
         thread::sleep(rt, Duration::from_millis(TICK));
         turn = turn.wrapping_add(1);
         if turn % TELLING == 0 {
-            refusals.tell(rt, counts);
+            refusals.log_new(rt, counts);
         }
         // A tick that is not appended adds no place. Answers are then dropped only if too many are
         // filed.
@@ -83,7 +83,7 @@ where
         };
         if let Some(before) = last_before(&mut places, kept) {
             let swept = hub.sweep(rt, before).dropped();
-            counts.add(Metric::Swept, swept as u64);
+            counts.add(Metric::SweptAnswers, swept as u64);
         }
     }
 }
@@ -131,7 +131,7 @@ fn survey<L: LogId, P: Placing, G: Gate + Drop, H: Wait + Drop, R: Wait>(
     } = hub.survey(rt, pass);
     counts.set(Metric::Entries, entries);
     counts.set(Metric::Sessions, live as u64);
-    counts.set(Metric::Opened, opened);
+    counts.set(Metric::OpenedSessions, opened);
     counts.set(Metric::Batches, batches as u64);
     let (mut connects, mut answers): (u64, u64) = (0, 0);
     for shard in 0..counts.shards() {
@@ -142,7 +142,7 @@ fn survey<L: LogId, P: Placing, G: Gate + Drop, H: Wait + Drop, R: Wait>(
         connects = connects.saturating_add(held as u64);
         answers = answers.saturating_add(filed as u64);
     }
-    counts.set(Metric::Connects, connects);
-    counts.set(Metric::Filed, answers);
+    counts.set(Metric::HeldConnects, connects);
+    counts.set(Metric::FiledAnswers, answers);
     answers
 }

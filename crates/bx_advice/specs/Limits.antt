@@ -2,7 +2,7 @@
 use Rattle.std.specs.Prelude.{ℕ, ◌≡◌}
 use Rattle.std.proofs.Common.{lit≤}
 use Rattle.bx_advice.specs.declared.config.Limits.{Limits}
-use Rattle.bx_advice.specs.declared.config.TheConstants.{MAX_MOMENT, MAX_LENGTH, STANDARD_BATCH, STANDARD_BYTES, STANDARD_EVENTS, STANDARD_PATTERNS, STANDARD_SESSIONS, STANDARD_TEXTS}
+use Rattle.bx_advice.specs.declared.config.TheConstants.{MAX_MOMENT, MAX_ENTRIES, STANDARD_BATCH, STANDARD_BYTES, STANDARD_EVENTS, STANDARD_PATTERNS, STANDARD_SESSIONS, STANDARD_TEXTS}
 
 -- The greatest moment of a request or a tick, in milliseconds since the server started.
 abbrev pub greatest_moment : ℕ
@@ -10,7 +10,7 @@ greatest_moment = MAX_MOMENT
 
 -- The maximum number of entries in the list.
 abbrev pub greatest_length : ℕ
-greatest_length = MAX_LENGTH
+greatest_length = MAX_ENTRIES
 
 -- The standard limits.
 abbrev pub standard_limits : Limits

@@ -15,7 +15,7 @@ pub const MAX_SHARDS: usize = 64;
 pub const MAX_MOMENT: u64 = 4_611_686_018_427_387_904;
 
 /// The maximum number of entries in the list: 2^62.
-pub const MAX_LENGTH: u64 = 4_611_686_018_427_387_904;
+pub const MAX_ENTRIES: u64 = 4_611_686_018_427_387_904;
 
 /// The greatest limit of a session's events that [`Config::with_limit`] accepts.
 pub const MAX_EVENTS: u32 = 65_536;
@@ -272,7 +272,7 @@ mod tests {
             ("bytes of a body", BODY_LIMIT as u64, 1_048_576),
             ("shards", MAX_SHARDS as u64, 64),
             ("moments", MAX_MOMENT, 4_611_686_018_427_387_904),
-            ("places", MAX_LENGTH, 4_611_686_018_427_387_904),
+            ("places", MAX_ENTRIES, 4_611_686_018_427_387_904),
             ("events that may be configured", MAX_EVENTS as u64, 65_536),
             (
                 "bytes that may be configured",

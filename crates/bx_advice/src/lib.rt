@@ -8,7 +8,7 @@ mod options;
 
 pub use advice::{Advice, Outcome, Reconnect, advice_for};
 pub use config::{
-    BODY_LIMIT, Config, Limits, MAX_BYTES, MAX_EVENTS, MAX_LENGTH, MAX_MOMENT, MAX_SHARDS,
+    BODY_LIMIT, Config, Limits, MAX_BYTES, MAX_ENTRIES, MAX_EVENTS, MAX_MOMENT, MAX_SHARDS,
     STANDARD_BYTES, STANDARD_EVENTS, STANDARD_LIMITS, ShardCount,
 };
 pub use error::Error;

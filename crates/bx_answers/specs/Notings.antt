@@ -2,17 +2,17 @@
 use Rattle.std.specs.Prelude.{ℕ, ◌≡◌, ◌+◌, ◌<◌, List, ◌++◌, length, Option, Some, None}
 use Rattle.bx_answers.specs.declared.lines.Noting.{Noting}
 use Rattle.bx_record.specs.declared.waiting.RecordFault.{RecordFault}
-use Rattle.bx_record.specs.declared.waiting.RecordFault.TheVariants.{Full, Memory, Unsayable}
+use Rattle.bx_record.specs.declared.waiting.RecordFault.TheVariants.{Full, Memory, Unrecordable}
 use Rattle.bx_answers.specs.declared.lines.Noting.TheVariants.{Open, Ended, Over}
-use Rattle.bx_record.specs.declared.waiting.TheConstants.{MOST_WAITING}
+use Rattle.bx_record.specs.declared.waiting.TheConstants.{MAX_WAITING_BYTES}
 
 -- Adding `line` may change the waiting lines `old` to `new`, and the state of the log. `line` is
 -- appended if the log accepts lines before and after. Otherwise the lines do not change: the log
 -- had ended, or it ends because too many bytes would wait or memory ran out.
 abbrev pub IsAdded : Noting → Noting → List ℕ → List ℕ → List ℕ → Type 0
 IsAdded Open Open line old new = new ≡ old ++ line
-IsAdded Open (Ended Full) line old new = (new ≡ old) × (MOST_WAITING < length old + length line)
-IsAdded Open (Ended Unsayable) line old new = ⊥
+IsAdded Open (Ended Full) line old new = (new ≡ old) × (MAX_WAITING_BYTES < length old + length line)
+IsAdded Open (Ended Unrecordable) line old new = ⊥
 IsAdded Open (Ended Memory) line old new = new ≡ old
 IsAdded Open Over line old new = ⊥
 IsAdded (Ended fault) after line old new = (new ≡ old) × (after ≡ Ended fault)

@@ -2,7 +2,7 @@
 ghost use Rattle.std.specs.Prelude.{◌≡◌, []};
 
 use crate::line::answer_line;
-use crate::lines::{AnswerLines, TakenAnswers};
+use crate::lines::{AnswerLines, TakenAnswerLines};
 use bx_message::Item;
 use bx_record::RecordFault;
 use std::alloc::Global;
@@ -13,14 +13,14 @@ use std::sync::{Mutex, Wait};
 /// Any thread can add lines, and one thread takes them. At most 64 MiB wait. A log that has ended
 /// accepts no more lines.
 #[derive(Drop)]
-pub struct AnswerLog {
+pub struct WaitingAnswerLines {
     lines: Mutex<AnswerLines>,
 }
 
-impl AnswerLog {
+impl WaitingAnswerLines {
     /// Creates an empty log.
-    pub fn new(alloc: Global) -> AnswerLog {
-        AnswerLog {
+    pub fn new(alloc: Global) -> WaitingAnswerLines {
+        WaitingAnswerLines {
             lines: Mutex::new(AnswerLines::new(alloc)),
         }
     }
@@ -80,7 +80,7 @@ impl AnswerLog {
     /// # Blocking
     ///
     /// Locks the log.
-    pub fn take<R: Wait>(&self, rt: &R, empty: Vec<u8>) -> TakenAnswers
+    pub fn take<R: Wait>(&self, rt: &R, empty: Vec<u8>) -> TakenAnswerLines
         requires { empty.items ≡ [] }
     {
         self.lines.lock(rt).take(empty)

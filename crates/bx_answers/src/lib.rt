@@ -8,7 +8,7 @@ mod observer;
 #[cfg(test)]
 mod tests;
 
-pub use answer_log::AnswerLog;
+pub use answer_log::WaitingAnswerLines;
 pub use line::answer_line;
-pub use lines::TakenAnswers;
+pub use lines::TakenAnswerLines;
 pub use observer::AnswerLogger;

@@ -2,9 +2,9 @@
 ghost use Rattle.std.specs.Prelude.{◌≡◌, ◌≤◌, [], length, ◌↔◌, IsTrue};
 ghost use Rattle.bx_answers.specs.Notings.{IsAdded, ended_by, fault_in, told_of};
 ghost use Rattle.bx_answers.specs.declared.lines.Noting.TheVariants.{Open, Over};
-ghost use Rattle.bx_record.specs.declared.waiting.TheConstants.{MOST_WAITING};
+ghost use Rattle.bx_record.specs.declared.waiting.TheConstants.{MAX_WAITING_BYTES};
 
-use bx_record::{RecordFault, Waiting};
+use bx_record::{RecordFault, WaitingBytes};
 use std::alloc::Global;
 
 /// Whether the log accepts lines.
@@ -20,18 +20,18 @@ pub(crate) enum Noting {
 
 /// The lines taken from a log.
 #[derive(Drop)]
-pub struct TakenAnswers {
+pub struct TakenAnswerLines {
     /// The lines, in the order in which they were added. They follow all lines taken before.
     pub bytes: Vec<u8>,
     /// The fault that ended the log, unless it was reported before.
     pub fault: Option<RecordFault>,
-    pub ghost bounded: { length bytes.items ≤ MOST_WAITING },
+    pub ghost bounded: { length bytes.items ≤ MAX_WAITING_BYTES },
 }
 
 /// The waiting lines, and whether the log accepts more.
 #[derive(Drop)]
 pub(crate) struct AnswerLines {
-    waiting: Waiting,
+    waiting: WaitingBytes,
     noting: Noting,
 }
 
@@ -42,7 +42,7 @@ impl AnswerLines {
         ensures noting { result.noting ≡ Open }
     {
         AnswerLines {
-            waiting: Waiting::new(alloc),
+            waiting: WaitingBytes::new(alloc),
             noting: Noting::Open,
         }
     }
@@ -83,14 +83,14 @@ impl AnswerLines {
         ensures lines { self.new.waiting ≡ [] }
         ensures noting { self.new.noting ≡ Over }
     {
-        self.waiting = Waiting::new(alloc);
+        self.waiting = WaitingBytes::new(alloc);
         self.noting = Noting::Over;
     }
 
     /// Takes all waiting lines. The empty buffer `empty` replaces them.
     ///
     /// Does not allocate or copy.
-    pub(crate) fn take(&mut self, empty: Vec<u8>) -> TakenAnswers
+    pub(crate) fn take(&mut self, empty: Vec<u8>) -> TakenAnswerLines
         requires { empty.items ≡ [] }
         ensures bytes { result.bytes.items ≡ self.old.waiting }
         ensures fault { result.fault ≡ fault_in self.old.noting }
@@ -105,6 +105,6 @@ impl AnswerLines {
             _ => None,
         };
         let bytes = self.waiting.take(empty);
-        TakenAnswers { bytes, fault }
+        TakenAnswerLines { bytes, fault }
     }
 }

@@ -1,7 +1,7 @@
 //! An observer that logs answers.
 ghost use Rattle.std.specs.Prelude.{◌≡◌};
 
-use crate::answer_log::AnswerLog;
+use crate::answer_log::WaitingAnswerLines;
 use bx_service::{Observer, ServiceEvent};
 use std::alloc::Global;
 use std::sync::{Arc, Wait};
@@ -13,12 +13,16 @@ use std::sync::{Arc, Wait};
 pub struct AnswerLogger<R> {
     rt: R,
     alloc: Global,
-    log: Option<Arc<AnswerLog, Global>>,
+    log: Option<Arc<WaitingAnswerLines, Global>>,
 }
 
 impl<R> AnswerLogger<R> {
     /// Creates an observer that appends to `log`, if given.
-    pub fn new(rt: R, alloc: Global, log: Option<Arc<AnswerLog, Global>>) -> AnswerLogger<R>
+    pub fn new(
+        rt: R,
+        alloc: Global,
+        log: Option<Arc<WaitingAnswerLines, Global>>,
+    ) -> AnswerLogger<R>
         ensures { result.log ≡ log }
     {
         AnswerLogger { rt, alloc, log }

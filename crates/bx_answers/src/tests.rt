@@ -1,5 +1,5 @@
 //! Tests of the log of answers, with digests that `sha256sum` computed.
-use crate::{AnswerLog, AnswerLogger, TakenAnswers, answer_line};
+use crate::{AnswerLogger, TakenAnswerLines, WaitingAnswerLines, answer_line};
 use bx_advice::{Config, Outcome};
 use bx_entry::Refusal;
 use bx_hub::PostFault;
@@ -34,11 +34,11 @@ fn config() -> Result<Config, Fail> {
 fn check_taken<R: Wait + Abort>(
     rt: &R,
     alloc: Global,
-    log: &AnswerLog,
+    log: &WaitingAnswerLines,
     wanted: &str,
     wanted_fault: Option<RecordFault>,
 ) {
-    let TakenAnswers { bytes, fault, .. } = log.take(rt, Vec::new(alloc));
+    let TakenAnswerLines { bytes, fault, .. } = log.take(rt, Vec::new(alloc));
     assert_eq!(rt; bytes.as_slice(), wanted.as_bytes());
     assert_eq!(rt; fault, wanted_fault);
 }
@@ -62,7 +62,7 @@ fn lines_tell_places_and_digests(rt: HostRuntime) -> Result<(), Fail> {
 #[test]
 fn lines_wait_until_they_are_taken(rt: HostRuntime) -> Result<(), Fail> {
     let alloc = rt.alloc();
-    let log = AnswerLog::new(alloc);
+    let log = WaitingAnswerLines::new(alloc);
     check_taken(&rt, alloc, &log, "", None);
     log.add(&rt, b"one\n");
     log.add(&rt, b"two\n");
@@ -76,7 +76,7 @@ fn lines_wait_until_they_are_taken(rt: HostRuntime) -> Result<(), Fail> {
 #[test]
 fn nothing_is_added_behind_an_end(rt: HostRuntime) -> Result<(), Fail> {
     let alloc = rt.alloc();
-    let log = AnswerLog::new(alloc);
+    let log = WaitingAnswerLines::new(alloc);
     log.add(&rt, b"one\n");
     log.end(&rt, RecordFault::Memory);
     log.end(&rt, RecordFault::Full);
@@ -85,7 +85,7 @@ fn nothing_is_added_behind_an_end(rt: HostRuntime) -> Result<(), Fail> {
     log.end(&rt, RecordFault::Full);
     log.add(&rt, b"three\n");
     check_taken(&rt, alloc, &log, "", None);
-    let log = AnswerLog::new(alloc);
+    let log = WaitingAnswerLines::new(alloc);
     log.add(&rt, b"one\n");
     log.stop(&rt, alloc);
     log.end(&rt, RecordFault::Full);
@@ -97,7 +97,7 @@ fn nothing_is_added_behind_an_end(rt: HostRuntime) -> Result<(), Fail> {
 #[test]
 fn a_full_log_ends(rt: HostRuntime) -> Result<(), Fail> {
     let alloc = rt.alloc();
-    let log = AnswerLog::new(alloc);
+    let log = WaitingAnswerLines::new(alloc);
     let chunk = [b'x'; 1 << 16];
     for _ in 0..1024 {
         log.add(&rt, &chunk);
@@ -105,7 +105,7 @@ fn a_full_log_ends(rt: HostRuntime) -> Result<(), Fail> {
     log.add(&rt, b"");
     log.add(&rt, b"y");
     log.add(&rt, b"");
-    let TakenAnswers { bytes, fault, .. } = log.take(&rt, Vec::new(alloc));
+    let TakenAnswerLines { bytes, fault, .. } = log.take(&rt, Vec::new(alloc));
     assert_eq!(rt; bytes.len(), 64 << 20);
     assert_eq!(rt; fault, Some(RecordFault::Full));
     log.add(&rt, b"z");
@@ -123,7 +123,7 @@ fn answers_are_logged(rt: HostRuntime) -> Result<(), Fail> {
     let alloc = rt.alloc();
     let items = connected(alloc, &config()?)?;
     let items = Some(items.as_slice());
-    let log = Arc::new(alloc, AnswerLog::new(alloc))?;
+    let log = Arc::new(alloc, WaitingAnswerLines::new(alloc))?;
     let nobody = shared(AnswerLogger::new(rt, alloc, None));
     let logger = shared(AnswerLogger::new(rt, alloc, Some(Arc::try_clone(&log)?)));
     for (place, items, is_logged) in [
@@ -132,11 +132,11 @@ fn answers_are_logged(rt: HostRuntime) -> Result<(), Fail> {
         (Some(7), None, false),
     ] {
         for event in [
-            ServiceEvent::Asked,
+            ServiceEvent::RequestArrived,
             ServiceEvent::Admitted(place),
             ServiceEvent::Refused(PostFault::Refused(Refusal::BadMoment)),
             ServiceEvent::Responded(Some(Status::Ok)),
-            ServiceEvent::Left { was_admitted: true },
+            ServiceEvent::RequestEnded { was_admitted: true },
         ] {
             logger.see(event);
         }

@@ -5,4 +5,4 @@ mod publication;
 mod window;
 
 pub use publication::Publication;
-pub use window::{Given, Window};
+pub use window::{OutstandingBatch, Window};

@@ -58,7 +58,7 @@ impl Model for Window {
 
 /// The outstanding batch, and the number of the last batch.
 #[derive(Drop)]
-pub struct Given<'a> {
+pub struct OutstandingBatch<'a> {
     /// The number of the last batch, or 0 before the first.
     pub number: u64,
     /// The outstanding events, oldest first. Empty if no batch is outstanding.
@@ -186,11 +186,11 @@ impl Window {
     /// Returns the outstanding batch and the number of the last batch.
     ///
     /// An outstanding batch stays the same until it is acknowledged or cleared.
-    pub fn given(&self) -> Given<'_>
+    pub fn outstanding_batch(&self) -> OutstandingBatch<'_>
         ensures number { result.number ≡ self.now.contents.number }
         ensures events { deque_iter_rest result.events ≡ events_of (outstanding self.now.contents) }
     {
-        Given {
+        OutstandingBatch {
             number: self.number,
             events: self.events.range(..self.out),
         }

@@ -8,7 +8,7 @@ use anyhow::{Result, anyhow};
 use bx_advice::Config;
 use bx_entry::{ByRemainder, Slot};
 use bx_hub::{Hub, OpenGate, Pass};
-use bx_window::{LogId, Opened};
+use bx_window::{EmptyWindow, LogId};
 use std::alloc::Global;
 use std::marker::Brand;
 use std::sync::{Arc, Wait};
@@ -39,14 +39,22 @@ pub fn posts<R: Threads + Wait + Sync>(
 ) -> Result<usize> {
     let config = Config::new(shards, 30_000, 0, 10_000).ok_or(anyhow!("no configuration"))?;
     let placing = Arc::new(alloc, ByRemainder)?;
-    let events = serves::<Brand, R>(rt, alloc, Opened::new(), config, placing, threads, load)?;
+    let events = serves::<Brand, R>(
+        rt,
+        alloc,
+        EmptyWindow::new(),
+        config,
+        placing,
+        threads,
+        load,
+    )?;
     Ok(events as usize)
 }
 
 fn serves<L: LogId + Send + Sync, R: Threads + Wait + Sync>(
     rt: &R,
     alloc: Global,
-    opened: Opened,
+    opened: EmptyWindow,
     config: Config,
     placing: Arc<ByRemainder, Global>,
     threads: u64,
@@ -201,14 +209,14 @@ fn four<L: LogId + Send + Sync, H: Wait + Drop + Send, R: Threads + Wait + Sync>
 pub fn ticks<R: Threads + Wait + Sync>(rt: &R, alloc: Global, count: u64) -> Result<usize> {
     let config = Config::new(64, 30_000, 0, 10_000).ok_or(anyhow!("no configuration"))?;
     let placing = Arc::new(alloc, ByRemainder)?;
-    let behind = idles::<Brand, R>(rt, alloc, Opened::new(), config, placing, count)?;
+    let behind = idles::<Brand, R>(rt, alloc, EmptyWindow::new(), config, placing, count)?;
     Ok(behind as usize)
 }
 
 fn idles<L: LogId + Send + Sync, R: Threads + Wait + Sync>(
     rt: &R,
     alloc: Global,
-    opened: Opened,
+    opened: EmptyWindow,
     config: Config,
     placing: Arc<ByRemainder, Global>,
     count: u64,

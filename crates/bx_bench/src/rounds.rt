@@ -84,7 +84,7 @@ fn serve<R: Threads + Sync>(
     round: &mut Round<ByRemainder>,
     inputs: &[Input],
 ) -> Result<usize> {
-    if round.intake() > MOST_INPUTS || inputs.len() > MOST_INPUTS {
+    if round.started_inputs() > MOST_INPUTS || inputs.len() > MOST_INPUTS {
         return Err(anyhow!("too many inputs"));
     }
     let mut outs = Vec::new(alloc);

@@ -3,7 +3,7 @@ use anyhow::{Result, anyhow};
 use bx_advice::Config;
 use bx_message::{Event, RawJson, SharedEvent, Text};
 use bx_names::ChannelName;
-use bx_session::{Connection, Delivery, PendingConnect, Session};
+use bx_session::{ConnectResult, Delivery, PendingConnect, Session};
 use std::alloc::Global;
 
 const SESSIONS: u64 = 1_000;
@@ -74,7 +74,7 @@ impl Setting {
         }
         let connect = PendingConnect::new(alloc, number, &self.client, None, 0, hold)?;
         let connection = session.connect(alloc, &self.config, connect, Some(number))?;
-        let Connection { answered, .. } = connection;
+        let ConnectResult { answered, .. } = connection;
         match answered {
             Some(answered) => Ok(answered.answer.events.len() as u64),
             None => Ok(0),

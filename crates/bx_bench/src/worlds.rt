@@ -2,7 +2,7 @@
 use crate::bodies::{HANDSHAKE, arrival, connect, handshake, publish, subscription};
 use crate::load::Load;
 use anyhow::{Result, anyhow};
-use bx_advice::{Config, MAX_LENGTH};
+use bx_advice::{Config, MAX_ENTRIES};
 use bx_entry::{ByRemainder, Slot, Ticket};
 use bx_world::{Applied, World};
 use std::alloc::Global;
@@ -58,7 +58,7 @@ impl Server {
 
     // Advances `shard` to the end of the list, or until memory runs out.
     fn bring_up(&mut self, alloc: Global, shard: usize) {
-        for _ in 0..MAX_LENGTH {
+        for _ in 0..MAX_ENTRIES {
             if self.world.apply(alloc, shard) != Applied::Done {
                 break;
             }

@@ -7,7 +7,7 @@ use Rattle.bx_entry.specs.Listing.{Listed, Tick}
 use Rattle.bx_entry.specs.Registry.{Judged, Registry, judge, found_at, entries_of, entries, state_of, tick_verdict}
 use Rattle.bx_entry.specs.declared.entry.Entry.{Entry}
 use Rattle.bx_entry.specs.declared.senders.Senders.TheVariants.{NoneYet}
-use Rattle.bx_window.specs.declared.batch.Bundle.{Bundle}
+use Rattle.bx_window.specs.declared.batch.UnpublishedBatch.{UnpublishedBatch}
 use Rattle.bx_window.specs.Places.{Continues}
 use Rattle.bx_calls.specs.Ticks.{ticks, tick_at, tick_entries}
 
@@ -65,7 +65,7 @@ entries_add place (suc m) n =
     let k : suc m + n ≡ suc (m + n) = omega arith in
     rw (e, k) (ap (λ (l : List Entry). tick_at place ∷ l) (entries_add (place + 1) m n))
 
-pub ticks_continue : (config : Config) (m n : ℕ) (b : Bundle) → 0 < n → b.batch.first ≡ m → b.batch.entries ≡ tick_entries m n → b.elements ≡ ticks n → Continues config (ticks m) b
+pub ticks_continue : (config : Config) (m n : ℕ) (b : UnpublishedBatch) → 0 < n → b.batch.first ≡ m → b.batch.entries ≡ tick_entries m n → b.elements ≡ ticks n → Continues config (ticks m) b
 ticks_continue config m n b some first es xs =
     let count = entries_count m n in
     let z : 0 + m ≡ m = omega arith in

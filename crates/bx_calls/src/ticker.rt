@@ -6,7 +6,7 @@ ghost use Rattle.bx_calls.specs.Ticks.{ticks, tick_entries};
 use bx_entry::{Batch, Entry, EntryKind, Listing};
 use bx_history::History;
 use bx_message::Sequence;
-use bx_window::{Bundle, Front, LogId, LogWriter, PublishFault};
+use bx_window::{Front, LogId, LogWriter, PublishFault, UnpublishedBatch};
 use std::alloc::{AllocError, Global};
 use std::sync::Wait;
 
@@ -80,7 +80,7 @@ impl<L: LogId, R: Wait + Drop> Ticker<L, R> {
     /// # Errors
     ///
     /// `AllocError` if `count` or the list's length is at least 1,000,000, or if memory runs out.
-    pub fn bundle(&self, alloc: Global, count: u64) -> Result<Bundle, AllocError>
+    pub fn bundle(&self, alloc: Global, count: u64) -> Result<UnpublishedBatch, AllocError>
         ensures first { IfOk result (λ b. b.batch.first ≡ self.now.end) }
         ensures entries { IfOk result (λ b. b.batch.entries ≡ tick_entries self.now.end count) }
         ensures elements { IfOk result (λ b. b.elements ≡ ticks count) }
@@ -103,9 +103,9 @@ impl<L: LogId, R: Wait + Drop> Ticker<L, R> {
     pub fn publish_bundle(
         &mut self,
         alloc: Global,
-        bundle: Bundle,
+        bundle: UnpublishedBatch,
         count: u64,
-    ) -> Result<(), (Bundle, PublishFault)>
+    ) -> Result<(), (UnpublishedBatch, PublishFault)>
         requires first { bundle.batch.first ≡ self.old.end }
         requires entries { bundle.batch.entries ≡ tick_entries self.old.end count }
         requires elements { bundle.elements ≡ ticks count }
@@ -137,7 +137,7 @@ impl<L: LogId, R: Wait + Drop> Ticker<L, R> {
 }
 
 // Creates a batch of `count` ticks of moment 0, from place `first`.
-fn ticks(alloc: Global, first: u64, count: u64) -> Result<Bundle, AllocError>
+fn ticks(alloc: Global, first: u64, count: u64) -> Result<UnpublishedBatch, AllocError>
     requires { first + count < 2 ^ 62 }
     ensures first { IfOk result (λ b. b.batch.first ≡ first) }
     ensures entries { IfOk result (λ b. b.batch.entries ≡ tick_entries first count) }
@@ -155,7 +155,7 @@ fn ticks(alloc: Global, first: u64, count: u64) -> Result<Bundle, AllocError>
         })?;
         elements.tick(0);
     }
-    Ok(Bundle {
+    Ok(UnpublishedBatch {
         batch: Batch { first, entries },
         elements,
         inputs: History::new(),

@@ -7,7 +7,7 @@ ghost use Rattle.bx_connects.specs.declared.connects.ConnectState.TheVariants.{F
 ghost use Rattle.bx_connects.specs.Connects.{AreApart, IsDue, IsHeldUntil, completed, connect_at, count_filed_below, count_held, filed_answer, filed_as, filing, filing_at, held_by, known_as, swept, taken_from, unswept, unwatched, watched, with_waker};
 ghost use Rattle.bx_connects.specs.Waking.{AreWoken, waker_of};
 
-use crate::filing::Filing;
+use crate::filing::TakenAnswer;
 use crate::held::{HeldConnect, HeldConnects};
 use crate::wakers::Wakers;
 use crate::watch::Watch;
@@ -170,7 +170,7 @@ impl Connects {
     /// # Errors
     ///
     /// `AllocError` if memory runs out; nothing has changed.
-    pub fn prepare(&mut self, place: u64, session: u64, answer: Answer) -> Result<(), AllocError>
+    pub fn file_rider(&mut self, place: u64, session: u64, answer: Answer) -> Result<(), AllocError>
         requires { connect_at self.old place ≡ None }
         ensures ok { OnOk result ((p : ℕ) → connect_at self.new p
             ≡ (if nat_eq place p then Some (Filed session place answer) else connect_at self.old p)) }
@@ -187,7 +187,7 @@ impl Connects {
     }
 
     /// Replaces the events of the answer filed for the connect or rider at `place`, if any.
-    pub fn complete(&mut self, place: u64, events: Vec<SharedEvent>)
+    pub fn set_events(&mut self, place: u64, events: Vec<SharedEvent>)
         ensures { (p : ℕ) → connect_at self.new p
             ≡ (if nat_eq place p then completed events.items (connect_at self.old place) else connect_at self.old p) }
     {
@@ -230,7 +230,7 @@ impl Connects {
     }
 
     /// Takes any one filed answer, or returns `None` if no answer is filed.
-    pub fn take_any(&mut self) -> Option<Filing>
+    pub fn take_any(&mut self) -> Option<TakenAnswer>
         ensures filed { IfSome result (λ f. (session : ℕ) × (connect_at self.old f.connect ≡ Some (Filed session f.place f.answer))) }
         ensures taken { IfSome result (λ f. (p : ℕ) → connect_at self.new p
             ≡ (if nat_eq f.connect p then taken_from (connect_at self.old f.connect) else connect_at self.old p)) }
@@ -238,7 +238,7 @@ impl Connects {
         ensures same { IfNone result (self.new ≡ self.old) }
     {
         let (connect, FiledAnswer { place, answer, .. }) = self.filed.pop()?;
-        Some(Filing {
+        Some(TakenAnswer {
             connect,
             place,
             answer,
@@ -248,16 +248,16 @@ impl Connects {
     /// Registers `waker` with the connect at `place`, and returns the waker that it replaces.
     ///
     /// Returns `waker` itself if the answer is filed (`Ready`), no connect is held at `place`
-    /// (`Unknown`), or `is_shut` is `true` (`Shut`).
-    pub fn watch(&mut self, place: u64, waker: Waker, is_shut: bool) -> Watch
-        ensures watch { result ≡ watched is_shut waker (connect_at self.old place) }
+    /// (`Unknown`), or `is_closed_to_wakers` is `true` (`Shut`).
+    pub fn watch(&mut self, place: u64, waker: Waker, is_closed_to_wakers: bool) -> Watch
+        ensures watch { result ≡ watched is_closed_to_wakers waker (connect_at self.old place) }
         ensures stored { (p : ℕ) → connect_at self.new p
-            ≡ (if nat_eq place p then with_waker is_shut waker (connect_at self.old place) else connect_at self.old p) }
+            ≡ (if nat_eq place p then with_waker is_closed_to_wakers waker (connect_at self.old place) else connect_at self.old p) }
     {
         if self.filed.contains_key(&place) {
             return Watch::Ready(waker);
         }
-        self.held.watch(place, waker, is_shut)
+        self.held.watch(place, waker, is_closed_to_wakers)
     }
 
     /// Drops the answers given by entries before place `before`, and returns their number.
@@ -333,7 +333,7 @@ impl Connects {
     /// # Errors
     ///
     /// `AllocError` if memory runs out; nothing has changed.
-    pub fn lend(
+    pub fn reserve_connect(
         &mut self,
         place: u64,
         session: u64,

@@ -3,7 +3,7 @@ use bx_message::Answer;
 
 /// The answer to a connect or a rider, with the place of the entry that gave it.
 #[derive(Drop)]
-pub struct Filing {
+pub struct TakenAnswer {
     /// The place of the connect or rider.
     pub connect: u64,
     /// The place of the entry that gave the answer. For a rider, this is equal to `connect`.

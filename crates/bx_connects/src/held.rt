@@ -23,12 +23,12 @@ pub(crate) struct HeldConnect {
 }
 
 impl HeldConnect {
-    // Stores `waker` and returns the one that it replaces, or returns `waker` itself if `is_shut`.
-    fn watch(&mut self, waker: Waker, is_shut: bool) -> Watch
-        ensures watch { result ≡ watched_hold is_shut waker (Some self.old) }
-        ensures stored { self.new ≡ stored_at is_shut waker self.old }
+    // Stores `waker` and returns the one that it replaces, or returns `waker` itself if `is_closed_to_wakers`.
+    fn watch(&mut self, waker: Waker, is_closed_to_wakers: bool) -> Watch
+        ensures watch { result ≡ watched_hold is_closed_to_wakers waker (Some self.old) }
+        ensures stored { self.new ≡ stored_at is_closed_to_wakers waker self.old }
     {
-        if is_shut {
+        if is_closed_to_wakers {
             return Watch::Shut(waker);
         }
         Watch::Stored(self.waker.replace(waker))
@@ -134,16 +134,16 @@ impl HeldConnects {
 
     /// Registers `waker` with the connect at `place`, and returns the waker that it replaces.
     ///
-    /// Returns `waker` itself if no connect is held at `place` (`Unknown`), or `is_shut` is `true`
+    /// Returns `waker` itself if no connect is held at `place` (`Unknown`), or `is_closed_to_wakers` is `true`
     /// (`Shut`).
-    pub(crate) fn watch(&mut self, place: u64, waker: Waker, is_shut: bool) -> Watch
-        ensures watch { result ≡ watched_hold is_shut waker (hold_at self.old place) }
+    pub(crate) fn watch(&mut self, place: u64, waker: Waker, is_closed_to_wakers: bool) -> Watch
+        ensures watch { result ≡ watched_hold is_closed_to_wakers waker (hold_at self.old place) }
         ensures stored { (p : ℕ) → hold_at self.new p
-            ≡ (if nat_eq place p then option_map (stored_at is_shut waker) (hold_at self.old place) else hold_at self.old p) }
+            ≡ (if nat_eq place p then option_map (stored_at is_closed_to_wakers waker) (hold_at self.old place) else hold_at self.old p) }
         ensures same { length self.new ≡ length self.old }
     {
         match self.by_place.get_mut(&place) {
-            Some(held) => held.watch(waker, is_shut),
+            Some(held) => held.watch(waker, is_closed_to_wakers),
             None => Watch::Unknown(waker),
         }
     }

@@ -9,6 +9,6 @@ mod wakers;
 mod watch;
 
 pub use connects::{ConnectState, Connects, FiledAnswer};
-pub use filing::Filing;
+pub use filing::TakenAnswer;
 pub use wakers::Wakers;
 pub use watch::Watch;

@@ -68,7 +68,7 @@ pub enum Refusal {
     Body(BodyError),
     /// The moment exceeds `MAX_MOMENT`, 2^62 milliseconds.
     BadMoment,
-    /// The list would have more than `MAX_LENGTH` entries, 2^62.
+    /// The list would have more than `MAX_ENTRIES` entries, 2^62.
     Ended,
 }
 

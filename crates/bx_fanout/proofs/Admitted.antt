@@ -10,7 +10,7 @@ use Rattle.bx_entry.specs.Placings.{Setup}
 use Rattle.bx_world.specs.Words.{EachSlot, asked_by, IsOutput, WorldState, after, output_admit}
 use Rattle.bx_world.specs.declared.step.Step.TheVariants.{Admit}
 use Rattle.bx_world.specs.declared.step.StepOut.TheVariants.{Admitted, NotAdmitted, OutOfMemory}
-use Rattle.bx_world.proofs.Replies.{replies_are_answers}
+use Rattle.bx_world.proofs.Replies.{replies_match_one_thread}
 use Rattle.bx_fanout.specs.Words.{Row, outs_of, waits, AreAnswers, NoneTakenFrom, next_place, AllUntaken, IsCollecting, IsTakenIn, IsGiving, seen_out}
 use Rattle.bx_theory.specs.Opens.{intake_as, open_after}
 use Rattle.bx_fanout.specs.declared.current_input.CurrentInput.{CurrentInput}
@@ -65,7 +65,7 @@ intake-admitted setup inputs i old new rows n added first slots batch g settled 
     let t = took setup old i first slots output in
     let len : length old.list ≡ length (taken_in inputs).list = ap (λ (ls : List Listed). length ls) g.list in
     let no : refusal_of (length (taken_in inputs).list) input ≡ None = ap (λ (k : ℕ). refusal_of k input) (sym len) ∙ t.none in
-    let reply = (replies_are_answers setup old (Admit i ∷ []) (Admitted first slots ∷ []) new batch (output, step)).0 in
+    let reply = (replies_match_one_thread setup old (Admit i ∷ []) (Admitted first slots ∷ []) new batch (output, step)).0 in
     let place : next_place n ≡ first = ap (λ (os : List Answer). n.first + length os) answers ∙ add-zero n.first ∙ at in
     let list : new.list ≡ old.list ++ added_by input = ap (λ (w : WorldState). w.list) step in
     let taken : new.taken ≡ old.taken = ap (λ (w : WorldState). w.taken) step in

@@ -11,7 +11,7 @@ use Rattle.bx_shard.specs.Words.{Setup, is_taken, given_of}
 use Rattle.bx_world.specs.Words.{EachSlot, IsTicket, IsOutput, WorldState, after}
 use Rattle.bx_world.specs.declared.step.Step.TheVariants.{Take}
 use Rattle.bx_world.specs.declared.step.StepOut.TheVariants.{Taken}
-use Rattle.bx_world.proofs.{Files.answers_can_be_taken, Takes.takes_are_answers}
+use Rattle.bx_world.proofs.{Files.answers_can_be_taken, Takes.taken_answers_match_one_thread}
 use Rattle.bx_advice.specs.declared.config.Config.{Config}
 use Rattle.bx_fanout.specs.CurrentInputs.{AreAnswers, IsCollected, IsLevel, Keeps, Next, NextBy, NoneTakenFrom, given_at, next_place}
 use Rattle.bx_fanout.specs.declared.current_input.CurrentInput.{CurrentInput}
@@ -24,7 +24,7 @@ taken-of : (a b : Option Answer) → Taken a ≡ Taken b → a ≡ b
 taken-of a b e = cc
 
 pub take-is-answer : (setup : Setup) (w : WorldState) (t : Ticket) (b : Answer) → 0 < setup.config.limits.batch → IsOutput setup w (Take t) (Taken (Some b)) → given_at setup.config w.list t.place ≡ Some b
-take-is-answer setup w t b batch output = (takes_are_answers setup w (Take t ∷ []) (Taken (Some b) ∷ []) (after w (Take t) (Taken (Some b))) batch (output, refl)).0
+take-is-answer setup w t b batch output = (taken_answers_match_one_thread setup w (Take t ∷ []) (Taken (Some b) ∷ []) (after w (Take t) (Taken (Some b))) batch (output, refl)).0
 
 gives-by : (setup : Setup) (w : WorldState) (t : Ticket) (o : Option Answer) → 0 < setup.config.limits.batch → AllPlaced setup w → IsTicket setup w.list t.place t → IsLevel w → is_taken w.taken t.place ≡ false →
     IsOutput setup w (Take t) (Taken o) → (p : Option PlacedAnswer) → answer setup.config w.list t.place ≡ p → o ≡ option_map given_of p

@@ -12,7 +12,7 @@ use Rattle.bx_theory.specs.Opens as opens
 use Rattle.bx_fanout.specs.declared.{stage.Stage.Stage, current_input.CurrentInput.CurrentInput}
 use Rattle.bx_fanout.specs.declared.stage.Stage.TheVariants.{Collecting}
 use Rattle.bx_fanout.proofs.Finishing.{giving-at, intake-at}
-use Rattle.bx_theory.proofs.Opens.{open_is_held, opens_go_on, outs_add}
+use Rattle.bx_theory.proofs.Opens.{incomplete_inputs_are_reported_held, input_stays_incomplete_until_completed, input_appends_outs_it_completes}
 
 -- ---- Lists
 
@@ -46,7 +46,7 @@ waits-bare (o ∷ os) = ap (λ (rows : List Row). bare o ∷ rows) (waits-bare o
 held-giving : (setup : Setup) (inputs : List ReadInput) (w : WorldState) (rows : List Row) (left : List runs.Out) (added : List runs.Out) → 0 < setup.config.limits.batch →
     IsGiving setup inputs w rows left added → numbers (filter waits rows) ≡ held setup.config inputs
 held-giving setup inputs w rows left added batch g =
-    ap numbers g.rest ∙ numbers-bare (open_after setup.config inputs) ∙ sym (open_is_held setup.config inputs batch)
+    ap numbers g.rest ∙ numbers-bare (open_after setup.config inputs) ∙ sym (incomplete_inputs_are_reported_held setup.config inputs batch)
 
 -- ---- Answers are being collected
 
@@ -64,15 +64,15 @@ held-collecting setup inputs input w rows n added batch c all =
     let waiting : List Numbered = waiting_at config inputs input in
     let whole : List Numbered = filter (is_whole config r) waiting in
     let more : List runs.Out = map (opens.out_of config r) whole in
-    let none : more ≡ [] = none-behind (outs config inputs) more (sym c.outs_before ∙ all ∙ outs_add config inputs input batch) in
+    let none : more ≡ [] = none-behind (outs config inputs) more (sym c.outs_before ∙ all ∙ input_appends_outs_it_completes config inputs input batch) in
     let same : filter (λ (o : Numbered). not (is_whole config r o)) waiting ≡ waiting =
     others-all (is_whole config r) (λ (o : Numbered). not (is_whole config r o)) (λ (o : Numbered). refl) waiting (none-mapped (opens.out_of config r) whole none) in
     let number : Numbered → ℕ = λ (o : Numbered). o.number in
     ap (λ (ns : List ℕ). ns ++ n.number ∷ []) (waiting-collecting setup inputs input w rows n added c)
     ∙ ap (λ (k : ℕ). map number (open_after config inputs) ++ k ∷ []) c.number
     ∙ sym (map-append number (open_after config inputs) (newest inputs input ∷ []))
-    ∙ ap (map number) (sym (opens_go_on config inputs input batch ∙ same))
-    ∙ sym (open_is_held config (inputs ++ input ∷ []) batch)
+    ∙ ap (map number) (sym (input_stays_incomplete_until_completed config inputs input batch ∙ same))
+    ∙ sym (incomplete_inputs_are_reported_held config (inputs ++ input ∷ []) batch)
 
 -- ---- A round
 
@@ -89,7 +89,7 @@ held-before setup inputs w rows stage n added batch is i =
       last = d.last;
       are = d.are;
       numbers_are =
-          ap (λ (ns : List ℕ). ns ++ n.number ∷ []) (waiting-collecting setup d.earlier d.last w rows n added d.collecting ∙ sym (open_is_held setup.config d.earlier batch))
+          ap (λ (ns : List ℕ). ns ++ n.number ∷ []) (waiting-collecting setup d.earlier d.last w rows n added d.collecting ∙ sym (incomplete_inputs_are_reported_held setup.config d.earlier batch))
           ∙ ap (λ (k : ℕ). held setup.config d.earlier ++ k ∷ []) d.collecting.number;
     }
 

@@ -14,7 +14,7 @@ use Rattle.bx_fanout.specs.declared.{stage.Stage.Stage, out.Out.Out, out.RoundFa
 use Rattle.bx_fanout.specs.declared.stage.Stage.TheVariants.{Collecting, Complete, Idle}
 use Rattle.bx_fanout.specs.declared.out.RoundFault.TheVariants.{Memory}
 use Rattle.bx_fanout.proofs.Admitted.{all-added}
-use Rattle.bx_theory.proofs.Opens.{outs_add}
+use Rattle.bx_theory.proofs.Opens.{input_appends_outs_it_completes}
 
 record Front (setup : Setup) (inputs : List ReadInput) (added : List runs.Out) : Type 0 where
   rest : List runs.Out
@@ -33,7 +33,7 @@ front-by setup inputs w rows (Collecting n) added batch d =
     let more : List runs.Out = map (out_of setup.config r) (filter (is_whole setup.config r) (waiting_at setup.config d.earlier d.last)) in
     record {
       rest = more;
-      front = ap (outs setup.config) d.are ∙ outs_add setup.config d.earlier d.last batch ∙ ap (λ (os : List runs.Out). os ++ more) (sym d.collecting.outs_before);
+      front = ap (outs setup.config) d.are ∙ input_appends_outs_it_completes setup.config d.earlier d.last batch ∙ ap (λ (os : List runs.Out). os ++ more) (sym d.collecting.outs_before);
     }
 front-by setup inputs w rows (Complete n) added batch i = front-giving setup inputs w rows (seen_out (current.out_of n) ∷ []) added i
 

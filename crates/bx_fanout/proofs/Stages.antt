@@ -15,7 +15,7 @@ use Rattle.bx_fanout.specs.CurrentInputs as current
 use Rattle.bx_theory.specs.Opens.{Numbered, answers_to, intake_as, is_whole, newest, open_after, out_of, waiting_at}
 use Rattle.bx_theory.specs.Sole.{IsConnect}
 use Rattle.bx_fanout.specs.declared.current_input.CurrentInput.{CurrentInput}
-use Rattle.bx_theory.proofs.{Opens.opens_go_on, Opens.outs_add, Sole.open_are_sole}
+use Rattle.bx_theory.proofs.{Opens.input_stays_incomplete_until_completed, Opens.input_appends_outs_it_completes, Sole.incomplete_input_is_one_held_connect}
 
 pub record IsSole (o : Numbered) : Type 0 where
   pub accepted : o.intake.refusal ≡ None
@@ -203,13 +203,13 @@ adds : (setup : Setup) (inputs : List ReadInput) (input : ReadInput) (list : Lis
     outs setup.config (inputs ++ input ∷ []) ≡ outs setup.config inputs ++ map (out_of setup.config (registry setup.config list)) (filter (is_whole setup.config (registry setup.config list)) (waiting_at setup.config inputs input))
 adds setup inputs input list batch same =
     subst (λ (ls : List Listed). outs setup.config (inputs ++ input ∷ []) ≡ outs setup.config inputs ++ map (out_of setup.config (registry setup.config ls)) (filter (is_whole setup.config (registry setup.config ls)) (waiting_at setup.config inputs input)))
-    (sym same) (outs_add setup.config inputs input batch)
+    (sym same) (input_appends_outs_it_completes setup.config inputs input batch)
 
 leaves : (setup : Setup) (inputs : List ReadInput) (input : ReadInput) (list : List Listed) → 0 < setup.config.limits.batch → list ≡ (taken_in (inputs ++ input ∷ [])).list →
     open_after setup.config (inputs ++ input ∷ []) ≡ filter (λ (n : Numbered). not (is_whole setup.config (registry setup.config list) n)) (waiting_at setup.config inputs input)
 leaves setup inputs input list batch same =
     subst (λ (ls : List Listed). open_after setup.config (inputs ++ input ∷ []) ≡ filter (λ (n : Numbered). not (is_whole setup.config (registry setup.config ls) n)) (waiting_at setup.config inputs input))
-    (sym same) (opens_go_on setup.config inputs input batch)
+    (sym same) (input_stays_incomplete_until_completed setup.config inputs input batch)
 
 pub giving-whole : (setup : Setup) (inputs : List ReadInput) (input : ReadInput) (old w : WorldState) (rows after : List Row) (n : CurrentInput) (added : List runs.Out) → 0 < setup.config.limits.batch →
     IsCollecting setup inputs input old rows n added → n.slots.items ≡ [] → Drained setup old rows w after → IsGiving setup (inputs ++ input ∷ []) w after (seen_out (current.out_of n) ∷ []) added
@@ -217,7 +217,7 @@ giving-whole setup inputs input old w rows after n added batch c none d =
     let config : Config = setup.config in
     let r : Registry = registry config old.list in
     let opens : List Numbered = open_after config inputs in
-    let sole : AllByRecursion IsSole opens = all-sole config (taken_in inputs).list opens (open_are_sole config inputs batch) in
+    let sole : AllByRecursion IsSole opens = all-sole config (taken_in inputs).list opens (incomplete_input_is_one_held_connect config inputs batch) in
     let own = newest-whole setup inputs input old rows n added c none in
     let put : after ≡ map (filled config old.list) (map bare opens) = d.rows ∙ ap (map (filled config old.list)) c.held in
     let opened : open_after config (inputs ++ input ∷ []) ≡ filter (λ (o : Numbered). not (is_whole config r o)) opens = leaves setup inputs input old.list batch c.list ∙ none-more config r opens (newest inputs input) own.whole in
@@ -273,7 +273,7 @@ newest-sole setup inputs input w rows n added batch c some missing =
     leaves setup inputs input w.list batch c.list ∙ filter-append (λ (o : Numbered). not (is_whole config r o)) opens (newest inputs input ∷ [])
     ∙ ap (λ (b : Bool). filter (λ (o : Numbered). not (is_whole config r o)) opens ++ cond (not b) (newest inputs input ∷ []) []) not-whole in
     let all : AllByRecursion (IsConnect config (taken_in (inputs ++ input ∷ [])).list) (filter (λ (o : Numbered). not (is_whole config r o)) opens ++ newest inputs input ∷ []) =
-    subst (AllByRecursion (IsConnect config (taken_in (inputs ++ input ∷ [])).list)) opened (open_are_sole config (inputs ++ input ∷ []) batch) in
+    subst (AllByRecursion (IsConnect config (taken_in (inputs ++ input ∷ [])).list)) opened (incomplete_input_is_one_held_connect config (inputs ++ input ∷ []) batch) in
     subst (λ (ls : List Listed). IsConnect config ls (newest inputs input)) (sym c.list) (last-of config (taken_in (inputs ++ input ∷ [])).list (filter (λ (o : Numbered). not (is_whole config r o)) opens) (newest inputs input) all)
 
 pub giving-held : (setup : Setup) (inputs : List ReadInput) (input : ReadInput) (old w : WorldState) (rows after : List Row) (n : CurrentInput) (added : List runs.Out) → 0 < setup.config.limits.batch →
@@ -286,7 +286,7 @@ giving-held setup inputs input old w rows after n added batch c some missing d =
     let connect = newest-sole setup inputs input old rows n added batch c some missing in
     let all : List Numbered = waiting_at config inputs input in
     let sole : AllByRecursion IsSole all =
-    all-append opens (newest inputs input ∷ []) (all-sole config (taken_in inputs).list opens (open_are_sole config inputs batch)) (record { accepted = connect.accepted; sole = connect.sole }, tt) in
+    all-append opens (newest inputs input ∷ []) (all-sole config (taken_in inputs).list opens (incomplete_input_is_one_held_connect config inputs batch)) (record { accepted = connect.accepted; sole = connect.sole }, tt) in
     let len : ℕ = length (taken_in inputs).list in
     let last : (n.first, record { number = n.number; answer = None }) ≡ bare (newest inputs input) =
     ap (λ (p : ℕ). (p, record { number = n.number; answer = None })) (c.first ∙ sym (intake-first len input (refusal_of len input)))

@@ -6,7 +6,7 @@ use Rattle.bx_advice.specs.declared.config.Config.{Config}
 use Rattle.bx_entry.specs.Words.{ReadInput, added_by, refusal_of, Listed, Judged, PlaceSlot, Waiting, registry, Taking, outs, places_of, taken_as, taken_in, take_in}
 use Rattle.bx_entry.specs.Runs as runs
 use Rattle.bx_entry.specs.declared.input.Refusal.{Refusal}
-use Rattle.bx_theory.proofs.{Lists.judged_length, Lists.judged_more, Sole.open_are_sole}
+use Rattle.bx_theory.proofs.{Lists.judged_length, Lists.judged_more, Sole.incomplete_input_is_one_held_connect}
 use Rattle.bx_message.specs.declared.reply.Answer.{Answer}
 use Rattle.bx_entry.specs.Placings.{Setup}
 use Rattle.bx_shard.specs.Shards.{is_taken}
@@ -58,7 +58,7 @@ below-all config list (o ∷ os) all = (slot-within config list o.intake.first (
 pub held-below : (setup : Setup) (inputs : List ReadInput) (input : ReadInput) (w : WorldState) (rows : List Row) (n : CurrentInput) (added : List runs.Out) → 0 < setup.config.limits.batch → IsCollecting setup inputs input w rows n added → AllBelow n.first rows
 held-below setup inputs input w rows n added batch c =
     let config : Config = setup.config in
-    let below : AllBelow (length (taken_in inputs).list) (map bare (open_after config inputs)) = below-all config (taken_in inputs).list (open_after config inputs) (open_are_sole config inputs batch) in
+    let below : AllBelow (length (taken_in inputs).list) (map bare (open_after config inputs)) = below-all config (taken_in inputs).list (open_after config inputs) (incomplete_input_is_one_held_connect config inputs batch) in
     let at : AllBelow n.first (map bare (open_after config inputs)) = subst (λ (p : ℕ). AllBelow p (map bare (open_after config inputs))) (sym c.first) below in
     subst (AllBelow n.first) (sym c.held) at
 
@@ -78,7 +78,7 @@ waits-held : (setup : Setup) (inputs : List ReadInput) (input : ReadInput) (w : 
 waits-held setup inputs input w rows n added batch c =
     let g = grows inputs input in
     subst (AllByRecursion (Waits setup w)) (sym c.held)
-    (wait-all setup w (taken_in inputs).list g.0 (open_after setup.config inputs) (c.list ∙ g.1) (open_are_sole setup.config inputs batch) c.untaken)
+    (wait-all setup w (taken_in inputs).list g.0 (open_after setup.config inputs) (c.list ∙ g.1) (incomplete_input_is_one_held_connect setup.config inputs batch) c.untaken)
 
 -- ---- Answers not taken
 
@@ -153,7 +153,7 @@ collecting-on setup inputs input old new rows n m added batch c so_far keeps col
       many = collects.many ∙ c.many;
       collected = so_far;
       held = c.held;
-      untaken = untaken-on setup.config (taken_in inputs).list n.first old.taken new.taken (open_after setup.config inputs) (omega arith) keeps.earlier (open_are_sole setup.config inputs batch) c.untaken;
+      untaken = untaken-on setup.config (taken_in inputs).list n.first old.taken new.taken (open_after setup.config inputs) (omega arith) keeps.earlier (incomplete_input_is_one_held_connect setup.config inputs batch) c.untaken;
       outs_before = c.outs_before;
     }
 

@@ -149,7 +149,7 @@ impl<P: Placing> Round<P> {
     }
 
     /// Returns how many inputs were started in all runs.
-    pub fn intake(&self) -> usize
+    pub fn started_inputs(&self) -> usize
         ensures { result ≡ length (inputs_of self.now) }
     {
         self.state.intake

@@ -11,7 +11,7 @@ use bx_entry::{Access, ByRemainder};
 use bx_hub::OpenGate;
 use bx_pieces::Pieces;
 use bx_service::{BayeuxService, Clock, HubBackend, Nonces};
-use bx_window::{LogId, Opened};
+use bx_window::{EmptyWindow, LogId};
 use bytes::Bytes;
 use futures::test::MockTask;
 use http::{Request, Response};
@@ -57,13 +57,13 @@ where
     let config = Config::new(2, 30_000, 0, 10_000).ok_or(anyhow!("no configuration"))?;
     let http = http1::Builder::new(alloc, RandomState::new(&rt)?);
     let placing = Arc::new(alloc, ByRemainder)?;
-    serves::<Brand, R>(rt, alloc, Opened::new(), config, placing, &http)
+    serves::<Brand, R>(rt, alloc, EmptyWindow::new(), config, placing, &http)
 }
 
 fn serves<L, R>(
     rt: R,
     alloc: Global,
-    opened: Opened,
+    opened: EmptyWindow,
     config: Config,
     placing: Arc<ByRemainder, Global>,
     http: &http1::Builder,

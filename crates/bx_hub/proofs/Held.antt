@@ -11,20 +11,20 @@ use Rattle.bx_entry.specs.declared.entry.{Batch.Batch, Entry.Entry, Ticket.Ticke
 use Rattle.bx_connects.specs.Connects.{filed_answer}
 use Rattle.futures.specs.declared.task.waker.Waker.{Waker}
 use Rattle.bx_shard.specs.Words.{Refines, Took, given_of, swept_places, Setup, Applied, IsAsBefore, IsSound, State, Swept, Watched, WasShut, connect_in}
-use Rattle.bx_shard.proofs.{Holding.refines_still, Holding.refines_longer, Placed.entry_placed, Onwards.refines_onwards, Sweeping.refines_swept, Taking.refines_taken, Waking.refines_watched, Waking.refines_shut}
+use Rattle.bx_shard.proofs.{Holding.refines_unchanged, Holding.refines_longer_list, Placed.entry_placed, Onwards.refines_applied, Sweeping.refines_swept, Taking.refines_taken, Waking.refines_watched, Waking.refines_shut}
 use Rattle.bx_window.specs.declared.law.LogStep.{LogStep}
 use Rattle.bx_window.specs.Steps.{list_of}
 use Rattle.bx_window.specs.Places.{IsOf, StandsIn}
 use Rattle.bx_window.proofs.{Fronts.prefix_self, Fronts.prefix_trans, Lists.list_of-prefix}
 use Rattle.bx_hub.specs.Held.{Held, IsLevelWithout, Stands, answer_over}
-use Rattle.bx_shard.proofs.Given.{filed_is_given, given_longer, as_before}
+use Rattle.bx_shard.proofs.Given.{filed_answers_match_definitions, given_longer, as_before}
 use Rattle.bx_hub.proofs.Lists.{takes_same, got, list_length}
 
 abbrev pub held : List LogStep → List LogStep → List ℕ → State → Held
 held seen told taken state = record { seen = seen; told = told; taken = taken; state = state }
 
 refines_over : (setup : Setup) (xs ys : List Listed) (taken : List ℕ) (k n : ℕ) (s : State) → IsPrefix xs ys → Refines setup xs taken k n s → Refines setup ys taken k n s
-refines_over setup xs ys taken k n s p h = subst (λ (l : List Listed). Refines setup l taken k n s) p.1 (refines_longer setup xs p.0 taken k n s h)
+refines_over setup xs ys taken k n s p h = subst (λ (l : List Listed). Refines setup l taken k n s) p.1 (refines_longer_list setup xs p.0 taken k n s h)
 
 pub stands_grown : (setup : Setup) (seen told seen' told' : List LogStep) (taken : List ℕ) (s : State) → Stands setup (held seen told taken s) → IsPrefix seen seen' → IsPrefix told told' → IsPrefix told' seen' → Stands setup (held seen' told' taken s)
 stands_grown setup seen told seen' told' taken s h p q r =
@@ -49,7 +49,7 @@ entry_here config seen b place e right is = entry_placed config (list_of seen) p
 
 pub stands_still : (setup : Setup) (seen told : List LogStep) (taken : List ℕ) (s t : State) → Stands setup (held seen told taken s) → IsAsBefore s t → IsSound t → Stands setup (held seen told taken t)
 stands_still setup seen told taken s t h b sound =
-    let on : Refines setup (list_of seen) taken s.index s.place t = refines_still setup (list_of seen) taken s.index s.place s t h.holds b sound in
+    let on : Refines setup (list_of seen) taken s.index s.place t = refines_unchanged setup (list_of seen) taken s.index s.place s t h.holds b sound in
     record {
       learnt = h.learnt;
       within = omega (arith, h.within, b.place);
@@ -62,7 +62,7 @@ stands_stepped setup seen told taken s t b e room h lt right is applied sound =
     let there : slice_get (entries setup.config (list_of seen)) s.place ≡ Some e = got setup.config (list_of seen) b s.place e right.1 right.0 is in
     let here : e.place ≡ s.place = entry_placed setup.config (list_of seen) s.place e there in
     let next : t.place ≡ s.place + 1 = applied.place ∙ ap (λ n. n + 1) here in
-    let on : Refines setup (list_of seen) taken s.index (s.place + 1) t = refines_onwards setup (list_of seen) taken s.index s.place e s t room there h.holds applied sound in
+    let on : Refines setup (list_of seen) taken s.index (s.place + 1) t = refines_applied setup (list_of seen) taken s.index s.place e s t room there h.holds applied sound in
     record {
       learnt = h.learnt;
       within = omega (arith, lt, next);
@@ -88,7 +88,7 @@ stands_taken setup seen told taken place s t room h some took sound =
 pub filed_told : (setup : Setup) (h : Held) (place : ℕ) (a : Answer) → 0 < setup.config.limits.batch → Stands setup h → filed_answer (connect_in h.state place) ≡ Some a → answer_over setup.config h.told place ≡ Some a
 filed_told setup h place a room s e =
     let n : ℕ = h.state.place in
-    let short : option_map given_of (answer setup.config (take n (list_of h.seen)) place) ≡ Some a = filed_is_given setup (list_of h.seen) h.taken h.state.index n place h.state a s.holds e in
+    let short : option_map given_of (answer setup.config (take n (list_of h.seen)) place) ≡ Some a = filed_answers_match_definitions setup (list_of h.seen) h.taken h.state.index n place h.state a s.holds e in
     let same : take n (list_of h.seen) ≡ take n (list_of h.told) = takes_same n (list_of h.told) (list_of h.seen) (list_of-prefix h.told h.seen s.learnt) s.within in
     let there : option_map given_of (answer setup.config (take n (list_of h.told)) place) ≡ Some a = subst (λ (l : List Listed). option_map given_of (answer setup.config l place) ≡ Some a) same short in
     given_longer setup.config (take n (list_of h.told)) (list_of h.told) place a room (drop n (list_of h.told), take-append-drop n (list_of h.told)) there

@@ -28,7 +28,7 @@ use Rattle.bx_window.specs.declared.law.LogStep.{LogStep}
 use Rattle.bx_hub.specs.Faults.{of_admission}
 use Rattle.bx_hub.specs.Posts.{AreSlotsAt, IsAdmittedAt, IsFullFor, IsRefused, IsUnpublished, IsWhole, IsWithoutRoom, WasFullFor}
 use Rattle.bx_hub.specs.declared.fault.PostFault.{PostFault}
-use Rattle.bx_hub.specs.declared.fault.PostFault.TheVariants.{Refused, Closed, Behind, Overrun, Misplaced, Memory}
+use Rattle.bx_hub.specs.declared.fault.PostFault.TheVariants.{Refused, Closed, Behind, Overrun, WrongShard, Memory}
 use Rattle.bx_window.proofs.Fronts.{prefix_self, prefix_trans}
 use Rattle.bx_hub.proofs.Lists.{list_length}
 
@@ -155,7 +155,7 @@ unpublished_result input list writer unchanged whole new (Err e) allowed is some
 pub without_room : (input : ReadInput) (f : PostFault) (before front : List LogStep) → IsPrefix before front → WasFullFor input before → IsWithoutRoom f front → IsRefused input f front
 without_room input (Overrun shard place) before front p was o =
     (record { before = was.before; first = was.first; begins = prefix_trans was.before before front was.begins p; full = was.full }, o)
-without_room input (Misplaced shard found) before front p was o =
+without_room input (WrongShard shard found) before front p was o =
     (record { before = was.before; first = was.first; begins = prefix_trans was.before before front was.begins p; full = was.full }, o)
 without_room input Memory before front p was o = tt
 without_room input _ before front p was o = absurd o

@@ -24,14 +24,14 @@ one_more stops.Closed l = record l { closed = l.closed + 1 }
 one_more stops.Paused l = record l { paused = l.paused + 1 }
 one_more (stops.Overrun shard place) l = record l { overrun = l.overrun + 1 }
 one_more stops.Memory l = record l { memory = l.memory + 1 }
-one_more (stops.Misplaced found) l = record l { misplaced = l.misplaced + 1 }
+one_more (stops.WrongShard found) l = record l { misplaced = l.misplaced + 1 }
 
 -- The fault can stop shard `index` after its reader has seen `front`. `Overrun` names the shard and
--- a place before the window of `front`. `Misplaced` names another shard. Other faults claim
+-- a place before the window of `front`. `WrongShard` names another shard. Other faults claim
 -- nothing.
 abbrev pub IsStopped : HubFault → ℕ → List LogStep → Type 0
 IsStopped (stops.Overrun shard place) index front = (shard ≡ index) × (place < begin_of front)
-IsStopped (stops.Misplaced found) index front = found ≢ index
+IsStopped (stops.WrongShard found) index front = found ≢ index
 IsStopped _ index front = Unit {0}
 
 -- If the fault is `Overrun`, it reports `position`, the position of the shard.

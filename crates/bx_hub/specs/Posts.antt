@@ -9,7 +9,7 @@ use Rattle.bx_entry.specs.Placings.{Setup}
 use Rattle.bx_window.specs.declared.law.LogStep.{LogStep}
 use Rattle.bx_window.specs.Steps.{list_of, firsts_of, begin_of, below}
 use Rattle.bx_hub.specs.declared.fault.PostFault.{PostFault}
-use Rattle.bx_hub.specs.declared.fault.PostFault.TheVariants.{Refused, Closed, Behind, Overrun, Misplaced, Memory}
+use Rattle.bx_hub.specs.declared.fault.PostFault.TheVariants.{Refused, Closed, Behind, Overrun, WrongShard, Memory}
 use Rattle.bx_window.specs.declared.writer.TheConstants.{MAX_BATCHES}
 
 -- A call admitted `input` at place `first`, and extended its pass from `old` to `new`.
@@ -46,11 +46,11 @@ pub record WasFullFor (input : ReadInput) (front : List LogStep) : Type 0 where
   pub full : IsFullFor input first before
 
 -- Making room in the full window can fail with the fault. `Overrun`: `place` is before the window
--- of `front`. `Misplaced`: a lock guards another shard. `Memory` claims nothing. Other faults
+-- of `front`. `WrongShard`: a lock guards another shard. `Memory` claims nothing. Other faults
 -- cannot occur.
 abbrev pub IsWithoutRoom : PostFault → List LogStep → Type 0
 IsWithoutRoom (Overrun shard place) front = place < begin_of front
-IsWithoutRoom (Misplaced shard found) front = found ≢ shard
+IsWithoutRoom (WrongShard shard found) front = found ≢ shard
 IsWithoutRoom Memory front = Unit {0}
 IsWithoutRoom _ front = ⊥
 
@@ -58,7 +58,7 @@ IsWithoutRoom _ front = ⊥
 -- `Body`: the documents are not messages, are more than 256 messages, or the listener forbids them.
 -- `BadMoment`: the moment is too large. `Ended`: the list, or the log of publishes and trims, is
 -- too long. `Behind`: `input` could be appended, but the window is full and begins at `first`.
--- `Overrun`: the window was full, and now begins after `place`. `Misplaced`: the window was full,
+-- `Overrun`: the window was full, and now begins after `place`. `WrongShard`: the window was full,
 -- and the lock of `shard` guards another shard. `Closed` and `Memory` claim nothing.
 abbrev pub IsRefused : ReadInput → PostFault → List LogStep → Type 0
 IsRefused input (Refused (refusals.Body fault)) front = input ≡ Unread fault
@@ -67,7 +67,7 @@ IsRefused input (Refused refusals.Ended) front = (refusal_of (length (list_of fr
 IsRefused input Closed front = Unit {0}
 IsRefused input (Behind first) front = IsFullFor input first front
 IsRefused input (Overrun shard place) front = WasFullFor input front × (place < begin_of front)
-IsRefused input (Misplaced shard found) front = WasFullFor input front × (found ≢ shard)
+IsRefused input (WrongShard shard found) front = WasFullFor input front × (found ≢ shard)
 IsRefused input Memory front = Unit {0}
 
 -- The fault can be the reason why a planned batch is not published at the end of `front`. `Ended`:

@@ -24,9 +24,9 @@ use crate::walk::{ChangeReport, LowestPosition};
 use bx_advice::Config;
 use bx_entry::{AdmitFault, Admitted, Input, Placing, Refusal};
 use bx_history::History;
-use bx_record::{Extent, RecordFault, Taken};
+use bx_record::{RecordFault, TakenText, TextPosition};
 use bx_registry::{Plan, Registry};
-use bx_window::{Bundle, Front, LogId, LogWriter, PublishFault};
+use bx_window::{Front, LogId, LogWriter, PublishFault, UnpublishedBatch};
 use std::alloc::{AllocError, Global};
 use std::sync::Wait;
 
@@ -207,7 +207,7 @@ impl<L: LogId, R: Wait + Drop> Admission<L, R> {
     }
 
     /// Returns how many bytes wait to be written, or 0 if there is no record or it has ended.
-    pub(crate) fn record_waiting(&self) -> usize
+    pub(crate) fn waiting_record_bytes(&self) -> usize
         ensures { MatchOption self.now.recording (result ≡ 0) (λ r. result ≡ length r.waiting) }
     {
         match &self.recording {
@@ -223,7 +223,7 @@ impl<L: LogId, R: Wait + Drop> Admission<L, R> {
     pub(crate) fn take_record(
         &mut self,
         empty: Vec<u8>,
-    ) -> Option<Taken<RecordFront<L>, RecordFault>>
+    ) -> Option<TakenText<RecordFront<L>, RecordFault>>
         requires { empty.items ≡ [] }
         ensures same { (self.new.registry ≡ self.old.registry) × (self.new.writer ≡ self.old.writer) × (self.new.closed ≡ self.old.closed) }
         ensures taken { IfSome self.old.recording (λ r. MatchOption result ⊥ (λ t. (t.chunk.from ≡ r.from) × (t.chunk.to.front ≡ self.old.writer) × (t.chunk.bytes.items ≡ r.waiting) × (t.fault ≡ None))) }
@@ -236,14 +236,14 @@ impl<L: LogId, R: Wait + Drop> Admission<L, R> {
         if let Some(mut recording) = self.recording.take() {
             let chunk = recording.take(self.writer.tell(), empty);
             self.recording = Some(recording);
-            return Some(Taken { chunk, fault: None });
+            return Some(TakenText { chunk, fault: None });
         }
         let RecordEnd {
             mut recording,
             front,
             fault,
         } = self.record_end.take()?;
-        Some(Taken {
+        Some(TakenText {
             chunk: recording.take(front, empty),
             fault: Some(fault),
         })
@@ -353,7 +353,7 @@ impl<L: LogId, R: Wait + Drop> Admission<L, R> {
         } = plan;
         let first = batch.first;
         let added = elements.again();
-        let bundle = Bundle {
+        let bundle = UnpublishedBatch {
             batch,
             elements,
             inputs,

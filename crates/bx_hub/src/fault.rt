@@ -81,7 +81,7 @@ impl Lagging {
                 closed: self.closed + 1,
                 ..self
             },
-            HubFault::Misplaced { .. } => Lagging {
+            HubFault::WrongShard { .. } => Lagging {
                 misplaced: self.misplaced + 1,
                 ..self
             },
@@ -105,7 +105,7 @@ pub enum PostFault {
     /// The window is full, and begins after `place`, the position of `shard`.
     Overrun { shard: usize, place: u64 },
     /// The window is full, and the lock of `shard` guards another shard, `found`.
-    Misplaced { shard: usize, found: usize },
+    WrongShard { shard: usize, found: usize },
     /// Memory ran out.
     Memory,
 }
@@ -125,7 +125,7 @@ pub enum HubFault {
     ///
     /// This does not happen, since each shard stays under the lock of its index, but no contract
     /// can state it.
-    Misplaced { found: usize },
+    WrongShard { found: usize },
 }
 
 impl From<AllocError> for PostFault {

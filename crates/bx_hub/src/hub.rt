@@ -10,7 +10,7 @@ ghost use Rattle.bx_hub.specs.Faults.{IsStopped};
 use crate::admission::Admission;
 use crate::fault::{PostFault, PostReceipt, TickReceipt};
 use crate::parsed_request::{ParsedRequest, Rejection};
-use crate::recording::{RecordFront, Unrecorded};
+use crate::recording::{NotRecording, RecordFront};
 use crate::shard_state::{
     AddedWakers, ChangeEvidence, NoAnswer, ShardAdvance, ShardChange, ShardPosition, ShardState,
     WatchEvidence,
@@ -22,9 +22,9 @@ use bx_advice::Config;
 use bx_connects::Watch;
 use bx_entry::{Admitted, Arrival, Placing, Ticket};
 use bx_message::Answer;
-use bx_record::{RecordFault, Taken};
+use bx_record::{RecordFault, TakenText};
 use bx_shard::Wakers;
-use bx_window::{Front, LogId, Opened, log_pair};
+use bx_window::{EmptyWindow, Front, LogId, log_pair};
 use bx_workers::Gate;
 use futures::task::Waker;
 use std::alloc::{AllocError, Global};
@@ -85,7 +85,7 @@ impl<L: LogId, P: Placing, G: Gate + Drop, R: Wait + Drop> Hub<L, P, G, R> {
     pub fn new(
         alloc: Global,
         rt: R,
-        opened: Opened,
+        opened: EmptyWindow,
         config: Config,
         placing: Arc<P, Global>,
         gate: G,
@@ -140,7 +140,7 @@ impl<L: LogId, P: Placing, G: Gate + Drop, R: Wait + Drop> Hub<L, P, G, R> {
     ///   them.
     /// - `Closed`: [`close`](Self::close) was called.
     /// - `Refused(BadMoment)`, `Refused(Ended)`: the moment is too large, or the list too long.
-    /// - `Overrun`, `Misplaced`, `Behind`: the window is full, and advancing the shards made no
+    /// - `Overrun`, `WrongShard`, `Behind`: the window is full, and advancing the shards made no
     ///   room.
     /// - `Memory`: memory ran out, at any step.
     ///
@@ -366,7 +366,7 @@ impl<L: LogId, P: Placing, G: Gate + Drop, R: Wait + Drop> Hub<L, P, G, R> {
             Err(other) => {
                 let found = other.index();
                 let shard = index;
-                (Err((PostFault::Misplaced { shard, found }, None)), None)
+                (Err((PostFault::WrongShard { shard, found }, None)), None)
             }
         }
     }
@@ -434,7 +434,7 @@ impl<L: LogId, P: Placing, G: Gate + Drop, R: Wait + Drop> Hub<L, P, G, R> {
     ///
     /// # Errors
     ///
-    /// `Misplaced` if the shard's lock guards another shard. Otherwise, if no answer is filed:
+    /// `WrongShard` if the shard's lock guards another shard. Otherwise, if no answer is filed:
     ///
     /// - `Closed`, `Paused`: the hub is closed, or the shard paused.
     /// - `Overrun`: the window no longer has the shard's next entry.
@@ -582,8 +582,8 @@ impl<L: LogId, P: Placing, G: Gate + Drop, R: Wait + Drop> Hub<L, P, G, R> {
     /// # Blocking
     ///
     /// Locks admission.
-    pub fn record_waiting<W: Wait>(&self, rt: &W) -> usize {
-        self.admission.lock(rt).record_waiting()
+    pub fn waiting_record_bytes<W: Wait>(&self, rt: &W) -> usize {
+        self.admission.lock(rt).waiting_record_bytes()
     }
 
     /// Takes what waits to be written to the record, and leaves the empty buffer `empty` in its
@@ -593,7 +593,7 @@ impl<L: LogId, P: Placing, G: Gate + Drop, R: Wait + Drop> Hub<L, P, G, R> {
     ///
     /// # Errors
     ///
-    /// `Unrecorded` if nothing is recorded; nothing has changed.
+    /// `NotRecording` if nothing is recorded; nothing has changed.
     ///
     /// # Blocking
     ///
@@ -602,13 +602,13 @@ impl<L: LogId, P: Placing, G: Gate + Drop, R: Wait + Drop> Hub<L, P, G, R> {
         &self,
         rt: &W,
         empty: Vec<u8>,
-    ) -> Result<Taken<RecordFront<L>, RecordFault>, Unrecorded<L>>
+    ) -> Result<TakenText<RecordFront<L>, RecordFault>, NotRecording<L>>
         requires { empty.items ≡ [] }
     {
         let mut admission = self.admission.lock(rt);
         match admission.take_record(empty) {
             Some(taken) => Ok(taken),
-            None => Err(Unrecorded::of(&*admission)),
+            None => Err(NotRecording::of(&*admission)),
         }
     }
 
@@ -617,10 +617,10 @@ impl<L: LogId, P: Placing, G: Gate + Drop, R: Wait + Drop> Hub<L, P, G, R> {
     /// # Blocking
     ///
     /// Locks admission.
-    pub fn stop_record<W: Wait>(&self, rt: &W) -> Unrecorded<L> {
+    pub fn stop_record<W: Wait>(&self, rt: &W) -> NotRecording<L> {
         let mut admission = self.admission.lock(rt);
         admission.stop_record();
-        Unrecorded::of(&*admission)
+        NotRecording::of(&*admission)
     }
 
     /// Drops the answers that were filed by entries before place `before` and never taken.

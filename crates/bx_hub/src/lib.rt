@@ -19,7 +19,7 @@ pub use bx_workers::{Gate, OpenGate};
 pub use fault::{HubFault, Lagging, PostFault, PostReceipt, TickReceipt};
 pub use hub::{Hub, Pass};
 pub use parsed_request::Rejection;
-pub use recording::{RecordFront, Unrecorded};
+pub use recording::{NotRecording, RecordFront};
 pub use shard_state::{ChangeEvidence, NoAnswer, ShardChange, WatchEvidence};
 pub use survey::{ShardSurvey, Survey};
 pub use walk::{AdvanceReport, ChangeReport};

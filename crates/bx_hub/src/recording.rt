@@ -3,7 +3,7 @@ ghost use Rattle.std.specs.Prelude.{◌≡◌, ◌≢◌, ◌+◌, ◌<◌, ◌+
 ghost use Rattle.std.specs.List.{AllByRecursion};
 ghost use Rattle.bx_hub.specs.Records.{documents_in, input_in, inputs_by, list_by, record_props};
 ghost use Rattle.bx_record.specs.declared.waiting.RecordFault.TheVariants as faults;
-ghost use Rattle.bx_record.specs.declared.waiting.TheConstants.{MOST_WAITING};
+ghost use Rattle.bx_record.specs.declared.waiting.TheConstants.{MAX_WAITING_BYTES};
 ghost use Rattle.bx_record.specs.Laws.{CanRecord};
 ghost use Rattle.bx_record.specs.Record.{can_say, input_text, record_of};
 ghost use Rattle.bx_window.specs.Steps.{inputs_of, list_of};
@@ -12,7 +12,7 @@ use crate::admission::Admission;
 use crate::submission::Submission;
 use bx_entry::Input;
 use bx_history::{History, Lists};
-use bx_record::{Chunk, Extent, RecordFault, Waiting, request_text, tick_text};
+use bx_record::{Chunk, RecordFault, TextPosition, WaitingBytes, request_text, tick_text};
 use bx_window::{Front, LogId};
 use std::alloc::Global;
 use std::marker::PhantomData;
@@ -56,7 +56,7 @@ impl<L: LogId> RecordFront<L> {
     }
 }
 
-impl<L: LogId> Extent for RecordFront<L> {
+impl<L: LogId> TextPosition for RecordFront<L> {
     ghost use Rattle.std.specs.Prelude.{◌≡◌};
     ghost use Rattle.bx_record.specs.Record.{record_of};
     ghost use Rattle.bx_window.specs.Steps.{inputs_of};
@@ -78,18 +78,18 @@ impl<L: LogId> Extent for RecordFront<L> {
 
 /// Evidence, created while admission is locked, that nothing of a record is kept.
 #[derive(Drop)]
-pub struct Unrecorded<L: LogId> {
+pub struct NotRecording<L: LogId> {
     of: PhantomData<L>,
 }
 
-impl<L: LogId> Unrecorded<L> {
+impl<L: LogId> NotRecording<L> {
     /// Creates evidence that `admission` records nothing.
-    pub(crate) fn of<R: Wait + Drop>(admission: &Admission<L, R>) -> Unrecorded<L>
+    pub(crate) fn of<R: Wait + Drop>(admission: &Admission<L, R>) -> NotRecording<L>
         requires recording { admission.now.recording ≡ None }
         requires end { admission.now.record_end ≡ None }
     {
         let _ = admission;
-        Unrecorded { of: PhantomData }
+        NotRecording { of: PhantomData }
     }
 }
 
@@ -101,7 +101,7 @@ pub(crate) struct Recording<L: LogId> {
     from: RecordFront<L>,
     // Ghost: all requests and ticks recorded since the record began.
     inputs: History<Input>,
-    waiting: Waiting,
+    waiting: WaitingBytes,
     ghost whole: { record_of (inputs_of from.front) ++ waiting ≡ record_of inputs },
     ghost recordable: { AllByRecursion CanRecord inputs } by { Prim.hlevel record_props },
 }
@@ -115,7 +115,7 @@ impl<L: LogId> Recording<L> {
         Recording {
             from,
             inputs: History::new(),
-            waiting: Waiting::new(alloc),
+            waiting: WaitingBytes::new(alloc),
         }
     }
 
@@ -132,7 +132,7 @@ impl<L: LogId> Recording<L> {
     ///
     /// The first of these that applies; nothing has changed:
     ///
-    /// - `Unsayable`: no line can hold the request.
+    /// - `Unrecordable`: no line can hold the request.
     /// - `Full`: more than 64 MiB would wait.
     /// - `Memory`: memory ran out, at any step.
     #[tactic(auto, using(crate::proofs::Records::all_recordable))]
@@ -141,8 +141,8 @@ impl<L: LogId> Recording<L> {
         ensures added { OnOk result ((self.new.inputs ≡ self.old.inputs ++ input_in listed.now ∷ []) × (self.new.waiting ≡ self.old.waiting ++ input_text (input_in listed.now))) }
         ensures same { OnErr result ((self.new.inputs ≡ self.old.inputs) × (self.new.waiting ≡ self.old.waiting)) }
         ensures from { self.new.from ≡ self.old.from }
-        ensures full { IfErr result (λ f. f ≡ faults.Full → MOST_WAITING < length self.old.waiting + length (input_text (input_in listed.now))) }
-        ensures unsayable { IfErr result (λ f. f ≡ faults.Unsayable → can_say (documents_in listed.now) ≡ false) }
+        ensures full { IfErr result (λ f. f ≡ faults.Full → MAX_WAITING_BYTES < length self.old.waiting + length (input_text (input_in listed.now))) }
+        ensures unsayable { IfErr result (λ f. f ≡ faults.Unrecordable → can_say (documents_in listed.now) ≡ false) }
     {
         self.waiting.push(text_of(alloc, listed)?.as_slice())?;
         self.inputs.join(&inputs_by(listed));
@@ -176,17 +176,17 @@ pub(crate) fn inputs_by(wanted: &Submission) -> History<Input>
     History::of::<&Submission, Recorded>(&wanted)
 }
 
-// Returns the record's lines for `listed`. Fails with `Unsayable` if no line can hold the request.
+// Returns the record's lines for `listed`. Fails with `Unrecordable` if no line can hold the request.
 fn text_of(alloc: Global, listed: &Submission) -> Result<Vec<u8>, RecordFault>
     ensures text { IfOk result (λ text. text.items ≡ input_text (input_in listed.now)) }
     ensures recordable { OnOk result (CanRecord (input_in listed.now)) }
-    ensures unsayable { IfErr result (λ f. (f ≢ faults.Full) × (f ≡ faults.Unsayable → can_say (documents_in listed.now) ≡ false)) }
+    ensures unsayable { IfErr result (λ f. (f ≢ faults.Full) × (f ≡ faults.Unrecordable → can_say (documents_in listed.now) ≡ false)) }
 {
     match listed {
         Submission::Request(request) => {
             match request_text(alloc, request.arrival(), request.messages())? {
                 Some(text) => Ok(text),
-                None => Err(RecordFault::Unsayable),
+                None => Err(RecordFault::Unrecordable),
             }
         }
         Submission::Tick(moment) => Ok(tick_text(alloc, *moment)?),

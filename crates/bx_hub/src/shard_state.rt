@@ -400,7 +400,7 @@ impl<L: LogId, P: Placing> ShardState<L, P> {
     #[tactic(auto, using(crate::proofs::Watches::holds_after, crate::proofs::Watches::back_of))]
     pub(crate) fn watch(&mut self, ticket: Ticket, waker: Waker) -> (Watch, WatchEvidence<L>)
         requires own { ticket.shard ≡ self.old.shard.index }
-        ensures watch { result.0 ≡ watched self.old.shard.is_shut waker
+        ensures watch { result.0 ≡ watched self.old.shard.is_closed_to_wakers waker
             (connect_in (state P.place_of self.old.shard) ticket.place) }
         ensures watched { Watched ticket.place waker (state P.place_of self.old.shard)
             (state P.place_of self.new.shard) }
@@ -417,7 +417,7 @@ impl<L: LogId, P: Placing> ShardState<L, P> {
     // Registers `waker` with the connect held under `ticket`, and returns the result.
     fn leave(&mut self, ticket: Ticket, waker: Waker) -> Watch
         requires own { ticket.shard ≡ self.old.shard.index }
-        ensures watch { result ≡ watched self.old.shard.is_shut waker
+        ensures watch { result ≡ watched self.old.shard.is_closed_to_wakers waker
             (connect_in (state P.place_of self.old.shard) ticket.place) }
         ensures watched { Watched ticket.place waker (state P.place_of self.old.shard)
             (state P.place_of self.new.shard) }

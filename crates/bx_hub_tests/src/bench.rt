@@ -275,7 +275,7 @@ impl<L: LogId, H: Wait + Drop> Bench<L, H> {
         fault: Option<RecordFault>,
     ) -> Result<Chunk<RecordFront<L>>, Fail> {
         let waiting = if fault.is_none() { length } else { 0 };
-        same(rt, self.hub.record_waiting(rt), waiting, "what waits");
+        same(rt, self.hub.waiting_record_bytes(rt), waiting, "what waits");
         match self.hub.take_record(rt, Vec::new(self.alloc)) {
             Ok(taken) => {
                 same(rt, taken.fault, fault, "the fault");

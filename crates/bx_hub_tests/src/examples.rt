@@ -8,7 +8,7 @@ use bx_advice::Config;
 use bx_calls::{CONNECT, HANDSHAKE, arrival, post};
 use bx_entry::{ByRemainder, Placing, Slot};
 use bx_hub::{Gate, Hub, OpenGate};
-use bx_window::{LogId, Opened};
+use bx_window::{EmptyWindow, LogId};
 use std::alloc::Global;
 use std::marker::Brand;
 use std::process::Abort;
@@ -39,7 +39,7 @@ fn posts_and_polls<L: LogId, P: Placing, G: Gate + Drop, H: Wait + Drop, R: Wait
 fn over_a_hub<L: LogId, R: Wait + Abort>(
     rt: &R,
     alloc: Global,
-    opened: Opened,
+    opened: EmptyWindow,
     config: Config,
     placing: Arc<ByRemainder, Global>,
 ) -> Result<(), Fail>
@@ -59,5 +59,5 @@ fn hub_post(rt: HostRuntime) -> Result<(), Fail> {
     let alloc = rt.alloc();
     let config = Config::new(4, 30_000, 0, 10_000).ok_or("shards: 1 to 64")?;
     let placing = Arc::new(alloc, ByRemainder)?;
-    over_a_hub::<Brand, _>(&rt, alloc, Opened::new(), config, placing)
+    over_a_hub::<Brand, _>(&rt, alloc, EmptyWindow::new(), config, placing)
 }

@@ -1,6 +1,8 @@
 //! Test that types can move to other threads.
 use bx_entry::{Batch, Entry};
-use bx_window::{Bundle, Front, LogId, LogReader, LogWriter, Next, Opened, PublishedBatch, Ring};
+use bx_window::{
+    EmptyWindow, Front, LogId, LogReader, LogWriter, Next, PublishedBatch, Ring, UnpublishedBatch,
+};
 use std::alloc::Global;
 use std::marker::Brand;
 use std::sync::{Arc, Wait};
@@ -19,8 +21,8 @@ fn values_move() {
     moves::<Entry>();
     moves::<Arc<Batch, Global>>();
     moves::<Next>();
-    moves::<Bundle>();
-    moves::<Opened>();
+    moves::<UnpublishedBatch>();
+    moves::<EmptyWindow>();
 }
 
 // Checks, by compiling, that the window's types are `Send`.

@@ -48,7 +48,7 @@ const RUNS: [&[Step]; 4] = [
         Step::Post(PING, 0, 0),
         Step::Pings(1, 2, BODY_LIMIT + 1, 0),
         Step::Post(PING, 2, 0),
-        Step::Lines(&[PING_LINE], Some(RecordFault::Unsayable)),
+        Step::Lines(&[PING_LINE], Some(RecordFault::Unrecordable)),
         Step::NoRecord,
         Step::Post(PING, 3, 0),
     ],

@@ -10,7 +10,7 @@ use bx_calls::{Found, arrival, find, hold, in_turn, publish, shards_for};
 use bx_entry::{ByTable, Ticket};
 use bx_hub::{Hub, PostFault, ShardSurvey, Survey};
 use bx_record::RecordFault;
-use bx_window::{LogId, Opened};
+use bx_window::{EmptyWindow, LogId};
 use std::alloc::{AllocGlobal, Global};
 use std::marker::Brand;
 use std::process::Abort;
@@ -193,7 +193,7 @@ fn look<L: LogId, H: Wait + Drop, R: Wait + Abort>(
         }
         Step::Starts(wanted) => same(rt, hub.start_record(rt, alloc).is_ok(), wanted, step),
         Step::Stops => drop(hub.stop_record(rt)),
-        Step::Waits(length) => same(rt, hub.record_waiting(rt), length, step),
+        Step::Waits(length) => same(rt, hub.waiting_record_bytes(rt), length, step),
         Step::Takes(length, fault) => drop(bench.take_record(rt, length, fault)?),
         Step::Lines(lines, fault) => bench.take_lines(rt, lines, fault)?,
         Step::NoRecord => {
@@ -225,7 +225,7 @@ fn take_all<L: LogId, H: Wait + Drop, R: Wait + Abort>(
 fn run_in_hub<L: LogId, R: Wait + Abort>(
     rt: &R,
     alloc: Global,
-    opened: Opened,
+    opened: EmptyWindow,
     config: Config,
     placing: Arc<ByTable, Global>,
     gates: (Looking, Arc<Waiting, Global>),
@@ -270,7 +270,7 @@ fn check_run<R: Wait + Abort + AllocGlobal + RandomSource>(
         waiting: Arc::try_clone(&waiting)?,
     };
     let gates = (gate, waiting);
-    run_in_hub::<Brand, _>(rt, alloc, Opened::new(), config, placing, gates, steps)
+    run_in_hub::<Brand, _>(rt, alloc, EmptyWindow::new(), config, placing, gates, steps)
 }
 
 /// Runs each of `runs` with a new hub, once for each of `homes`, the first session's shard.

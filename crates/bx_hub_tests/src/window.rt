@@ -3,7 +3,7 @@ ghost use Rattle.std.specs.Prelude.{◌≡◌, [], IfOk};
 
 use crate::same::same;
 use bx_calls::{Taken, Ticker};
-use bx_window::{Front, LogId, LogReader, Next, Opened, PublishFault, entry_of, log_pair};
+use bx_window::{EmptyWindow, Front, LogId, LogReader, Next, PublishFault, entry_of, log_pair};
 use std::alloc::{AllocError, Global};
 use std::marker::Brand;
 use std::process::Abort;
@@ -128,7 +128,7 @@ const RUNS: [&[Step]; 6] = [
 fn pair<L: LogId, R: Wait + Drop>(
     alloc: Global,
     rt: R,
-    opened: Opened,
+    opened: EmptyWindow,
 ) -> Result<(Ticker<L, R>, LogReader<L>, LogReader<L>), AllocError>
     requires { opened.seen.book ≡ L.book }
 {
@@ -231,7 +231,7 @@ fn take_all<L: LogId, H: Wait + Drop, R: Abort>(
 fn ask<L: LogId, R: Wait + Abort>(
     rt: &R,
     alloc: Global,
-    opened: Opened,
+    opened: EmptyWindow,
     steps: &[Step],
 ) -> Result<(), AllocError>
     requires { opened.seen.book ≡ L.book }
@@ -244,7 +244,7 @@ fn ask<L: LogId, R: Wait + Abort>(
 #[test]
 fn one_writer(rt: HostRuntime) -> Result<(), Fail> {
     for steps in RUNS {
-        ask::<Brand, _>(&rt, rt.alloc(), Opened::new(), steps)?;
+        ask::<Brand, _>(&rt, rt.alloc(), EmptyWindow::new(), steps)?;
     }
     Ok(())
 }

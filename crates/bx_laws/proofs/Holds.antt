@@ -19,9 +19,9 @@ step_by_held config place moment s p k h e = grind (arith, common_steps)
 ride_held : (config : Config) (place : ℕ) (s : Session) (rides : Option Rider) (p : Option Pending) → s.held ≡ p → (ridden_by config place s rides).held ≡ p
 ride_held config place s rides p h = grind (arith, common_steps)
 
-pub held_reading : HeldReading
-held_reading config s p [] h n = h
-held_reading config s p (e ∷ es) h n = held_reading config (step config s e) p es (ride_held config e.place (step_by config e.place e.moment s e.kind) (rider_of e.kind e.rides) (Some p) (step_by_held config e.place e.moment s p e.kind h n.0)) n.1
+pub connect_held_until_entry_ends_hold : HeldReading
+connect_held_until_entry_ends_hold config s p [] h n = h
+connect_held_until_entry_ends_hold config s p (e ∷ es) h n = connect_held_until_entry_ends_hold config (step config s e) p es (ride_held config e.place (step_by config e.place e.moment s e.kind) (rider_of e.kind e.rides) (Some p) (step_by_held config e.place e.moment s p e.kind h n.0)) n.1
 
 -- ---- Entries that end the hold
 
@@ -74,12 +74,12 @@ step_by_here config e s p (Connect n client id acked hold) h d =
     subst (Ends config p e.place [] (Failed SupersededConnect) s) (sym (cond-true (n == s.number) (connected config q acked s) s d)) (connected_here config q acked s p h)
 step_by_here config e s p k h d = record { answer = _; others = []; answers = other_here config e s p k h d refl; connect = refl; place = refl; publications = refl; reply = refl }
 
-pub ending_reading : EndingReading
-ending_reading config s p es e h n d =
+pub held_connect_answered_by_first_ending_entry : EndingReading
+held_connect_answered_by_first_ending_entry config s p es e h n d =
     let t : Session = fold (step config) s es in
     let u : Session = step_by config e.place e.moment t e.kind in
     let o : Outcome = ending_outcome e.kind in
     let a : Ends config p e.place (ending_events e.place e.kind) (ending_outcome e.kind) (fold (step config) s es) (step config (fold (step config) s es) e) =
-    answered_then config p e.place (ending_events e.place e.kind) o t u (ridden_by config e.place u (rider_of e.kind e.rides)) (step_by_here config e t p e.kind (held_reading config s p es h n) d) (ride_k config e.place u (rider_of e.kind e.rides))
+    answered_then config p e.place (ending_events e.place e.kind) o t u (ridden_by config e.place u (rider_of e.kind e.rides)) (step_by_here config e t p e.kind (connect_held_until_entry_ends_hold config s p es h n) d) (ride_k config e.place u (rider_of e.kind e.rides))
     (ride_both config e.place u (rider_of e.kind e.rides) (λ (v : Session). ack_given u.ack u.num o ≡ ack_given v.ack v.num o) refl (λ rider g. refl)) in
     record { answer = a.answer; others = a.others; answers = a.answers; connect = a.connect; place = a.place; publications = a.publications; reply = a.reply }

@@ -20,7 +20,7 @@ ghost use Rattle.bx_laws.specs.Readers.{ReadersPublishNothing};
 ghost use Rattle.bx_laws.specs.ReadBack.{RepliesReadBack, EventsReadBack, BodiesReadBack};
 
 /// Proves that the number of events that a session never sends again does not fall.
-pub fn done_never_falls()
+pub fn done_event_count_never_falls()
     ensures { DoneNeverFalls }
 {}
 
@@ -28,7 +28,7 @@ pub fn done_never_falls()
 ///
 /// The queue has the events that may still be sent, or none after an overflow. The outstanding
 /// batch is at the start of the queue. No event waits while a connect is held.
-pub fn counts_agree()
+pub fn queue_batch_and_counts_agree()
     ensures { CountsAgree }
 {}
 
@@ -38,7 +38,7 @@ pub fn entries_in_order()
 {}
 
 /// Proves that an answer depends only on the list up to the entry that gives it.
-pub fn answers_stay()
+pub fn answers_ignore_later_entries()
     ensures { AnswersStay }
 {}
 
@@ -73,12 +73,12 @@ pub fn given_once()
 {}
 
 /// Proves that without `--ride` no entry has a rider.
-pub fn no_riders_unasked()
+pub fn no_riders_without_option()
     ensures { NoRidersUnasked }
 {}
 
 /// Proves that a rider's session is one that does not acknowledge.
-pub fn riders_are_plain()
+pub fn rider_sessions_do_not_acknowledge()
     ensures { RidersArePlain }
 {}
 
@@ -88,17 +88,17 @@ pub fn riders_are_plain()
 /// message is the last one of its request. All messages of the request must be accepted and come
 /// from the session, and none may be a handshake. The rider must be a subscription, an
 /// unsubscription or a publish.
-pub fn rider_reading()
+pub fn when_a_message_is_a_rider()
     ensures { RiderReading }
 {}
 
 /// Proves that a request has no rider if one of its messages is rejected or sessionless.
-pub fn nothing_rides_beside()
+pub fn no_rider_beside_rejected_or_sessionless()
     ensures { NothingRidesBeside }
 {}
 
 /// Proves that ticks, rejected messages, handshakes, connects and disconnects are no riders.
-pub fn others_never_ride()
+pub fn only_subscriptions_and_publishes_ride()
     ensures { OthersNeverRide }
 {}
 
@@ -110,7 +110,7 @@ pub fn rider_given()
 {}
 
 /// Proves that a session is live from its opening to the first entry that closes it.
-pub fn live_reading()
+pub fn live_from_opening_to_first_close()
     ensures { LiveReading }
 {}
 
@@ -118,12 +118,12 @@ pub fn live_reading()
 ///
 /// Only accepted subscriptions and unsubscriptions of the session count. After an overflow, no
 /// pattern is active.
-pub fn in_force_reading()
+pub fn pattern_active_if_last_subscribed()
     ensures { InForceReading }
 {}
 
 /// Proves that a held connect stays held until an entry ends the hold.
-pub fn held_reading()
+pub fn connect_held_until_entry_ends_hold()
     ensures { HeldReading }
 {}
 
@@ -131,14 +131,14 @@ pub fn held_reading()
 ///
 /// A publish that reaches the session answers the connect with its event, and a newer connect
 /// answers it with an error. A disconnect or a tick answers it with success and no events.
-pub fn ending_reading()
+pub fn held_connect_answered_by_first_ending_entry()
     ensures { EndingReading }
 {}
 
 /// Proves that a session has overflowed exactly if some earlier entry found no room.
 ///
 /// The entry is an event for the full queue, or a subscription to too many patterns.
-pub fn overflow_reading()
+pub fn overflowed_if_entry_found_no_room()
     ensures { OverflowReading }
 {}
 
@@ -150,17 +150,17 @@ pub fn queue_bounded()
 /// Proves that the due moment of a session is the greatest that its accepted messages set.
 ///
 /// Each sets the sum of its moment, the time that it may be held, and `config.max_interval`.
-pub fn due_reading()
+pub fn due_is_greatest_set_by_messages()
     ensures { DueReading }
 {}
 
 /// Proves that the clock is the greatest moment in the list.
-pub fn clock_reading()
+pub fn clock_is_greatest_moment()
     ensures { ClockReading }
 {}
 
 /// Proves that the registry and the entries agree on which sessions are live.
-pub fn same_live()
+pub fn registry_and_entries_agree_on_live()
     ensures { SameLive }
 {}
 
@@ -180,7 +180,7 @@ pub fn publishes_are_events()
 /// Proves that the events of a session are at ascending places.
 ///
 /// So each publish is at most one event of the session.
-pub fn events_rise()
+pub fn events_have_ascending_places()
     ensures { EventsRise }
 {}
 
@@ -207,14 +207,14 @@ pub fn outs_grow()
 ///
 /// The history has the session's earlier events and answers. The rest, which a server keeps,
 /// determines what the server keeps after the entry, and the answers that the entry gives.
-pub fn kept_steps()
+pub fn entry_effect_ignores_history()
     ensures { KeptSteps }
 {}
 
 /// Proves that what a server keeps of a session can be computed from entry to entry.
 ///
 /// The session's history, its earlier events and answers, is not needed.
-pub fn kept_runs()
+pub fn kept_state_computed_without_history()
     ensures { KeptRuns }
 {}
 
@@ -228,17 +228,17 @@ pub fn accepted_while_live()
 /// Proves that a publish without a client id has no session, sets no due moment and is no rider.
 ///
 /// It is accepted exactly if `--anonymous` is set, its channel is a name and it has data.
-pub fn publishes_of_none()
+pub fn publish_without_client_has_no_session()
     ensures { PublishesOfNone }
 {}
 
 /// Proves that a session's queue and batch are within their limits, and empty during a hold.
-pub fn kept_in_bounds()
+pub fn queue_and_batch_within_limits()
     ensures { KeptInBounds }
 {}
 
 /// Proves that a closed session holds no connect, and that its events and answers do not change.
-pub fn closed_is_over()
+pub fn closed_session_never_changes()
     ensures { ClosedIsOver }
 {}
 
@@ -260,54 +260,54 @@ pub fn bodies_read_back()
 /// Proves that an input appends the outs of all inputs that it completes, in order.
 ///
 /// An input is complete once all its messages are answered.
-pub fn outs_add()
+pub fn input_appends_outs_it_completes()
     ensures { OutsAdd }
 {}
 
 /// Proves that an input stays incomplete until some input completes it.
 ///
 /// An input is complete once all its messages are answered.
-pub fn opens_go_on()
+pub fn input_stays_incomplete_until_completed()
     ensures { OpensGoOn }
 {}
 
 /// Proves that the inputs of a run with unanswered messages are those that the run reports as held.
-pub fn open_is_held()
+pub fn incomplete_inputs_are_reported_held()
     ensures { OpenIsHeld }
 {}
 
 /// Proves that an input with an unanswered message is a request of one message, a held connect.
-pub fn open_are_sole()
+pub fn incomplete_input_is_one_held_connect()
     ensures { OpenAreSole }
 {}
 
 /// Proves that held inputs are in the order of their numbers and of their connects' places.
-pub fn opens_ascend()
+pub fn held_inputs_are_in_order()
     ensures { OpensAscend }
 {}
 
 /// Proves that the next line of a script appends its input, if any, to the earlier inputs.
-pub fn inputs_go_on()
+pub fn next_line_appends_its_input()
     ensures { InputsGoOn }
 {}
 
 /// Proves that what the next line of a script prints is appended to what the earlier lines print.
-pub fn lines_go_on()
+pub fn next_line_appends_its_output()
     ensures { LinesGoOn }
 {}
 
 /// Proves that a replay prints the lines of held connects last.
-pub fn held_come_last()
+pub fn replay_prints_held_last()
     ensures { HeldComeLast }
 {}
 
 /// Proves that each line gets the nonce that the lines before it announce and do not use.
-pub fn nonces_go_on()
+pub fn line_gets_nonce_announced_before()
     ensures { NoncesGoOn }
 {}
 
 /// Proves that lines keep their nonces if none announces one, as in every script.
-pub fn nonces_stay()
+pub fn nonces_unchanged_unless_announced()
     ensures lines { NoncesStay }
     ensures scripts { ScriptsSayNone }
 {}

@@ -7,15 +7,23 @@ mod laws;
 mod worked;
 
 pub use laws::{
-    accepted_while_live, answers_stay, batch_repeats, bodies_read_back, clock_reading,
-    closed_is_over, counts_agree, done_never_falls, due_reading, ending_reading, entries_in_order,
-    events_read_back, events_rise, events_were_published, given_once, given_was_published,
-    held_come_last, held_reading, in_force_reading, inputs_go_on, kept_in_bounds, kept_runs,
-    kept_steps, lines_go_on, live_reading, never_given_again, no_event_twice, no_riders_unasked,
-    nonces_go_on, nonces_stay, nothing_rides_beside, open_are_sole, open_is_held, opens_ascend,
-    opens_go_on, others_never_ride, outs_add, outs_grow, overflow_reading, publishes_are_events,
-    publishes_of_none, queue_bounded, readers_publish_nothing, replies_read_back, rider_given,
-    rider_reading, riders_are_plain, same_live,
+    accepted_while_live, answers_ignore_later_entries, batch_repeats, bodies_read_back,
+    clock_is_greatest_moment, closed_session_never_changes, connect_held_until_entry_ends_hold,
+    done_event_count_never_falls, due_is_greatest_set_by_messages, entries_in_order,
+    entry_effect_ignores_history, events_have_ascending_places, events_read_back,
+    events_were_published, given_once, given_was_published,
+    held_connect_answered_by_first_ending_entry, held_inputs_are_in_order,
+    incomplete_input_is_one_held_connect, incomplete_inputs_are_reported_held,
+    input_appends_outs_it_completes, input_stays_incomplete_until_completed,
+    kept_state_computed_without_history, line_gets_nonce_announced_before,
+    live_from_opening_to_first_close, never_given_again, next_line_appends_its_input,
+    next_line_appends_its_output, no_event_twice, no_rider_beside_rejected_or_sessionless,
+    no_riders_without_option, nonces_unchanged_unless_announced,
+    only_subscriptions_and_publishes_ride, outs_grow, overflowed_if_entry_found_no_room,
+    pattern_active_if_last_subscribed, publish_without_client_has_no_session, publishes_are_events,
+    queue_and_batch_within_limits, queue_batch_and_counts_agree, queue_bounded,
+    readers_publish_nothing, registry_and_entries_agree_on_live, replay_prints_held_last,
+    replies_read_back, rider_given, rider_sessions_do_not_acknowledge, when_a_message_is_a_rider,
 };
 pub use worked::{
     acknowledgements, channels, deliveries, endings, handshakes, held_connects, overflows,

@@ -4,7 +4,7 @@ use Rattle.bx_advice.specs.declared.advice.Outcome.TheVariants as outcomes
 use Rattle.bx_entry.specs.declared.input.BodyError.TheVariants as bodies
 use Rattle.bx_entry.specs.declared.input.Refusal.TheVariants as refusals
 use Rattle.bx_metrics.specs.declared.metric.{Metric.Metric, Reason.Reason}
-use Rattle.bx_metrics.specs.declared.metric.Metric.TheVariants.{Errors, Replies}
+use Rattle.bx_metrics.specs.declared.metric.Metric.TheVariants.{ErrorReplies, SuccessfulReplies}
 use Rattle.bx_metrics.specs.declared.metric.Reason.TheVariants as reasons
 use Rattle.bx_hub.specs.declared.fault.PostFault.{PostFault}
 use Rattle.bx_hub.specs.declared.fault.PostFault.TheVariants as faults
@@ -19,13 +19,13 @@ reason_of (faults.Refused refusals.Ended) = reasons.Ended
 reason_of faults.Closed = reasons.Closed
 reason_of (faults.Behind first) = reasons.Behind
 reason_of (faults.Overrun shard place) = reasons.Overrun
-reason_of (faults.Misplaced shard found) = reasons.Misplaced
+reason_of (faults.WrongShard shard found) = reasons.WrongShard
 reason_of faults.Memory = reasons.Memory
 
 -- The metric that counts a reply of this kind with this outcome.
 abbrev pub metric_for : MessageKind → Outcome → Metric
-metric_for kind (outcomes.Failed error) = Errors error
-metric_for kind outcome = Replies kind
+metric_for kind (outcomes.Failed error) = ErrorReplies error
+metric_for kind outcome = SuccessfulReplies kind
 
 -- The metric that counts a reply.
 abbrev pub metric_of : Reply → Metric

@@ -1,6 +1,6 @@
 //! The metrics: their order, names, help texts and types.
 ghost use Rattle.std.specs.Prelude.{◌≡◌, Some, slice_get};
-ghost use Rattle.bx_metrics.specs.declared.metric.Metric.TheVariants.{Errors, Refused, Replies, Responses};
+ghost use Rattle.bx_metrics.specs.declared.metric.Metric.TheVariants.{ErrorReplies, Refused, SuccessfulReplies, Responses};
 ghost use Rattle.bx_metrics.specs.declared.metric.TheConstants.{METRICS};
 
 use bx_advice::Error;
@@ -24,7 +24,7 @@ pub enum Reason {
     /// The window is full, and no longer has the entry that a shard must apply next.
     Overrun,
     /// A shard's lock guards another shard.
-    Misplaced,
+    WrongShard,
     /// Memory ran out.
     Memory,
 }
@@ -40,7 +40,7 @@ impl Reason {
             Reason::Closed => "closed",
             Reason::Behind => "behind",
             Reason::Overrun => "overrun",
-            Reason::Misplaced => "misplaced",
+            Reason::WrongShard => "misplaced",
             Reason::Memory => "memory",
         }
     }
@@ -54,21 +54,21 @@ pub enum Metric {
     /// How long the program has run, in seconds.
     Uptime,
     /// Open connections.
-    Connections,
+    OpenConnections,
     /// Connections accepted so far.
-    Accepted,
+    AcceptedConnections,
     /// Requests in progress.
-    Requests,
+    RequestsInProgress,
     /// Admitted requests in progress, even if they wait for no answer.
-    Held,
+    AdmittedInProgress,
     /// Requests admitted so far.
-    Admitted,
+    AdmittedRequests,
     /// Events in answers to requests, counted before the response is created.
     Events,
     /// Admitted requests for which an answer was unavailable.
-    Unanswered,
+    UnansweredRequests,
     /// Requests without a response because memory ran out.
-    Missing,
+    MissingResponses,
     /// Length of the list at the last tick, in entries.
     Entries,
     /// Ticks appended to the list.
@@ -78,48 +78,48 @@ pub enum Metric {
     /// Shards that had not applied the last tick.
     ShardsBehind,
     /// Answers dropped because nobody took them.
-    Swept,
+    SweptAnswers,
     /// Live sessions at the last tick.
     Sessions,
     /// Sessions opened up to the last tick.
-    Opened,
+    OpenedSessions,
     /// Batches in the window at the last tick.
     Batches,
     /// Held connects at the last tick.
-    Connects,
+    HeldConnects,
     /// Filed answers that nobody has taken, at the last tick.
-    Filed,
+    FiledAnswers,
     /// Responses with this status.
     Responses(Status),
     /// Requests that were not admitted, for this reason.
     Refused(Reason),
     /// Successful replies to messages of this kind.
-    Replies(MessageKind),
+    SuccessfulReplies(MessageKind),
     /// Replies with this error.
-    Errors(Error),
+    ErrorReplies(Error),
 }
 
 /// All metrics in the order of the page, with those of the same name adjacent.
 pub(crate) const METRICS: [Metric; 59] = [
     Metric::Uptime,
-    Metric::Connections,
-    Metric::Accepted,
-    Metric::Requests,
-    Metric::Held,
-    Metric::Admitted,
+    Metric::OpenConnections,
+    Metric::AcceptedConnections,
+    Metric::RequestsInProgress,
+    Metric::AdmittedInProgress,
+    Metric::AdmittedRequests,
     Metric::Events,
-    Metric::Unanswered,
-    Metric::Missing,
+    Metric::UnansweredRequests,
+    Metric::MissingResponses,
     Metric::Entries,
     Metric::Ticks,
     Metric::RefusedTicks,
     Metric::ShardsBehind,
-    Metric::Swept,
+    Metric::SweptAnswers,
     Metric::Sessions,
-    Metric::Opened,
+    Metric::OpenedSessions,
     Metric::Batches,
-    Metric::Connects,
-    Metric::Filed,
+    Metric::HeldConnects,
+    Metric::FiledAnswers,
     Metric::Responses(Status::Ok),
     Metric::Responses(Status::BadRequest),
     Metric::Responses(Status::Forbidden),
@@ -135,31 +135,31 @@ pub(crate) const METRICS: [Metric; 59] = [
     Metric::Refused(Reason::Closed),
     Metric::Refused(Reason::Behind),
     Metric::Refused(Reason::Overrun),
-    Metric::Refused(Reason::Misplaced),
+    Metric::Refused(Reason::WrongShard),
     Metric::Refused(Reason::Memory),
-    Metric::Replies(MessageKind::Handshake),
-    Metric::Replies(MessageKind::Connect),
-    Metric::Replies(MessageKind::Subscribe),
-    Metric::Replies(MessageKind::Unsubscribe),
-    Metric::Replies(MessageKind::Disconnect),
-    Metric::Replies(MessageKind::Publish),
-    Metric::Replies(MessageKind::UnknownMeta),
-    Metric::Errors(Error::UnknownMetaChannel),
-    Metric::Errors(Error::SecondHandshake),
-    Metric::Errors(Error::UnsupportedVersion),
-    Metric::Errors(Error::NoSupportedConnectionType),
-    Metric::Errors(Error::TooManySessions),
-    Metric::Errors(Error::NoClientId),
-    Metric::Errors(Error::UnknownClient),
-    Metric::Errors(Error::UnknownConnectionType),
-    Metric::Errors(Error::InvalidChannel),
-    Metric::Errors(Error::InvalidPattern),
-    Metric::Errors(Error::TooManyPatterns),
-    Metric::Errors(Error::SubscriptionDenied),
-    Metric::Errors(Error::MissingSubscription),
-    Metric::Errors(Error::MissingData),
-    Metric::Errors(Error::SupersededConnect),
-    Metric::Errors(Error::QueueOverflow),
+    Metric::SuccessfulReplies(MessageKind::Handshake),
+    Metric::SuccessfulReplies(MessageKind::Connect),
+    Metric::SuccessfulReplies(MessageKind::Subscribe),
+    Metric::SuccessfulReplies(MessageKind::Unsubscribe),
+    Metric::SuccessfulReplies(MessageKind::Disconnect),
+    Metric::SuccessfulReplies(MessageKind::Publish),
+    Metric::SuccessfulReplies(MessageKind::UnknownMeta),
+    Metric::ErrorReplies(Error::UnknownMetaChannel),
+    Metric::ErrorReplies(Error::SecondHandshake),
+    Metric::ErrorReplies(Error::UnsupportedVersion),
+    Metric::ErrorReplies(Error::NoSupportedConnectionType),
+    Metric::ErrorReplies(Error::TooManySessions),
+    Metric::ErrorReplies(Error::NoClientId),
+    Metric::ErrorReplies(Error::UnknownClient),
+    Metric::ErrorReplies(Error::UnknownConnectionType),
+    Metric::ErrorReplies(Error::InvalidChannel),
+    Metric::ErrorReplies(Error::InvalidPattern),
+    Metric::ErrorReplies(Error::TooManyPatterns),
+    Metric::ErrorReplies(Error::SubscriptionDenied),
+    Metric::ErrorReplies(Error::MissingSubscription),
+    Metric::ErrorReplies(Error::MissingData),
+    Metric::ErrorReplies(Error::SupersededConnect),
+    Metric::ErrorReplies(Error::QueueOverflow),
 ];
 
 impl Metric {
@@ -169,28 +169,28 @@ impl Metric {
     {
         match self {
             Metric::Uptime => 0,
-            Metric::Connections => 1,
-            Metric::Accepted => 2,
-            Metric::Requests => 3,
-            Metric::Held => 4,
-            Metric::Admitted => 5,
+            Metric::OpenConnections => 1,
+            Metric::AcceptedConnections => 2,
+            Metric::RequestsInProgress => 3,
+            Metric::AdmittedInProgress => 4,
+            Metric::AdmittedRequests => 5,
             Metric::Events => 6,
-            Metric::Unanswered => 7,
-            Metric::Missing => 8,
+            Metric::UnansweredRequests => 7,
+            Metric::MissingResponses => 8,
             Metric::Entries => 9,
             Metric::Ticks => 10,
             Metric::RefusedTicks => 11,
             Metric::ShardsBehind => 12,
-            Metric::Swept => 13,
+            Metric::SweptAnswers => 13,
             Metric::Sessions => 14,
-            Metric::Opened => 15,
+            Metric::OpenedSessions => 15,
             Metric::Batches => 16,
-            Metric::Connects => 17,
-            Metric::Filed => 18,
+            Metric::HeldConnects => 17,
+            Metric::FiledAnswers => 18,
             Metric::Responses(status) => response_place(status),
             Metric::Refused(reason) => refused_place(reason),
-            Metric::Replies(kind) => reply_place(kind),
-            Metric::Errors(error) => error_place(error),
+            Metric::SuccessfulReplies(kind) => reply_place(kind),
+            Metric::ErrorReplies(error) => error_place(error),
         }
     }
 
@@ -198,28 +198,28 @@ impl Metric {
     pub(crate) fn name(self) -> &'static str {
         match self {
             Metric::Uptime => "bayeux_uptime_seconds_total",
-            Metric::Connections => "bayeux_connections",
-            Metric::Accepted => "bayeux_connections_total",
-            Metric::Requests => "bayeux_requests",
-            Metric::Held => "bayeux_requests_held",
-            Metric::Admitted => "bayeux_requests_admitted_total",
+            Metric::OpenConnections => "bayeux_connections",
+            Metric::AcceptedConnections => "bayeux_connections_total",
+            Metric::RequestsInProgress => "bayeux_requests",
+            Metric::AdmittedInProgress => "bayeux_requests_held",
+            Metric::AdmittedRequests => "bayeux_requests_admitted_total",
             Metric::Events => "bayeux_events_total",
-            Metric::Unanswered => "bayeux_requests_unanswered_total",
-            Metric::Missing => "bayeux_responses_missing_total",
+            Metric::UnansweredRequests => "bayeux_requests_unanswered_total",
+            Metric::MissingResponses => "bayeux_responses_missing_total",
             Metric::Entries => "bayeux_list_entries_total",
             Metric::Ticks => "bayeux_ticks_total",
             Metric::RefusedTicks => "bayeux_ticks_refused_total",
             Metric::ShardsBehind => "bayeux_shards_behind",
-            Metric::Swept => "bayeux_answers_swept_total",
+            Metric::SweptAnswers => "bayeux_answers_swept_total",
             Metric::Sessions => "bayeux_sessions",
-            Metric::Opened => "bayeux_sessions_opened_total",
+            Metric::OpenedSessions => "bayeux_sessions_opened_total",
             Metric::Batches => "bayeux_window_batches",
-            Metric::Connects => "bayeux_connects_held",
-            Metric::Filed => "bayeux_answers_filed",
+            Metric::HeldConnects => "bayeux_connects_held",
+            Metric::FiledAnswers => "bayeux_answers_filed",
             Metric::Responses(_) => "bayeux_responses_total",
             Metric::Refused(_) => "bayeux_requests_refused_total",
-            Metric::Replies(_) => "bayeux_replies_total",
-            Metric::Errors(_) => "bayeux_errors_total",
+            Metric::SuccessfulReplies(_) => "bayeux_replies_total",
+            Metric::ErrorReplies(_) => "bayeux_errors_total",
         }
     }
 
@@ -227,42 +227,42 @@ impl Metric {
     pub(crate) fn help(self) -> &'static str {
         match self {
             Metric::Uptime => "Seconds since the program started.",
-            Metric::Connections => "Open connections.",
-            Metric::Accepted => "Connections accepted.",
-            Metric::Requests => "Requests in progress.",
-            Metric::Held => "Admitted requests in progress.",
-            Metric::Admitted => "Requests admitted.",
+            Metric::OpenConnections => "Open connections.",
+            Metric::AcceptedConnections => "Connections accepted.",
+            Metric::RequestsInProgress => "Requests in progress.",
+            Metric::AdmittedInProgress => "Admitted requests in progress.",
+            Metric::AdmittedRequests => "Requests admitted.",
             Metric::Events => "Events in responses.",
-            Metric::Unanswered => "Admitted requests whose answer was unavailable.",
-            Metric::Missing => "Requests dropped for lack of memory.",
+            Metric::UnansweredRequests => "Admitted requests whose answer was unavailable.",
+            Metric::MissingResponses => "Requests dropped for lack of memory.",
             Metric::Entries => "Length of the list at the last tick, in entries.",
             Metric::Ticks => "Ticks appended to the list.",
             Metric::RefusedTicks => "Ticks not appended to the list.",
             Metric::ShardsBehind => "Shards that had not applied the last tick.",
-            Metric::Swept => "Unclaimed answers dropped.",
+            Metric::SweptAnswers => "Unclaimed answers dropped.",
             Metric::Sessions => "Live sessions.",
-            Metric::Opened => "Sessions opened.",
+            Metric::OpenedSessions => "Sessions opened.",
             Metric::Batches => "Batches in the window.",
-            Metric::Connects => "Held connects.",
-            Metric::Filed => "Filed answers that nobody has taken.",
+            Metric::HeldConnects => "Held connects.",
+            Metric::FiledAnswers => "Filed answers that nobody has taken.",
             Metric::Responses(_) => "Responses, by status.",
             Metric::Refused(_) => "Requests not admitted, by reason.",
-            Metric::Replies(_) => "Successful replies, by kind of message.",
-            Metric::Errors(_) => "Error replies, by error.",
+            Metric::SuccessfulReplies(_) => "Successful replies, by kind of message.",
+            Metric::ErrorReplies(_) => "Error replies, by error.",
         }
     }
 
     /// Returns the metric's type in Prometheus' format: `gauge` or `counter`.
     pub(crate) fn type_name(self) -> &'static str {
         match self {
-            Metric::Connections
-            | Metric::Requests
-            | Metric::Held
+            Metric::OpenConnections
+            | Metric::RequestsInProgress
+            | Metric::AdmittedInProgress
             | Metric::ShardsBehind
             | Metric::Sessions
             | Metric::Batches
-            | Metric::Connects
-            | Metric::Filed => "gauge",
+            | Metric::HeldConnects
+            | Metric::FiledAnswers => "gauge",
             _ => "counter",
         }
     }
@@ -272,10 +272,12 @@ impl Metric {
         match self {
             Metric::Responses(Status::Ok)
             | Metric::Refused(Reason::Body)
-            | Metric::Replies(MessageKind::Handshake)
-            | Metric::Errors(Error::UnknownMetaChannel) => true,
-            Metric::Responses(_) | Metric::Refused(_) | Metric::Replies(_) | Metric::Errors(_) =>
-                false,
+            | Metric::SuccessfulReplies(MessageKind::Handshake)
+            | Metric::ErrorReplies(Error::UnknownMetaChannel) => true,
+            Metric::Responses(_)
+            | Metric::Refused(_)
+            | Metric::SuccessfulReplies(_)
+            | Metric::ErrorReplies(_) => false,
             _ => true,
         }
     }
@@ -309,14 +311,14 @@ fn refused_place(reason: Reason) -> usize
         Reason::Closed => 31,
         Reason::Behind => 32,
         Reason::Overrun => 33,
-        Reason::Misplaced => 34,
+        Reason::WrongShard => 34,
         Reason::Memory => 35,
     }
 }
 
-// Returns the index of the metric `Replies(kind)`.
+// Returns the index of the metric `SuccessfulReplies(kind)`.
 fn reply_place(kind: MessageKind) -> usize
-    ensures { slice_get METRICS result ≡ Some (Replies kind) }
+    ensures { slice_get METRICS result ≡ Some (SuccessfulReplies kind) }
 {
     match kind {
         MessageKind::Handshake => 36,
@@ -329,9 +331,9 @@ fn reply_place(kind: MessageKind) -> usize
     }
 }
 
-// Returns the index of the metric `Errors(error)`.
+// Returns the index of the metric `ErrorReplies(error)`.
 fn error_place(error: Error) -> usize
-    ensures { slice_get METRICS result ≡ Some (Errors error) }
+    ensures { slice_get METRICS result ≡ Some (ErrorReplies error) }
 {
     match error {
         Error::UnknownMetaChannel => 43,

@@ -13,24 +13,24 @@ use bx_service::{Observer, ServiceEvent};
 impl Observer for Counts {
     fn see(&self, event: ServiceEvent<'_>) {
         match event {
-            ServiceEvent::Opened => {
-                self.add(Metric::Accepted, 1);
-                self.add(Metric::Connections, 1);
+            ServiceEvent::ConnectionOpened => {
+                self.add(Metric::AcceptedConnections, 1);
+                self.add(Metric::OpenConnections, 1);
             }
-            ServiceEvent::Closed => self.remove_one(Metric::Connections),
-            ServiceEvent::Asked => self.add(Metric::Requests, 1),
+            ServiceEvent::ConnectionClosed => self.remove_one(Metric::OpenConnections),
+            ServiceEvent::RequestArrived => self.add(Metric::RequestsInProgress, 1),
             ServiceEvent::Admitted(_) => {
-                self.add(Metric::Admitted, 1);
-                self.add(Metric::Held, 1);
+                self.add(Metric::AdmittedRequests, 1);
+                self.add(Metric::AdmittedInProgress, 1);
             }
             ServiceEvent::Refused(fault) => self.add(Metric::Refused(reason_of(fault)), 1),
             ServiceEvent::Answered { place: _, items } => count_all(self, items),
             ServiceEvent::Responded(Some(status)) => self.add(Metric::Responses(status), 1),
-            ServiceEvent::Responded(None) => self.add(Metric::Missing, 1),
-            ServiceEvent::Left { was_admitted } => {
-                self.remove_one(Metric::Requests);
+            ServiceEvent::Responded(None) => self.add(Metric::MissingResponses, 1),
+            ServiceEvent::RequestEnded { was_admitted } => {
+                self.remove_one(Metric::RequestsInProgress);
                 if was_admitted {
-                    self.remove_one(Metric::Held);
+                    self.remove_one(Metric::AdmittedInProgress);
                 }
             }
         }
@@ -40,7 +40,7 @@ impl Observer for Counts {
 // Counts the events and replies in `items`, or that they are unavailable.
 fn count_all(counts: &Counts, items: Option<&[Item]>) {
     let Some(items) = items else {
-        counts.add(Metric::Unanswered, 1);
+        counts.add(Metric::UnansweredRequests, 1);
         return;
     };
     let mut events: u64 = 0;
@@ -67,7 +67,7 @@ fn reason_of(fault: PostFault) -> Reason
         PostFault::Closed => Reason::Closed,
         PostFault::Behind { .. } => Reason::Behind,
         PostFault::Overrun { .. } => Reason::Overrun,
-        PostFault::Misplaced { .. } => Reason::Misplaced,
+        PostFault::WrongShard { .. } => Reason::WrongShard,
         PostFault::Memory => Reason::Memory,
     }
 }
@@ -77,7 +77,7 @@ fn metric_of(reply: &Reply) -> Metric
     ensures { result ≡ metric_of reply.now }
 {
     match reply.outcome {
-        Outcome::Failed(error) => Metric::Errors(error),
-        _ => Metric::Replies(reply.message_kind),
+        Outcome::Failed(error) => Metric::ErrorReplies(error),
+        _ => Metric::SuccessfulReplies(reply.message_kind),
     }
 }

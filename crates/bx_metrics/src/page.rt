@@ -59,8 +59,8 @@ fn label_of(alloc: Global, metric: Metric) -> Result<String, AllocError> {
     match metric {
         Metric::Responses(status) => format!(in alloc; "{{status=\"{}\"}}", status.code()),
         Metric::Refused(reason) => format!(in alloc; "{{reason=\"{}\"}}", reason.name()),
-        Metric::Replies(kind) => format!(in alloc; "{{kind=\"{}\"}}", kind_name(kind)),
-        Metric::Errors(error) => format!(in alloc; "{{error=\"{}\"}}", error.text()),
+        Metric::SuccessfulReplies(kind) => format!(in alloc; "{{kind=\"{}\"}}", kind_name(kind)),
+        Metric::ErrorReplies(error) => format!(in alloc; "{{error=\"{}\"}}", error.text()),
         _ => Ok(String::new(alloc)),
     }
 }

@@ -2,7 +2,7 @@
 ghost use Rattle.std.specs.Prelude.{◌≡◌, ◌++◌, [], IsTrue};
 
 /// A position in a text that grows at its end.
-pub trait Extent: Drop {
+pub trait TextPosition: Drop {
     ghost use Rattle.std.specs.Prelude.{ℕ, List};
 
     /// Ghost: the text up to the position.
@@ -26,14 +26,14 @@ pub trait Extent: Drop {
 
 /// The bytes of a text between two positions.
 #[derive(Drop)]
-pub struct Chunk<F: Extent> {
+pub struct Chunk<F: TextPosition> {
     pub(crate) from: F,
     pub(crate) to: F,
     pub(crate) bytes: Vec<u8>,
     ghost lines: { F.text to ≡ F.text from ++ bytes.items },
 }
 
-impl<F: Extent> Chunk<F> {
+impl<F: TextPosition> Chunk<F> {
     /// Creates a chunk from `bytes`, which must be the text between `from` and `to`.
     pub fn new(from: F, to: F, bytes: Vec<u8>) -> Chunk<F>
         requires { F.text to ≡ F.text from ++ bytes.items }

@@ -22,14 +22,14 @@ pub fn records_answer_alike()
 /// Proves that the complete lines of a truncated record give its first inputs, in order.
 ///
 /// All other complete lines are nonces.
-pub fn records_break_off()
+pub fn truncated_records_read_back()
     ensures { RecordsBreakOff }
 {}
 
 /// Proves that reading a record skips the line of an answer.
 ///
 /// This holds for every place below 2^64, every digest of 32 bytes and any text after the line.
-pub fn answers_are_skipped()
+pub fn answer_lines_are_skipped()
     ensures { AnswersAreSkipped }
 {}
 
@@ -37,14 +37,14 @@ pub fn answers_are_skipped()
 ///
 /// The inputs and, for every configuration, the results of the inputs are the same as without these
 /// lines. All lines that are not inputs are nonces or answers.
-pub fn answers_change_nothing()
+pub fn answer_lines_change_nothing()
     ensures { AnswersChangeNothing }
 {}
 
 /// Proves that the complete lines of a truncated record with answers give its first inputs.
 ///
 /// All other complete lines are nonces or answers.
-pub fn answers_break_off()
+pub fn truncated_records_with_answers_read_back()
     ensures { AnswersBreakOff }
 {}
 

@@ -17,15 +17,15 @@ mod waiting;
 mod writer;
 
 pub use answer::answer_text;
-pub use chunk::{Chunk, Extent};
+pub use chunk::{Chunk, TextPosition};
 pub use config::config_text;
 pub use counted::CountedFile;
 pub use laws::{
-    answers_are_skipped, answers_break_off, answers_change_nothing, configs_read_back,
-    records_answer_alike, records_break_off, records_read_back,
+    answer_lines_are_skipped, answer_lines_change_nothing, configs_read_back, records_answer_alike,
+    records_read_back, truncated_records_read_back, truncated_records_with_answers_read_back,
 };
-pub use record_file::{RecordFile, Torn};
-pub use source::{Source, Taken};
+pub use record_file::{FailedWrite, RecordFile};
+pub use source::{Source, TakenText};
 pub use text::{request_text, tick_text};
-pub use waiting::{MOST_WAITING, RecordFault, Waiting};
-pub use writer::{End, Written, write_out};
+pub use waiting::{MAX_WAITING_BYTES, RecordFault, WaitingBytes};
+pub use writer::{WriteSummary, WriterEnd, write_until_stopped};

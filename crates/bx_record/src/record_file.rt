@@ -2,7 +2,7 @@
 ghost use Rattle.std.specs.Prelude.{◌≡◌, ◌++◌, [], IfErr, IfOk};
 ghost use Rattle.std.specs.Io.KnownBytes.{Appends};
 
-use crate::chunk::{Chunk, Extent};
+use crate::chunk::{Chunk, TextPosition};
 use crate::counted::CountedFile;
 use bx_history::History;
 use std::io;
@@ -10,7 +10,7 @@ use std::io::Write;
 
 /// The error of a failed write, and how far the file was written.
 #[derive(Debug, Drop)]
-pub struct Torn {
+pub struct FailedWrite {
     /// Number of bytes written to the file, including what the failed write wrote.
     pub count: u64,
     /// Why the write failed.
@@ -21,7 +21,7 @@ pub struct Torn {
 ///
 /// A write that fails consumes the `RecordFile`, so nothing can be written after a gap.
 #[derive(Drop)]
-pub struct RecordFile<F: Extent, W> {
+pub struct RecordFile<F: TextPosition, W> {
     file: CountedFile<W>,
     // Ghost: the text written so far.
     written: History<u8>,
@@ -29,7 +29,7 @@ pub struct RecordFile<F: Extent, W> {
     ghost whole: { written ≡ F.text upto },
 }
 
-impl<F: Extent, W: Write + Drop> RecordFile<F, W> {
+impl<F: TextPosition, W: Write + Drop> RecordFile<F, W> {
     /// Creates a `RecordFile` for a text that begins at `start`.
     ///
     /// The text up to `start` must be empty. Writes nothing.
@@ -57,7 +57,7 @@ impl<F: Extent, W: Write + Drop> RecordFile<F, W> {
     ///
     /// - `InvalidInput`: `chunk` does not follow the text written so far; nothing is written.
     /// - Any error of the file, which may then have a prefix of `chunk`.
-    pub fn write(self, chunk: &Chunk<F>) -> Result<RecordFile<F, W>, Torn>
+    pub fn write(self, chunk: &Chunk<F>) -> Result<RecordFile<F, W>, FailedWrite>
         ensures written { IfOk result (λ out. out.written ≡ self.written ++ chunk.now.bytes.items) }
         ensures file { IfOk result (λ out. Appends (W.contents self.file.file) (W.contents out.file.file) chunk.now.bytes.items) }
         ensures upto { IfOk result (λ out. F.is_copy chunk.now.to out.upto) }
@@ -68,13 +68,13 @@ impl<F: Extent, W: Write + Drop> RecordFile<F, W> {
             upto,
         } = self;
         if !upto.is_same(&chunk.from) {
-            return Err(Torn {
+            return Err(FailedWrite {
                 count: file.count(),
                 error: io::ErrorKind::InvalidInput.into(),
             });
         }
         if let Err(error) = file.write_all(chunk.bytes.as_slice()) {
-            return Err(Torn {
+            return Err(FailedWrite {
                 count: file.count(),
                 error,
             });
@@ -92,13 +92,13 @@ impl<F: Extent, W: Write + Drop> RecordFile<F, W> {
     /// # Errors
     ///
     /// Any error of the file, which may then have a prefix of `lines`.
-    pub fn write_aside(self, lines: &[u8]) -> Result<RecordFile<F, W>, Torn>
+    pub fn write_answer_lines(self, lines: &[u8]) -> Result<RecordFile<F, W>, FailedWrite>
         ensures written { IfOk result (λ out. (out.written ≡ self.written) × (out.upto ≡ self.upto)) }
         ensures file { IfOk result (λ out. Appends (W.contents self.file.file) (W.contents out.file.file) lines.now) }
     {
         let mut out = self;
         if let Err(error) = out.file.write_all(lines) {
-            return Err(Torn {
+            return Err(FailedWrite {
                 count: out.file.count(),
                 error,
             });

@@ -1,11 +1,11 @@
 //! The source of a growing text and of answers, to be written to a file.
 ghost use Rattle.std.specs.Prelude.{◌≡◌, []};
 
-use crate::chunk::{Chunk, Extent};
+use crate::chunk::{Chunk, TextPosition};
 
 /// Text taken from a source.
 #[derive(Drop)]
-pub struct Taken<F: Extent, E> {
+pub struct TakenText<F: TextPosition, E> {
     /// All text that waited to be written.
     pub chunk: Chunk<F>,
     /// Why the text ends after `chunk`, or `None` if it may grow.
@@ -15,7 +15,7 @@ pub struct Taken<F: Extent, E> {
 /// A growing text that waits to be written, and lines of answers, which are not part of it.
 pub trait Source {
     /// A position in the text.
-    type Extent: Extent;
+    type TextPosition: TextPosition;
 
     /// Why the text ends.
     type Fault: Drop;
@@ -26,7 +26,7 @@ pub trait Source {
     /// Takes all waiting text, or returns `None` if the text has ended.
     ///
     /// Leaves the empty buffer `empty` in place of the text.
-    fn take(&mut self, empty: Vec<u8>) -> Option<Taken<Self::Extent, Self::Fault>>
+    fn take(&mut self, empty: Vec<u8>) -> Option<TakenText<Self::TextPosition, Self::Fault>>
         requires empty { empty.items ≡ [] };
 
     /// Takes all waiting lines of answers, and leaves the empty buffer `empty` in their place.

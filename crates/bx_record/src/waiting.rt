@@ -1,7 +1,7 @@
 //! A bounded buffer of bytes that wait to be written, and the faults that end a record.
 ghost use Rattle.std.specs.Prelude.{◌≡◌, ◌≢◌, ◌+◌, ◌<◌, ◌≤◌, ◌++◌, [], length, IfErr, OnErr, OnOk};
-ghost use Rattle.bx_record.specs.declared.waiting.RecordFault.TheVariants.{Full, Memory, Unsayable};
-ghost use Rattle.bx_record.specs.declared.waiting.TheConstants.{MOST_WAITING};
+ghost use Rattle.bx_record.specs.declared.waiting.RecordFault.TheVariants.{Full, Memory, Unrecordable};
+ghost use Rattle.bx_record.specs.declared.waiting.TheConstants.{MAX_WAITING_BYTES};
 
 use std::alloc::{AllocError, Global};
 use std::marker::Model;
@@ -10,7 +10,7 @@ use std::mem;
 /// The most bytes that may wait to be written: 64 MiB.
 ///
 /// Policy of this server.
-pub const MOST_WAITING: usize = 64 << 20;
+pub const MAX_WAITING_BYTES: usize = 64 << 20;
 
 /// Why a record ended, or why it has no further lines for answers.
 #[derive(Clone, Copy, Debug, PartialEq, Eq)]
@@ -18,7 +18,7 @@ pub enum RecordFault {
     /// More than 64 MiB would wait to be written.
     Full,
     /// No line can express a request, since its documents need a body that is too large.
-    Unsayable,
+    Unrecordable,
     /// Memory ran out.
     Memory,
 }
@@ -31,37 +31,37 @@ impl From<AllocError> for RecordFault {
     }
 }
 
-/// A buffer of at most [`MOST_WAITING`] bytes that wait to be written.
+/// A buffer of at most [`MAX_WAITING_BYTES`] bytes that wait to be written.
 #[derive(Drop)]
-pub struct Waiting {
+pub struct WaitingBytes {
     bytes: Vec<u8>,
 }
 
-impl Model for Waiting {
+impl Model for WaitingBytes {
     ghost use Rattle.std.specs.Prelude.{◌≤◌, List, ℕ, length};
-    ghost use Rattle.bx_record.specs.declared.waiting.TheConstants.{MOST_WAITING};
+    ghost use Rattle.bx_record.specs.declared.waiting.TheConstants.{MAX_WAITING_BYTES};
 
     ghost Value = { List ℕ };
 
     ghost view = { λ w. w.bytes.items };
 
-    ghost invariant = { λ w. length w.bytes.items ≤ MOST_WAITING };
+    ghost invariant = { λ w. length w.bytes.items ≤ MAX_WAITING_BYTES };
 }
 
-impl Waiting {
+impl WaitingBytes {
     /// Creates an empty buffer.
-    pub fn new(alloc: Global) -> Waiting
+    pub fn new(alloc: Global) -> WaitingBytes
         ensures { result ≡ [] }
     {
-        Waiting {
+        WaitingBytes {
             bytes: Vec::new(alloc),
         }
     }
 
-    /// Returns the number of bytes in the buffer, at most [`MOST_WAITING`].
+    /// Returns the number of bytes in the buffer, at most [`MAX_WAITING_BYTES`].
     pub fn len(&self) -> usize
         ensures count { result ≡ length self.now }
-        ensures bound { result ≤ MOST_WAITING }
+        ensures bound { result ≤ MAX_WAITING_BYTES }
     {
         self.bytes.len()
     }
@@ -70,17 +70,17 @@ impl Waiting {
     ///
     /// # Errors
     ///
-    /// - `Full`: more than [`MOST_WAITING`] bytes would wait.
+    /// - `Full`: more than [`MAX_WAITING_BYTES`] bytes would wait.
     /// - `Memory`: memory ran out.
     ///
     /// On error `self` is unchanged.
     pub fn push(&mut self, bytes: &[u8]) -> Result<(), RecordFault>
         ensures added { OnOk result (self.new ≡ self.old ++ bytes.now) }
         ensures same { OnErr result (self.new ≡ self.old) }
-        ensures full { IfErr result (λ fault. fault ≡ Full → MOST_WAITING < length self.old + length bytes.now) }
-        ensures sayable { IfErr result (λ fault. fault ≢ Unsayable) }
+        ensures full { IfErr result (λ fault. fault ≡ Full → MAX_WAITING_BYTES < length self.old + length bytes.now) }
+        ensures sayable { IfErr result (λ fault. fault ≢ Unrecordable) }
     {
-        if bytes.len() > MOST_WAITING - self.bytes.len() {
+        if bytes.len() > MAX_WAITING_BYTES - self.bytes.len() {
             return Err(RecordFault::Full);
         }
         self.bytes.extend_from_slice(bytes)?;
@@ -94,7 +94,7 @@ impl Waiting {
         requires { empty.items ≡ [] }
         ensures taken { result.items ≡ self.old }
         ensures emptied { self.new ≡ [] }
-        ensures bound { length result.items ≤ MOST_WAITING }
+        ensures bound { length result.items ≤ MAX_WAITING_BYTES }
     {
         mem::replace(&mut self.bytes, empty)
     }

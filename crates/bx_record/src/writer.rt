@@ -1,8 +1,8 @@
 //! The loop that writes a growing text and its answers to a file.
 ghost use Rattle.std.specs.Prelude.{◌≡◌, [], IfOk};
 
-use crate::record_file::{RecordFile, Torn};
-use crate::source::{Source, Taken};
+use crate::record_file::{FailedWrite, RecordFile};
+use crate::source::{Source, TakenText};
 use std::alloc::Global;
 use std::io::Write;
 use std::sync::Wait;
@@ -21,24 +21,24 @@ pub(crate) const SOON: usize = 64 << 10;
 
 /// Why writing ended.
 #[derive(Debug, Drop)]
-pub enum End<E> {
+pub enum WriterEnd<E> {
     /// `stop` was set, and everything that waited is written.
-    Told,
+    StopRequested,
     /// The text ended, for the reason that the source gave; its last part is written.
     Ended(E),
     /// The source returned no text, since its text had ended before.
-    Gone,
+    AlreadyEnded,
     /// A write to the file failed, or the chunk taken does not follow the text written so far.
-    Refused(io::Error),
+    WriteFailed(io::Error),
 }
 
 /// How much was written, and why writing ended.
 #[derive(Debug, Drop)]
-pub struct Written<E> {
+pub struct WriteSummary<E> {
     /// Number of bytes written to the file, including what a failed write wrote.
     pub count: u64,
     /// Why writing ended.
-    pub end: End<E>,
+    pub end: WriterEnd<E>,
 }
 
 /// Writes what waits in `source` to `out`, until `stop` is set.
@@ -52,13 +52,13 @@ pub struct Written<E> {
 /// # Blocking
 ///
 /// Sleeps between writes.
-pub fn write_out<R, S, W>(
+pub fn write_until_stopped<R, S, W>(
     rt: &R,
     alloc: Global,
     mut source: S,
-    out: RecordFile<S::Extent, W>,
+    out: RecordFile<S::TextPosition, W>,
     stop: &AtomicBool,
-) -> Written<S::Fault>
+) -> WriteSummary<S::Fault>
 where
     R: Wait + Clock,
     S: Source + Drop,
@@ -87,9 +87,9 @@ where
         looks -= 1;
         thread::sleep(rt, Duration::from_millis(REST));
     }
-    Written {
+    WriteSummary {
         count: out.count(),
-        end: End::Told,
+        end: WriterEnd::StopRequested,
     }
 }
 
@@ -102,20 +102,20 @@ where
 // text ends, the answers are dropped, since it may lack their requests.
 fn write_once<S: Source, W: Write + Drop>(
     source: &mut S,
-    out: RecordFile<S::Extent, W>,
+    out: RecordFile<S::TextPosition, W>,
     text: Vec<u8>,
     answers: Vec<u8>,
-) -> Result<(RecordFile<S::Extent, W>, Vec<u8>, Vec<u8>), Written<S::Fault>>
+) -> Result<(RecordFile<S::TextPosition, W>, Vec<u8>, Vec<u8>), WriteSummary<S::Fault>>
     requires { (text.items ≡ []) × (answers.items ≡ []) }
     ensures { IfOk result (λ next. (next.1.items ≡ []) × (next.2.items ≡ [])) }
 {
     let mut answers = source.take_answers(answers);
     let count = out.count();
-    let Some(Taken { chunk, fault }) = source.take(text) else {
+    let Some(TakenText { chunk, fault }) = source.take(text) else {
         source.stop();
-        return Err(Written {
+        return Err(WriteSummary {
             count,
-            end: End::Gone,
+            end: WriterEnd::AlreadyEnded,
         });
     };
     if fault.is_some() {
@@ -123,22 +123,22 @@ fn write_once<S: Source, W: Write + Drop>(
     }
     let out = match out
         .write(&chunk)
-        .and_then(|out| out.write_aside(answers.as_slice()))
+        .and_then(|out| out.write_answer_lines(answers.as_slice()))
     {
         Ok(out) => out,
-        Err(Torn { count, error }) => {
+        Err(FailedWrite { count, error }) => {
             source.stop();
-            return Err(Written {
+            return Err(WriteSummary {
                 count,
-                end: End::Refused(error),
+                end: WriterEnd::WriteFailed(error),
             });
         }
     };
     if let Some(fault) = fault {
         source.stop();
-        return Err(Written {
+        return Err(WriteSummary {
             count: out.count(),
-            end: End::Ended(fault),
+            end: WriterEnd::Ended(fault),
         });
     }
     answers.clear();

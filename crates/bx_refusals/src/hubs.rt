@@ -12,7 +12,7 @@ use bx_advice::Config;
 use bx_entry::ByRemainder;
 use bx_hub::{Hub, OpenGate};
 use bx_record::RecordFault;
-use bx_window::{LogId, Opened};
+use bx_window::{EmptyWindow, LogId};
 use said::Said;
 use std::alloc::{AllocGlobal, Global};
 use std::marker::Brand;
@@ -51,13 +51,13 @@ where
 {
     let config = config(shards)?;
     let placing = Arc::new(alloc, ByRemainder)?;
-    serves::<Brand, R>(rt, alloc, Opened::new(), config, placing)
+    serves::<Brand, R>(rt, alloc, EmptyWindow::new(), config, placing)
 }
 
 fn serves<L, R>(
     rt: &R,
     alloc: Global,
-    opened: Opened,
+    opened: EmptyWindow,
     config: Config,
     placing: Arc<ByRemainder, Global>,
 ) -> Result<String, Unlike>

@@ -336,14 +336,14 @@ fn refused_behind<R: Threads + Sync>(
     inputs: &[Input],
     outs: &mut Vec<Out>,
 ) -> Result<Option<usize>, Unlike> {
-    let before = round.intake();
+    let before = round.started_inputs();
     if before > MOST_INPUTS || inputs.len() > MOST_INPUTS {
         return Err(Unlike::Wrong("too many inputs"));
     }
     match round.run(rt, alloc, &OpenGate, inputs, outs) {
         Ok(()) => Ok(None),
-        Err(RoundFault::Memory { admitted }) if round.intake() == before.saturating_add(admitted) =>
-            { Ok(Some(admitted)) }
+        Err(RoundFault::Memory { admitted })
+            if round.started_inputs() == before.saturating_add(admitted) => { Ok(Some(admitted)) }
         Err(_) => Err(Unlike::Wrong("another number was taken in")),
     }
 }

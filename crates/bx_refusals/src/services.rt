@@ -14,7 +14,7 @@ use bx_advice::Config;
 use bx_entry::{Access, ByRemainder};
 use bx_hub::OpenGate;
 use bx_service::{BayeuxService, Clock, HubBackend, Nonces};
-use bx_window::{LogId, Opened};
+use bx_window::{EmptyWindow, LogId};
 use client::Client;
 use exchanges::made;
 use futures::test::MockTask;
@@ -58,13 +58,13 @@ where
     let config = config(2)?;
     let placing = Arc::new(alloc, ByRemainder)?;
     let task = MockTask::new(&rt).map_err(|_| Unlike::Memory)?;
-    serves::<Brand, R>(rt, alloc, Opened::new(), config, placing, task)
+    serves::<Brand, R>(rt, alloc, EmptyWindow::new(), config, placing, task)
 }
 
 fn serves<L, R>(
     rt: R,
     alloc: Global,
-    opened: Opened,
+    opened: EmptyWindow,
     config: Config,
     placing: Arc<ByRemainder, Global>,
     task: MockTask,

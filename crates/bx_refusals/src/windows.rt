@@ -6,7 +6,7 @@ mod shows;
 use crate::requests::add_line;
 use crate::unlike::Unlike;
 use bx_calls::Ticker;
-use bx_window::{LogId, LogReader, Opened, PublishFault, log_pair};
+use bx_window::{EmptyWindow, LogId, LogReader, PublishFault, log_pair};
 use shows::shown;
 use std::alloc::Global;
 use std::marker::Brand;
@@ -43,10 +43,10 @@ const DEEDS: [Deed; 7] = [
 /// `Memory` if memory runs out outside of the window's calls; `Wrong` for another result than
 /// expected, or if a second attempt fails.
 pub fn run<R: Wait>(rt: &R, alloc: Global) -> Result<String, Unlike> {
-    worked::<Brand, R>(rt, alloc, Opened::new())
+    worked::<Brand, R>(rt, alloc, EmptyWindow::new())
 }
 
-fn worked<L: LogId, R: Wait>(rt: &R, alloc: Global, opened: Opened) -> Result<String, Unlike>
+fn worked<L: LogId, R: Wait>(rt: &R, alloc: Global, opened: EmptyWindow) -> Result<String, Unlike>
     requires { opened.seen.book ≡ L.book }
 {
     let (writer, mut readers) = log_pair::<L, &R>(alloc, rt, opened, 2)?;

@@ -6,7 +6,7 @@ use Rattle.std.proofs.lemmas.{Slice.Eq.bytes_eq-Decides, Grind.common_steps, Boo
 use Rattle.std.proofs.Math.Nat.{pow-suc, div-lt_iff_lt-mul, mod-lt, mod-eq_of_lt}
 use Rattle.std.proofs.Math.Seq.{drop-append_seam}
 use Rattle.bx_entry.specs.Registry.{Registered, hex_digits, client_id, live_with_id}
-use Rattle.bx_roster.specs.Tables.{IsNamed, IsTable, AllLive, known_of, known_at}
+use Rattle.bx_roster.specs.Tables.{IsNamed, IsTable, AllLive, known_of, client_and_ack_of}
 use Rattle.bx_roster.proofs.Tables.{IsTable-bounds}
 use Rattle.bx_registry.specs.Words.{digit_value, with_digit, hex_value, number_in, IsSender}
 
@@ -66,8 +66,8 @@ Finds rs text known = ((k : List ℕ × Bool) → known ≡ Some k → k.0 ≡ t
     × (((k : List ℕ × Bool) → known ≡ Some k → k.0 ≡ text → ⊥) → live_with_id rs text ≡ None)
 
 finds-by : (low high : ℕ) (r : Registered) (rs : List Registered) (text : List ℕ) → IsTable low high (r ∷ rs) → high < 2 ^ 64 → AllLive (r ∷ rs) →
-    Finds rs text (known_at (number_in text) rs) → (b : Bool) → bytes_eq r.client text ≡ b → (c : Bool) → (r.number == number_in text) ≡ c →
-    Finds (r ∷ rs) text (if c then Some (known_of r) else known_at (number_in text) rs)
+    Finds rs text (client_and_ack_of (number_in text) rs) → (b : Bool) → bytes_eq r.client text ≡ b → (c : Bool) → (r.number == number_in text) ≡ c →
+    Finds (r ∷ rs) text (if c then Some (known_of r) else client_and_ack_of (number_in text) rs)
 finds-by low high r rs text t small all ih true e true f =
     let same : r.client ≡ text = (bytes_eq-Decides r.client text).0 e in
     let here : live_with_id (r ∷ rs) text ≡ Some r = found-next r (live_with_id rs text) text all.0 true e in (
@@ -78,7 +78,7 @@ finds-by low high r rs text t small all ih true e false f = absurd (eqb-false r.
 finds-by low high r rs text t small all ih false e true f = grind (arith, common_steps, found-next, not-same, of-some, found-none)
 finds-by low high r rs text t small all ih false e false f = grind (arith, common_steps, found-next)
 
-pub finds : (low high : ℕ) (rs : List Registered) (text : List ℕ) → IsTable low high rs → high < 2 ^ 64 → AllLive rs → Finds rs text (known_at (number_in text) rs)
+pub finds : (low high : ℕ) (rs : List Registered) (text : List ℕ) → IsTable low high rs → high < 2 ^ 64 → AllLive rs → Finds rs text (client_and_ack_of (number_in text) rs)
 finds low high [] text t small all = ((λ k known is. cc), (λ other. refl))
 finds low high (r ∷ rs) text t small all =
     finds-by low high r rs text t small all (finds r.number high rs text t.2 small all.1) (bytes_eq r.client text) refl (r.number == number_in text) refl

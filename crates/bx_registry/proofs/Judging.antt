@@ -18,7 +18,7 @@ use Rattle.bx_entry.specs.Words.{Posted, due_of, newcomer, rider_by, sessionless
 use Rattle.bx_entry.specs.declared.{senders.Senders.Senders}
 use Rattle.bx_entry.specs.declared.senders.Senders.TheVariants.{Mixed}
 use Rattle.bx_entry.specs.declared.entry.EntryKind.TheVariants as entries
-use Rattle.bx_roster.specs.Words.{Members, live_in, with_live, known_at, AllLive, edited, CanEdit}
+use Rattle.bx_roster.specs.Words.{Members, live_in, with_live, client_and_ack_of, AllLive, edited, CanEdit}
 use Rattle.bx_roster.specs.declared.edit.Edit.TheVariants.{Open}
 use Rattle.bx_roster.proofs.{Sessions.AllLive-push, Tables.live_in-all}
 use Rattle.bx_entry.specs.Placings.{Setup}
@@ -89,14 +89,14 @@ sessionless-verdict setup ms senders moment place p message_kind j k all other i
 
 -- ---- The session that a message names
 
-found-at : (r : Registered) (rs : List Registered) (text : List ℕ) → live_with_id rs text ≡ Some r → IsSome (known_at r.number rs)
+found-at : (r : Registered) (rs : List Registered) (text : List ℕ) → live_with_id rs text ≡ Some r → IsSome (client_and_ack_of r.number rs)
 found-at r [] text e = cc
 found-at r (s ∷ rs) text e = grind (arith, common_steps, found-at r rs text)
 
-sender-at : (r : Registered) (rs : List Registered) (client : TextMember) → sender_of rs client ≡ Some r → IsSome (known_at r.number rs)
+sender-at : (r : Registered) (rs : List Registered) (client : TextMember) → sender_of rs client ≡ Some r → IsSome (client_and_ack_of r.number rs)
 sender-at r rs client h1 = grind (arith, common_steps, found-at)
 
-named-at : (r : Registered) (rs : List Registered) (message_kind : MessageKind) (m : Message) → named_by rs message_kind m ≡ Some r → IsSome (known_at r.number rs)
+named-at : (r : Registered) (rs : List Registered) (message_kind : MessageKind) (m : Message) → named_by rs message_kind m ≡ Some r → IsSome (client_and_ack_of r.number rs)
 named-at r rs message_kind m h1 = grind (arith, common_steps, sender-at)
 
 -- ---- An accepted message of a session
@@ -108,7 +108,7 @@ closed-extended n due (r ∷ rs) = grind (arith, common_steps, closed-extended n
 edited-for : (ms : Members) (message_kind : MessageKind) (n due : ℕ) → edited ms (edit_for message_kind n due) ≡ with_live ms (live_in (left_by message_kind n (extended n due ms.live)))
 edited-for ms message_kind n due = grind (arith, common_steps, closed-extended)
 
-can-for : (ms : Members) (message_kind : MessageKind) (n due : ℕ) → IsSome (known_at n ms.live) → CanEdit ms (edit_for message_kind n due)
+can-for : (ms : Members) (message_kind : MessageKind) (n due : ℕ) → IsSome (client_and_ack_of n ms.live) → CanEdit ms (edit_for message_kind n due)
 can-for ms message_kind n due h1 = grind (arith, common_steps)
 
 kind-for : (message_kind : MessageKind) (p : Posted) (s : Sender) (r : Registered) (hold : ℕ) → r.number ≡ s.number → r.client ≡ s.client.now → kind_for message_kind p (named s) hold ≡ kind_for message_kind p r hold

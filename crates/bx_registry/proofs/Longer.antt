@@ -9,7 +9,7 @@ use Rattle.bx_entry.specs.Words.{Listed, Judged, Registry, empty_registry, judge
 use Rattle.bx_theory.proofs.Lists.{judged_length}
 use Rattle.bx_registry.specs.Words.{Amendment, CanCommit, Continues, GoesOn, LeadsTo, Roll, Standing, after, changed, entries_in, found, roll_at, roll_of}
 use Rattle.bx_registry.specs.declared.plan.Plan.{Plan}
-use Rattle.bx_registry.proofs.Steps.{runs_agree}
+use Rattle.bx_registry.proofs.Steps.{roll_judges_list_as_registry}
 
 -- ---- The length of the list
 
@@ -20,13 +20,13 @@ roll_length config list roll is = ap (λ (r : Roll). r.length) is ∙ judged_len
 
 pub roll_on : (config : Config) (list added : List Listed) → after (roll_at config list) added ≡ roll_at config (list ++ added)
 roll_on config list added =
-    let go : GoesOn config (registry config list) (fold (judge config) (registry config list) added) added = runs_agree config (registry config list) added in
+    let go : GoesOn config (registry config list) (fold (judge config) (registry config list) added) added = roll_judges_list_as_registry config (registry config list) added in
     go.roll ∙ ap (roll_of config) (sym (fold-append (judge config) empty_registry list added))
 
 pub judged_on : (config : Config) (list added : List Listed) → (registry config (list ++ added)).judged ≡ (registry config list).judged ++ found (roll_at config list) added
 judged_on config list added =
     let r : Registry = registry config list in
-    let go : GoesOn config r (fold (judge config) r added) added = runs_agree config r added in
+    let go : GoesOn config r (fold (judge config) r added) added = roll_judges_list_as_registry config r added in
     ap (λ (s : Registry). s.judged) (fold-append (judge config) empty_registry list added) ∙ go.judged
 
 pub entries_on : (config : Config) (list added : List Listed) → entries config (list ++ added) ≡ entries config list ++ entries_in (found (roll_at config list) added)

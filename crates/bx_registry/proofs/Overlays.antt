@@ -5,7 +5,7 @@ use Rattle.std.proofs.lemmas.{Grind.common_steps, List.length-map, List.take_all
 use Rattle.std.specs.Option.{option_or}
 use Rattle.bx_entry.specs.Registry.{Registered, extended, closed}
 use Rattle.bx_roster.proofs.{Sessions.AllLive-push, Live.live_in-extended}
-use Rattle.bx_roster.specs.Words.{Members, live_in, IsTable, AllLive, known_of, known_at, edited, CanEdit, CanEditEach, IsNext}
+use Rattle.bx_roster.specs.Words.{Members, live_in, IsTable, AllLive, known_of, client_and_ack_of, edited, CanEdit, CanEditEach, IsNext}
 use Rattle.bx_roster.specs.declared.edit.Edit.{Edit}
 use Rattle.bx_roster.specs.declared.edit.Edit.TheVariants.{Open, Extend, Close}
 use Rattle.bx_roster.proofs.Tables.{IsTable-filter, IsTable-map, IsTable-push, IsTable-absent, map-absent, live_in-all, AllLive-live, changed-number, changed-client, closing-number, closing-client}
@@ -20,7 +20,7 @@ can-more ms (x ∷ es) e can one = (can.0, can-more (edited ms x) es e can.1 one
 extend-all : (n due : ℕ) (rs : List Registered) → AllLive rs → live_in (extended n due rs) ≡ extended n due rs
 extend-all n due rs all = live_in-extended n due rs ∙ ap (extended n due) (live_in-all rs all)
 
-pub closed-count : (n low high : ℕ) (rs : List Registered) → IsTable low high rs → AllLive rs → IsSome (known_at n rs) → length (live_in (closed n rs)) + 1 ≡ length rs
+pub closed-count : (n low high : ℕ) (rs : List Registered) → IsTable low high rs → AllLive rs → IsSome (client_and_ack_of n rs) → length (live_in (closed n rs)) + 1 ≡ length rs
 closed-count n low high [] t all some = cc
 closed-count n low high (r ∷ rs) t all some =
     grind (arith, common_steps, closed-count n r.number high rs t.2 all.1, map-absent n (λ s. record s { live = false }) rs, IsTable-absent r.number high n rs, live_in-all rs all.1)
@@ -53,7 +53,7 @@ extended-overlay base es n due {count} {opened} d =
       all = rw now (AllLive-live (extended n due ms.live));
     }
 
-pub closed-overlay : (base : Members) (es : List Edit) (n : ℕ) {count opened : ℕ} → IsOverlay base es count opened → IsSome (known_at n (fold edited base es).live) → IsOverlay base (es ++ Close n ∷ []) (count - 1) opened
+pub closed-overlay : (base : Members) (es : List Edit) (n : ℕ) {count opened : ℕ} → IsOverlay base es count opened → IsSome (client_and_ack_of n (fold edited base es).live) → IsOverlay base (es ++ Close n ∷ []) (count - 1) opened
 closed-overlay base es n {count} {opened} d some =
     let ms = fold edited base es in
     let now : fold edited base (es ++ Close n ∷ []) ≡ edited ms (Close n) = fold-append edited base es (Close n ∷ []) in record {
@@ -92,13 +92,13 @@ limit-same ms (e ∷ es) = limit-same (edited ms e) es ∙ limit-edited ms e
 
 -- ---- The data of one session
 
-known_at-push : (n : ℕ) (rs : List Registered) (s : Registered) → known_at n (rs ++ s ∷ []) ≡ option_or (known_at n rs) (if s.number == n then Some (known_of s) else None)
-known_at-push n [] s = refl
-known_at-push n (r ∷ rs) s = grind (arith, common_steps, known_at-push n rs s)
+client_and_ack_of-push : (n : ℕ) (rs : List Registered) (s : Registered) → client_and_ack_of n (rs ++ s ∷ []) ≡ option_or (client_and_ack_of n rs) (if s.number == n then Some (known_of s) else None)
+client_and_ack_of-push n [] s = refl
+client_and_ack_of-push n (r ∷ rs) s = grind (arith, common_steps, client_and_ack_of-push n rs s)
 
-known_at-map : (n : ℕ) (g : Registered → Registered) (rs : List Registered) → ((r : Registered) → (g r).number ≡ r.number) → ((r : Registered) → known_of (g r) ≡ known_of r) → known_at n (map g rs) ≡ known_at n rs
-known_at-map n g [] number known = refl
-known_at-map n g (r ∷ rs) number known = rw (number r, known r) (ap (λ (o : Option (List ℕ × Bool)). cond (r.number == n) (Some (known_of r)) o) (known_at-map n g rs number known))
+client_and_ack_of-map : (n : ℕ) (g : Registered → Registered) (rs : List Registered) → ((r : Registered) → (g r).number ≡ r.number) → ((r : Registered) → known_of (g r) ≡ known_of r) → client_and_ack_of n (map g rs) ≡ client_and_ack_of n rs
+client_and_ack_of-map n g [] number known = refl
+client_and_ack_of-map n g (r ∷ rs) number known = rw (number r, known r) (ap (λ (o : Option (List ℕ × Bool)). cond (r.number == n) (Some (known_of r)) o) (client_and_ack_of-map n g rs number known))
 
 changed-known : (due : ℕ) (r : Registered) (b : Bool) → known_of (if b then record r { due = max r.due due } else r) ≡ known_of r
 changed-known due r b = grind (arith, common_steps)
@@ -106,25 +106,25 @@ changed-known due r b = grind (arith, common_steps)
 none-either : (b : Bool) (o : Option (List ℕ × Bool)) → o ≡ (if b then o else o)
 none-either b o = grind (arith, common_steps)
 
-known_at-closed : (n m : ℕ) (rs : List Registered) → AllLive rs → known_at n (live_in (closed m rs)) ≡ (if m == n then None else known_at n rs)
-known_at-closed n m [] all = none-either (m == n) None
-known_at-closed n m (r ∷ rs) all = grind (arith, common_steps, known_at-closed n m rs all.1)
+client_and_ack_of-closed : (n m : ℕ) (rs : List Registered) → AllLive rs → client_and_ack_of n (live_in (closed m rs)) ≡ (if m == n then None else client_and_ack_of n rs)
+client_and_ack_of-closed n m [] all = none-either (m == n) None
+client_and_ack_of-closed n m (r ∷ rs) all = grind (arith, common_steps, client_and_ack_of-closed n m rs all.1)
 
-known_at-edited : (n : ℕ) (ms : Members) (e : Edit) → AllLive ms.live → known_at n (edited ms e).live ≡ known_after n (known_at n ms.live) e
-known_at-edited n ms e h1 = grind (arith, common_steps, known_at-push, extend-all, known_at-map, changed-number, changed-known, known_at-closed)
+client_and_ack_of-edited : (n : ℕ) (ms : Members) (e : Edit) → AllLive ms.live → client_and_ack_of n (edited ms e).live ≡ known_after n (client_and_ack_of n ms.live) e
+client_and_ack_of-edited n ms e h1 = grind (arith, common_steps, client_and_ack_of-push, extend-all, client_and_ack_of-map, changed-number, changed-known, client_and_ack_of-closed)
 
 AllLive-edited : (ms : Members) (e : Edit) → AllLive ms.live → CanEdit ms e → AllLive (edited ms e).live
 AllLive-edited ms (Open s) all can = AllLive-push ms.live s all can.live
 AllLive-edited ms (Extend m due) all can = AllLive-live (extended m due ms.live)
 AllLive-edited ms (Close m) all can = AllLive-live (closed m ms.live)
 
-pub known_at-all : (n : ℕ) (ms : Members) (es : List Edit) → AllLive ms.live → CanEditEach ms es → known_at n (fold edited ms es).live ≡ fold (known_after n) (known_at n ms.live) es
-known_at-all n ms [] all can = refl
-known_at-all n ms (e ∷ es) all can =
-    known_at-all n (edited ms e) es (AllLive-edited ms e all can.0) can.1 ∙ ap (λ (o : Option (List ℕ × Bool)). fold (known_after n) o es) (known_at-edited n ms e all)
+pub client_and_ack_of-all : (n : ℕ) (ms : Members) (es : List Edit) → AllLive ms.live → CanEditEach ms es → client_and_ack_of n (fold edited ms es).live ≡ fold (known_after n) (client_and_ack_of n ms.live) es
+client_and_ack_of-all n ms [] all can = refl
+client_and_ack_of-all n ms (e ∷ es) all can =
+    client_and_ack_of-all n (edited ms e) es (AllLive-edited ms e all can.0) can.1 ∙ ap (λ (o : Option (List ℕ × Bool)). fold (known_after n) o es) (client_and_ack_of-edited n ms e all)
 
 -- ---- Lemmas for the functions of an overlay
 
 pub ruleset counting = (live_in-all, common_steps)
 
-pub ruleset knowing = (known_at-all, take_all, common_steps)
+pub ruleset knowing = (client_and_ack_of-all, take_all, common_steps)

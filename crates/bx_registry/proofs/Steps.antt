@@ -100,8 +100,8 @@ goes config r (messages.Tick moment) = record {
   judged = rw (overdue-live (max r.clock moment) r.sessions) refl;
 }
 
-pub steps_agree : StepsAgree
-steps_agree = goes
+pub roll_judges_element_as_registry : StepsAgree
+roll_judges_element_as_registry = goes
 
 runs : (config : Config) (list : List Listed) (r : Registry) → GoesOn config r (fold (judge config) r list) list
 runs config [] r = record { roll = refl; judged = sym (append-nil r.judged) }
@@ -115,5 +115,5 @@ runs config (element ∷ list) r =
           ∙ ap (λ roll. r.judged ++ (step (roll_of config r) element).found ∷ found roll list) (sym one.roll);
     }
 
-pub runs_agree : RunsAgree
-runs_agree config r list = runs config list r
+pub roll_judges_list_as_registry : RunsAgree
+roll_judges_list_as_registry config r list = runs config list r

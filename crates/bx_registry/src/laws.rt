@@ -4,7 +4,7 @@ ghost use Rattle.bx_registry.specs.Laws.{StepsAgree, RunsAgree};
 /// Proves that a registry and its roll judge one element alike, and agree after it.
 ///
 /// The roll is the part of a registry that the program stores.
-pub fn steps_agree()
+pub fn roll_judges_element_as_registry()
     ensures { StepsAgree }
 {}
 
@@ -12,6 +12,6 @@ pub fn steps_agree()
 ///
 /// The roll is the part of a registry that the program stores. Registry and roll agree after the
 /// list, too.
-pub fn runs_agree()
+pub fn roll_judges_list_as_registry()
     ensures { RunsAgree }
 {}

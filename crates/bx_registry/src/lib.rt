@@ -14,6 +14,6 @@ mod session_overlay;
 mod setup;
 
 pub use change::Change;
-pub use laws::{runs_agree, steps_agree};
+pub use laws::{roll_judges_element_as_registry, roll_judges_list_as_registry};
 pub use plan::Plan;
 pub use registry::Registry;

@@ -17,7 +17,7 @@ use crate::plan::Plan;
 use crate::planner::{Start, plan_all};
 use crate::session_overlay::SessionOverlay;
 use crate::setup::Setup;
-use bx_advice::{Config, MAX_LENGTH, MAX_MOMENT, ShardCount};
+use bx_advice::{Config, MAX_ENTRIES, MAX_MOMENT, ShardCount};
 use bx_entry::{AdmitFault, Batch, Entry, EntryKind, Listing, Placing, Refusal};
 use bx_message::{Message, Sequence};
 use bx_roster::{Edits, Table};
@@ -103,7 +103,7 @@ impl Registry {
     pub fn live(&self, number: u64) -> bool
         ensures { result ≡ list_any (λ (r : Registered). r.number == number) (roll_at self.now.config self.now.list).members.live }
     {
-        self.table.known_at(number).is_some()
+        self.table.client_and_ack_of(number).is_some()
     }
 
     /// Plans a request: judges its messages in order, each after the effects of the earlier ones.
@@ -224,7 +224,7 @@ impl Registry {
         if moment > MAX_MOMENT {
             return Err(AdmitFault::Refused(Refusal::BadMoment));
         }
-        if count as u64 > MAX_LENGTH - self.entries {
+        if count as u64 > MAX_ENTRIES - self.entries {
             return Err(AdmitFault::Refused(Refusal::Ended));
         }
         Ok(())

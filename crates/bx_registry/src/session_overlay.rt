@@ -1,13 +1,13 @@
 //! The sessions as they change while a request is judged.
 ghost use Rattle.std.specs.Prelude.{◌≡◌, ◌+◌, ◌<◌, ◌≤◌, ◌++◌, ◌∷◌, [], ℕ, length, option_map, IfOk, OnOk, OnErr, MatchOption};
 ghost use Rattle.bx_entry.specs.Registry.{count_live, live_with_id, named_by};
-ghost use Rattle.bx_roster.specs.Tables.{AllLive, IsTable, known_at};
+ghost use Rattle.bx_roster.specs.Tables.{AllLive, IsTable, client_and_ack_of};
 ghost use Rattle.bx_roster.specs.Edits.{CanEdit, CanEditEach};
 ghost use Rattle.bx_registry.specs.SessionOverlays.{Overlay, IsSender, known_after, members_of};
 
 use crate::id::number_in;
 use bx_message::{Message, MessageKind, Sequence, Text, TextMember};
-use bx_roster::{Edit, Known, Table};
+use bx_roster::{ClientAndAck, Edit, Table};
 use std::alloc::{AllocError, AllocFailed, Global};
 use std::marker::Model;
 
@@ -92,7 +92,7 @@ impl<'a> SessionOverlay<'a> {
         // Prover: reading a field makes the struct's invariant available.
         let _ = &self.edits;
         let number = number_in(client.as_str());
-        let known = self.known_at(number)?;
+        let known = self.client_and_ack_of(number)?;
         if known.client.as_str() == client.as_str() {
             Some(Sender {
                 number,
@@ -106,10 +106,10 @@ impl<'a> SessionOverlay<'a> {
 
     // Returns the client id and `ack` of session `number`, if it is live.
     #[tactic(auto, using(crate::proofs::Overlays::knowing))]
-    fn known_at(&self, number: u64) -> Option<Known<'_>>
-        ensures { option_map (λ k. (k.client.now, k.ack)) result ≡ known_at number (members_of self.now).live }
+    fn client_and_ack_of(&self, number: u64) -> Option<ClientAndAck<'_>>
+        ensures { option_map (λ k. (k.client.now, k.ack)) result ≡ client_and_ack_of number (members_of self.now).live }
     {
-        let mut known = self.table.known_at(number);
+        let mut known = self.table.client_and_ack_of(number);
         for edit in self.edits.as_slice() {
             known = known_after(number, known, edit);
         }
@@ -147,7 +147,11 @@ impl<'a> SessionOverlay<'a> {
     }
 }
 
-fn known_after<'a>(number: u64, known: Option<Known<'a>>, edit: &'a Edit) -> Option<Known<'a>>
+fn known_after<'a>(
+    number: u64,
+    known: Option<ClientAndAck<'a>>,
+    edit: &'a Edit,
+) -> Option<ClientAndAck<'a>>
     ensures { option_map (λ k. (k.client.now, k.ack)) result
         ≡ known_after number (option_map (λ k. (k.client.now, k.ack)) known.entry) edit.now }
 {

@@ -20,7 +20,7 @@ use Rattle.bx_fanout.specs.Stages.{seen_out}
 use Rattle.bx_fanout.specs.declared.out.Out as fanout
 use Rattle.bx_fanout.specs.declared.round.Round.{Round}
 use Rattle.bx_theory.specs.Lines.{AddsOuts, inputs_in, line_prints, outs_text, printed_so_far}
-use Rattle.bx_theory.proofs.{Lines.lines_go_on, Lines.outs_last, Nonces.nonces_on}
+use Rattle.bx_theory.proofs.{Lines.next_line_appends_its_output, Lines.outs_last, Nonces.nonces_on}
 use Rattle.bx_script.specs.declared.line.Line as script
 use Rattle.bx_script.proofs.Fronts.{fault_writes, front_first, front_none, front_second}
 
@@ -67,7 +67,7 @@ front_line config ls l k more text before after room is adds e front = record {
   text = text;
   front = front;
   is = ap (λ (x : script.Line). printed_so_far config (seen_lines (ls ++ x ∷ []))) is
-      ∙ ap (printed_so_far config) (seen_more ls k) ∙ lines_go_on config (seen_lines ls) (seen_after ls k) more room adds ∙ ap (λ (t : List ℕ). printed_so_far config (seen_lines ls) ++ t) (sym e);
+      ∙ ap (printed_so_far config) (seen_more ls k) ∙ next_line_appends_its_output config (seen_lines ls) (seen_after ls k) more room adds ∙ ap (λ (t : List ℕ). printed_so_far config (seen_lines ls) ++ t) (sym e);
 }
 
 module _ {P : Type 0} {g : Ghosts P} where
@@ -121,7 +121,7 @@ goes_on config ls (l ∷ more) room =
     record {
       text = one ++ rest.text;
       is = ap (printed_so_far config) (sym (append_assoc ls (l ∷ []) more)) ∙ rest.is
-          ∙ ap (λ (t : List ℕ). t ++ rest.text) (lines_go_on config ls l a.more room a.adds)
+          ∙ ap (λ (t : List ℕ). t ++ rest.text) (next_line_appends_its_output config ls l a.more room a.adds)
           ∙ append_assoc (printed_so_far config ls) one rest.text;
     }
 

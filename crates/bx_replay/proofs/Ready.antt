@@ -13,7 +13,7 @@ use Rattle.bx_theory.specs.Opens as opens
 use Rattle.bx_theory.specs.Opens.{is_whole, newest, open_after, out_of, registry_after, waiting_at}
 use Rattle.bx_fanout.specs.Stages.{seen_out}
 use Rattle.bx_fanout.specs.declared.out.Out as fanout
-use Rattle.bx_theory.proofs.Opens.{open_is_held, opens_go_on, outs_add}
+use Rattle.bx_theory.proofs.Opens.{incomplete_inputs_are_reported_held, input_stays_incomplete_until_completed, input_appends_outs_it_completes}
 use Rattle.bx_fanout.proofs.HeldInputs.{at-is}
 
 -- ---- Each input once
@@ -84,12 +84,12 @@ kept_on config inputs input more f room adds h =
     let ws : List opens.Numbered = waiting_at config inputs input in
     let num : opens.Numbered → ℕ = λ o. o.number in
     let all : held config inputs ++ length inputs ∷ [] ≡ map num ws =
-    ap (λ (is : List ℕ). is ++ length inputs ∷ []) (open_is_held config inputs room) ∙ sym (map-append num (open_after config inputs) (newest inputs input ∷ [])) in
+    ap (λ (is : List ℕ). is ++ length inputs ∷ []) (incomplete_inputs_are_reported_held config inputs room) ∙ sym (map-append num (open_after config inputs) (newest inputs input ∷ [])) in
     let whole : map (λ (o : Out). o.input) more ≡ map num (filter (is_whole config r) ws) =
-    ap (map (λ (o : Out). o.input)) (append_cancel_left (outs config inputs) more (map (out_of config r) (filter (is_whole config r) ws)) (sym adds ∙ outs_add config inputs input room))
+    ap (map (λ (o : Out). o.input)) (append_cancel_left (outs config inputs) more (map (out_of config r) (filter (is_whole config r) ws)) (sym adds ∙ input_appends_outs_it_completes config inputs input room))
     ∙ inputs_out config r (filter (is_whole config r) ws) in
     let left : held config (inputs ++ input ∷ []) ≡ map num (filter (λ (o : opens.Numbered). not (is_whole config r o)) ws) =
-    open_is_held config (inputs ++ input ∷ []) room ∙ ap (map num) (opens_go_on config inputs input room) in
+    incomplete_inputs_are_reported_held config (inputs ++ input ∷ []) room ∙ ap (map num) (input_stays_incomplete_until_completed config inputs input room) in
     subst (λ (is : List ℕ). AllKept f (map (λ (o : Out). o.input) more ++ is)) (sym left)
     (subst (λ (is : List ℕ). AllKept f (is ++ map num (filter (λ (o : opens.Numbered). not (is_whole config r o)) ws))) (sym whole)
     (kept_parted num (is_whole config r) ws f (subst (AllKept f) all h)))

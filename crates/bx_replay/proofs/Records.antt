@@ -82,7 +82,7 @@ taken c can small options =
     ∙ ap (λ (o : Option ℕ). with_last (option_map (λ n. record (record (plain c) { bytes = c.limits.bytes }) { sessions = n }) o)) (counted STANDARD_SESSIONS c.limits.sessions can.sessions.0 can.sessions.1 small.limits.2)
     ∙ ap (λ (o : Option ℕ). option_map (λ n. record (record (record (plain c) { bytes = c.limits.bytes }) { sessions = c.limits.sessions }) { patterns = n }) o) (counted STANDARD_PATTERNS c.limits.patterns can.patterns.0 can.patterns.1 small.limits.3)
 
-pub configs_are_taken : ConfigsAreTaken
-configs_are_taken c rest can =
+pub first_line_gives_config : ConfigsAreTaken
+first_line_gives_config c rest can =
     let says = configs c rest (fits c can) in
     ap settings_in says.words_are ∙ taken c can (fits c can) says.options_are

@@ -17,7 +17,7 @@ use Rattle.bx_fanout.specs.Stages.{seen_out}
 use Rattle.bx_fanout.specs.declared.out.Out as fanout
 use Rattle.bx_fanout.specs.declared.{out.RoundFault.RoundFault, round.Round.Round}
 use Rattle.bx_theory.specs.Lines.{AddsOuts, inputs_in, line_prints, outs_text, printed_so_far}
-use Rattle.bx_theory.proofs.{Lines.inputs_go_on, Lines.lines_go_on, Nonces.nonces_go_on}
+use Rattle.bx_theory.proofs.{Lines.next_line_appends_its_input, Lines.next_line_appends_its_output, Nonces.line_gets_nonce_announced_before}
 use Rattle.bx_script.proofs.Fronts.{writes_second}
 use Rattle.bx_script.specs.declared.line.Line as script
 
@@ -25,7 +25,7 @@ use Rattle.bx_script.specs.declared.line.Line as script
 
 inputs_on : (ls : List Line) (l : Line) (ones : List Numbered) → inputs_from (length ls + 1) (l ∷ []) ≡ ones → inputs_in (ls ++ l ∷ []) ≡ inputs_in ls ++ map (λ (n : Numbered). n.input) ones
 inputs_on ls l ones e =
-    ap (map (λ (n : Numbered). n.input)) (inputs_go_on ls l ∙ ap (λ (ns : List Numbered). inputs_from 1 ls ++ ns) e)
+    ap (map (λ (n : Numbered). n.input)) (next_line_appends_its_input ls l ∙ ap (λ (ns : List Numbered). inputs_from 1 ls ++ ns) e)
     ∙ map-append (λ (n : Numbered). n.input) (inputs_from 1 ls) ones
 
 pub served_bare : (config : Config) (ls : List Line) (l : Line) (inputs : List ReadInput) (added : List Out) (kept : ℕ → Option PendingLine) (number : ℕ) → inputs_from (length ls + 1) (l ∷ []) ≡ [] →
@@ -36,7 +36,7 @@ served_bare config ls l inputs added kept number e d =
       inputs_are = d.inputs_are ∙ same;
       added_are = d.added_are ∙ ap (outs config) same;
       all_are = subst (λ (is : List ReadInput). AllKept kept (held config is)) same d.all_are;
-      kept_are = subst (λ (ns : List Numbered). AreKept ns kept) (sym (inputs_go_on ls l ∙ ap (λ (ns : List Numbered). inputs_from 1 ls ++ ns) e ∙ append-nil (inputs_from 1 ls))) d.kept_are;
+      kept_are = subst (λ (ns : List Numbered). AreKept ns kept) (sym (next_line_appends_its_input ls l ∙ ap (λ (ns : List Numbered). inputs_from 1 ls ++ ns) e ∙ append-nil (inputs_from 1 ls))) d.kept_are;
       number_is = omega (arith, d.number_is, length-append ls (l ∷ []));
     }
 
@@ -44,7 +44,7 @@ read_more : (ls : List script.Line) (l : script.Line) → read_lines (ls ++ l �
 read_more ls l = map-append meaning_of ls (l ∷ [])
 
 pub seen_more : (ls : List script.Line) (l : script.Line) → seen_lines (ls ++ l ∷ []) ≡ seen_lines ls ++ seen_after ls l ∷ []
-seen_more ls l = ap (with_nonces 0) (read_more ls l) ∙ nonces_go_on (read_lines ls) (meaning_of l)
+seen_more ls l = ap (with_nonces 0) (read_more ls l) ∙ line_gets_nonce_announced_before (read_lines ls) (meaning_of l)
 
 pub served_seen : (config : Config) (ls : List script.Line) (l : script.Line) (inputs : List ReadInput) (added : List Out) (kept : ℕ → Option PendingLine) (number : ℕ) →
     Served config (seen_lines ls ++ seen_after ls l ∷ []) inputs added kept number → Served config (seen_lines (ls ++ l ∷ [])) inputs added kept number
@@ -55,7 +55,7 @@ pub prints_line : (config : Config) (ls : List script.Line) (l : script.Line) (m
 prints_line config ls l more text before after room adds e appends = record {
   text = text;
   appends = appends;
-  is = ap (printed_so_far config) (seen_more ls l) ∙ lines_go_on config (seen_lines ls) (seen_after ls l) more room adds ∙ ap (λ (t : List ℕ). printed_so_far config (seen_lines ls) ++ t) (sym e);
+  is = ap (printed_so_far config) (seen_more ls l) ∙ next_line_appends_its_output config (seen_lines ls) (seen_after ls l) more room adds ∙ ap (λ (t : List ℕ). printed_so_far config (seen_lines ls) ++ t) (sym e);
 }
 
 -- ---- Inputs
@@ -71,7 +71,7 @@ served_handed config ls callback input inputs now added then kept keeps number d
       added_are = all ∙ ap (outs config) same;
       all_are = subst (λ (is : List ReadInput). AllKept keeps (held config is)) same each;
       kept_are = subst (λ (ns : List Numbered). AreKept ns keeps)
-          (ap (λ (n : ℕ). inputs_from 1 ls ++ record { line = n + 1; callback = callback; input = input } ∷ []) d.number_is ∙ sym (inputs_go_on ls (Accepted callback input))) keep;
+          (ap (λ (n : ℕ). inputs_from 1 ls ++ record { line = n + 1; callback = callback; input = input } ∷ []) d.number_is ∙ sym (next_line_appends_its_input ls (Accepted callback input))) keep;
       number_is = omega (arith, d.number_is, length-append ls (Accepted callback input ∷ []));
     }
 
@@ -85,7 +85,7 @@ pub texts_handed : (config : Config) (ls : List Line) (callback : Option (List �
     outs_text (inputs_from 1 ls ++ record { line = number + 1; callback = callback; input = input } ∷ []) more ≡ outs_text (inputs_from 1 (ls ++ Accepted callback input ∷ [])) more
 texts_handed config ls callback input inputs added more kept number d =
     ap (λ (ns : List Numbered). outs_text ns more)
-    (ap (λ (n : ℕ). inputs_from 1 ls ++ record { line = n + 1; callback = callback; input = input } ∷ []) d.number_is ∙ sym (inputs_go_on ls (Accepted callback input)))
+    (ap (λ (n : ℕ). inputs_from 1 ls ++ record { line = n + 1; callback = callback; input = input } ∷ []) d.number_is ∙ sym (next_line_appends_its_input ls (Accepted callback input)))
 
 few_from : (number : ℕ) (ls : List Line) → length (inputs_from number ls) ≤ length ls
 few_from number [] = omega arith

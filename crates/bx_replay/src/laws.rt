@@ -2,6 +2,6 @@
 ghost use Rattle.bx_replay.specs.Records.{ConfigsAreTaken};
 
 /// Proves that the first line of a record gives its configuration, with one worker.
-pub fn configs_are_taken()
+pub fn first_line_gives_config()
     ensures { ConfigsAreTaken }
 {}

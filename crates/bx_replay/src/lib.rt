@@ -11,6 +11,6 @@ mod server;
 
 pub use argument_error::ArgumentError;
 pub use arguments::Arguments;
-pub use laws::configs_are_taken;
+pub use laws::first_line_gives_config;
 pub use record::read_settings;
 pub use script::replay;

@@ -175,7 +175,7 @@ fn hand<T: Threads + Sync, P: Placing + Send + Sync, W: Write>(
         callback,
         tick,
     };
-    kept.insert(round.intake(), asked)?;
+    kept.insert(round.started_inputs(), asked)?;
     let inputs = [input];
     let mut outs = Vec::new(alloc);
     match round.run(rt, alloc, &OpenGate, &inputs, &mut outs) {

@@ -136,7 +136,7 @@ module _ {P : Type 0} (place_of : P → ℕ → ℕ → ℕ) where
 
     -- ---- the new shards
 
-    module _ (shut : Bool) (new : List (Shard P)) (shut_is : shut ≡ first.is_shut) (made : AreMade placing count first.place shut new) (theirs : sessions_of new ≡ last) where
+    module _ (shut : Bool) (new : List (Shard P)) (shut_is : shut ≡ first.is_closed_to_wakers) (made : AreMade placing count first.place shut new) (theirs : sessions_of new ≡ last) where
       is_redistributed : (k : ℕ) (t : Shard P) → slice_get new k ≡ Some t → IsRedistributed (place_of placing) count (states_of olds) k (state place_of t)
       is_redistributed k t at =
           let m = made k t at in

@@ -159,8 +159,8 @@ module _ (setup : Setup) (list : List Listed) (taken : List ℕ) (n : ℕ) (old 
         other (sym (eqb-true (setup.placing w.0 setup.shards) i w.1.stands) ∙ known_once j t p w.0 b w.1.waits h)),
   )
 
-pub holders_are_apart : HoldersAreApart
-holders_are_apart setup list taken n shards each = (alike setup list taken n shards each, apart setup list taken n shards each)
+pub shards_are_disjoint : HoldersAreApart
+shards_are_disjoint setup list taken n shards each = (alike setup list taken n shards each, apart setup list taken n shards each)
 
 -- ---- the shards after redistribution
 

@@ -17,7 +17,7 @@ pub record IsMade {P : Type 0} (placing : P) (count place : ℕ) (shut : Bool) (
   pub index_is : s.index ≡ k
   pub shards_is : s.shards ≡ count
   pub place_is : s.place ≡ place
-  pub shut_is : s.is_shut ≡ shut
+  pub shut_is : s.is_closed_to_wakers ≡ shut
 
 -- Each shard of a list is one of `count`, with its position as index. All have the placing
 -- `placing` and the place `place`. They are shut if `shut` is `true`, and only then.
@@ -40,4 +40,4 @@ pub record IsReady {P : Type 0} (place_of : P → ℕ → ℕ → ℕ) (placing 
   pub empty : room.shards.items ≡ []
   pub capacity : count ≤ vec_capacity room.shards
   pub place_is : room.place ≡ first.place
-  pub shut_is : room.is_shut ≡ first.is_shut
+  pub shut_is : room.is_closed_to_wakers ≡ first.is_closed_to_wakers

@@ -35,7 +35,7 @@ impl Heirs {
     ///
     /// `slot`: the index of the shard, counted from 0. Does nothing if the shard already has
     /// session `number`.
-    pub(crate) fn lend_session(
+    pub(crate) fn reserve_session(
         &mut self,
         alloc: Global,
         slot: usize,
@@ -55,14 +55,14 @@ impl Heirs {
         let Some(heir) = self.shards.get_mut(slot) else {
             return Ok(());
         };
-        heir.lend(alloc, number, from)
+        heir.reserve_session(alloc, number, from)
     }
 
     /// Reserves in shard `slot` the connect that `session` holds at `place` until `deadline`.
     ///
     /// `slot`: the index of the shard, counted from 0. `deadline`: milliseconds since the server
     /// started. Without one, no tick ends the hold. Does nothing if a connect is known at `place`.
-    pub(crate) fn lend_connect(
+    pub(crate) fn reserve_connect(
         &mut self,
         slot: usize,
         place: u64,
@@ -78,7 +78,7 @@ impl Heirs {
         let Some(heir) = self.shards.get_mut(slot) else {
             return Ok(());
         };
-        heir.lend_connect(place, session, deadline)
+        heir.reserve_connect(place, session, deadline)
     }
 
     /// Stores `session` in shard `slot` as session `number`, if that number is reserved there.

@@ -4,7 +4,7 @@ ghost use Rattle.bx_reshard.specs.Redistribution.{HoldersAreApart, RefinesRedist
 /// Proves that shards that agree with their definition `shard_at` share no session or connect.
 ///
 /// The shards have the same configuration and the same place.
-pub fn holders_are_apart()
+pub fn shards_are_disjoint()
     ensures { HoldersAreApart }
 {}
 

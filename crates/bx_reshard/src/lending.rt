@@ -37,7 +37,7 @@ pub(crate) fn lend_sessions<P: Placing>(
 {
     for number in numbers {
         let slot = placing.place(*number, count.get());
-        heirs.lend_session(alloc, slot, *number, old)?;
+        heirs.reserve_session(alloc, slot, *number, old)?;
     }
     Ok(())
 }
@@ -62,7 +62,7 @@ pub(crate) fn lend_connects<P: Placing>(
     for place in places {
         if let Some((session, deadline)) = old.known(*place) {
             let slot = placing.place(session, count.get());
-            heirs.lend_connect(slot, *place, session, deadline)?;
+            heirs.reserve_connect(slot, *place, session, deadline)?;
         }
     }
     Ok(())

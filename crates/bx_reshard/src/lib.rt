@@ -8,5 +8,5 @@ mod making;
 mod moving;
 mod redistribution;
 
-pub use laws::{holders_are_apart, refines_redistributed};
+pub use laws::{refines_redistributed, shards_are_disjoint};
 pub use redistribution::redistribute;

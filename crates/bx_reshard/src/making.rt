@@ -15,7 +15,7 @@ use std::sync::Arc;
 /// Everything that the new shards need, before anything moves into them.
 ///
 /// `heirs` has room for all sessions and connects. `handles` has a handle to the placing for each
-/// shard. `shards` is empty, with room for all new shards. `place` and `is_shut` are those of each
+/// shard. `shards` is empty, with room for all new shards. `place` and `is_closed_to_wakers` are those of each
 /// new shard.
 #[derive(Drop)]
 pub(crate) struct Room<P> {
@@ -23,7 +23,7 @@ pub(crate) struct Room<P> {
     pub(crate) handles: Vec<Arc<P>>,
     pub(crate) shards: Vec<Shard<P>>,
     pub(crate) place: u64,
-    pub(crate) is_shut: bool,
+    pub(crate) is_closed_to_wakers: bool,
 }
 
 /// Returns `count` clones of the handle to the placing.
@@ -50,21 +50,28 @@ pub(crate) fn finish<P: Placing + Drop>(room: Room<P>, count: ShardCount) -> Vec
     requires many { length room.handles.items ≡ length room.heirs.shards.items }
     requires fit { All (Fits room.place) room.heirs.shards.items }
     ensures sessions { map (λ s. s.sessions) result.items ≡ room.heirs.shards.items }
-    ensures made { AreMadeWith room.handles.items count room.place room.is_shut result.items }
+    ensures made { AreMadeWith room.handles.items count room.place room.is_closed_to_wakers result.items }
 {
     let Room {
         heirs,
         mut handles,
         mut shards,
         place,
-        is_shut,
+        is_closed_to_wakers,
     } = room;
     for sessions in heirs.shards {
         let Some(placing) = handles.pop() else {
             return shards;
         };
         let index = shards.len();
-        let shard = Shard::resume(placing, index, count.get(), place, is_shut, sessions);
+        let shard = Shard::resume(
+            placing,
+            index,
+            count.get(),
+            place,
+            is_closed_to_wakers,
+            sessions,
+        );
         shards.push_reserved(shard);
     }
     shards

@@ -65,7 +65,7 @@ fn make_room<P: Placing + Drop>(
         handles,
         shards: made,
         place: first.place(),
-        is_shut: first.is_shut(),
+        is_closed_to_wakers: first.is_closed_to_wakers(),
     })
 }
 

@@ -3,11 +3,11 @@ use Rattle.std.proofs.Common.{◌≡◌, ◌≢◌, ℕ, suc, ◌+◌, ◌-◌, 
 use Rattle.std.specs.Prelude.{◌==◌, ◌⊎◌, max, nat_eq}
 use Rattle.std.proofs.lemmas.{Bool.Decides.eqb_tells, Grind.common_steps, Bool.cases_lt, List.length-map}
 use Rattle.std.specs.{Map.lookup, List.list_any}
-use Rattle.bx_roster.specs.Words.{Prepared, is_open, opened_by_each, room_of, IsRoster, later, live_in, IsNamed, known_of, known_at, due_at, Record, session_of, sessions_to, vacant_count, Stands, IsKept}
+use Rattle.bx_roster.specs.Words.{Prepared, is_open, opened_by_each, room_of, IsRoster, later, live_in, IsNamed, known_of, client_and_ack_of, due_at, Record, session_of, sessions_to, vacant_count, Stands, IsKept}
 use Rattle.bx_roster.specs.declared.edit.Edit.{Edit}
 use Rattle.bx_entry.specs.Registry.{Registered, extended, closed}
 use Rattle.bx_roster.proofs.{Live.live_in-extended, Tables.live_in-all}
-use Rattle.bx_roster.proofs.Sessions.{IsTable-above, found, found-absent, found-to, known_at-found, due_at-found, same_to, table-to, live-to, closed-to, length-closed, extended-to, closed-none, extended-none}
+use Rattle.bx_roster.proofs.Sessions.{IsTable-above, found, found-absent, found-to, client_and_ack_of-found, due_at-found, same_to, table-to, live-to, closed-to, length-closed, extended-to, closed-none, extended-none}
 
 some-none : {A : Type 0} (a : A) → None ≡ Some a → ⊥
 some-none a e = true≢false (sym (ap is_some e))
@@ -73,8 +73,8 @@ module _ {at : ℕ → Record} {records limit count opened : ℕ} (k : IsKept at
     pub found-kept : found pick n (sessions_to at opened) ≡ option_map pick (session_of (at n))
     found-kept = found-by (cases_lt opened n)
 
-  pub known-kept : (n : ℕ) → known_at n (sessions_to at opened) ≡ option_map known_of (session_of (at n))
-  known-kept n = known_at-found n (sessions_to at opened) ∙ found-kept known_of n
+  pub known-kept : (n : ℕ) → client_and_ack_of n (sessions_to at opened) ≡ option_map known_of (session_of (at n))
+  known-kept n = client_and_ack_of-found n (sessions_to at opened) ∙ found-kept known_of n
 
   pub due-kept : (n : ℕ) → due_at n (sessions_to at opened) ≡ option_map (λ r. r.due) (session_of (at n))
   due-kept n = due_at-found n (sessions_to at opened) ∙ found-kept (λ r. r.due) n

@@ -3,7 +3,7 @@ use Rattle.std.proofs.Common.{◌≡◌, ◌≢◌, ℕ, zero, suc, ◌+◌, ◌
 use Rattle.std.specs.Prelude.{◌==◌, ◌⊎◌, max, if◌then◌else◌}
 use Rattle.std.proofs.lemmas.{Bool.Decides.eqb_tells, List.map-append, List.Elements.filter-append, Grind.common_steps}
 use Rattle.bx_entry.specs.Registry.{Registered, extended, closed}
-use Rattle.bx_roster.specs.Words.{live_in, IsTable, IsAbsent, AllLive, known_of, known_at, due_at, Record, session_of, with_one, sessions_to, Stands}
+use Rattle.bx_roster.specs.Words.{live_in, IsTable, IsAbsent, AllLive, known_of, client_and_ack_of, due_at, Record, session_of, with_one, sessions_to, Stands}
 use Rattle.bx_roster.proofs.Tables.{IsTable-push, live_in-all, map-absent}
 
 -- ---- Lists
@@ -46,9 +46,9 @@ module _ {A : Type 0} (pick : Registered → A) (n : ℕ) where
   found-past [] s ne = rw (ne_eqb s.number n ne) refl
   found-past (r ∷ rs) s ne = ap (λ o. if r.number == n then Some (pick r) else o) (found-past rs s ne)
 
-pub known_at-found : (n : ℕ) (rs : List Registered) → known_at n rs ≡ found known_of n rs
-known_at-found n [] = refl
-known_at-found n (r ∷ rs) = ap (λ o. if r.number == n then Some (known_of r) else o) (known_at-found n rs)
+pub client_and_ack_of-found : (n : ℕ) (rs : List Registered) → client_and_ack_of n rs ≡ found known_of n rs
+client_and_ack_of-found n [] = refl
+client_and_ack_of-found n (r ∷ rs) = ap (λ o. if r.number == n then Some (known_of r) else o) (client_and_ack_of-found n rs)
 
 pub due_at-found : (n : ℕ) (rs : List Registered) → due_at n rs ≡ found (λ r. r.due) n rs
 due_at-found n [] = refl

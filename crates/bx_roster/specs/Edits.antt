@@ -2,7 +2,7 @@
 use Rattle.std.specs.Prelude.{ℕ, ◌≡◌, ◌+◌, ◌<◌, ◌^◌, Bool, true, false, if◌then◌else◌, List, [], ◌∷◌, ◌++◌, length, fold, IsSome}
 use Rattle.bx_entry.specs.Registry.{Registered, extended, closed, overdue_closed}
 use Rattle.bx_roster.specs.Live.{Members, with_live, live_in}
-use Rattle.bx_roster.specs.Tables.{IsNamed, known_at}
+use Rattle.bx_roster.specs.Tables.{IsNamed, client_and_ack_of}
 use Rattle.bx_roster.specs.declared.edit.{Edit.Edit, Edits.Edits}
 use Rattle.bx_roster.specs.declared.edit.Edit.TheVariants.{Open, Extend, Close}
 use Rattle.bx_roster.specs.declared.edit.Edits.TheVariants.{Each, Expire}
@@ -30,7 +30,7 @@ pub record IsNext (ms : Members) (s : Registered) : Type 0 where
 abbrev pub CanEdit : Members → Edit → Type 0
 CanEdit ms (Open s) = IsNext ms s
 CanEdit ms (Extend number due) = Unit {0}
-CanEdit ms (Close number) = IsSome (known_at number ms.live)
+CanEdit ms (Close number) = IsSome (client_and_ack_of number ms.live)
 
 -- These edits can be made, one after another.
 abbrev pub CanEditEach : Members → List Edit → Type 0

@@ -26,9 +26,9 @@ abbrev pub known_of : Registered → List ℕ × Bool
 known_of r = (r.client, r.ack)
 
 -- The client id of the first session with this number, if any, and whether it acknowledges.
-abbrev pub known_at : ℕ → List Registered → Option (List ℕ × Bool)
-known_at number [] = None
-known_at number (r ∷ rs) = if r.number == number then Some (known_of r) else known_at number rs
+abbrev pub client_and_ack_of : ℕ → List Registered → Option (List ℕ × Bool)
+client_and_ack_of number [] = None
+client_and_ack_of number (r ∷ rs) = if r.number == number then Some (known_of r) else client_and_ack_of number rs
 
 -- The due moment of the first session with this number, if any.
 abbrev pub due_at : ℕ → List Registered → Option ℕ

@@ -8,5 +8,5 @@ mod session;
 mod table;
 
 pub use edit::{Edit, Edits};
-pub use session::{Known, LiveSession};
+pub use session::{ClientAndAck, LiveSession};
 pub use table::Table;

@@ -3,7 +3,7 @@ ghost use Rattle.std.specs.Prelude.{◌≡◌, ◌+◌, ◌<◌, ◌≤◌, ◌^
 ghost use Rattle.indexmap.specs.IndexMap.{values};
 ghost use Rattle.bx_entry.specs.Registry.{closed, extended};
 ghost use Rattle.bx_roster.specs.Live.{live_in, with_live};
-ghost use Rattle.bx_roster.specs.Tables.{AllLive, IsTable, due_at, known_at, known_of};
+ghost use Rattle.bx_roster.specs.Tables.{AllLive, IsTable, due_at, client_and_ack_of, known_of};
 ghost use Rattle.bx_roster.specs.Queues.{AllFiled, IsRoster, entries};
 ghost use Rattle.bx_roster.specs.Edits.{IsNext};
 ghost use Rattle.bx_roster.specs.Kept.{later, sessions_in};
@@ -70,7 +70,7 @@ impl Roster {
 
     /// Returns session `number`, if it is live.
     pub(crate) fn find(&self, number: u64) -> Option<&LiveSession>
-        ensures known { option_map (λ s. known_of s.now) result ≡ known_at number self.now.members.live }
+        ensures known { option_map (λ s. known_of s.now) result ≡ client_and_ack_of number self.now.members.live }
         ensures due { option_map (λ s. s.now.due) result ≡ due_at number self.now.members.live }
     {
         match self.records.get(&number)? {

@@ -36,7 +36,7 @@ impl Model for LiveSession {
 
 /// The data of a session that is needed to judge its messages.
 #[derive(Clone, Copy)]
-pub struct Known<'a> {
+pub struct ClientAndAck<'a> {
     /// The session's client id.
     pub client: &'a Text,
     /// Whether the session acknowledges batches.
@@ -45,10 +45,10 @@ pub struct Known<'a> {
 
 impl LiveSession {
     /// Returns the data that is needed to judge the session's messages.
-    pub fn known(&self) -> Known<'_>
+    pub fn known(&self) -> ClientAndAck<'_>
         ensures { (result.client.now, result.ack) ≡ known_of self.now }
     {
-        Known {
+        ClientAndAck {
             client: &self.client,
             ack: self.ack,
         }

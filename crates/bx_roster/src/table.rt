@@ -3,14 +3,14 @@ ghost use Rattle.std.specs.Prelude.{◌≡◌, ◌+◌, ◌<◌, ◌≤◌, ◌^
 ghost use Rattle.std.specs.List.{list_any};
 ghost use Rattle.bx_entry.specs.Registry.{closed, extended, overdue, overdue_closed};
 ghost use Rattle.bx_roster.specs.Live.{live_in, with_live};
-ghost use Rattle.bx_roster.specs.Tables.{AllLive, IsTable, known_at};
+ghost use Rattle.bx_roster.specs.Tables.{AllLive, IsTable, client_and_ack_of};
 ghost use Rattle.bx_roster.specs.Queues.{AllFiled, IsFrom, IsRoster, Queue, entries, is_past, past_numbers};
 ghost use Rattle.bx_roster.specs.Edits.{CanEdit, CanEditBy, CanEditEach, IsNext, edited, edited_by, is_open, opened_by, opened_by_each, opens, room_of};
 
 use crate::due_queue::{Due, DueQueue};
 use crate::edit::{Edit, Edits};
 use crate::roster::Roster;
-use crate::session::{Known, LiveSession};
+use crate::session::{ClientAndAck, LiveSession};
 use bx_message::Sequence;
 use std::alloc::{AllocError, AllocFailed, Global};
 use std::marker::Model;
@@ -75,8 +75,8 @@ impl Table {
     }
 
     /// Returns the client id of session `number`, and whether it acknowledges, if it is live.
-    pub fn known_at(&self, number: u64) -> Option<Known<'_>>
-        ensures { option_map (λ k. (k.client.now, k.ack)) result ≡ known_at number self.now.members.live }
+    pub fn client_and_ack_of(&self, number: u64) -> Option<ClientAndAck<'_>>
+        ensures { option_map (λ k. (k.client.now, k.ack)) result ≡ client_and_ack_of number self.now.members.live }
     {
         Some(self.roster.find(number)?.known())
     }

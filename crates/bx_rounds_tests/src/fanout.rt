@@ -206,7 +206,7 @@ fn run<R: Threads + Sync, G: Gate + Sync>(
     inputs: &[Input],
     outs: &mut Vec<Out>,
 ) -> Result<(), Fail> {
-    if round.intake() > MOST_INPUTS || inputs.len() > MOST_INPUTS {
+    if round.started_inputs() > MOST_INPUTS || inputs.len() > MOST_INPUTS {
         return Err(Fail::from("too many inputs"));
     }
     round
@@ -394,7 +394,7 @@ fn check_held<R: Abort>(
     intake: usize,
     held: &[usize],
 ) -> Result<(), Fail> {
-    assert_eq!(rt; round.intake(), intake);
+    assert_eq!(rt; round.started_inputs(), intake);
     assert_eq!(rt; round.held(alloc)?.as_slice(), held, "behind {intake}");
     Ok(())
 }

@@ -27,7 +27,7 @@ pub struct Connections<R, M> {
 }
 
 /// Returns `count` as a limit on connections. A `count` of 0 is no limit, and gives `usize::MAX`.
-pub fn most_of(count: u64) -> usize
+pub fn accept_limit(count: u64) -> usize
     ensures { result ≡ (if count == 0 then 18446744073709551615 else count) }
 {
     if count == 0 {

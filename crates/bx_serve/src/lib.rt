@@ -11,10 +11,10 @@ mod timeout_body;
 mod timeout_io;
 mod timeouts;
 
-pub use connections::{Connections, most_of};
+pub use connections::{Connections, accept_limit};
 pub use listen::{Endpoint, serve_until};
 pub use make_task::{IgnoreOutput, MakeTask, Server};
 pub use spawn_each::{SpawnEach, run_until};
 pub use timeout_body::{TimeoutBody, TimeoutBodyFault, TimeoutService};
 pub use timeout_io::TimeoutIo;
-pub use timeouts::Timeouts;
+pub use timeouts::ProgressTimeout;

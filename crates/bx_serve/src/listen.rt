@@ -1,5 +1,5 @@
 //! Serves the connections of one listener or two.
-use crate::connections::{Connections, most_of};
+use crate::connections::{Connections, accept_limit};
 use crate::make_task::{RequestBody, Server};
 use crate::spawn_each::run_until;
 use bx_pieces::Pieces;
@@ -75,7 +75,7 @@ where
         Some(other) => Some(connections_of(&rt, runtime, other)?),
         None => None,
     };
-    run_until(&rt, runtime, first, other, most_of(count), end)
+    run_until(&rt, runtime, first, other, accept_limit(count), end)
 }
 
 // Creates the stream of the tasks that serve an endpoint's connections.

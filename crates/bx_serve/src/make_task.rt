@@ -3,7 +3,7 @@ ghost use Rattle.std.specs.Prelude.{⊤, IfSome};
 
 use crate::timeout_body::{TimeoutBody, TimeoutService};
 use crate::timeout_io::TimeoutIo;
-use crate::timeouts::Timeouts;
+use crate::timeouts::ProgressTimeout;
 use bx_pieces::Pieces;
 use bytes::Bytes;
 use futures::Future;
@@ -94,7 +94,7 @@ where
             limit: self.limit,
             whole: self.whole,
         };
-        let timeouts = Timeouts::new(self.timer.clone().ok()?, self.limit, None);
+        let timeouts = ProgressTimeout::new(self.timer.clone().ok()?, self.limit, None);
         let io = TimeoutIo::new(socket, timeouts);
         Some(IgnoreOutput {
             inner: self.http.serve_connection(io, service),

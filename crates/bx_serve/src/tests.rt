@@ -1,5 +1,5 @@
 use crate::timeout_body::{TimeoutBody, TimeoutBodyFault};
-use crate::timeouts::Timeouts;
+use crate::timeouts::ProgressTimeout;
 use bytes::Bytes;
 use futures::task::{Context, Poll};
 use futures::test::MockTask;
@@ -80,7 +80,7 @@ fn end_of<R: RandomSource + AllocGlobal>(
     let clock = Told(&seconds);
     let mut driver = Driver::new(rt.alloc(), Instant::now(&clock)?)?;
     let timer = TokioTimer::new(clock, driver.handle().clone()?);
-    let timeouts = Timeouts::new(
+    let timeouts = ProgressTimeout::new(
         timer,
         Duration::from_secs(30),
         whole.map(Duration::from_secs),

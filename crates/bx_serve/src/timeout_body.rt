@@ -5,7 +5,7 @@ ghost use Rattle.bx_serve.specs.Handing.{IsWithTimeouts};
 ghost use Rattle.bx_serve.specs.declared.timeout_body.TimeoutBody.{TimeoutBody};
 ghost use Rattle.bx_serve.specs.Timeouts.{Outlasts, OrTimer};
 
-use crate::timeouts::Timeouts;
+use crate::timeouts::ProgressTimeout;
 use futures::ready;
 use futures::task::{Context, Poll};
 use http::Request;
@@ -30,12 +30,12 @@ pub enum TimeoutBodyFault<E> {
 #[derive(Drop)]
 pub struct TimeoutBody<B, T> {
     body: B,
-    timeouts: Timeouts<T>,
+    timeouts: ProgressTimeout<T>,
 }
 
 impl<B, T> TimeoutBody<B, T> {
     /// Creates a body with the time limits of `timeouts`, which start with the first wait.
-    pub fn new(body: B, timeouts: Timeouts<T>) -> TimeoutBody<B, T>
+    pub fn new(body: B, timeouts: ProgressTimeout<T>) -> TimeoutBody<B, T>
         ensures { result.body ≡ body }
     {
         TimeoutBody { body, timeouts }
@@ -65,7 +65,7 @@ impl<B: Body, T: Timer> Body for TimeoutBody<B, T> {
             Poll::Ready(Some(Err(error))) => Poll::Ready(Some(Err(TimeoutBodyFault::Body(error)))),
             Poll::Ready(None) => Poll::Ready(None),
             Poll::Pending => {
-                ready!(self.timeouts.poll_over(cx));
+                ready!(self.timeouts.poll_expired(cx));
                 Poll::Ready(Some(Err(TimeoutBodyFault::Late)))
             }
         }
@@ -109,7 +109,7 @@ where
 
     fn call(&self, request: Request<B>) -> S::Future {
         let (parts, body) = request.into_parts();
-        let timeouts = Timeouts::new(self.timer.clone().ok(), self.limit, Some(self.whole));
+        let timeouts = ProgressTimeout::new(self.timer.clone().ok(), self.limit, Some(self.whole));
         self.service.call(Request::from_parts(parts, TimeoutBody::new(body, timeouts)))
     }
 }

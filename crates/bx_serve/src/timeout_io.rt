@@ -4,7 +4,7 @@ ghost use Rattle.futures.specs.Poll.{OnPending};
 ghost use Rattle.futures.specs.Task.{Covers, Keeps};
 ghost use Rattle.bx_serve.specs.Timeouts.{InTime, OrLate, OrTimer};
 
-use crate::timeouts::Timeouts;
+use crate::timeouts::ProgressTimeout;
 use futures::ready;
 use futures::task::{Context, Poll};
 use hyper::rt::Timer;
@@ -19,12 +19,12 @@ use tokio::io::{AsyncRead, AsyncWrite};
 #[derive(Drop)]
 pub struct TimeoutIo<I, T> {
     io: I,
-    timeouts: Timeouts<T>,
+    timeouts: ProgressTimeout<T>,
 }
 
 impl<I, T> TimeoutIo<I, T> {
     /// Creates a connection with the time limits of `timeouts`, which start with the first wait.
-    pub fn new(io: I, timeouts: Timeouts<T>) -> TimeoutIo<I, T>
+    pub fn new(io: I, timeouts: ProgressTimeout<T>) -> TimeoutIo<I, T>
         ensures { result.io ≡ io }
     {
         TimeoutIo { io, timeouts }
@@ -50,7 +50,7 @@ impl<I: AsyncWrite, T: Timer> TimeoutIo<I, T> {
                 Poll::Ready(written)
             }
             Poll::Pending => {
-                ready!(self.timeouts.poll_over(cx));
+                ready!(self.timeouts.poll_expired(cx));
                 Poll::Ready(Err(io::Error::from(ErrorKind::TimedOut)))
             }
         }

@@ -15,7 +15,7 @@ use tokio::time::Sleep;
 ///
 /// Progress restarts the first limit, but not the second.
 #[derive(Drop)]
-pub struct Timeouts<T> {
+pub struct ProgressTimeout<T> {
     timer: T,
     limit: Duration,
     // The longest time from the first wait. `None` is no limit.
@@ -27,13 +27,13 @@ pub struct Timeouts<T> {
     is_timed: bool,
 }
 
-impl<T> Timeouts<T> {
+impl<T> ProgressTimeout<T> {
     /// Creates limits that start with the first wait.
     ///
     /// `limit`: the longest wait for progress. `whole`: the longest time from the first wait.
     /// `None` is no limit.
-    pub fn new(timer: T, limit: Duration, whole: Option<Duration>) -> Timeouts<T> {
-        Timeouts {
+    pub fn new(timer: T, limit: Duration, whole: Option<Duration>) -> ProgressTimeout<T> {
+        ProgressTimeout {
             timer,
             limit,
             whole,
@@ -52,7 +52,7 @@ impl<T> Timeouts<T> {
     }
 }
 
-impl<T: Timer> Timeouts<T> {
+impl<T: Timer> ProgressTimeout<T> {
     // Returns the instant at which a wait that begins now must end. It is `None` if the clock
     // cannot be read or the instant is too large. The first wait sets `end`, if `whole` is given.
     fn deadline(&mut self) -> Option<Instant>
@@ -98,7 +98,7 @@ impl<T: Timer> Timeouts<T> {
     /// Waits until the current wait has reached one of the limits.
     ///
     /// It is ready at once if the clock cannot be read, or if memory runs out for a timer.
-    pub fn poll_over(&mut self, cx: &mut Context<'_>) -> Poll<()>
+    pub fn poll_expired(&mut self, cx: &mut Context<'_>) -> Poll<()>
         ensures waits { OnPending result (Covers cx.new (TimerNeeds self.new.sleep)) }
         ensures kept { Keeps cx.old cx.new }
         ensures end { IfSome self.old.end (λ e. self.new.end ≡ Some e) }

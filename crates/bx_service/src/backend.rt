@@ -9,7 +9,7 @@ ghost use Rattle.bx_cut.specs.declared.bodies.Bodies.{Bodies};
 ghost use Rattle.bx_hub.specs.declared.fault.PostFault.TheVariants as faults;
 ghost use Rattle.bx_service.specs.declared.backend.Declined.{Declined};
 
-use crate::gathering::Gathering;
+use crate::gathering::ItemsFuture;
 use bx_cut::Bodies;
 use bx_entry::{Access, Arrival, Placing};
 use bx_hub::{Gate, Hub, NoAnswer, PostFault};
@@ -140,7 +140,7 @@ where
     C: Clock + Drop,
     N: Nonces + Drop,
 {
-    type Items = Gathering<L, P, G, R>;
+    type Items = ItemsFuture<L, P, G, R>;
 
     // Ghost: on success there are no items yet, and the slots and the place are those that a
     // single-threaded server gives. On error the documents are unchanged, and the hub rejected them
@@ -157,7 +157,7 @@ where
 
     // Clones the hub's handle before the post, so that no error follows an admission. Locks as
     // `Hub::post` does.
-    fn admit(&self, bodies: Bodies) -> Result<Gathering<L, P, G, R>, Declined> {
+    fn admit(&self, bodies: Bodies) -> Result<ItemsFuture<L, P, G, R>, Declined> {
         let Ok(hub) = Arc::try_clone(&self.hub) else {
             return Err(Declined {
                 fault: PostFault::Memory,
@@ -172,7 +172,7 @@ where
         };
         let mut pass = self.hub.pass();
         match self.hub.post(&self.rt, self.alloc, &mut pass, arrival) {
-            Ok(posted) => Ok(Gathering::new(
+            Ok(posted) => Ok(ItemsFuture::new(
                 self.rt,
                 self.alloc,
                 hub,
@@ -187,7 +187,7 @@ where
         }
     }
 
-    fn place(&self, items: &Gathering<L, P, G, R>) -> Option<u64> {
+    fn place(&self, items: &ItemsFuture<L, P, G, R>) -> Option<u64> {
         items.place()
     }
 }

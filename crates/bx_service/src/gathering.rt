@@ -26,7 +26,7 @@ use std::vec::IntoIter;
 /// It handles the slots in order, and waits for the answer to each connect or rider. Polling for an
 /// answer locks its shard.
 #[derive(Drop)]
-pub struct Gathering<L: LogId, P: Placing, G: Gate + Drop, R: Wait + Drop> {
+pub struct ItemsFuture<L: LogId, P: Placing, G: Gate + Drop, R: Wait + Drop> {
     rt: R,
     alloc: Global,
     hub: Arc<Hub<L, P, G, R>, Global>,
@@ -39,7 +39,7 @@ pub struct Gathering<L: LogId, P: Placing, G: Gate + Drop, R: Wait + Drop> {
     ghost within: { AreBelow (length (list_of pass)) (into_iter_items slots) } by { are_below-prop (length (list_of pass)) (into_iter_items slots) },
 }
 
-impl<L: LogId, P: Placing + Drop, G: Gate + Drop, R: Wait + Copy + Drop> Gathering<L, P, G, R> {
+impl<L: LogId, P: Placing + Drop, G: Gate + Drop, R: Wait + Copy + Drop> ItemsFuture<L, P, G, R> {
     /// Creates the future for `slots`, which the hub returned for a post that updated `pass`.
     ///
     /// `first`: the place of the first message.
@@ -50,14 +50,14 @@ impl<L: LogId, P: Placing + Drop, G: Gate + Drop, R: Wait + Copy + Drop> Gatheri
         pass: Pass<L>,
         first: u64,
         slots: Sequence<Slot>,
-    ) -> Gathering<L, P, G, R>
+    ) -> ItemsFuture<L, P, G, R>
         requires { AreBelow (length (list_of pass)) slots }
         ensures begins { (result.items.items ≡ []) × (result.held ≡ None) }
         ensures slots { (result.pass ≡ pass) × (into_iter_items result.slots ≡ slots) }
         ensures place { result.first ≡ place_of first slots }
     {
         let first = place_of(first, slots.as_slice());
-        Gathering {
+        ItemsFuture {
             rt,
             alloc,
             hub,
@@ -165,7 +165,7 @@ impl<L: LogId, P: Placing + Drop, G: Gate + Drop, R: Wait + Copy + Drop> Gatheri
 }
 
 impl<L: LogId, P: Placing + Drop, G: Gate + Drop, R: Wait + Copy + Drop> Future
-    for Gathering<L, P, G, R> {
+    for ItemsFuture<L, P, G, R> {
     type Output = Result<Vec<Item>, Unanswered>;
 
     // Ghost: what wakes the future is the source of the awaited answer.

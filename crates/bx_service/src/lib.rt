@@ -16,7 +16,7 @@ mod status;
 pub use backend::{Backend, Clock, Declined, HubBackend, Nonces, Unanswered};
 pub use collect::{Collect, CollectError};
 pub use exchange::Exchange;
-pub use gathering::Gathering;
+pub use gathering::ItemsFuture;
 pub use limit::BodyLimit;
 pub use observer::{Observer, ServiceEvent};
 pub use service::{BayeuxService, ServiceFault};

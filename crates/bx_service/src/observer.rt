@@ -10,11 +10,11 @@ use std::sync::Arc;
 #[derive(Clone, Copy)]
 pub enum ServiceEvent<'a> {
     /// A connection was opened.
-    Opened,
+    ConnectionOpened,
     /// A connection was closed.
-    Closed,
+    ConnectionClosed,
     /// A request arrived.
-    Asked,
+    RequestArrived,
     /// A request was admitted. The number is the place of its first message, if any.
     Admitted(Option<u64>),
     /// A request was not admitted, for this reason.
@@ -31,7 +31,7 @@ pub enum ServiceEvent<'a> {
     /// The future of the response was dropped, which ends the request.
     ///
     /// `was_admitted`: whether the request was admitted.
-    Left {
+    RequestEnded {
         was_admitted: bool,
     },
 }

@@ -38,7 +38,7 @@ impl<O: Observer> ConnectionProbe<O> {
     /// `AllocError` if memory runs out; nothing is reported.
     pub(crate) fn open(&self) -> Result<ConnectionProbe<O>, AllocError> {
         let observer = Arc::try_clone(&self.observer)?;
-        observer.see(ServiceEvent::Opened);
+        observer.see(ServiceEvent::ConnectionOpened);
         Ok(ConnectionProbe {
             observer,
             is_connection: true,
@@ -50,11 +50,11 @@ impl<O: Observer> ConnectionProbe<O> {
     /// If memory runs out for the handle, reports at once that the request ended without a
     /// response. The caller then must not answer the request.
     pub(crate) fn ask(&self) -> RequestProbe<O> {
-        self.observer.see(ServiceEvent::Asked);
+        self.observer.see(ServiceEvent::RequestArrived);
         let observer = Arc::try_clone(&self.observer).ok();
         if observer.is_none() {
             self.observer.see(ServiceEvent::Responded(None));
-            self.observer.see(ServiceEvent::Left {
+            self.observer.see(ServiceEvent::RequestEnded {
                 was_admitted: false,
             });
         }
@@ -73,7 +73,7 @@ impl<O: Observer> Drop for ConnectionProbe<O> {
             is_connection,
         } = self;
         if is_connection {
-            observer.see(ServiceEvent::Closed);
+            observer.see(ServiceEvent::ConnectionClosed);
         }
     }
 }
@@ -148,7 +148,7 @@ impl<O: Observer> Drop for RequestProbe<O> {
             place: _,
         } = self;
         if let Some(observer) = observer {
-            observer.see(ServiceEvent::Left {
+            observer.see(ServiceEvent::RequestEnded {
                 was_admitted: is_admitted,
             });
         }

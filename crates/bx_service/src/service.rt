@@ -72,7 +72,7 @@ impl<S: Drop> BayeuxService<S, ()> {
         ensures backend { IfOk result (λ service. arc_value service.backend ≡ backend) }
         ensures limit { IfOk result (λ service. service.limit ≡ BODY_LIMIT) }
     {
-        BayeuxService::observed(alloc, backend, ())
+        BayeuxService::with_observer(alloc, backend, ())
     }
 }
 
@@ -85,7 +85,7 @@ impl<S: Drop, O: Observer> BayeuxService<S, O> {
     /// # Errors
     ///
     /// `AllocError` if memory runs out.
-    pub fn observed(
+    pub fn with_observer(
         alloc: Global,
         backend: S,
         observer: O,

@@ -47,7 +47,7 @@ pub(crate) fn post_status(fault: PostFault) -> Status
         PostFault::Closed
         | PostFault::Behind { .. }
         | PostFault::Overrun { .. }
-        | PostFault::Misplaced { .. }
+        | PostFault::WrongShard { .. }
         | PostFault::Memory => Status::Unavailable,
     }
 }

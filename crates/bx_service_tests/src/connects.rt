@@ -10,7 +10,7 @@ use bx_advice::Config;
 use bx_entry::{ByRemainder, Ticket};
 use bx_held::PendingAnswer;
 use bx_hub::{Hub, HubFault, OpenGate};
-use bx_window::{LogId, Opened};
+use bx_window::{EmptyWindow, LogId};
 use futures::test::MockTask;
 use std::alloc::Global;
 use std::marker::Brand;
@@ -244,7 +244,7 @@ fn run<L: LogId, H: Wait + Drop, Q: Wait + Copy + Drop, R: Abort>(
 fn run_in_hub<L: LogId, R: Wait + Abort>(
     rt: &R,
     alloc: Global,
-    opened: Opened,
+    opened: EmptyWindow,
     config: Config,
     placing: Arc<ByRemainder, Global>,
     tasks: (MockTask, MockTask),
@@ -282,7 +282,15 @@ fn held_connects(rt: HostRuntime) -> Result<(), Fail> {
         // A new task counts as woken until its first poll.
         tasks.0.enter(|_cx| ());
         tasks.1.enter(|_cx| ());
-        run_in_hub::<Brand, _>(&rt, alloc, Opened::new(), config, placing, tasks, steps)?;
+        run_in_hub::<Brand, _>(
+            &rt,
+            alloc,
+            EmptyWindow::new(),
+            config,
+            placing,
+            tasks,
+            steps,
+        )?;
     }
     Ok(())
 }

@@ -10,7 +10,7 @@ use bx_entry::{Access, ByRemainder};
 use bx_hub::{Hub, OpenGate};
 use bx_message::Item;
 use bx_service::{Backend, BayeuxService, BodyLimit, HubBackend, Unanswered};
-use bx_window::{LogId, Opened};
+use bx_window::{EmptyWindow, LogId};
 use futures::Future;
 use futures::test::MockTask;
 use hyper::service::Service;
@@ -234,7 +234,7 @@ fn backend_of<'a, L: LogId, R: Wait>(
 fn run_in_hub<L: LogId, R: Wait + Abort>(
     rt: &R,
     alloc: Global,
-    opened: Opened,
+    opened: EmptyWindow,
     config: Config,
     placing: Arc<ByRemainder, Global>,
     tasks: (MockTask, MockTask),
@@ -284,7 +284,15 @@ fn exchanges(rt: HostRuntime) -> Result<(), Fail> {
         // A new task counts as woken until its first poll.
         tasks.0.enter(|_cx| ());
         tasks.1.enter(|_cx| ());
-        run_in_hub::<Brand, _>(&rt, alloc, Opened::new(), config, placing, tasks, number)?;
+        run_in_hub::<Brand, _>(
+            &rt,
+            alloc,
+            EmptyWindow::new(),
+            config,
+            placing,
+            tasks,
+            number,
+        )?;
     }
     Ok(())
 }

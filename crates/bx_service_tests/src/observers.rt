@@ -21,9 +21,9 @@ struct Digits(AtomicU64);
 impl Observer for Digits {
     fn see(&self, event: ServiceEvent<'_>) {
         let digit = match event {
-            ServiceEvent::Opened => 1,
-            ServiceEvent::Closed => 2,
-            ServiceEvent::Asked => 3,
+            ServiceEvent::ConnectionOpened => 1,
+            ServiceEvent::ConnectionClosed => 2,
+            ServiceEvent::RequestArrived => 3,
             ServiceEvent::Admitted(Some(9)) => 4,
             ServiceEvent::Refused(PostFault::Refused(Refusal::BadMoment)) => 5,
             ServiceEvent::Answered {
@@ -38,8 +38,8 @@ impl Observer for Digits {
             ServiceEvent::Responded(Some(Status::Unavailable)) => 9,
             ServiceEvent::Responded(Some(Status::BadRequest)) => 10,
             ServiceEvent::Responded(Some(Status::MethodNotAllowed)) => 11,
-            ServiceEvent::Left { was_admitted: true } => 12,
-            ServiceEvent::Left {
+            ServiceEvent::RequestEnded { was_admitted: true } => 12,
+            ServiceEvent::RequestEnded {
                 was_admitted: false,
             } => 13,
             _ => 15,
@@ -128,7 +128,7 @@ fn observers_are_told(rt: HostRuntime) -> Result<(), Fail> {
         let one = Arc::new(alloc, Digits(AtomicU64::new(0)))?;
         let two = Arc::new(alloc, Digits(AtomicU64::new(0)))?;
         let pair = (Arc::try_clone(&one)?, Arc::try_clone(&two)?);
-        let service = BayeuxService::observed(alloc, Saying { alloc, said }, pair)?;
+        let service = BayeuxService::with_observer(alloc, Saying { alloc, said }, pair)?;
         {
             let connection = service.clone()?;
             let mut exchange = connection.call(ask.request(alloc)?);

@@ -48,5 +48,5 @@ step_h config place moment t _ h = grind (arith, common_steps, pushed)
 ridden_h : (config : Config) (place : ℕ) (rides : Option Rider) (t : Session) → HereIn place t → HereIn place (ridden_by config place t rides)
 ridden_h config place rides t h = grind (arith, common_steps, pushed)
 
-pub files_alike : (config : Config) (k : Kept) (e : Entry) → map filed_as (kept_answers config k e) ≡ map (filed_at e.place) (map answered_of (kept_answers config k e))
-files_alike config k e = ridden_h config e.place (rider_of e.kind e.rides) (step_by config e.place e.moment (resumed k) e.kind) (step_h config e.place e.moment (resumed k) e.kind refl)
+pub answer_has_place_of_its_entry : (config : Config) (k : Kept) (e : Entry) → map filed_as (kept_answers config k e) ≡ map (filed_at e.place) (map answered_of (kept_answers config k e))
+answer_has_place_of_its_entry config k e = ridden_h config e.place (rider_of e.kind e.rides) (step_by config e.place e.moment (resumed k) e.kind) (step_h config e.place e.moment (resumed k) e.kind refl)

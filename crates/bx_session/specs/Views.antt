@@ -6,7 +6,7 @@ use Rattle.bx_advice.specs.Limits.{greatest_length}
 use Rattle.bx_entry.specs.Words.{events_of, Kept, Filed, Pending, deadline}
 use Rattle.bx_message.specs.Replies.{connect_reply}
 use Rattle.bx_message.specs.declared.{event.Event.Event, reply.AckReply.AckReply, reply.Reply.Reply}
-use Rattle.bx_session.specs.declared.answered.{Answered.Answered, Connection.Connection, Delivery.Delivery}
+use Rattle.bx_session.specs.declared.answered.{Answered.Answered, ConnectResult.ConnectResult, Delivery.Delivery}
 use Rattle.bx_session.specs.declared.answered.Delivery.TheVariants.{Waits, Given, Overflowed}
 
 -- A session, and for how many more events it has room without allocating.
@@ -51,7 +51,7 @@ abbrev pub answered_of : Filed → Answered
 answered_of f = answered f.connect (events_of f.publications) f.reply
 
 -- The answers that a connect causes: first to the connect that it superseded, then to itself.
-abbrev pub connection_answers : Connection → List Answered
+abbrev pub connection_answers : ConnectResult → List Answered
 connection_answers c = option_to_list c.superseded ++ option_to_list c.answered
 
 -- The answers that a delivery causes.

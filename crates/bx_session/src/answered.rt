@@ -12,7 +12,7 @@ pub struct Answered {
 
 /// The result of [`Session::connect`](crate::Session::connect).
 #[derive(Drop)]
-pub struct Connection {
+pub struct ConnectResult {
     /// The answer to the connect that was held, if any.
     pub superseded: Option<Answered>,
     /// The answer to the new connect, or `None` if it is held.

@@ -11,7 +11,7 @@ ghost use Rattle.bx_entry.specs.Windows.{bytes_of};
 ghost use Rattle.bx_entry.specs.Sessions.{ack_given, acknowledged, admitted, answered_or_held, begun, connected, ends_by, expired, forgotten, given, gives, has_room, overflowed, received, released, ride_portion, subscribed, unheld, unopened, unsubscribed};
 ghost use Rattle.bx_session.specs.Views.{Countable, answered_of, connection_answers, delivery_answers, is_overflow, ride_most, wants_two};
 
-use crate::answered::{Answered, Connection, Delivery};
+use crate::answered::{Answered, ConnectResult, Delivery};
 use crate::patterns::{with_all, without_all};
 use crate::pending::PendingConnect;
 use crate::room::RideRoom;
@@ -111,7 +111,7 @@ impl Session {
     pub fn last_batch(&self) -> u64
         ensures { result ≡ self.now.kept.num }
     {
-        self.window.given().number
+        self.window.outstanding_batch().number
     }
 
     /// Returns `true` if the session has overflowed.
@@ -323,7 +323,7 @@ impl Session {
         config: &Config,
         connect: PendingConnect,
         acked: Option<u64>,
-    ) -> Result<Connection, AllocError>
+    ) -> Result<ConnectResult, AllocError>
         requires countable { Countable self.old.kept }
         ensures ok { IfOk result (λ c. connection_answers c ≡ map answered_of (answers_of (connected config.now connect acked) self.old.kept)) }
         ensures kept { OnOk result (self.new.kept ≡ after (connected config.now connect acked) self.old.kept) }
@@ -333,7 +333,7 @@ impl Session {
         let events = self.events_for(alloc, config, acked)?;
         let superseded = self.release(config, Outcome::Failed(Error::SupersededConnect));
         let answered = self.admit(config, connect, acked, events);
-        Ok(Connection {
+        Ok(ConnectResult {
             superseded,
             answered,
         })

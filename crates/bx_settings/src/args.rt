@@ -44,10 +44,10 @@ pub fn parse_args(args: &[String]) -> Option<Settings<'_>>
     )?;
     Some(Settings {
         listen: listen.as_str(),
-        readers: None,
+        read_only_listen: None,
         config: with_more(config, more)?,
         body: BODY_LIMIT,
-        seed: Seed::Said(read_digits(seed.as_bytes())?),
+        seed: Seed::FromArguments(read_digits(seed.as_bytes())?),
         connections: number_of(connections.as_bytes())?,
         metrics: None,
         record_file: None,

@@ -56,12 +56,12 @@ pub fn read_flags<'a>(
     };
     Ok(Settings {
         listen: value_of(&matches, "listen", "127.0.0.1:8087"),
-        readers: matches.get_str("readers"),
+        read_only_listen: matches.get_str("readers"),
         config,
         body,
         seed: match matches.get_str("seed-file") {
             Some(path) => Seed::File(path),
-            None => Seed::Drawn,
+            None => Seed::FromSystem,
         },
         connections,
         metrics: matches.get_str("metrics"),

@@ -8,13 +8,13 @@ use bx_advice::Config;
 #[derive(Clone, Copy, Debug, PartialEq, Eq)]
 pub enum Seed<'a> {
     /// The operating system, which provides random bytes.
-    Drawn,
+    FromSystem,
     /// The file with this name, which contains the seed as hexadecimal digits.
     ///
     /// [`read_seed`](crate::read_seed) reads it.
     File(&'a str),
     /// The positional arguments, which gave this seed.
-    Said([u8; 32]),
+    FromArguments([u8; 32]),
 }
 
 /// The settings of `bayeuxd`.
@@ -23,7 +23,7 @@ pub struct Settings<'a> {
     /// The address to listen on: a host name or IP address, and a port, as in `localhost:8087`.
     pub listen: &'a str,
     /// The address of the read-only listener, if any: a host name or IP address, and a port.
-    pub readers: Option<&'a str>,
+    pub read_only_listen: Option<&'a str>,
     /// The number of shards, the times in milliseconds, the limits and the options.
     pub config: Config,
     /// The greatest length in bytes of a request's body or query: 1 to [`bx_advice::BODY_LIMIT`].

@@ -5,7 +5,7 @@ use Rattle.std.proofs.lemmas.{Bool.cond_both, Bool.Decides.nat_tests}
 use Rattle.bx_advice.specs.declared.config.Config.{Config}
 use Rattle.bx_entry.specs.declared.entry.{Entry.Entry, EntryKind.EntryKind}
 use Rattle.bx_entry.specs.Words.{Kept, kept_step, is_live}
-use Rattle.bx_session.proofs.NumberLemmas.{numbers_step}
+use Rattle.bx_session.proofs.NumberLemmas.{entry_forms_at_most_one_batch}
 use Rattle.bx_shard.specs.declared.sessions.Sessions.{Sessions}
 use Rattle.bx_shard.specs.Words.{has_formed_at_most, kept_in, if_live, opening, session_after}
 
@@ -26,7 +26,7 @@ module _ (config : Config) (stands : Bool) (e : Entry) (n count : ℕ) where
   stepped_few : (k : Kept) → k.num ≤ count → has_formed_at_most (count + 1) (if_live (kept_step config k e)) ≡ true
   stepped_few k few =
       let l : Kept = kept_step config k e in
-      let more : (kept_step config k e).num ≤ k.num + 1 = numbers_step config k e in
+      let more : (kept_step config k e).num ≤ k.num + 1 = entry_forms_at_most_one_batch config k e in
       cond_both (is_live l.stage) (Some l) None (λ o. has_formed_at_most (count + 1) o ≡ true) (λ h. passes l.num (count + 1) (omega (arith, few, more))) (λ h. refl)
 
   opened_few : (o : Option Kept) → IfSome o (λ (k : Kept). k.num ≡ 0) → opening stands e.kind n ≡ o → has_formed_at_most (count + 1) (session_after config stands e n None) ≡ true

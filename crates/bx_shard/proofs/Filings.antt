@@ -8,7 +8,7 @@ use Rattle.bx_entry.specs.declared.entry.{Entry.Entry, EntryKind.EntryKind}
 use Rattle.bx_entry.specs.declared.entry.EntryKind.TheVariants.{Opened}
 use Rattle.bx_entry.specs.Placings.{Setup}
 use Rattle.bx_shard.specs.Shards.{is_placed_in, is_taken, shard_at, sessions_in}
-use Rattle.bx_theory.proofs.{Kept.kept_steps, Closings.idle_next}
+use Rattle.bx_theory.proofs.{Kept.entry_effect_ignores_history, Closings.idle_next}
 use Rattle.std.specs.Option.{option_or}
 use Rattle.bx_shard.specs.Steps.{answers_by, ShardsFile}
 use Rattle.bx_shard.proofs.{Waits.waits_over, Untaken.FoundBy, Untaken.find_of, Untaken.find_untaken, Untaken.found_by}
@@ -75,7 +75,7 @@ live_answers config ys x (n ∷ ns) =
     ∙ either (is_live s.stage) (B n ++ F rest ≡ F (one_kept s rest))
     (λ h. sym (ap F (cond-true (is_live s.stage) (kept s ∷ rest) rest h)))
     (λ h.
-    let quiet : s.answers ≡ s.answers ++ B n = sym (idle_next config n ys x h) ∙ ap (λ (u : Session). u.answers) (session_next config n ys x) ∙ (kept_steps config s e).answers in
+    let quiet : s.answers ≡ s.answers ++ B n = sym (idle_next config n ys x h) ∙ ap (λ (u : Session). u.answers) (session_next config n ys x) ∙ (entry_effect_ignores_history config s e).answers in
     ap (λ (fs : List Filed). fs ++ F rest) (nothing_more s.answers (B n) quiet) ∙ sym (ap F (cond-false (is_live s.stage) (kept s ∷ rest) rest h)))
     ∙ sym (ap F (held_cons config es n ns))
 
@@ -94,7 +94,7 @@ filed_next setup shard place ys x =
     let A : ℕ → List Filed = λ n. (session setup.config n (entries_of (registry setup.config ys))).answers in
     let B : ℕ → List Filed = λ n. kept_answers setup.config (kept (session setup.config n (entries_of (registry setup.config ys)))) (entry_next setup.config ys x) in
     let C : ℕ → List Filed = λ n. (session setup.config n (entries_of (registry setup.config (ys ++ x ∷ [])))).answers in
-    let split : (n : ℕ) → C n ≡ A n ++ B n = λ n. ap (λ (u : Session). u.answers) (session_next config n ys x) ∙ (kept_steps config (session config n es) e).answers in
+    let split : (n : ℕ) → C n ≡ A n ++ B n = λ n. ap (λ (u : Session). u.answers) (session_next config n ys x) ∙ (entry_effect_ignores_history config (session config n es) e).answers in
     ap (λ (ks : List ℕ). find_of place (flat_map C (filter here ks))) (numbers_next config ys x)
     ∙ ap (λ (ks : List ℕ). find_of place (flat_map C ks)) (filter-append here ns ms)
     ∙ ap (find_of place) (flat_map-append C (filter here ns) (filter here ms))
@@ -113,8 +113,8 @@ filed_at setup list taken shard n place free =
 
 -- ---- the law
 
-pub shards_file : ShardsFile
-shards_file setup list taken shard n e place room there free =
+pub entry_determines_filed_answers : ShardsFile
+entry_determines_filed_answers setup list taken shard n e place room there free =
     let config : Config = setup.config in
     let m : Met setup.config list n e = met setup.config list n e there in
     let before : Option Filed = find_of place (answers_over setup shard (take n list)) in

@@ -27,8 +27,8 @@ found_answer setup list taken k n place f e = let d = found_in setup list taken 
 pub given_filed : (o : Option ConnectState) → filed_answer o ≡ option_map given_of (filed_with_place o)
 given_filed o = grind arith
 
-pub filed_is_given : FiledIsGiven
-filed_is_given setup list taken k n place s a h e =
+pub filed_answers_match_definitions : FiledIsGiven
+filed_answers_match_definitions setup list taken k n place s a h e =
     let fs : List Filed = (shard_at setup list taken k n).filed in
     let test : Filed → Bool = λ g. g.connect == place in
     let given : filed_answer (connect_in s place) ≡ option_map given_of (option_map answer_of (find test fs)) = given_filed (connect_in s place) ∙ ap (option_map given_of) (h.filed place) in

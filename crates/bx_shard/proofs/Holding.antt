@@ -10,8 +10,8 @@ use Rattle.bx_shard.proofs.Taking.{waits_later}
 
 -- ---- at first, and after a call that changed nothing
 
-pub refines_at_first : RefinesAtFirst
-refines_at_first setup shard s setup_is index_is place_is sound none_here none_known = record {
+pub refines_when_new : RefinesAtFirst
+refines_when_new setup shard s setup_is index_is place_is sound none_here none_known = record {
   setup_is = setup_is;
   index_is = index_is;
   place_is = place_is;
@@ -24,8 +24,8 @@ refines_at_first setup shard s setup_is index_is place_is sound none_here none_k
   owned = λ p m k. absurd (let no : None ≡ Some m = sym (ap session_at (none_known p)) ∙ k in cc);
 }
 
-pub refines_still : RefinesStill
-refines_still setup list taken shard n old new h b sound = record {
+pub refines_unchanged : RefinesStill
+refines_unchanged setup list taken shard n old new h b sound = record {
   setup_is = b.setup ∙ h.setup_is;
   index_is = b.index ∙ h.index_is;
   place_is = b.place ∙ h.place_is;
@@ -62,8 +62,8 @@ connect_before setup list more shard p h c = record {
   stands = c.stands;
 }
 
-pub refines_longer : RefinesLonger
-refines_longer setup list more taken shard n s h =
+pub refines_longer_list : RefinesLonger
+refines_longer_list setup list more taken shard n s h =
     let front : take n list ≡ take n (list ++ more) = sym (take-append-le n list more h.within) in
     record {
       setup_is = h.setup_is;

@@ -6,7 +6,7 @@ use Rattle.bx_advice.specs.declared.config.Config.{Config}
 use Rattle.bx_entry.specs.declared.entry.Entry.{Entry}
 use Rattle.bx_entry.specs.Words.{Listed, Registry, Registered, Judged, registry, entries_of, Session, is_live, unopened, session, Kept, kept}
 use Rattle.bx_theory.proofs.{Dues.NumberedFrom, Dues.numbered, Lists.judged_length, Closings.run_number, Closings.live_stage}
-use Rattle.bx_session.proofs.NumberLemmas.{numbers_count}
+use Rattle.bx_session.proofs.NumberLemmas.{batches_at_most_entries}
 use Rattle.bx_shard.specs.Words.{Setup, shard_at, is_placed_in, IsReached, SessionsReached, NumbersAscend, OpenedIsFresh}
 use Rattle.bx_shard.proofs.Elements.{numbers, opens_above, Met, met}
 use Rattle.bx_shard.proofs.Stepping.{held_by, held_cons, numbers_in, held_at, EachNumber, numbers_below}
@@ -25,7 +25,7 @@ each_held P Q config es (n ∷ ns) h d =
 -- ---- live sessions
 
 session_reached : (config : Config) (number place : ℕ) (es : List Entry) → length es ≤ place → is_live (session config number es).stage ≡ true → IsReached place (kept (session config number es))
-session_reached config number place es many live = record { live = live_stage (session config number es).stage live; numbers = omega (arith, numbers_count config number es) }
+session_reached config number place es many live = record { live = live_stage (session config number es).stage live; numbers = omega (arith, batches_at_most_entries config number es) }
 
 pub holds_reached : SessionsReached
 holds_reached setup list taken shard n =
@@ -82,8 +82,8 @@ holds_stand setup list taken shard n =
     (each_held (λ k. is_placed_in setup shard k.number ≡ true) (λ m. is_placed_in setup shard m ≡ true) setup.config es (numbers_in setup shard (take n list))
     (λ m q l. subst (λ (x : ℕ). is_placed_in setup shard x ≡ true) (sym (kept_number setup.config m es)) q) (each_standing setup shard (numbers r.sessions)))
 
-pub opened_is_fresh : OpenedIsFresh
-opened_is_fresh setup list taken shard m number ack e there kind =
+pub new_session_is_newest : OpenedIsFresh
+new_session_is_newest setup list taken shard m number ack e there kind =
     let config : Config = setup.config in
     let es : List Entry = entries_of (registry setup.config (take m list)) in
     let r : Registry = registry setup.config (take m list) in

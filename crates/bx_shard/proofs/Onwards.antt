@@ -10,7 +10,7 @@ use Rattle.bx_entry.specs.Words.{answer_of, Listed, Kept, kept, kept_answers, ke
 use Rattle.bx_theory.proofs.Stages.{step_number}
 use Rattle.bx_session.specs.declared.answered.Answered.{Answered}
 use Rattle.bx_session.specs.Views.{answered_of}
-use Rattle.bx_session.proofs.FilingLemmas.{files_alike}
+use Rattle.bx_session.proofs.FilingLemmas.{answer_has_place_of_its_entry}
 use Rattle.bx_connects.specs.declared.connects.ConnectState.{ConnectState}
 use Rattle.bx_connects.specs.declared.connects.ConnectState.TheVariants as states
 use Rattle.bx_connects.specs.Connects.{session_at}
@@ -18,7 +18,7 @@ use Rattle.bx_shard.specs.Effects as effects
 use Rattle.bx_shard.specs.Words.{IsReached, Setup, is_taken, sessions_in, shard_at, is_placed_in, Applied, IsGiven, IsSound, State, begun, connect_in, if_live, dropped_by, opening, opens_in, session_after, session_in}
 use Rattle.bx_shard.specs.Refining.{Refines, RefinesOnwards, IsConnectOf, IsOwn, filed_with_place, placed}
 use Rattle.bx_shard.specs.Steps.{answers_by, opening_by, stepped}
-use Rattle.bx_shard.proofs.{Cases.by_option, Elements.Met, Elements.met, Filings.shards_file, Placed.entry_placed, Singles.nowhere, Stepping.shards_step, Untaken.find_of}
+use Rattle.bx_shard.proofs.{Cases.by_option, Elements.Met, Elements.met, Filings.entry_determines_filed_answers, Placed.entry_placed, Singles.nowhere, Stepping.entry_determines_sessions, Untaken.find_of}
 use Rattle.bx_shard.proofs.Finding.{Apart, GivenBy, apart, contains_found, each_none, find_kept, found_each, given_by, next, none_there, numbers_of, placed_found, steps, steps_found}
 use Rattle.bx_shard.proofs.Gives.{Unanswered, all_contains, given_unanswered}
 use Rattle.bx_shard.proofs.Holdings.{holds_reached, holds_stand, sessions_ascend}
@@ -107,7 +107,7 @@ gave s e ks p f d known found =
     let config : Config = s.setup.config in
     let b : GivenBy (λ k. kept_answers config k e) ks p f = given_by (λ k. kept_answers config k e) ks p f d found in
     let k : Kept = b.one in
-    let at = placed_found p e.place (kept_answers config k e) f (files_alike config k e) b.gives in
+    let at = placed_found p e.place (kept_answers config k e) f (answer_has_place_of_its_entry config k e) b.gives in
     record {
       number = k.number;
       given = subst (λ o. Contains (given_by_one s e o) (answered_of f)) (sym (known k.number ∙ b.found)) (contains_found p (kept_answers config k e) f b.gives);
@@ -166,13 +166,13 @@ same_filed list taken n e s p b none =
     let o : Option Filed = filed_then list taken s n p in
     either (is_taken taken p) (filed_then list taken s (n + 1) p ≡ filed_then list taken s n p)
     (λ t. none_taken taken p (fs (n + 1)) t ∙ sym (none_taken taken p (fs n) t))
-    (λ u. shards_file s.setup list taken s.index n e p b.room b.there u ∙ ap (option_or o) none ∙ or_none o)
+    (λ u. entry_determines_filed_answers s.setup list taken s.index n e p b.room b.there u ∙ ap (option_or o) none ∙ or_none o)
 
 given_is_connect : (list : List Listed) (taken : List ℕ) (n : ℕ) (e : Entry) (s : State) (p : ℕ) (f : Filed) → Before list taken n e s → given_at list taken n e s p ≡ Some f → IsConnectOf s.setup list s.index p
 given_is_connect list taken n e s p f b some =
     let nobody : List ℕ = [] in
     let next_filed : filed_then list nobody s (n + 1) p ≡ option_or (filed_then list nobody s n p) (Some f) =
-    shards_file s.setup list nobody s.index n e p b.room b.there refl ∙ ap (option_or (filed_then list nobody s n p)) some in
+    entry_determines_filed_answers s.setup list nobody s.index n e p b.room b.there refl ∙ ap (option_or (filed_then list nobody s n p)) some in
     by_option (λ o. filed_then list nobody s (n + 1) p ≡ option_or o (Some f) → IsConnectOf s.setup list s.index p) (filed_then list nobody s n p)
     (λ e h. connect_of_filed s.setup list nobody s.index (n + 1) p f h) (λ g e h. connect_of_filed s.setup list nobody s.index (n + 1) p g h) next_filed
 
@@ -216,7 +216,7 @@ filed_next list taken n e s new p b a =
     let here : connect_in new p ≡ Some (states.Filed w.gives.number e.place (answered_of f).answer) =
     subst (λ (q : ℕ). connect_in new q ≡ Some (states.Filed w.gives.number e.place (answered_of f).answer)) w.gives.connect (a.connects.given w.gives.number (answered_of f) w.gives.given) in
     let there : filed_then list taken s (n + 1) p ≡ Some f =
-    shards_file s.setup list taken s.index n e p b.room b.there (untaken_then taken p w.free) ∙ ap (λ (o : Option Filed). option_or o (given_at list taken n e s p)) w.first ∙ h in
+    entry_determines_filed_answers s.setup list taken s.index n e p b.room b.there (untaken_then taken p w.free) ∙ ap (λ (o : Option Filed). option_or o (given_at list taken n e s p)) w.first ∙ h in
     ap filed_with_place here ∙ ap Some (sym w.gives.answer) ∙ sym (ap (option_map answer_of) there))
 
 gone_next : (list : List Listed) (taken : List ℕ) (n : ℕ) (e : Entry) (s new : State) (p : ℕ) → Before list taken n e s → Applied s e new → is_taken taken p ≡ true → IsConnectOf s.setup list s.index p → (p < n + 1) × (connect_in new p ≡ None)
@@ -264,7 +264,7 @@ onwards list taken n e s new b a sound =
       within = shorter_by_one list n m.element m.next;
       sound = sound;
       sessions = λ q. a.sessions q ∙ sessions_next s e ks q b.reached b.apart b.holds.sessions
-          ∙ ap (find_kept q) (sym (shards_step s.setup list taken s.index n e b.room b.there));
+          ∙ ap (find_kept q) (sym (entry_determines_sessions s.setup list taken s.index n e b.room b.there));
       filed = λ p. filed_next list taken n e s new p b a;
       known = b.holds.known;
       gone = λ p t c. gone_next list taken n e s new p b a t c;
@@ -274,8 +274,8 @@ onwards list taken n e s new b a sound =
 abbrev with_setup : Setup → ℕ → State → State
 with_setup setup shard s = record { setup = setup; index = shard; place = s.place; shut = s.shut; sessions = s.sessions }
 
-pub refines_onwards : RefinesOnwards
-refines_onwards setup list taken shard n e old new room there h a sound =
+pub refines_applied : RefinesOnwards
+refines_applied setup list taken shard n e old new room there h a sound =
     let s : State = with_setup setup shard old in
     let same : old ≡ with_setup setup shard old = ap (λ (x : Setup). with_setup x old.index old) h.setup_is ∙ ap (λ (i : ℕ). with_setup setup i old) h.index_is in
     onwards list taken n e s new (before list taken n e s room there (subst (Refines setup list taken shard n) same h)) (subst (λ (x : State). Applied x e new) same a) sound

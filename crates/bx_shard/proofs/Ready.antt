@@ -7,7 +7,7 @@ use Rattle.bx_entry.specs.declared.entry.Entry.{Entry}
 use Rattle.bx_entry.specs.declared.entry.EntryKind.TheVariants.{Opened}
 use Rattle.bx_session.specs.Views.{Countable}
 use Rattle.bx_shard.specs.Words.{Refines, IsReached, AreCountable, Setup, shard_at, State, session_in}
-use Rattle.bx_shard.proofs.{Cases.by_option, Finding.find_kept, Finding.found_each, Holdings.holds_reached, Holdings.opened_is_fresh}
+use Rattle.bx_shard.proofs.{Cases.by_option, Finding.find_kept, Finding.found_each, Holdings.holds_reached, Holdings.new_session_is_newest}
 
 pub holds_countable : (setup : Setup) (list : List Listed) (taken : List ℕ) (shard n : ℕ) (s : State) → 0 < setup.config.limits.batch → Refines setup list taken shard n s → n ≤ greatest_length → AreCountable s.sessions
 holds_countable setup list taken shard n s room h few number =
@@ -21,4 +21,4 @@ pub holds_unopened : (setup : Setup) (list : List Listed) (taken : List ℕ) (sh
 holds_unopened setup list taken shard n number ack e s h there kind =
     let ks : List Kept = (shard_at setup list taken shard n).sessions in
     h.sessions number ∙ by_option (λ o. o ≡ None) (find_kept number ks) (λ f. refl)
-    (λ k f. absurd (let w = found_each (λ j. j.number < number) number ks k f (opened_is_fresh setup list taken shard n number ack e there kind) in let l : k.number < number = w.0 in omega (arith, l, w.1)))
+    (λ k f. absurd (let w = found_each (λ j. j.number < number) number ks k f (new_session_is_newest setup list taken shard n number ack e there kind) in let l : k.number < number = w.0 in omega (arith, l, w.1)))

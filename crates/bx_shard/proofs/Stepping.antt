@@ -8,7 +8,7 @@ use Rattle.bx_entry.specs.declared.entry.{Entry.Entry, EntryKind.EntryKind}
 use Rattle.bx_entry.specs.declared.entry.EntryKind.TheVariants.{Opened}
 use Rattle.bx_theory.specs.Readings.{opens_by, closes_by, EachSession}
 use Rattle.bx_shard.specs.Words.{Setup, is_placed_in, shard_at, opening_by, ShardsStep, stepped}
-use Rattle.bx_theory.proofs.{Keeps.ride_k, Stages.Next, Stages.step_by_next, Dues.numbered, Dues.numbered_below, Kept.kept_steps, Closings.run_number}
+use Rattle.bx_theory.proofs.{Keeps.ride_k, Stages.Next, Stages.step_by_next, Dues.numbered, Dues.numbered_below, Kept.entry_effect_ignores_history, Closings.run_number}
 use Rattle.bx_shard.proofs.Elements.{numbers, numbers_next, opened_numbers, opens_no_other, entry_next, session_next, all_fresh, opens_above, Met, met}
 use Rattle.bx_shard.proofs.Finding.{steps}
 
@@ -100,7 +100,7 @@ held_step config ys x (n ∷ ns) d =
     held_cons config after n ns
     ∙ ap (λ (u : Session). one_kept u (held_by config after ns)) (session_next config n ys x)
     ∙ ap (one_kept (step config s e)) (held_step config ys x ns d.1)
-    ∙ one_step config s e (held_by config es ns) (kept_steps config s e) (λ h. dead_step config s e own h)
+    ∙ one_step config s e (held_by config es ns) (entry_effect_ignores_history config s e) (λ h. dead_step config s e own h)
     ∙ sym (ap (steps config e) (held_cons config es n ns))
 
 opening_step : (setup : Setup) (shard : ℕ) (ys : List Listed) (x : Listed) (k : EntryKind) → (entry_next setup.config ys x).kind ≡ k →
@@ -112,7 +112,7 @@ opening_step setup shard ys x (Opened n ack) h =
     let one : session setup.config n (entries_of (registry setup.config (ys ++ x ∷ []))) ≡ step setup.config (unopened n) (entry_next setup.config ys x) = session_next setup.config n ys x ∙ ap (λ (s : Session). step setup.config s e) begin in
     (elim (is_placed_in setup shard n) as (λ b. held_by setup.config (entries_of (registry setup.config (ys ++ x ∷ []))) (cond b (n ∷ []) []) ≡ steps setup.config (entry_next setup.config ys x) (cond b (kept (unopened n) ∷ []) [])) [
       | true ↦ held_cons setup.config (entries_of (registry setup.config (ys ++ x ∷ []))) n [] ∙ ap (λ (s : Session). one_kept s none) one
-          ∙ ap (λ (k : Kept). cond (is_live k.stage) (k ∷ none) none) (kept_steps setup.config (unopened n) e).state
+          ∙ ap (λ (k : Kept). cond (is_live k.stage) (k ∷ none) none) (entry_effect_ignores_history setup.config (unopened n) e).state
       | false ↦ refl
     ])
 opening_step setup shard ys x _ h = refl
@@ -136,8 +136,8 @@ shard_next setup shard ys x =
 
 -- ---- the law
 
-pub shards_step : ShardsStep
-shards_step setup list taken shard n e room there =
+pub entry_determines_sessions : ShardsStep
+entry_determines_sessions setup list taken shard n e room there =
     let m : Met setup.config list n e = met setup.config list n e there in
     held_at setup list taken shard (n + 1)
     ∙ ap (held_over setup shard) m.next

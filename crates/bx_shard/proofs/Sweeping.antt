@@ -57,6 +57,6 @@ refines_swept setup list taken shard n before old new h swept sound =
       there = λ p e. swept.connects p ∙ kept_then before (connect_in old p) (sym (swept_is before old p) ∙ e);
     }) sound
 
-pub refines_beside_swept : RefinesBesideSwept
-refines_beside_swept setup list taken shard n before s other m beside h apart g =
+pub refines_other_swept : RefinesBesideSwept
+refines_other_swept setup list taken shard n before s other m beside h apart g =
     refines_beside_gone setup list taken (swept_places before s) shard n s other m beside h (filed_swept before s) apart g

@@ -170,5 +170,5 @@ refines_taken setup list taken shard n place old new room h some took sound =
       there = λ p e. took.connects p ∙ cond-false (nat_eq place p) (taken_from (connect_in old place)) (connect_in old p) (is_one place p false e);
     }) sound
 
-pub refines_beside : RefinesBeside
-refines_beside setup list taken shard n place s other m beside room h some apart g = refines_beside_gone setup list taken (place ∷ []) shard n s other m beside h (filed_one place s some) apart g
+pub refines_other_taken : RefinesBeside
+refines_other_taken setup list taken shard n place s other m beside room h some apart g = refines_beside_gone setup list taken (place ∷ []) shard n s other m beside h (filed_one place s some) apart g

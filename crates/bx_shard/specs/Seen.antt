@@ -11,4 +11,4 @@ setup_in place_of s = record { config = s.sessions.config; shards = s.shards; pl
 
 -- The program's shard as a `State`: its setup, index, place, sessions, and whether it is shut.
 abbrev pub state : {P : Type 0} → (P → ℕ → ℕ → ℕ) → Shard P → State
-state place_of s = record { setup = setup_in place_of s; index = s.index; place = s.place; shut = s.is_shut; sessions = s.sessions }
+state place_of s = record { setup = setup_in place_of s; index = s.index; place = s.place; shut = s.is_closed_to_wakers; sessions = s.sessions }

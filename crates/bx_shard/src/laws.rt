@@ -7,7 +7,7 @@ ghost use Rattle.bx_shard.specs.Holdings.{SessionsReached, NumbersAscend, Opened
 ghost use Rattle.bx_shard.specs.Steps.{ShardsFile, ShardsStep};
 
 /// Proves that a shard's sessions after an entry depend only on those before and on the entry.
-pub fn shards_step()
+pub fn entry_determines_sessions()
     ensures { ShardsStep }
 {}
 
@@ -16,14 +16,14 @@ pub fn shards_step()
 /// The law is about the answer to a connect that was not taken. An answer that was filed before the
 /// entry stays filed. If there was none, the answer that a live session of the shard gives at the
 /// entry is filed.
-pub fn shards_file()
+pub fn entry_determines_filed_answers()
     ensures { ShardsFile }
 {}
 
 /// Proves that a shard's sessions are live, and bounds the number of batches that they formed.
 ///
 /// No session has formed more batches than the shard has applied entries.
-pub fn sessions_are_reached()
+pub fn sessions_are_live()
     ensures { SessionsReached }
 {}
 
@@ -33,27 +33,27 @@ pub fn sessions_ascend()
 {}
 
 /// Proves that a new session's number exceeds those of all sessions then in any shard.
-pub fn opened_is_fresh()
+pub fn new_session_is_newest()
     ensures { OpenedIsFresh }
 {}
 
 /// Proves that a shard that has applied no entry agrees with its definition `shard_at`.
-pub fn refines_at_first()
+pub fn refines_when_new()
     ensures { RefinesAtFirst }
 {}
 
 /// Proves that a shard still agrees with its definition `shard_at` after a call without effect.
-pub fn refines_still()
+pub fn refines_unchanged()
     ensures { RefinesStill }
 {}
 
 /// Proves that a shard still agrees with its definition `shard_at` when the list grows.
-pub fn refines_longer()
+pub fn refines_longer_list()
     ensures { RefinesLonger }
 {}
 
 /// Proves that a shard still agrees with its definition `shard_at` after it applies the next entry.
-pub fn refines_onwards()
+pub fn refines_applied()
     ensures { RefinesOnwards }
 {}
 
@@ -63,7 +63,7 @@ pub fn refines_taken()
 {}
 
 /// Proves that a shard still agrees with its definition `shard_at` after another's answer is taken.
-pub fn refines_beside()
+pub fn refines_other_taken()
     ensures { RefinesBeside }
 {}
 
@@ -85,7 +85,7 @@ pub fn refines_swept()
 {}
 
 /// Proves that a shard still agrees with its definition `shard_at` after another shard is swept.
-pub fn refines_beside_swept()
+pub fn refines_other_swept()
     ensures { RefinesBesideSwept }
 {}
 
@@ -93,6 +93,6 @@ pub fn refines_beside_swept()
 ///
 /// The definition is applied to the entries that the shard has applied. It describes a server that
 /// handles one message at a time.
-pub fn filed_is_given()
+pub fn filed_answers_match_definitions()
     ensures { FiledIsGiven }
 {}

@@ -10,11 +10,12 @@ mod sessions;
 mod shard;
 mod tick;
 
-pub use bx_connects::{Filing, Wakers, Watch};
+pub use bx_connects::{TakenAnswer, Wakers, Watch};
 pub use laws::{
-    filed_is_given, opened_is_fresh, refines_at_first, refines_beside, refines_beside_swept,
-    refines_longer, refines_onwards, refines_shut, refines_still, refines_swept, refines_taken,
-    refines_watched, sessions_are_reached, sessions_ascend, shards_file, shards_step,
+    entry_determines_filed_answers, entry_determines_sessions, filed_answers_match_definitions,
+    new_session_is_newest, refines_applied, refines_longer_list, refines_other_swept,
+    refines_other_taken, refines_shut, refines_swept, refines_taken, refines_unchanged,
+    refines_watched, refines_when_new, sessions_are_live, sessions_ascend,
 };
 pub use sessions::Sessions;
 pub use shard::Shard;

@@ -50,7 +50,7 @@ impl Sessions {
             events: Sequence::new(alloc),
             reply: copy_of(&rider.reply)?,
         };
-        self.connects.prepare(place, rider.session, answer)?;
+        self.connects.file_rider(place, rider.session, answer)?;
         Ok(room)
     }
 
@@ -79,7 +79,7 @@ impl Sessions {
     {
         if let Some(session) = self.by_number.get_mut(&number) {
             let events = session.ride(&self.config, room);
-            self.connects.complete(place, events);
+            self.connects.set_events(place, events);
         }
     }
 }

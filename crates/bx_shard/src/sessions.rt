@@ -18,7 +18,7 @@ ghost use Rattle.bx_shard.specs.Effects.{answers_by, connect_filing, filing_each
 use bx_advice::Config;
 use bx_connects::{Connects, Wakers};
 use bx_message::SharedEvent;
-use bx_session::{Answered, Connection, PendingConnect, Session};
+use bx_session::{Answered, ConnectResult, PendingConnect, Session};
 use bx_tree::Tree;
 use indexmap::IndexMap;
 use std::alloc::{AllocError, Global};
@@ -104,7 +104,7 @@ impl Sessions {
         self.connects.hold(place, number, connect.deadline())?;
         match session.connect(alloc, &self.config, connect, acked) {
             Ok(
-                Connection {
+                ConnectResult {
                     superseded,
                     answered,
                 },
@@ -239,7 +239,12 @@ impl Sessions {
     /// # Errors
     ///
     /// `AllocError` if memory runs out. The empty session may then remain, without patterns.
-    pub fn lend(&mut self, alloc: Global, number: u64, from: &Sessions) -> Result<(), AllocError>
+    pub fn reserve_session(
+        &mut self,
+        alloc: Global,
+        number: u64,
+        from: &Sessions,
+    ) -> Result<(), AllocError>
         requires clean { AreClean self.old }
         ensures sessions { OnOk result ((n : ℕ) → is_some (kept_in self.new n) ≡ (nat_eq number n || is_some (kept_in self.old n))) }
         ensures patterns { OnOk result ((n : ℕ) → patterns_in self.new n
@@ -263,7 +268,7 @@ impl Sessions {
     /// # Errors
     ///
     /// `AllocError` if memory runs out; no connect has changed.
-    pub fn lend_connect(
+    pub fn reserve_connect(
         &mut self,
         place: u64,
         session: u64,
@@ -274,7 +279,7 @@ impl Sessions {
         ensures err { OnErr result ((p : ℕ) → connect_at self.new.connects p ≡ connect_at self.old.connects p) }
         ensures others { (self.new.config ≡ self.old.config) × (self.new.by_number ≡ self.old.by_number) × (self.new.tree ≡ self.old.tree) }
     {
-        self.connects.lend(place, session, deadline)
+        self.connects.reserve_connect(place, session, deadline)
     }
 
     /// Replaces session `number`, which [`lend`](Self::lend) has reserved, with `session`.

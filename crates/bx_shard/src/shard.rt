@@ -6,7 +6,7 @@ ghost use Rattle.bx_shard.specs.Sessions.{AreCounted, AreHeld, Fits, has_formed_
 
 use crate::sessions::Sessions;
 use bx_advice::Config;
-use bx_connects::{Connects, Filing, Wakers, Watch};
+use bx_connects::{Connects, TakenAnswer, Wakers, Watch};
 use bx_entry::{Entry, EntryKind, Placing, Ticket};
 use bx_message::Answer;
 use bx_session::Session;
@@ -28,7 +28,7 @@ pub struct Shard<P> {
     pub(crate) shards: usize,
     // Number of applied entries.
     pub(crate) place: u64,
-    pub(crate) is_shut: bool,
+    pub(crate) is_closed_to_wakers: bool,
     pub(crate) sessions: Sessions,
     ghost some_shard: { 1 ≤ shards },
     ghost shards_in_range: { shards ≤ 64 },
@@ -58,7 +58,7 @@ impl<P: Placing> Shard<P> {
         ensures placing { arc_value result.placing ≡ arc_value placing }
         ensures index { result.index ≡ index }
         ensures shards { result.shards ≡ config.shards }
-        ensures place { (result.place ≡ 0) × (result.is_shut ≡ false) }
+        ensures place { (result.place ≡ 0) × (result.is_closed_to_wakers ≡ false) }
         ensures sessions { (n : ℕ) → session_in (state P.place_of result) n ≡ None }
         ensures connects { (p : ℕ) → connect_in (state P.place_of result) p ≡ None }
         ensures sound { IsSound (state P.place_of result) }
@@ -68,7 +68,7 @@ impl<P: Placing> Shard<P> {
             index,
             shards: config.shards,
             place: 0,
-            is_shut: false,
+            is_closed_to_wakers: false,
             sessions: Sessions::new(alloc, config),
         }
     }
@@ -152,7 +152,7 @@ impl<P: Placing> Shard<P> {
     /// Removes and returns any one filed answer, or returns `None` if none is filed.
     ///
     /// The cost does not depend on how many answers are filed.
-    pub fn take_any(&mut self) -> Option<Filing>
+    pub fn take_any(&mut self) -> Option<TakenAnswer>
         ensures filed { IfSome result (λ filing. (session : ℕ)
             × (connect_in (state P.place_of self.old) filing.connect ≡ Some (Filed session filing.place filing.answer))) }
         ensures taken { IfSome result (λ filing.
@@ -171,7 +171,7 @@ impl<P: Placing> Shard<P> {
     /// [`apply`](Self::apply) answers the connect, it moves the stored waker to its `wakers`.
     pub fn watch(&mut self, ticket: Ticket, waker: Waker) -> Watch
         ensures watch { nat_eq ticket.shard self.old.index ≡ true
-            → result ≡ watched self.old.is_shut waker (connect_in (state P.place_of self.old) ticket.place) }
+            → result ≡ watched self.old.is_closed_to_wakers waker (connect_in (state P.place_of self.old) ticket.place) }
         ensures own { nat_eq ticket.shard self.old.index ≡ true
             → Watched ticket.place waker (state P.place_of self.old) (state P.place_of self.new) }
         ensures other { nat_eq ticket.shard self.old.index ≡ false
@@ -183,7 +183,7 @@ impl<P: Placing> Shard<P> {
         }
         self.sessions
             .connects
-            .watch(ticket.place, waker, self.is_shut)
+            .watch(ticket.place, waker, self.is_closed_to_wakers)
     }
 
     /// Drops the answers given by entries before place `before`, and returns their number.
@@ -202,7 +202,7 @@ impl<P: Placing> Shard<P> {
         ensures shut { WasShut (state P.place_of self.old) (state P.place_of self.new) }
         ensures sound { IsSound (state P.place_of self.new) }
     {
-        self.is_shut = true;
+        self.is_closed_to_wakers = true;
         self.sessions.connects.unwatch_all();
     }
 
@@ -216,7 +216,7 @@ impl<P: Placing> Shard<P> {
         index: usize,
         shards: usize,
         place: u64,
-        is_shut: bool,
+        is_closed_to_wakers: bool,
         sessions: Sessions,
     ) -> Shard<P>
         requires some_shard { 1 ≤ shards }
@@ -224,7 +224,7 @@ impl<P: Placing> Shard<P> {
         requires fit { Fits place sessions }
         ensures placing { result.placing ≡ placing }
         ensures index { (result.index ≡ index) × (result.shards ≡ shards) }
-        ensures place { (result.place ≡ place) × (result.is_shut ≡ is_shut) }
+        ensures place { (result.place ≡ place) × (result.is_closed_to_wakers ≡ is_closed_to_wakers) }
         ensures sessions { result.sessions ≡ sessions }
     {
         Shard {
@@ -232,7 +232,7 @@ impl<P: Placing> Shard<P> {
             index,
             shards,
             place,
-            is_shut,
+            is_closed_to_wakers,
             sessions,
         }
     }
@@ -245,10 +245,10 @@ impl<P: Placing> Shard<P> {
     }
 
     /// Returns `true` if the shard was [`shut`](Self::shut), so that it stores no wakers.
-    pub fn is_shut(&self) -> bool
-        ensures { result ≡ self.now.is_shut }
+    pub fn is_closed_to_wakers(&self) -> bool
+        ensures { result ≡ self.now.is_closed_to_wakers }
     {
-        self.is_shut
+        self.is_closed_to_wakers
     }
 
     /// Converts the shard into its sessions, by number, and its connects.

@@ -6,7 +6,7 @@ use crate::same::same;
 use bx_advice::{Config, Outcome, Reconnect};
 use bx_message::{AckReply, Event, RawJson, Reply, SharedEvent, Text};
 use bx_names::{ChannelName, Pattern};
-use bx_session::{Answered, Connection, Delivery, PendingConnect, Session};
+use bx_session::{Answered, ConnectResult, Delivery, PendingConnect, Session};
 use bx_tree::Tree;
 use std::alloc::{AllocError, Global};
 use std::process::Abort;
@@ -109,8 +109,8 @@ fn push_answer(answers: &mut Vec<Answered>, answered: Option<Answered>) -> Resul
     Ok(())
 }
 
-fn push_both(answers: &mut Vec<Answered>, connection: Connection) -> Result<(), Fail> {
-    let Connection {
+fn push_both(answers: &mut Vec<Answered>, connection: ConnectResult) -> Result<(), Fail> {
+    let ConnectResult {
         superseded,
         answered,
     } = connection;

@@ -31,7 +31,7 @@ enum Move {
 
 // Returns a text with the number of events, the last batch's number, and the outstanding events.
 fn text_of(alloc: Global, window: &Window) -> Result<String, Fail> {
-    let given = window.given();
+    let given = window.outstanding_batch();
     let mut numbers = Vec::new(alloc);
     for event in given.events {
         let number = event.event().payload.as_str().parse().ok();
@@ -72,7 +72,7 @@ fn apply(rt: &impl Abort, alloc: Global, window: &mut Window, step: Move) -> Res
             step,
         ),
         Move::Give(most) => {
-            if window.given().number < MANY {
+            if window.outstanding_batch().number < MANY {
                 window.give(most);
             }
         }
@@ -248,7 +248,7 @@ fn check_bytes(rt: &impl Abort, alloc: Global, window: &mut Window) -> Result<()
         "room of one that went",
     );
     same(rt, window.is_full(LIMIT, 53, &next), true, "but no more");
-    if window.given().number < MANY {
+    if window.outstanding_batch().number < MANY {
         window.give(256);
     }
     same(

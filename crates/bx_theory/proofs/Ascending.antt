@@ -69,8 +69,8 @@ places_climb config list low end number (d ∷ ds) f =
     (λ h. (f.0, climbs_lower (d.first + 1) (d.first + d.count) (firsts rest) (omega (arith, has_one config list o h)) others))
     (λ h. climbs_lower low (d.first + d.count) (firsts rest) (omega (arith, f.0)) others)
 
-pub opens_ascend : OpensAscend
-opens_ascend config inputs room =
+pub held_inputs_are_in_order : OpensAscend
+held_inputs_are_in_order config inputs room =
     let t : Taking = taken_in inputs in
     let test : Numbered → Bool = λ o. not (is_whole config (registry config t.list) o) in (
       climbs_increase 0 _ (numbers_climb test 0 t.intake),

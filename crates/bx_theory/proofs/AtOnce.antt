@@ -12,7 +12,7 @@ use Rattle.bx_entry.specs.declared.entry.{Entry.Entry, Rider.Rider, EntryKind.En
 use Rattle.bx_entry.specs.declared.entry.EntryKind.TheVariants.{Connect}
 use Rattle.bx_entry.specs.Sessions.{Session, Publication, Pending, Filed, filing, answered, released, given, gives, idle, answered_or_held, connected, step, session, unopened, is_live, ridden, ridden_by, ride_filing, step_by, rider_of}
 use Rattle.bx_theory.proofs.Verdicts.{by_verdict, got_here, registry_next}
-use Rattle.bx_theory.proofs.{Lists.answer_more, Lists.judged_length, Closings.run_number, Stages.step_by_next, Stages.live_reading, Senders.sender_reads, Lives.found_of}
+use Rattle.bx_theory.proofs.{Lists.answer_more, Lists.judged_length, Closings.run_number, Stages.step_by_next, Stages.live_from_opening_to_first_close, Senders.sender_reads, Lives.found_of}
 use Rattle.bx_theory.proofs.Counts.{freed, connected_by, ride_both}
 
 pub record There (o : Option PlacedAnswer) : Type 0 where
@@ -147,7 +147,7 @@ message_there config xs p h =
     (by_verdict (λ v. There (answer_in config (noted r moment v) (length r.judged))) config (state_of r) moment p (named_by r.sessions (message_kind_of p.message.channel) p.message) (refusal config r.sessions p)
     (λ e. ready_last config r moment (refused config (state_of r) p e (named_by r.sessions (message_kind_of p.message.channel) p.message)) _ refl) (ready_last config r moment (opened config (state_of r) moment p (length r.sessions + 1)) _ refl)
     (ready_last config r moment (sessionless config (state_of r) p (message_kind_of p.message.channel)) _ refl)
-    (λ s e. accepted_there config r moment p s (hold_of config p) (cond-false (p.sole && is_connect p.message) _ 0 (ap (λ (b : Bool). b && is_connect p.message) h)) (live_reading config s.number (entries_of r) ∙ sender_reads config xs p s e))))
+    (λ s e. accepted_there config r moment p s (hold_of config p) (cond-false (p.sole && is_connect p.message) _ 0 (ap (λ (b : Bool). b && is_connect p.message) h)) (live_from_opening_to_first_close config s.number (entries_of r) ∙ sender_reads config xs p s e))))
 
 pub there_stays : (config : Config) (list xs ys : List Listed) (x : Listed) → 0 < config.limits.batch → xs ++ (x ∷ ys) ≡ list → There (answer config (xs ++ x ∷ []) (length xs)) → There (answer_in config (registry config list) (length xs))
 there_stays config list xs ys x room e a = record {

@@ -11,7 +11,7 @@ use Rattle.bx_entry.specs.declared.entry.{Entry.Entry, Rider.Rider, EntryKind.En
 use Rattle.bx_entry.specs.declared.entry.EntryKind.TheVariants.{Connect, Subscribe, Unsubscribe, Disconnect}
 use Rattle.bx_theory.specs.Readings.{unclosed, EachSession, NothingMore, ClosedIsOver}
 use Rattle.bx_theory.proofs.{Counts.ride_both, Verdicts.by_verdict, Verdicts.each_registry, Keeps.connected_k, Lives.opened_later, Lives.entries_push, Senders.live_by, Senders.sender_reads}
-use Rattle.bx_theory.proofs.Stages.{live_reading, step_number, step_by_next}
+use Rattle.bx_theory.proofs.Stages.{live_from_opening_to_first_close, step_number, step_by_next}
 use Rattle.bx_theory.proofs.Dues.{each_session_push, each_session_through, left_each}
 
 -- ---- Due moments only rise
@@ -224,8 +224,8 @@ judge_goes config number ys (Post p) h =
     let s : Session = at config number ys in
     let same : (at config number ys).number ≡ number = run_number config (unopened number) (entries_of (registry config ys)) in
     judged_by_goes config number s r (max r.clock p.moment) p (named_by r.sessions (message_kind_of p.message.channel) p.message) (refusal config r.sessions p) same
-    (λ l. live_reading config number (entries_of (registry config ys)) ∙ ap (unclosed number) (opened_later config ys number l))
-    (λ q e g. live_stage s.stage (live_reading config number (entries_of (registry config ys)) ∙ subst (λ (n : ℕ). live_by n (entries_of (registry config ys)) ≡ true) (eqb-true q.number s.number g ∙ same) (sender_reads config ys p q e)))
+    (λ l. live_from_opening_to_first_close config number (entries_of (registry config ys)) ∙ ap (unclosed number) (opened_later config ys number l))
+    (λ q e g. live_stage s.stage (live_from_opening_to_first_close config number (entries_of (registry config ys)) ∙ subst (λ (n : ℕ). live_by n (entries_of (registry config ys)) ≡ true) (eqb-true q.number s.number g ∙ same) (sender_reads config ys p q e)))
     h
 judge_goes config number ys (messages.Tick moment) h =
     let r : Registry = registry config ys in
@@ -284,5 +284,5 @@ idle_next config number ys x c =
     let g : Goes config number (at config number ys) (registry config ys) (judge config (registry config ys) x) = judge_goes config number ys x h in
     ap (λ (u : Session). u.answers) (next_at config number ys x g) ∙ goes_idle config number s _ _ g c (none_held number s (registry config ys).sessions c h)
 
-pub closed_is_over : ClosedIsOver
-closed_is_over config list more number c = over_from config number list more c
+pub closed_session_never_changes : ClosedIsOver
+closed_session_never_changes config list more number c = over_from config number list more c

@@ -115,5 +115,5 @@ all_in_step config s (e ∷ es) room i = all_in_step config (step config s e) es
 pub unopened_in_step : (config : Config) (number : ℕ) → InStep config (unopened number)
 unopened_in_step config number = grind (arith, common_steps)
 
-pub counts_agree : CountsAgree
-counts_agree config number es room = all_in_step config (unopened number) es room (unopened_in_step config number)
+pub queue_batch_and_counts_agree : CountsAgree
+queue_batch_and_counts_agree config number es room = all_in_step config (unopened number) es room (unopened_in_step config number)

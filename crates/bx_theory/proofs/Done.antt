@@ -20,7 +20,7 @@ done_run : (config : Config) (s : Session) (es : List Entry) → s.done ≤ (fol
 done_run config s [] = omega arith
 done_run config s (e ∷ es) = let a = done_step config s e in let b = done_run config (step config s e) es in omega arith
 
-pub done_never_falls : DoneNeverFalls
-done_never_falls config number xs ys =
+pub done_event_count_never_falls : DoneNeverFalls
+done_event_count_never_falls config number xs ys =
     let same = fold-append (step config) (unopened number) xs ys in
     subst (λ (t : Session). (session config number xs).done ≤ t.done) (sym same) (done_run config (session config number xs) ys)

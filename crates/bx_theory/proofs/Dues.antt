@@ -18,8 +18,8 @@ clock_run : (config : Config) (r : Registry) (xs : List Listed) → (fold (judge
 clock_run config r [] = refl
 clock_run config r (x ∷ xs) = clock_run config (judge config r x) xs ∙ ap (λ (t : Registry). fold max t.clock (map moment_of xs)) (judge_is config r x)
 
-pub clock_reading : ClockReading
-clock_reading config list = clock_run config _ list
+pub clock_is_greatest_moment : ClockReading
+clock_is_greatest_moment config list = clock_run config _ list
 
 -- ---- Sessions
 
@@ -233,8 +233,8 @@ due_opened config r p numbers d =
 moved_due : (number due : ℕ) (s : Registered) → (moved number due s).due ≡ cond (s.number == number) (max s.due due) s.due
 moved_due number due s = grind (arith, common_steps)
 
-pub due_reading : DueReading
-due_reading config list =
+pub due_is_greatest_set_by_messages : DueReading
+due_is_greatest_set_by_messages config list =
     (each_registry config (Due config) (record { senders = tt; due = tt }) (λ ys x d.
     let r : Registry = registry config ys in
     each_judge config r (Due config) (record {

@@ -74,5 +74,5 @@ run_says config s (e ∷ es) p b h =
     ∙ ap (λ (n : ℕ). not t.overflow && last_of now (filter_map (λ (x : Entry). mention_by n p x.kind) es)) (step_number config s e)
     ∙ ap (λ (q : Bool). not t.overflow && q) (last_next b (mention_by s.number p e.kind) (λ (x : Entry). mention_by s.number p x.kind) e es refl)
 
-pub in_force_reading : InForceReading
-in_force_reading config number es p = run_says config (unopened number) es p false refl
+pub pattern_active_if_last_subscribed : InForceReading
+pattern_active_if_last_subscribed config number es p = run_says config (unopened number) es p false refl

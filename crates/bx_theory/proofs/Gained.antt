@@ -14,7 +14,7 @@ use Rattle.bx_entry.proofs.Rooms.{room_count, room_bytes, room_where}
 use Rattle.bx_theory.specs.Readings.{mention_by, last_of}
 use Rattle.bx_theory.specs.Laws.{EachOf, PlacesFrom}
 use Rattle.bx_theory.specs.Events.{IsEvent, GetsPublish, Rising, EventsWerePublished, PublishesAreEvents, EventsRise}
-use Rattle.bx_theory.proofs.{Keeps.ride_k, Keeps.overflow_reading, Stages.live_reading, Forces.in_force_reading}
+use Rattle.bx_theory.proofs.{Keeps.ride_k, Keeps.overflowed_if_entry_found_no_room, Stages.live_from_opening_to_first_close, Forces.pattern_active_if_last_subscribed}
 
 -- ---- One entry
 
@@ -82,8 +82,8 @@ rising_run : (config : Config) (n : ℕ) (s : Session) (es : List Entry) → Pla
 rising_run config n s [] d r = r.rising
 rising_run config n s (e ∷ es) d r = rising_run config (n + 1) (step config s e) es d.1 (rising_step config n s e d.0 r)
 
-pub events_rise : EventsRise
-events_rise config number es d = rising_run config 0 (unopened number) es d (record { rising = tt; below = tt })
+pub events_have_ascending_places : EventsRise
+events_have_ascending_places config number es d = rising_run config 0 (unopened number) es d (record { rising = tt; below = tt })
 
 -- ---- When a publish reaches a session
 
@@ -132,10 +132,10 @@ hit_reads config number before e h =
     let m : Matching s.patterns (segments e.channel) = matching_from s.patterns (segments e.channel) x.matched in
     record {
       broadcast = x.broadcast;
-      live = sym (live_reading config number before) ∙ x.live;
-      within = sym (overflow_reading config (unopened number) before) ∙ x.within;
+      live = sym (live_from_opening_to_first_close config number before) ∙ x.live;
+      within = sym (overflowed_if_entry_found_no_room config (unopened number) before) ∙ x.within;
       pattern = m.pattern;
-      in_force = (and_parts (not s.overflow) (last_of false (filter_map (λ (x : Entry). mention_by number m.pattern x.kind) before)) (sym (in_force_reading config number before m.pattern) ∙ m.force)).1;
+      in_force = (and_parts (not s.overflow) (last_of false (filter_map (λ (x : Entry). mention_by number m.pattern x.kind) before)) (sym (pattern_active_if_last_subscribed config number before m.pattern) ∙ m.force)).1;
       matching = m.matching;
       room = x.room;
       fits = x.fits;
@@ -144,13 +144,13 @@ hit_reads config number before e h =
 reads_hit : (config : Config) (number : ℕ) (before : List Entry) (e : Event) → IsEvent config number before e → (is_hit (session config number before) e && has_room config e (session config number before)) ≡ true
 reads_hit config number before e i =
     let s : Session = session config number before in
-    let within : s.overflow ≡ false = overflow_reading config (unopened number) before ∙ i.within in
+    let within : s.overflow ≡ false = overflowed_if_entry_found_no_room config (unopened number) before ∙ i.within in
     is_so config s e (record {
-      live = live_reading config number before ∙ i.live;
+      live = live_from_opening_to_first_close config number before ∙ i.live;
       within = within;
       broadcast = i.broadcast;
       matched = matching_any s.patterns (segments e.channel) i.pattern
-          (in_force_reading config number before i.pattern ∙ ap (λ (o : Bool). not o && last_of false (filter_map (λ (x : Entry). mention_by number i.pattern x.kind) before)) within ∙ i.in_force) i.matching;
+          (pattern_active_if_last_subscribed config number before i.pattern ∙ ap (λ (o : Bool). not o && last_of false (filter_map (λ (x : Entry). mention_by number i.pattern x.kind) before)) within ∙ i.in_force) i.matching;
       room = i.room;
       fits = i.fits;
     })

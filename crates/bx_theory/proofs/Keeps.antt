@@ -97,9 +97,9 @@ or_true false = refl
 step_by_overflow : (config : Config) (place moment : ℕ) (s : Session) (k : EntryKind) → (step_by config place moment s k).overflow ≡ (s.overflow || overfills_by config s k)
 step_by_overflow config place moment s k = grind (arith, common_steps)
 
-pub overflow_reading : OverflowReading
-overflow_reading config s [] = or_false s.overflow
-overflow_reading config s (e ∷ es) = overflow_reading config (step config s e) es
+pub overflowed_if_entry_found_no_room : OverflowReading
+overflowed_if_entry_found_no_room config s [] = or_false s.overflow
+overflowed_if_entry_found_no_room config s (e ∷ es) = overflowed_if_entry_found_no_room config (step config s e) es
     ∙ ap (λ (b : Bool). b || some_overfills config (step config s e) es) ((ride_k config e.place (step_by config e.place e.moment s e.kind) (rider_of e.kind e.rides)).overflow ∙ step_by_overflow config e.place e.moment s e.kind)
     ∙ or_assoc s.overflow (overfills_by config s e.kind) (some_overfills config (step config s e) es)
 

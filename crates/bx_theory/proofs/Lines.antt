@@ -146,11 +146,11 @@ last_prints config inputs ws numbered number index (Resharded shards) more room 
 last_prints config inputs ws numbered number index (Announced nonce) more room i a e = refl
 last_prints config inputs ws numbered number index Noted more room i a e = refl
 
-pub inputs_go_on : InputsGoOn
-inputs_go_on ls l = inputs_on 1 ls (l ∷ []) ∙ ap (λ (n : ℕ). inputs_from 1 ls ++ inputs_from n (l ∷ [])) (let e : 1 + length ls ≡ length ls + 1 = omega arith in e)
+pub next_line_appends_its_input : InputsGoOn
+next_line_appends_its_input ls l = inputs_on 1 ls (l ∷ []) ∙ ap (λ (n : ℕ). inputs_from 1 ls ++ inputs_from n (l ∷ [])) (let e : 1 + length ls ≡ length ls + 1 = omega arith in e)
 
-pub lines_go_on : LinesGoOn
-lines_go_on config ls l more room a =
+pub next_line_appends_its_output : LinesGoOn
+next_line_appends_its_output config ls l more room a =
     let numbered : List Numbered = inputs_from 1 ls in
     let inputs : List ReadInput = inputs_in ls in
     let number : ℕ = length ls + 1 in
@@ -159,14 +159,14 @@ lines_go_on config ls l more room a =
     let ws : List Whole = wholes config (inputs ++ lasts) in
     let all : List Numbered = numbered ++ ones in
     let many : length numbered ≡ length inputs = sym (length-map numbered (λ (n : Numbered). n.input)) in
-    ap (λ (ns : List Numbered). printed_from (wholes config (map (λ (n : Numbered). n.input) ns)) ns 1 0 (ls ++ l ∷ [])) (inputs_go_on ls l)
+    ap (λ (ns : List Numbered). printed_from (wholes config (map (λ (n : Numbered). n.input) ns)) ns 1 0 (ls ++ l ∷ [])) (next_line_appends_its_input ls l)
     ∙ ap (λ (is : List ReadInput). printed_from (wholes config is) all 1 0 (ls ++ l ∷ [])) (map-append (λ (n : Numbered). n.input) numbered ones)
     ∙ prints_on ws all 1 0 ls (l ∷ [])
     ∙ ap (λ (t : List ℕ). t ++ printed_from ws all (1 + length ls) (0 + length numbered) (l ∷ []))
     (prints_same ws (wholes config inputs) all numbered 1 0 (length inputs) ls (omega arith) (λ j h. outs_same config numbered ones inputs lasts j room many h))
     ∙ ap (λ (k : ℕ). printed_so_far config ls ++ printed_from ws all k (0 + length numbered) (l ∷ [])) (let e : 1 + length ls ≡ number = omega arith in e)
     ∙ ap (λ (t : List ℕ). printed_so_far config ls ++ t) (last_prints config inputs ws all number (0 + length numbered) l more room (omega arith) a refl)
-    ∙ ap (λ (ns : List Numbered). printed_so_far config ls ++ line_prints number ns l more) (sym (inputs_go_on ls l))
+    ∙ ap (λ (ns : List Numbered). printed_so_far config ls ++ line_prints number ns l more) (sym (next_line_appends_its_input ls l))
 
-pub held_come_last : HeldComeLast
-held_come_last config ls = refl
+pub replay_prints_held_last : HeldComeLast
+replay_prints_held_last config ls = refl

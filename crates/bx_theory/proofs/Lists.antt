@@ -197,7 +197,7 @@ answer_within config list n place a room l e =
     (λ h. ap (λ (zs : List Listed). answer config zs place) (take_all n list (omega (arith, h, length-take n list))) ∙ e)
     (cases_lt a.place (length (take n list)))
 
-pub answers_stay : AnswersStay
-answers_stay config list other place a room e same =
+pub answers_ignore_later_entries : AnswersStay
+answers_ignore_later_entries config list other place a room e same =
     let there : answer config (take (a.place + 1) other) place ≡ Some a = ap (λ (zs : List Listed). answer config zs place) same ∙ answer_front config list place a room e in
     sym (ap (λ (zs : List Listed). answer config zs place) (take-append-drop (a.place + 1) other)) ∙ answer_more config (take (a.place + 1) other) (drop (a.place + 1) other) place a room there

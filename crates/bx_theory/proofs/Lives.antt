@@ -176,6 +176,6 @@ run_agrees config list =
 pub opened_later : (config : Config) (list : List Listed) (n : ℕ) → length (registry config list).sessions < n → since_opening n (entries_of (registry config list)) ≡ None
 opened_later config list n l = (run_agrees config list).later n l
 
-pub same_live : SameLive
+pub registry_and_entries_agree_on_live : SameLive
 unfolding reading
-same_live config list = (run_agrees config list).live
+registry_and_entries_agree_on_live config list = (run_agrees config list).live

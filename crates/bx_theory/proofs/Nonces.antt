@@ -16,8 +16,8 @@ pub nonces_on : (nonce : ℕ) (ls ms : List Line) → with_nonces nonce (ls ++ m
 nonces_on nonce [] ms = refl
 nonces_on nonce (l ∷ ls) ms = ap (λ (us : List Line). line_with nonce l ∷ us) (nonces_on (nonce_after nonce l) ls ms)
 
-pub nonces_go_on : NoncesGoOn
-nonces_go_on ls l = nonces_on 0 ls (l ∷ [])
+pub line_gets_nonce_announced_before : NoncesGoOn
+line_gets_nonce_announced_before ls l = nonces_on 0 ls (l ∷ [])
 
 -- ---- Lines as they are read
 
@@ -97,15 +97,15 @@ stays (Resharded shards) h = refl
 stays (Announced nonce) h = cc
 stays Noted h = refl
 
-pub nonces_stay : NoncesStay
+pub nonces_unchanged_unless_announced : NoncesStay
 unfolding HasNone
-nonces_stay d [] h = refl
-nonces_stay d (text ∷ texts) h =
+nonces_unchanged_unless_announced d [] h = refl
+nonces_unchanged_unless_announced d (text ∷ texts) h =
     let line : Line = line_of d text in
     let parts = and_parts (says_no_nonce line) (list_all says_no_nonce (map (line_of d) texts)) h in
     ap (λ (l : Line). l ∷ with_nonces (nonce_after 0 line) (map (line_of d) texts)) (none_line d text)
     ∙ ap (λ (n : ℕ). line ∷ with_nonces n (map (line_of d) texts)) (stays line parts.0)
-    ∙ ap (λ (us : List Line). line ∷ us) (nonces_stay d texts parts.1)
+    ∙ ap (λ (us : List Line). line ∷ us) (nonces_unchanged_unless_announced d texts parts.1)
 
 -- ---- Scripts
 

@@ -202,8 +202,8 @@ round_outs config t u d room n c ends =
     ∙ sym (map-append (out_of config s) (filter (is_whole config s) opens) (filter (is_whole config s) (new ∷ [])))
     ∙ sym (ap (map (out_of config s)) (filter-append (is_whole config s) opens (new ∷ [])))
 
-pub outs_add : OutsAdd
-outs_add config inputs input room =
+pub input_appends_outs_it_completes : OutsAdd
+input_appends_outs_it_completes config inputs input room =
     let t : Taking = taken_in inputs in
     let more : List ReadInput = input ∷ [] in
     let n : ℕ = length inputs in
@@ -246,8 +246,8 @@ round_opens config t u d room n =
     ∙ ap (λ (xs : List Numbered). xs ++ filter p (new ∷ [])) (filter_twice p q os (λ o. stays_whole (length t.list) (answer_in config r) (answer_in config s) (places_of o.intake o.intake.input) ahead))
     ∙ sym (filter-append p (filter q os) (new ∷ []))
 
-pub opens_go_on : OpensGoOn
-opens_go_on config inputs input room =
+pub input_stays_incomplete_until_completed : OpensGoOn
+input_stays_incomplete_until_completed config inputs input room =
     let s : Registry = registry_after config (inputs ++ input ∷ []) in
     round_opens config (taken_in inputs) (taken_in (inputs ++ input ∷ [])) (newest inputs input).intake room (newly_of inputs input)
     ∙ ap (λ (i : ℕ). filter (λ (o : Numbered). not (is_whole config s o)) (open_after config inputs ++ record { number = i; intake = (newest inputs input).intake } ∷ [])) (many_of inputs)
@@ -285,7 +285,7 @@ standing_of config t room c = record {
   some = λ k l. ap is_none (position_there (has_place k) t.intake (c k l));
 }
 
-pub open_is_held : OpenIsHeld
-open_is_held config inputs room =
+pub incomplete_inputs_are_reported_held : OpenIsHeld
+incomplete_inputs_are_reported_held config inputs room =
     let t : Taking = taken_in inputs in
     held_from config (registry config t.list) t.intake (length t.list) 0 t.intake (standing_of config t room (covers_of inputs))

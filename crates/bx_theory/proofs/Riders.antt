@@ -31,8 +31,8 @@ pub entries_all : (P : Entry → Type 0) (js : List Judged) → AllByRecursion (
 entries_all P [] d = tt
 entries_all P (j ∷ js) d = (d.0, entries_all P js d.1)
 
-pub no_riders_unasked : NoRidersUnasked
-no_riders_unasked config list h =
+pub no_riders_without_option : NoRidersUnasked
+no_riders_without_option config list h =
     entries_all (λ (e : Entry). e.rides ≡ None) (registry config list).judged (each_found config list (λ j. j.entry.rides ≡ None) (λ ys x zs whole. none_unasked config (registry config ys) x h))
 
 -- ---- A session acknowledges from its opening on, or never
@@ -149,8 +149,8 @@ plain_rider config es true n (Waiting number) h = tt
 plain_rider config es true n NoSlot h = tt
 plain_rider config es false n slot h = tt
 
-pub riders_are_plain : RidersArePlain
-riders_are_plain config list =
+pub rider_sessions_do_not_acknowledge : RidersArePlain
+rider_sessions_do_not_acknowledge config list =
     let es : List Entry = entries_of (registry config list) in
     entries_all (λ (e : Entry). RidesPlain config es e.rides) (registry config list).judged (each_found config list (λ j. RidesPlain config es j.entry.rides) (λ ys x zs whole.
     let r : Registry = registry config ys in
@@ -187,7 +187,7 @@ pub none_of_acknowledging : (config : Config) (list : List Listed) (before : Lis
 none_of_acknowledging config list before e behind number split acks =
     let k : RidesPlain config (entries_of (registry config list)) e.rides =
     all_at (λ (x : Entry). RidesPlain config (entries_of (registry config list)) x.rides) before e behind
-    (subst (AllByRecursion (λ (x : Entry). RidesPlain config (entries_of (registry config list)) x.rides)) split (riders_are_plain config list)) in
+    (subst (AllByRecursion (λ (x : Entry). RidesPlain config (entries_of (registry config list)) x.rides)) split (rider_sessions_do_not_acknowledge config list)) in
     rider_of_both e.kind e.rides (λ (rides : Option Rider). rides_for number rides ≡ false) refl (not_its_own config (entries_of (registry config list)) number e.rides acks k)
 
 last_alone : (place : ℕ) (rides : Option Rider) (s : Session) (f : Filed) → LastGiven place rides s f → rides_for s.number rides ≡ false → LastAnswer s f

@@ -303,8 +303,8 @@ found_is config ys xs zs more judged many =
     ∙ ap (take (length xs)) (drop-append_seam r.judged (more ++ rest))
     ∙ ap (λ (n : ℕ). take n (more ++ rest)) (sym many) ∙ take-append_seam more rest
 
-pub rider_reading : RiderReading
-rider_reading config inputs moment nonce ms more before j behind number split =
+pub when_a_message_is_a_rider : RiderReading
+when_a_message_is_a_rider config inputs moment nonce ms more before j behind number split =
     let ys : List Listed = flat_map added_by inputs in
     let xs : List Listed = listed_from moment nonce (length ms == 1) false ms in
     let fresh : (registry config (flat_map added_by inputs)).senders ≡ NoneYet = inputs_end config empty_registry inputs refl in
@@ -321,10 +321,10 @@ none_where : (rides : Option Rider) → ((number : ℕ) → rider_session rides 
 none_where None h = refl
 none_where (Some rider) h = absurd (h rider.session refl)
 
-pub nothing_rides_beside : NothingRidesBeside
-nothing_rides_beside config inputs moment nonce ms more before other behind first j rest there none here =
+pub no_rider_beside_rejected_or_sessionless : NothingRidesBeside
+no_rider_beside_rejected_or_sessionless config inputs moment nonce ms more before other behind first j rest there none here =
     none_where j.entry.rides (λ number e.
-    let k = (rider_reading config inputs moment nonce ms more first j rest number here).0 e in
+    let k = (when_a_message_is_a_rider config inputs moment nonce ms more first j rest number here).0 e in
     none_own number other none (own_at number before other behind (subst (Own number) (sym here ∙ there) k.own)))
 
 -- ---- Nothing else is a rider
@@ -337,8 +337,8 @@ unridden : (config : Config) (r : Registry) (x : Listed) → may_have_rider (ver
 unridden config r (Post p) h = unridden_by config (state_of r) (max r.clock p.moment) p (named_by r.sessions (message_kind_of p.message.channel) p.message) (refusal config r.sessions p) h
 unridden config r (messages.Tick moment) h = refl
 
-pub others_never_ride : OthersNeverRide
-others_never_ride config list =
+pub only_subscriptions_and_publishes_ride : OthersNeverRide
+only_subscriptions_and_publishes_ride config list =
     entries_all (λ (e : Entry). may_have_rider e.kind ≡ false → e.rides ≡ None) (registry config list).judged
     (each_found config list (λ j. may_have_rider j.entry.kind ≡ false → j.entry.rides ≡ None) (λ ys x zs whole. unridden config (registry config ys) x))
 

@@ -7,7 +7,7 @@ use Rattle.bx_advice.specs.declared.config.Config.{Config}
 use Rattle.bx_entry.specs.Sessions.{Session, Publication, step, session, unopened}
 use Rattle.bx_theory.specs.Events.{Rising}
 use Rattle.bx_theory.specs.Laws.{EachOf, AllBelow, Slice, GivesFrom, GivesLater, NoEventTwice}
-use Rattle.bx_theory.proofs.{Gained.events_rise, Moves.each_map, Runs.never_given_again}
+use Rattle.bx_theory.proofs.{Gained.events_have_ascending_places, Moves.each_map, Runs.never_given_again}
 
 -- ---- Answers without done events
 
@@ -46,5 +46,5 @@ no_event_twice config number xs e ys room d =
     let s = session config number xs in
     let whole : fold (step config) (unopened number) (xs ++ e ∷ ys) ≡ fold (step config) (step config s e) ys = fold-append (step config) (unopened number) xs (e ∷ ys) in
     gives_later config s (step config s e) (fold (step config) (step config s e) ys)
-    (subst (λ (t : Session). Rising t.events) whole (events_rise config number (xs ++ e ∷ ys) d))
+    (subst (λ (t : Session). Rising t.events) whole (events_have_ascending_places config number (xs ++ e ∷ ys) d))
     (never_given_again config number xs e ys room)

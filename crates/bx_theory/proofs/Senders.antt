@@ -11,7 +11,7 @@ use Rattle.bx_entry.specs.Words.{Listed, Posted, Registered, Judged, sender_of, 
 use Rattle.bx_entry.specs.declared.entry.Entry.{Entry}
 use Rattle.bx_theory.specs.Readings.{opens_by, since_opening, unclosed, AcceptedWhileLive}
 use Rattle.bx_theory.proofs.Verdicts.{FoundOf, each_verdict, found_of_place, got_here, judged_before, verdict_of}
-use Rattle.bx_theory.proofs.{Dues.named_session, Lists.find_true, Lives.same_live}
+use Rattle.bx_theory.proofs.{Dues.named_session, Lists.find_true, Lives.registry_and_entries_agree_on_live}
 
 -- ---- The sender is live
 
@@ -35,7 +35,7 @@ own_opening number m s o = let same : m ≡ number = cc in both_ways (m == numbe
 pub sender_reads : (config : Config) (ys : List Listed) (p : Posted) (s : Registered) → named_by (registry config ys).sessions (message_kind_of p.message.channel) p.message ≡ Some s → live_by s.number (entries_of (registry config ys)) ≡ true
 sender_reads config ys p s e =
     let rs : List Registered = (registry config ys).sessions in
-    sym (named_session (λ q. q.live ≡ live_by q.number (entries_of (registry config ys))) rs (message_kind_of p.message.channel) p.message s e (same_live config ys)) ∙ named_live rs (message_kind_of p.message.channel) p.message s e
+    sym (named_session (λ q. q.live ≡ live_by q.number (entries_of (registry config ys))) rs (message_kind_of p.message.channel) p.message s e (registry_and_entries_agree_on_live config ys)) ∙ named_live rs (message_kind_of p.message.channel) p.message s e
 
 accepted_live : (config : Config) (ys : List Listed) (x : Listed) (number : ℕ) → (verdict_of config (registry config ys) x).sender ≡ Some number →
     opens_by number (verdict_of config (registry config ys) x).kind ≡ false → live_by number (entries_of (registry config ys)) ≡ true

@@ -50,8 +50,8 @@ of_none config state moment p is absent =
     (subst (λ (e : Option Error). IsOf config.anonymous faulty empty p.message state (judged_by config state moment p None e)) (sym refused)
     (by config state moment p (no_handshake p.message is) is config.anonymous faulty empty))
 
-pub publishes_of_none : PublishesOfNone
-publishes_of_none config list p is absent =
+pub publish_without_client_has_no_session : PublishesOfNone
+publish_without_client_has_no_session config list p is absent =
     let r : Registry = registry config list in
     let a = of_none config (state_of r) (max r.clock p.moment) p is absent in
     subst (IsOfNone config p.message r) (sym (registry_next config list (Post p))) (record { found = _; judged = refl; kind = a.kind; sender = a.sender; rides = a.rides; sessions = a.sessions })

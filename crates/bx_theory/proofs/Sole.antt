@@ -10,7 +10,7 @@ use Rattle.bx_entry.specs.declared.{input.Refusal.Refusal, entry.Rider.Rider}
 use Rattle.bx_theory.specs.Opens.{Numbered, numbered_from, is_whole}
 use Rattle.bx_theory.specs.Sole.{IsConnect, OpenAreSole}
 use Rattle.bx_theory.proofs.Verdicts.{Slotted, each_verdict, found_there, judge_is, next_found, next_noted, registry_next, slotted, verdict_of}
-use Rattle.bx_theory.proofs.{Lists.judged_length, Senders.sender_reads, Stages.live_reading}
+use Rattle.bx_theory.proofs.{Lists.judged_length, Senders.sender_reads, Stages.live_from_opening_to_first_close}
 use Rattle.bx_theory.proofs.AtOnce.{There, AllThere, latest_there, messages_there, rider_served, there_stays}
 
 -- ---- The places of an input's messages
@@ -70,7 +70,7 @@ rider_answered config xs x rider rides =
       opens = λ p e. cc;
       none = λ p e. cc;
       serves = λ p s named e.
-          rider_served config r (max r.clock p.moment) p (message_kind_of p.message.channel) s (hold_of config p) (live_reading config s.number (entries_of r) ∙ sender_reads config xs p s named) rider e;
+          rider_served config r (max r.clock p.moment) p (message_kind_of p.message.channel) s (hold_of config p) (live_from_opening_to_first_close config s.number (entries_of r) ∙ sender_reads config xs p s named) rider e;
       ticks = λ moment e. cc;
     }) x rides))
 
@@ -161,7 +161,7 @@ opens_connect config list number (d ∷ ds) room e =
     cond_both (not (is_whole config (registry config list) o)) (o ∷ rest) rest (AllByRecursion (IsConnect config list))
     (λ h. (is_connect_by config list o d.refusal room refl e.0 (not-true (is_whole config (registry config list) o) h), others)) (λ h. others)
 
-pub open_are_sole : OpenAreSole
-open_are_sole config inputs room =
+pub incomplete_input_is_one_held_connect : OpenAreSole
+incomplete_input_is_one_held_connect config inputs room =
     let t : Taking = taken_in inputs in
     opens_connect config t.list 0 t.intake room (run_placed (record { list = []; intake = [] }) inputs tt)

@@ -71,5 +71,5 @@ live_run config s (e ∷ es) =
     ∙ ap (λ (st : Stage). reads s.number st es) n.stage
     ∙ reads_step s.number s.stage e es
 
-pub live_reading : LiveReading
-live_reading config number es = live_run config (unopened number) es
+pub live_from_opening_to_first_close : LiveReading
+live_from_opening_to_first_close config number es = live_run config (unopened number) es

@@ -7,7 +7,7 @@ use bx_advice::Config;
 use bx_calls::{ANSWER, Found, HANDSHAKE, PUBLISH, find, hold, post};
 use bx_entry::{ByRemainder, Placing, Ticket};
 use bx_hub::{Gate, Hub, Watch};
-use bx_window::{LogId, Opened};
+use bx_window::{EmptyWindow, LogId};
 use futures::task::{Doorbell, Poll, Solo, Source, Waker};
 use libc::net::{EFD_CLOEXEC, eventfd};
 use os::FromRawFd;
@@ -282,7 +282,7 @@ fn held<
 fn free<L: LogId + Send + Sync, R: Threads + Wait + Clock + Abort + Sync>(
     rt: &R,
     alloc: Global,
-    opened: Opened,
+    opened: EmptyWindow,
     config: Config,
     placing: Arc<ByRemainder, Global>,
     gate: Telling,
@@ -315,7 +315,7 @@ fn frees<R: Threads + Wait + Clock + Abort + Sync>(
     free::<Brand, _>(
         rt,
         alloc,
-        Opened::new(),
+        EmptyWindow::new(),
         config,
         placing,
         gate,

@@ -7,7 +7,7 @@ use bx_advice::Config;
 use bx_calls::{HANDSHAKE, post};
 use bx_entry::{ByRemainder, Placing};
 use bx_hub::{Gate, Hub, OpenGate, Pass};
-use bx_window::{LogId, Opened};
+use bx_window::{EmptyWindow, LogId};
 use std::alloc::Global;
 use std::marker::Brand;
 use std::process::Abort;
@@ -255,7 +255,7 @@ fn given<
 fn crowd<L: LogId + Send + Sync, R: Threads + Wait + Abort + Sync>(
     rt: &R,
     alloc: Global,
-    opened: Opened,
+    opened: EmptyWindow,
     config: Config,
     placing: Arc<ByRemainder, Global>,
 ) -> Result<(), Fail>
@@ -281,5 +281,5 @@ fn eight_threads(rt: HostRuntime) -> Result<(), Fail> {
     let alloc = rt.alloc();
     let config = Config::new(4, 30_000, 0, 10_000).ok_or("no configuration")?;
     let placing = Arc::new(alloc, ByRemainder)?;
-    crowd::<Brand, _>(&rt, alloc, Opened::new(), config, placing)
+    crowd::<Brand, _>(&rt, alloc, EmptyWindow::new(), config, placing)
 }

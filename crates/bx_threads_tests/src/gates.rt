@@ -7,7 +7,7 @@ use bx_advice::Config;
 use bx_calls::{ANSWER, Found, HANDSHAKE, PUBLISH, Refused, find, hold, post};
 use bx_entry::{ByRemainder, Placing, Refusal, Ticket};
 use bx_hub::{Gate, Hub, Pass, PostFault};
-use bx_window::{LogId, Opened};
+use bx_window::{EmptyWindow, LogId};
 use std::alloc::Global;
 use std::hint;
 use std::marker::Brand;
@@ -182,7 +182,7 @@ fn stands<
 fn held<L: LogId + Send + Sync, R: Threads + Wait + Abort + Sync>(
     rt: &R,
     alloc: Global,
-    opened: Opened,
+    opened: EmptyWindow,
     config: Config,
     placing: Arc<ByRemainder, Global>,
     gate: Holding,
@@ -214,5 +214,13 @@ fn shards_have_locks_of_their_own(rt: HostRuntime) -> Result<(), Fail> {
     let gate = Holding {
         flags: Arc::try_clone(&flags)?,
     };
-    held::<Brand, _>(&rt, alloc, Opened::new(), config, placing, gate, &flags)
+    held::<Brand, _>(
+        &rt,
+        alloc,
+        EmptyWindow::new(),
+        config,
+        placing,
+        gate,
+        &flags,
+    )
 }

@@ -7,7 +7,7 @@ use bx_advice::Config;
 use bx_calls::{CONNECT, HANDSHAKE, PING, post};
 use bx_entry::{ByRemainder, Placing, Ticket};
 use bx_hub::{Gate, Hub};
-use bx_window::{LogId, Opened};
+use bx_window::{EmptyWindow, LogId};
 use std::alloc::{AllocError, Global};
 use std::marker::Brand;
 use std::process::Abort;
@@ -253,7 +253,7 @@ fn stands<
 fn ordered<L: LogId + Send + Sync, C: Clock + Drop + Send + Sync, R: Threads + Wait + Abort + Sync>(
     rt: &R,
     alloc: Global,
-    opened: Opened,
+    opened: EmptyWindow,
     config: Config,
     placing: Arc<Holding<C>, Global>,
     gate: Holding<C>,
@@ -277,7 +277,16 @@ fn holds<C: Clock + Drop + Send + Sync, R: Threads + Wait + Abort + Sync>(
     let config = Config::new(2, 30_000, 0, 10_000).ok_or("no configuration")?;
     let placing = Arc::new(alloc, Holding::of(flags)?)?;
     let gate = Holding::of(flags)?;
-    ordered::<Brand, _, _>(rt, alloc, Opened::new(), config, placing, gate, flags, call)
+    ordered::<Brand, _, _>(
+        rt,
+        alloc,
+        EmptyWindow::new(),
+        config,
+        placing,
+        gate,
+        flags,
+        call,
+    )
 }
 
 // Checks that calls unlock shards before they wait for admission, and that gates enclose advances.

@@ -7,7 +7,7 @@ use bx_advice::Config;
 use bx_calls::{CONNECT, Found, HANDSHAKE, SUBSCRIBE, find, post};
 use bx_entry::{ByRemainder, Placing, Ticket};
 use bx_hub::{Gate, Hub, OpenGate, Pass, Watch};
-use bx_window::{LogId, Opened};
+use bx_window::{EmptyWindow, LogId};
 use futures::task::{Doorbell, Poll, Queue, Source, Waker};
 use std::alloc::{AllocError, Global};
 use std::marker::Brand;
@@ -345,7 +345,7 @@ fn check<R: Abort>(rt: &R, told: Told, published: Option<u64>) {
 fn play<L: LogId + Send + Sync, R: Threads + Wait + Clock + Abort + Sync>(
     rt: &R,
     alloc: Global,
-    opened: Opened,
+    opened: EmptyWindow,
     config: Config,
     placing: Arc<ByRemainder, Global>,
     turns: &Turns,
@@ -372,5 +372,5 @@ fn each_waker_wakes_once(rt: HostRuntime) -> Result<(), Fail> {
         round: AtomicU64::new(0),
     };
     turns.task.add()?.schedule();
-    play::<Brand, _>(&rt, alloc, Opened::new(), config, placing, &turns)
+    play::<Brand, _>(&rt, alloc, EmptyWindow::new(), config, placing, &turns)
 }

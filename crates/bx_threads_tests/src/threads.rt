@@ -7,7 +7,7 @@ use bx_advice::Config;
 use bx_calls::{ANSWER, Found, find, hold, publish};
 use bx_entry::{ByRemainder, Placing, Ticket};
 use bx_hub::{Gate, Hub, OpenGate, Pass};
-use bx_window::{LogId, Opened};
+use bx_window::{EmptyWindow, LogId};
 use std::alloc::Global;
 use std::marker::Brand;
 use std::process::Abort;
@@ -111,7 +111,7 @@ fn meet_once<
 fn two<L: LogId + Send + Sync, R: Threads + Wait + Abort + Sync>(
     rt: &R,
     alloc: Global,
-    opened: Opened,
+    opened: EmptyWindow,
     config: Config,
     placing: Arc<ByRemainder, Global>,
 ) -> Result<(), Fail>
@@ -131,5 +131,5 @@ fn two_threads(rt: HostRuntime) -> Result<(), Fail> {
     let alloc = rt.alloc();
     let config = Config::new(2, 30_000, 0, 10_000).ok_or("no configuration")?;
     let placing = Arc::new(alloc, ByRemainder)?;
-    two::<Brand, _>(&rt, alloc, Opened::new(), config, placing)
+    two::<Brand, _>(&rt, alloc, EmptyWindow::new(), config, placing)
 }

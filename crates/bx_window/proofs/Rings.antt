@@ -7,7 +7,7 @@ use Rattle.circular_buffer.specs.Buffer.{keep_last}
 use Rattle.bx_entry.specs.Listing.{Listed}
 use Rattle.bx_advice.specs.declared.config.Config.{Config}
 use Rattle.bx_entry.specs.declared.{entry.Batch.Batch, input.Input.Input}
-use Rattle.bx_window.specs.declared.{batch.Bundle.Bundle, law.LogStep.LogStep}
+use Rattle.bx_window.specs.declared.{batch.UnpublishedBatch.UnpublishedBatch, law.LogStep.LogStep}
 use Rattle.bx_window.specs.Places.{IsOf, Spans, Continues}
 use Rattle.bx_window.specs.Steps.{adding, trimming, list_of, firsts_of, begin_of, before, ends_in, ends_of, IsNewest, IsTrimmed}
 use Rattle.bx_window.proofs.{Firsts.kept_all, Places.many_elements}
@@ -98,12 +98,12 @@ ends_at [] i end d lt = absurd (omega arith)
 ends_at (f ∷ fs) zero end d lt = refl
 ends_at (f ∷ fs) (suc i) end d lt = let e : suc i + 1 ≡ suc (i + 1) = omega arith in rw e (ends_at fs i end d (omega arith))
 
-pub newest_bundle : (config : Config) (log : List LogStep) (b : Bundle) → Continues config (list_of log) b → length (firsts_of log) < 4096 → IsNewest (log ++ adding b.elements b.inputs ∷ []) b.batch.first
+pub newest_bundle : (config : Config) (log : List LogStep) (b : UnpublishedBatch) → Continues config (list_of log) b → length (firsts_of log) < 4096 → IsNewest (log ++ adding b.elements b.inputs ∷ []) b.batch.first
 newest_bundle config log b c room =
     let some : 0 < length b.elements = omega (arith, many_elements config (list_of log) b c, c.some) in
     newest log b.elements b.inputs b.batch.first some c.first room
 
-pub ends_bundle : (config : Config) (log : List LogStep) (b : Bundle) → Continues config (list_of log) b → b.batch.first + length b.batch.entries ≡ length (list_of (log ++ adding b.elements b.inputs ∷ []))
+pub ends_bundle : (config : Config) (log : List LogStep) (b : UnpublishedBatch) → Continues config (list_of log) b → b.batch.first + length b.batch.entries ≡ length (list_of (log ++ adding b.elements b.inputs ∷ []))
 ends_bundle config log b c =
     let all = ap length (list_of-adding log b.elements b.inputs) in
     omega (arith, all, length-append (list_of log) b.elements, many_elements config (list_of log) b c, c.first)

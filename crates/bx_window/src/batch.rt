@@ -7,7 +7,7 @@ use bx_history::History;
 
 /// A batch to publish, with the requests and ticks that it results from.
 #[derive(Drop)]
-pub struct Bundle {
+pub struct UnpublishedBatch {
     /// The batch, which begins at the end of the list.
     pub batch: Batch,
     /// Ghost: the messages and ticks that the batch appends to the list, in order.

@@ -6,27 +6,27 @@ ghost use Rattle.logbook.specs.Pages.{may_write};
 ghost use Rattle.bx_window.specs.Steps.{adding, trimming, stepping, list_of, begin_of, before};
 ghost use Rattle.bx_window.specs.Rules.{head_of};
 
-use crate::law::{Add, Law, LogId, Logged, NoGain, Open, Spare, StepRequest, Whole};
+use crate::law::{Add, LogId, LogRule, LoggedStep, NoGain, Open, Spare, StepRequest, Whole};
 use bx_entry::{Input, Listing};
 use bx_history::History;
 use logbook::{Offer, Pen, Seen, Start, Word};
 use std::marker::{Model, PhantomData};
 
 /// A new window, with an empty log, for which no writer or readers exist yet.
-pub struct Opened {
-    head: Word<Logged, u64, Law>,
-    seen: Seen<Logged, u64, Law>,
+pub struct EmptyWindow {
+    head: Word<LoggedStep, u64, LogRule>,
+    seen: Seen<LoggedStep, u64, LogRule>,
     pub ghost empty: { seen.log ≡ [] },
     pub ghost head_is: { head ≡ head_of seen.book },
 }
 
-impl Opened {
+impl EmptyWindow {
     /// Creates a window that differs from all others.
     ///
     /// Does not allocate.
-    pub fn new() -> Opened {
+    pub fn new() -> EmptyWindow {
         let (seen, mut first, _second) = Seen::open(Start::alone(), 0, 0);
-        Opened {
+        EmptyWindow {
             head: Word::tracked(0, &mut first),
             seen,
         }
@@ -38,7 +38,7 @@ impl Opened {
         requires { self.seen.book ≡ L.book }
         ensures { IfSome result (λ b. b ≡ []) }
     {
-        let Opened { head, mut seen } = self;
+        let EmptyWindow { head, mut seen } = self;
         let pen = spare(&head, &seen);
         let (elements, inputs) = (Listing::new(), History::new());
         let asked = StepRequest {
@@ -47,9 +47,11 @@ impl Opened {
             dropped: 0,
             next: &pen,
         };
-        let mut offer: Offer<Logged, u64, Law, NoGain> = seen.plain::<NoGain, StepRequest<'_>, Add>(
-            &asked,
-        );
+        let mut offer: Offer<LoggedStep, u64, LogRule, NoGain> = seen.plain::<
+            NoGain,
+            StepRequest<'_>,
+            Add,
+        >(&asked);
         let mut none = seen.no_pen();
         let found = head.compare_exchange::<Open, NoGain>(0, 1, &mut seen, &mut offer, &mut none);
         if found != 0 {
@@ -69,16 +71,16 @@ impl Opened {
 
 // Adds a cell to the book in which the crate `logbook` keeps the log, and returns the pen of the
 // cell. Only the holder of this pen can append the step that names the cell.
-fn spare(head: &Word<Logged, u64, Law>, seen: &Seen<Logged, u64, Law>) -> Pen
+fn spare(head: &Word<LoggedStep, u64, LogRule>, seen: &Seen<LoggedStep, u64, LogRule>) -> Pen
     requires { head.now ≡ head_of seen.now.book }
     ensures book { result.book ≡ seen.now.book }
     ensures right { result.nib.right ≡ may_write }
 {
     let mut pen = seen.no_pen();
     let mut all = seen.again();
-    let mut offer: Offer<Logged, u64, Law, NoGain> = seen.plain::<NoGain, u64, Spare>(&0);
+    let mut offer: Offer<LoggedStep, u64, LogRule, NoGain> = seen.plain::<NoGain, u64, Spare>(&0);
     let _ = head.compare_exchange::<Spare, NoGain>(0, 0, &mut all, &mut offer, &mut pen);
-    let _word: Word<Logged, u64, Law> = Word::tracked(0, &mut pen);
+    let _word: Word<LoggedStep, u64, LogRule> = Word::tracked(0, &mut pen);
     pen
 }
 
@@ -89,12 +91,12 @@ fn spare(head: &Word<Logged, u64, Law>, seen: &Seen<Logged, u64, Law>) -> Pen
 /// Model: the steps of the log.
 #[derive(Drop)]
 pub struct Book<L: LogId> {
-    head: Word<Logged, u64, Law>,
+    head: Word<LoggedStep, u64, LogRule>,
     pen: Pen,
     steps: u64,
     len: u64,
     begin: u64,
-    seen: Seen<Logged, u64, Law>,
+    seen: Seen<LoggedStep, u64, LogRule>,
     of: PhantomData<L>,
 }
 
@@ -136,7 +138,9 @@ impl<L: LogId> Book<L> {
     {
         let mut both = self.seen.again();
         both.learn(&other.seen);
-        let mut offer: Offer<Logged, u64, Law, NoGain> = both.plain::<NoGain, u64, Spare>(&0);
+        let mut offer: Offer<LoggedStep, u64, LogRule, NoGain> = both.plain::<NoGain, u64, Spare>(
+            &0,
+        );
         let old = self.steps + 1;
         let _ = self
             .head
@@ -168,9 +172,11 @@ impl<L: LogId> Book<L> {
             next: &next,
         };
         let mut seen = self.seen.again();
-        let mut offer: Offer<Logged, u64, Law, NoGain> = seen.plain::<NoGain, StepRequest<'_>, Add>(
-            &asked,
-        );
+        let mut offer: Offer<LoggedStep, u64, LogRule, NoGain> = seen.plain::<
+            NoGain,
+            StepRequest<'_>,
+            Add,
+        >(&asked);
         let old = self.steps + 1;
         let _ = self
             .head
@@ -216,7 +222,7 @@ pub struct Front<L: LogId> {
     steps: u64,
     len: u64,
     begin: u64,
-    seen: Seen<Logged, u64, Law>,
+    seen: Seen<LoggedStep, u64, LogRule>,
     of: PhantomData<L>,
 }
 

@@ -15,7 +15,7 @@ pub struct LogStep {
 }
 
 /// Ghost: one record in the log of the window's steps (appends and trims).
-pub struct Logged {
+pub struct LoggedStep {
     /// The recorded step. In the first record of the log, it only opens the log.
     pub step: LogStep,
     /// The key of the cell of the `logbook` book that the next step spends.
@@ -29,9 +29,9 @@ pub struct Logged {
 /// The crate `logbook` keeps the log in a book of cells. A cell has a key, and a pen that can write
 /// the cell until a step spends it. The first cell has the number of records in the log. Each
 /// record has the key of one more cell. All of these cells are spent, except for the last record's.
-pub struct Law;
+pub struct LogRule;
 
-impl Rule<Logged, u64> for Law {
+impl Rule<LoggedStep, u64> for LogRule {
     ghost use Rattle.std.specs.Prelude.{[]};
     ghost use base.Fml.{ftrue};
     ghost use Rattle.bx_window.specs.Rules.{IsKept};
@@ -55,7 +55,7 @@ impl Rule<Logged, u64> for Law {
 /// states.
 pub struct NoGain;
 
-impl Gain<Logged, u64> for NoGain {
+impl Gain<LoggedStep, u64> for NoGain {
     ghost use base.Fml.{ftrue};
 
     ghost after = { λ names about answer. ftrue };
@@ -64,7 +64,7 @@ impl Gain<Logged, u64> for NoGain {
 /// Ghost: the move that adds a cell to the log's book. The pen of the cell can append a later step.
 pub struct Spare;
 
-impl Play<Logged, u64> for Spare {
+impl Play<LoggedStep, u64> for Spare {
     ghost use Rattle.bx_window.specs.Rules.{Spares};
 
     ghost then = { Spares };
@@ -73,7 +73,7 @@ impl Play<Logged, u64> for Spare {
 /// Ghost: the move that appends the first record of the log.
 pub struct Open;
 
-impl Play<Logged, u64> for Open {
+impl Play<LoggedStep, u64> for Open {
     ghost use Rattle.bx_window.specs.Rules.{Opens};
 
     ghost then = { Opens };
@@ -82,7 +82,7 @@ impl Play<Logged, u64> for Open {
 /// Ghost: the move that appends a step.
 pub struct Add;
 
-impl Play<Logged, u64> for Add {
+impl Play<LoggedStep, u64> for Add {
     ghost use Rattle.bx_window.specs.Rules.{Adds};
 
     ghost then = { Adds };
@@ -93,7 +93,7 @@ impl Play<Logged, u64> for Add {
 /// The move changes nothing.
 pub struct Whole;
 
-impl Play<Logged, u64> for Whole {
+impl Play<LoggedStep, u64> for Whole {
     ghost use Rattle.bx_window.specs.Rules.{AreAll};
 
     ghost then = { AreAll };
@@ -112,7 +112,7 @@ pub struct StepRequest<'a> {
     pub next: &'a Pen,
 }
 
-impl<'a> Plain<StepRequest<'a>, Logged, u64> for Add {
+impl<'a> Plain<StepRequest<'a>, LoggedStep, u64> for Add {
     ghost use Rattle.std.specs.Prelude.{None};
 
     ghost ask = { λ a. record { step = record { elements = a.elements.now; inputs = a.inputs.now; dropped = a.dropped }; next = a.next.now.nib.key } };
@@ -121,7 +121,7 @@ impl<'a> Plain<StepRequest<'a>, Logged, u64> for Add {
 }
 
 // Adding a cell appends no step, so the step in `ask` has no effect.
-impl Plain<u64, Logged, u64> for Spare {
+impl Plain<u64, LoggedStep, u64> for Spare {
     ghost use Rattle.std.specs.Prelude.{None, []};
 
     ghost ask = { λ n. record { step = record { elements = []; inputs = []; dropped = n }; next = 0 } };

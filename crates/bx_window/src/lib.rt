@@ -10,10 +10,10 @@ mod ring;
 mod showing;
 mod writer;
 
-pub use batch::{Bundle, entry_of};
-pub use front::{Book, Front, Opened};
-pub use law::{Law, LogId, LogStep, Logged};
+pub use batch::{UnpublishedBatch, entry_of};
+pub use front::{Book, EmptyWindow, Front};
+pub use law::{LogId, LogRule, LogStep, LoggedStep};
 pub use published::{PublishedBatch, RingChange, Trimmed};
 pub use reader::{LogReader, Next};
-pub use ring::{Kept, Ring};
+pub use ring::{KeptBatch, Ring};
 pub use writer::{LogWriter, MAX_BATCHES, PublishFault, Writer, log_pair};

@@ -12,8 +12,8 @@ ghost use Rattle.bx_window.specs.Changes.{after};
 ghost use Rattle.bx_window.specs.Showing.{IsShown};
 ghost use Rattle.bx_window.specs.Refusals.{IsFair};
 
-use crate::batch::Bundle;
-use crate::front::{Book, Front, Opened};
+use crate::batch::UnpublishedBatch;
+use crate::front::{Book, EmptyWindow, Front};
 use crate::law::{LogId, LogStep};
 use crate::published::{PublishedBatch, RingChange, Trimmed};
 use crate::reader::LogReader;
@@ -84,7 +84,7 @@ pub type LogWriter<L, R> = Writer<L, R, Ring<L>, RingChange<L>>;
 pub fn log_pair<L: LogId, R: Wait + Drop>(
     alloc: Global,
     rt: R,
-    opened: Opened,
+    opened: EmptyWindow,
     readers: usize,
 ) -> Result<(LogWriter<L, R>, Vec<LogReader<L>>), AllocError>
     requires book { opened.seen.book ≡ L.book }
@@ -172,7 +172,11 @@ impl<L: LogId, R: Wait + Drop> Writer<L, R, Ring<L>, RingChange<L>> {
     ///
     /// Waits for readers that still use the copy of the window that is to be changed.
     #[tactic(auto, using(crate::proofs::Places::stands_newest, crate::proofs::Places::many_elements, crate::proofs::Lists::firsts_of_adding, crate::proofs::Rooms::room_full, crate::proofs::Rings::newest_bundle, crate::proofs::Rings::ends_bundle))]
-    pub fn publish(&mut self, alloc: Global, bundle: Bundle) -> Result<(), (Bundle, PublishFault)>
+    pub fn publish(
+        &mut self,
+        alloc: Global,
+        bundle: UnpublishedBatch,
+    ) -> Result<(), (UnpublishedBatch, PublishFault)>
         requires continues { Continues L.config (list_of self.old) bundle }
         requires places { length (list_of self.old) + length bundle.batch.entries ≤ greatest_length }
         requires steps { length self.old < 2 ^ 62 }
@@ -241,19 +245,19 @@ impl<L: LogId, R: Wait + Drop> Writer<L, R, Ring<L>, RingChange<L>> {
 // bundle if memory runs out.
 fn shared(
     alloc: Global,
-    bundle: Bundle,
-) -> Result<(Arc<Batch, Global>, Listing, History<Input>), Bundle>
+    bundle: UnpublishedBatch,
+) -> Result<(Arc<Batch, Global>, Listing, History<Input>), UnpublishedBatch>
     ensures ok { IfOk result (λ r. (arc_value r.0 ≡ bundle.batch) × (r.1 ≡ bundle.elements) × (r.2 ≡ bundle.inputs)) }
     ensures err { IfErr result (λ b. b ≡ bundle) }
 {
-    let Bundle {
+    let UnpublishedBatch {
         batch,
         elements,
         inputs,
     } = bundle;
     match Arc::new(alloc, batch) {
         Ok(batch) => Ok((batch, elements, inputs)),
-        Err(failed) => Err(Bundle {
+        Err(failed) => Err(UnpublishedBatch {
             batch: failed.value,
             elements,
             inputs,

@@ -6,7 +6,7 @@ use Rattle.bx_entry.specs.Words.{Listed, entries}
 use Rattle.bx_entry.specs.declared.entry.Entry.{Entry}
 use Rattle.bx_shard.specs.Words.{Refines, setup_in, state, Setup, Applied, IsAsBefore, IsSound, takes_no_memory}
 use Rattle.bx_shard.specs.declared.shard.Shard.{Shard}
-use Rattle.bx_shard.proofs.{Holding.refines_still, Onwards.refines_onwards}
+use Rattle.bx_shard.proofs.{Holding.refines_unchanged, Onwards.refines_applied}
 use Rattle.bx_workers.specs.Upward.{AreConsecutive, AreOf, IsWithin, WentOn, end_of, first_of}
 
 -- `new` is the shard `old` after it applied `n` more entries of `es`.
@@ -14,7 +14,7 @@ pub record Goes {P : Type 0} (place_of : P → ℕ → ℕ → ℕ) (es : List E
   pub place : new.place ≡ old.place + n
   pub setup : setup_in place_of new ≡ setup_in place_of old
   pub index : new.index ≡ old.index
-  pub shut : new.is_shut ≡ old.is_shut
+  pub shut : new.is_closed_to_wakers ≡ old.is_closed_to_wakers
   pub holds : (setup : Setup) (list : List Listed) (taken : List ℕ) (k : ℕ) → 0 < setup.config.limits.batch → AreOf setup list es →
       Refines setup list taken k old.place (state place_of old) → Refines setup list taken k new.place (state place_of new)
 
@@ -30,7 +30,7 @@ module _ {P : Type 0} (place_of : P → ℕ → ℕ → ℕ) (es : List Entry) w
         let next : slice_get (entries setup.config list) mid.place ≡ Some e = subst (λ (p : ℕ). slice_get (entries setup.config list) p ≡ Some e) at (of (mid.place - first_of es) e there) in
         let reached : new.place ≡ mid.place + 1 = omega (arith, a.place, at) in
         subst (λ (p : ℕ). Refines setup list taken k p (state place_of new)) (sym reached)
-        (refines_onwards setup list taken k mid.place e (state place_of mid) (state place_of new) room next (g.holds setup list taken k room of h) a sound);
+        (refines_applied setup list taken k mid.place e (state place_of mid) (state place_of new) room next (g.holds setup list taken k room of h) a sound);
   }
 
   pub goes_still : (n : ℕ) (old mid new : Shard P) → Goes place_of es n old mid → IsAsBefore (state place_of mid) (state place_of new) → IsSound (state place_of new) →
@@ -42,7 +42,7 @@ module _ {P : Type 0} (place_of : P → ℕ → ℕ → ℕ) (es : List Entry) w
     shut = same.shut ∙ g.shut;
     holds = λ setup list taken k room of h.
         subst (λ (p : ℕ). Refines setup list taken k p (state place_of new)) (sym same.place)
-        (refines_still setup list taken k mid.place (state place_of mid) (state place_of new) (g.holds setup list taken k room of h) same sound);
+        (refines_unchanged setup list taken k mid.place (state place_of mid) (state place_of new) (g.holds setup list taken k room of h) same sound);
   }
 
   pub goes_far : (n : ℕ) (old new : Shard P) → Goes place_of es n old new → n ≤ length (drop (old.place - first_of es) es) →

@@ -45,7 +45,7 @@ pub record WentOn {P : Type 0} (place_of : P → ℕ → ℕ → ℕ) (es : List
   pub none : length es ≡ 0 → new.place ≡ old.place
   pub setup : setup_in place_of new ≡ setup_in place_of old
   pub index : new.index ≡ old.index
-  pub shut : new.is_shut ≡ old.is_shut
+  pub shut : new.is_closed_to_wakers ≡ old.is_closed_to_wakers
   pub holds : (setup : Setup) (list : List Listed) (taken : List ℕ) (k : ℕ) → 0 < setup.config.limits.batch → AreOf setup list es →
       Refines setup list taken k old.place (state place_of old) → Refines setup list taken k new.place (state place_of new)
   pub stopped : (e : Entry) → slice_get es (new.place - first_of es) ≡ Some e → takes_no_memory e ≡ false

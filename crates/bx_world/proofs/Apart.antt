@@ -5,9 +5,9 @@ use Rattle.bx_entry.specs.Words.{Listed, entries}
 use Rattle.bx_entry.specs.Sessions.{Session, Publication, Filed, session}
 use Rattle.bx_theory.specs.Events as events
 use Rattle.bx_theory.specs.Laws.{AllBelow, Each, EachOf, given_in}
-use Rattle.bx_theory.proofs.{Gained.events_rise, Lists.entries_in_order, Lists.find_each, Lists.find_true, Once.given_once, Rising.each_of_take}
+use Rattle.bx_theory.proofs.{Gained.events_have_ascending_places, Lists.entries_in_order, Lists.find_each, Lists.find_true, Once.given_once, Rising.each_of_take}
 use Rattle.bx_world.specs.Headline.{GivenLater, PlainGivenOnce}
-use Rattle.bx_world.proofs.{Giving.none_given_again, InTurn.Before, InTurn.Ordered, InTurn.session_turn}
+use Rattle.bx_world.proofs.{Giving.no_event_given_again, InTurn.Before, InTurn.Ordered, InTurn.session_turn}
 
 -- ---- parts of a list of publications
 
@@ -66,12 +66,12 @@ found_apart (h ∷ fs) a b f g r s l e k =
 plain_rises : (config : Config) (list : List Listed) (number : ℕ) → 0 < config.limits.batch → (session config number (entries config list)).ack ≡ false → events.Rising (given_in (session config number (entries config list)).answers)
 plain_rises config list number room plain =
     let s : Session = session config number (entries config list) in
-    subst events.Rising (sym (given_once config number (entries config list) room plain)) (rising_take s.done s.events (events_rise config number (entries config list) (entries_in_order config list)))
+    subst events.Rising (sym (given_once config number (entries config list) room plain)) (rising_take s.done s.events (events_have_ascending_places config number (entries config list) (entries_in_order config list)))
 
-pub plain_given_once : PlainGivenOnce
-plain_given_once setup first steps outs last room r number place later a b l plain w v g h =
-    let x : GivenLater setup.config last.list number place a = none_given_again setup first steps outs last room r number place a w g in
-    let y : GivenLater setup.config last.list number later b = none_given_again setup first steps outs last room r number later b v h in
+pub plain_events_given_once : PlainGivenOnce
+plain_events_given_once setup first steps outs last room r number place later a b l plain w v g h =
+    let x : GivenLater setup.config last.list number place a = no_event_given_again setup first steps outs last room r number place a w g in
+    let y : GivenLater setup.config last.list number later b = no_event_given_again setup first steps outs last room r number later b v h in
     let fs : List Filed = (session setup.config number (entries setup.config last.list)).answers in
     record {
       filed = x.filed;

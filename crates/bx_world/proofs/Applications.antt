@@ -8,7 +8,7 @@ use Rattle.bx_entry.specs.declared.{entry.Entry.Entry, Placing.Ghosts}
 use Rattle.bx_theory.proofs.Lists.{entries_length}
 use Rattle.bx_shard.specs.Words.{Refines, state, Setup}
 use Rattle.bx_shard.specs.declared.shard.Shard.{Shard}
-use Rattle.bx_shard.proofs.{Holding.refines_still, Placed.entry_placed, Onwards.refines_onwards}
+use Rattle.bx_shard.proofs.{Holding.refines_unchanged, Placed.entry_placed, Onwards.refines_applied}
 use Rattle.bx_world.specs.Words.{Admitting, setup_of, world_of, StandFrom, EachRefines, HasApplied, HasStayed, RefinesFrom, IsApplication, application, WorldState, IsOutput, after, is_level, may_take_memory, next_entry}
 use Rattle.bx_world.specs.declared.world.World.{World}
 use Rattle.bx_entry.specs.Placings.{placed_by}
@@ -67,13 +67,13 @@ module _ {P : Type 0} (place_of : P → ℕ → ℕ → ℕ) (setup : Setup) (li
   done : 0 < setup.config.limits.batch → RefinesFrom place_of setup list taken first k old → HasApplied place_of (entries setup.config list) old new → RefinesFrom place_of setup list taken first k new
   done room h a = record {
     holds = subst (λ (n : ℕ). Refines setup list taken k n (state place_of new)) (sym (place_after a))
-        (refines_onwards setup list taken k old.place a.entry (state place_of old) (state place_of new) room a.next h.holds a.applied a.sound);
+        (refines_applied setup list taken k old.place a.entry (state place_of old) (state place_of new) room a.next h.holds a.applied a.sound);
     past = omega (arith, h.past, place_after a);
   }
 
   stayed : RefinesFrom place_of setup list taken first k old → HasStayed place_of (entries setup.config list) old new → RefinesFrom place_of setup list taken first k new
   stayed h a = record {
-    holds = subst (λ (n : ℕ). Refines setup list taken k n (state place_of new)) (sym a.same.place) (refines_still setup list taken k old.place (state place_of old) (state place_of new) h.holds a.same a.sound);
+    holds = subst (λ (n : ℕ). Refines setup list taken k n (state place_of new)) (sym a.same.place) (refines_unchanged setup list taken k old.place (state place_of old) (state place_of new) h.holds a.same a.sound);
     past = let same : new.place ≡ old.place = a.same.place in omega (arith, h.past, same);
   }
 

@@ -186,8 +186,8 @@ run_new setup w [] outs last r = tt
 run_new setup w (step ∷ steps) [] last r = tt
 run_new setup w (step ∷ steps) (out ∷ outs) last r = step_new setup w step out (taken_places steps outs) r.0 (run_new setup (after w step out) steps outs last r.1)
 
-pub none_taken_twice : NoneTakenTwice
-none_taken_twice setup first steps outs last r = run_new setup first steps outs last r
+pub no_answer_taken_twice : NoneTakenTwice
+no_answer_taken_twice setup first steps outs last r = run_new setup first steps outs last r
 
 -- ---- one schedule after another
 

@@ -13,7 +13,7 @@ use Rattle.bx_world.specs.declared.step.Step.TheVariants.{Take}
 use Rattle.bx_world.specs.declared.step.StepOut.TheVariants.{Taken}
 use Rattle.bx_theory.proofs.{Counts.stays_in_step, Counts.unopened_in_step, Lists.find_each, Lists.entries_in_order, Rising.no_event_twice}
 use Rattle.bx_theory.proofs.Moves.{Moved, step_moved, each_map, each_append}
-use Rattle.bx_world.proofs.Takes.{takes_are_answers}
+use Rattle.bx_world.proofs.Takes.{taken_answers_match_one_thread}
 
 -- ---- taken answers are the list's
 
@@ -134,6 +134,6 @@ given_later config list number place a room w e =
       later = λ n l. later_from config number n place (entries config list) f.filed room (entries_in_order config list) l below f.found;
     }
 
-pub none_given_again : NoneGivenAgain
-none_given_again setup first steps outs last room r number place a w g =
-    given_later setup.config last.list number place a room w (gave_answer setup.config last.list steps outs place a (takes_are_answers setup first steps outs last room r) g)
+pub no_event_given_again : NoneGivenAgain
+no_event_given_again setup first steps outs last room r number place a w g =
+    given_later setup.config last.list number place a room w (gave_answer setup.config last.list steps outs place a (taken_answers_match_one_thread setup first steps outs last room r) g)

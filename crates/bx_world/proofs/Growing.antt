@@ -9,7 +9,7 @@ use Rattle.bx_entry.specs.declared.input.Refusal.TheVariants.{BadMoment, Ended}
 use Rattle.bx_entry.proofs.RequestLemmas.{length-listed}
 use Rattle.bx_entry.specs.Placings.{Setup}
 use Rattle.bx_shard.specs.declared.shard.Shard.{Shard}
-use Rattle.bx_shard.proofs.Holding.{refines_longer}
+use Rattle.bx_shard.proofs.Holding.{refines_longer_list}
 use Rattle.bx_world.specs.Words.{Admitting, IsAdmission, EachRefines, admission, WorldState, IsOutput, after, output_admit}
 use Rattle.bx_entry.specs.Placings.{placed_by}
 use Rattle.bx_entry.specs.declared.{entry.Admitted.Admitted, input.AdmitFault.AdmitFault}
@@ -51,7 +51,7 @@ pub each_longer : {P : Type 0} (place_of : P → ℕ → ℕ → ℕ) (placing :
     IsAdmission placing old input r new → EachOver place_of placing taken xs old → EachOver place_of placing taken xs new
 each_longer place_of placing old new taken xs input (Ok a) is each =
     let longer : EachRefines place_of (placed_by old.config old.shards placing) (old.list ++ added_by input) taken old.first xs =
-    λ k s e. record { holds = refines_longer (placed_by old.config old.shards placing) old.list (added_by input) taken k s.place _ (each k s e).holds; past = (each k s e).past } in
+    λ k s e. record { holds = refines_longer_list (placed_by old.config old.shards placing) old.list (added_by input) taken k s.place _ (each k s e).holds; past = (each k s e).past } in
     subst (EachOver place_of placing taken xs) (sym is.3) longer
 each_longer place_of placing old new taken xs input (Err (Refused refusal)) is each = subst (EachOver place_of placing taken xs) (sym is.1) each
 each_longer place_of placing old new taken xs input (Err Memory) is each = subst (EachOver place_of placing taken xs) (sym is) each

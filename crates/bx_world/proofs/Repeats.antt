@@ -14,7 +14,7 @@ use Rattle.bx_shard.proofs.{Waits.WaitsAt, Waits.answered_waits, Given.session_a
 use Rattle.bx_shard.specs.Refining.{given_of}
 use Rattle.bx_world.specs.Words.{EachTook, slot_at, Gave, AsksAgain, GivenAgain, BatchesRepeat}
 use Rattle.bx_world.specs.declared.step.{Step.Step, StepOut.StepOut}
-use Rattle.bx_world.proofs.{Giving.places_front, Giving.gave_answer, Takes.takes_are_answers, Applications.place_within}
+use Rattle.bx_world.proofs.{Giving.places_front, Giving.gave_answer, Takes.taken_answers_match_one_thread, Applications.place_within}
 use Rattle.bx_world.proofs.InTurn.{Ordered, InTurn, session_turn, turn_below, find_middle}
 
 -- ---- the last answer
@@ -144,4 +144,4 @@ given_again config list steps outs number place room d a =
     }
 
 pub batches_repeat : BatchesRepeat
-batches_repeat setup first steps outs last room r number place a = given_again setup.config last.list steps outs number place room (takes_are_answers setup first steps outs last room r) a
+batches_repeat setup first steps outs last room r number place a = given_again setup.config last.list steps outs number place room (taken_answers_match_one_thread setup first steps outs last room r) a

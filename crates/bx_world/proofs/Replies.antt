@@ -164,5 +164,5 @@ each_replied setup w (step ∷ steps) (out ∷ outs) last r = (
   each_replied setup (after w step out) steps outs last r.1,
 )
 
-pub replies_are_answers : RepliesAreAnswers
-replies_are_answers setup first steps outs last room r = each_replied setup first steps outs last r
+pub replies_match_one_thread : RepliesAreAnswers
+replies_match_one_thread setup first steps outs last room r = each_replied setup first steps outs last r

@@ -7,7 +7,7 @@ use Rattle.bx_advice.specs.declared.config.Config.{Config}
 use Rattle.bx_entry.specs.Listing.{Listed}
 use Rattle.bx_shard.specs.Words.{Refines, setup_in, state, IsSound, connect_in, session_in}
 use Rattle.bx_shard.specs.declared.shard.Shard.{Shard}
-use Rattle.bx_shard.proofs.Holding.{refines_at_first}
+use Rattle.bx_shard.proofs.Holding.{refines_when_new}
 use Rattle.bx_world.specs.Words.{Admitting, EachRefines, WorldState, new_world}
 use Rattle.bx_entry.specs.Placings.{placed_by}
 
@@ -42,7 +42,7 @@ first_hold place_of config placing xs each k s e =
     let h : IsFirst place_of config placing k s = each k s e in
     record {
       holds = subst (λ (n : ℕ). Refines (placed_by config config.shards (place_of placing)) [] [] k n (state place_of s)) (sym h.place_is)
-          (refines_at_first (placed_by config config.shards (place_of placing)) k (state place_of s) (setup_is place_of config placing k s h) h.index_is h.place_is h.sound h.sessions h.connects);
+          (refines_when_new (placed_by config config.shards (place_of placing)) k (state place_of s) (setup_is place_of config placing k s h) h.index_is h.place_is h.sound h.sessions h.connects);
       past = omega arith;
     }
 

@@ -38,20 +38,20 @@ after_list w step out = grind (arith, append-nil w.list)
 pub after_longer : (w : WorldState) (step : Step) (out : StepOut) → Longer w (after w step out)
 after_longer w step out = record { more = added_in step out; list = after_list w step out }
 
-pub list_is_admitted : ListIsAdmitted
-list_is_admitted setup w [] [] last r = ap (λ (v : WorldState). v.list) r ∙ sym (append-nil w.list)
-list_is_admitted setup w (step ∷ steps) (out ∷ outs) last r =
-    list_is_admitted setup (after w step out) steps outs last r.1
+pub list_grows_as_admitted : ListIsAdmitted
+list_grows_as_admitted setup w [] [] last r = ap (λ (v : WorldState). v.list) r ∙ sym (append-nil w.list)
+list_grows_as_admitted setup w (step ∷ steps) (out ∷ outs) last r =
+    list_grows_as_admitted setup (after w step out) steps outs last r.1
     ∙ ap (λ (xs : List Listed). xs ++ admitted_in steps outs) (after_list w step out)
     ∙ append_assoc w.list (added_in step out) (admitted_in steps outs)
-list_is_admitted setup w [] (out ∷ outs) last r = absurd r
-list_is_admitted setup w (step ∷ steps) [] last r = absurd r
+list_grows_as_admitted setup w [] (out ∷ outs) last r = absurd r
+list_grows_as_admitted setup w (step ∷ steps) [] last r = absurd r
 
 pub longer_after : (u v w : WorldState) → Longer u v → Longer v w → Longer u w
 longer_after u v w l m = record { more = l.more ++ m.more; list = m.list ∙ ap (λ (xs : List Listed). xs ++ m.more) l.list ∙ append_assoc u.list l.more m.more }
 
 pub run_longer : (setup : Setup) (w : WorldState) (steps : List Step) (outs : List StepOut) (last : WorldState) → Runs setup w steps outs last → Longer w last
-run_longer setup w steps outs last r = record { more = admitted_in steps outs; list = list_is_admitted setup w steps outs last r }
+run_longer setup w steps outs last r = record { more = admitted_in steps outs; list = list_grows_as_admitted setup w steps outs last r }
 
 given_answer : (setup : Setup) (w : WorldState) (t : Ticket) (a : Answer) (last : WorldState) → 0 < setup.config.limits.batch → (o : Option PlacedAnswer) → filed_under setup w t ≡ o → option_map given_of o ≡ Some a →
     Longer w last → option_map given_of (answer setup.config last.list t.place) ≡ Some a
@@ -75,5 +75,5 @@ each_took setup w (step ∷ steps) (out ∷ outs) last room r = (
   each_took setup (after w step out) steps outs last room r.1,
 )
 
-pub takes_are_answers : TakesAreAnswers
-takes_are_answers setup first steps outs last room r = each_took setup first steps outs last room r
+pub taken_answers_match_one_thread : TakesAreAnswers
+taken_answers_match_one_thread setup first steps outs last room r = each_took setup first steps outs last room r

@@ -10,7 +10,7 @@ use Rattle.bx_connects.specs.Connects.{filed_answer}
 use Rattle.bx_shard.specs.Words.{Refines, Took, filed_with_place, given_of, state, shard_at, IsSound, State, connect_in}
 use Rattle.bx_connects.specs.declared.connects.ConnectState.{ConnectState}
 use Rattle.bx_shard.specs.declared.shard.Shard.{Shard}
-use Rattle.bx_shard.proofs.{Given.as_before, Given.given_filed, Holding.refines_still, Taking.refines_beside, Taking.refines_taken}
+use Rattle.bx_shard.proofs.{Given.as_before, Given.given_filed, Holding.refines_unchanged, Taking.refines_other_taken, Taking.refines_taken}
 use Rattle.bx_world.specs.Words.{EachRefines, RefinesFrom, setup_of, world_of, IsOutput, filed_under}
 use Rattle.bx_world.specs.declared.world.World.{World}
 use Rattle.bx_world.specs.declared.step.Step.TheVariants.{Take}
@@ -66,7 +66,7 @@ module _ {P : Type 0} {g : Ghosts P} (w : World P g) (t : Ticket) (old new : Sha
   pub each_still : None ≡ filed_answer (connect_in was t.place) → Took t.place was is → IsSound is → EachRefines g.place_of (setup_of w) w.admission.list w.taken w.admission.first (slice_set w.shards.items t.shard new)
   each_still none took sound = each_with w t.shard old there new w.taken (record {
     holds = subst (λ (n : ℕ). Refines (setup_of w) w.admission.list w.taken t.shard n is) (sym took.place_is)
-        (refines_still (setup_of w) w.admission.list w.taken t.shard old.place was is here.holds (as_before t.place was is (sym none) took) sound);
+        (refines_unchanged (setup_of w) w.admission.list w.taken t.shard old.place was is here.holds (as_before t.place was is (sym none) took) sound);
     past = past_still took.place_is;
   }) (λ j x apart h. h)
 
@@ -80,4 +80,4 @@ module _ {P : Type 0} {g : Ghosts P} (w : World P g) (t : Ticket) (old new : Sha
             (refines_taken (setup_of w) w.admission.list w.taken t.shard old.place t.place was is room here.holds filed took sound);
         past = past_still took.place_is;
       })
-      (λ j x apart h. record { holds = refines_beside (setup_of w) w.admission.list w.taken t.shard old.place t.place was j x.place (state g.place_of x) room here.holds filed apart h.holds; past = h.past })
+      (λ j x apart h. record { holds = refines_other_taken (setup_of w) w.admission.list w.taken t.shard old.place t.place was j x.place (state g.place_of x) room here.holds filed apart h.holds; past = h.past })

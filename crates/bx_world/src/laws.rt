@@ -6,12 +6,12 @@ ghost use Rattle.bx_world.specs.Schedules.{AnswersAreFiled, AnswersCanBeTaken, L
 ghost use Rattle.bx_world.specs.Headline.{BatchesRepeat, Headline, NoneGivenAgain, PlainGivenOnce, RepliesAreAnswers};
 
 /// Proves that the list grows by exactly the messages and ticks that are admitted, in order.
-pub fn list_is_admitted()
+pub fn list_grows_as_admitted()
     ensures { ListIsAdmitted }
 {}
 
 /// Proves that each taken answer is that of a server that handles one message at a time.
-pub fn takes_are_answers()
+pub fn taken_answers_match_one_thread()
     ensures { TakesAreAnswers }
 {}
 
@@ -28,7 +28,7 @@ pub fn answers_can_be_taken()
 {}
 
 /// Proves that no answer is taken twice.
-pub fn none_taken_twice()
+pub fn no_answer_taken_twice()
     ensures { NoneTakenTwice }
 {}
 
@@ -40,19 +40,19 @@ pub fn schedules_compose()
 {}
 
 /// Proves that each immediate reply is that of a server that handles one message at a time.
-pub fn replies_are_answers()
+pub fn replies_match_one_thread()
     ensures { RepliesAreAnswers }
 {}
 
 /// Proves that no answer repeats an event that its session has already acknowledged.
 ///
 /// If the session does not acknowledge batches, no answer repeats an event that was already sent.
-pub fn none_given_again()
+pub fn no_event_given_again()
     ensures { NoneGivenAgain }
 {}
 
 /// Proves that no event is in two answers of a session that does not acknowledge.
-pub fn plain_given_once()
+pub fn plain_events_given_once()
     ensures { PlainGivenOnce }
 {}
 

@@ -14,7 +14,7 @@ use bx_entry::{AdmitFault, Admitted, Arrival, Entry, Input, Placing, Ticket};
 use bx_history::History;
 use bx_message::Answer;
 use bx_reshard::redistribute;
-use bx_shard::{Filing, Shard, Wakers};
+use bx_shard::{Shard, TakenAnswer, Wakers};
 use bx_workers::{Gate, WorkerCount};
 use std::alloc::{AllocError, Global};
 use std::sync::Arc;
@@ -227,7 +227,7 @@ impl<P: Placing> World<P> {
     /// Takes any one answer that the shard with index `shard` has filed.
     ///
     /// Returns `None` if the shard has filed none, or does not exist.
-    pub fn take_any(&mut self, shard: usize) -> Option<Filing>
+    pub fn take_any(&mut self, shard: usize) -> Option<TakenAnswer>
         ensures some { IfSome result (λ f. Steps self.old (Take (record { place = f.connect; shard = shard })) (Taken (Some f.answer)) self.new) }
         ensures none { IfNone result (((place : ℕ) → filed_under (setup_of self.old) (world_of self.old) (record { place = place; shard = shard }) ≡ None)
             × (world_of self.new ≡ world_of self.old) × (setup_of self.new ≡ setup_of self.old)) }

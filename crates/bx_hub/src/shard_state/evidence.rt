@@ -54,7 +54,7 @@ impl<L: LogId> ShardPosition<L> {
 /// The result of advancing a shard to a front of the list, `prefix`.
 ///
 /// The shard has learned `prefix`. It has reached the end of `prefix`, or `stays` is the fault that
-/// stopped it. With `Misplaced`, the shard was not found and nothing was done. Ghost: the wakers
+/// stopped it. With `WrongShard`, the shard was not found and nothing was done. Ghost: the wakers
 /// added to the caller's list.
 #[derive(Drop)]
 pub(crate) struct ShardAdvance<L: LogId> {
@@ -100,13 +100,13 @@ impl<L: LogId> ShardAdvance<L> {
         requires { shard_state.now.shard.index ≢ index.now }
         ensures index { result.index.value ≡ index.now }
         ensures prefix { result.prefix.value ≡ prefix.now }
-        ensures stays { result.stays ≡ Some (faults.Misplaced shard_state.now.shard.index) }
+        ensures stays { result.stays ≡ Some (faults.WrongShard shard_state.now.shard.index) }
         ensures woken { result.woken ≡ None }
     {
         ShardAdvance {
             index: Snapshot::of(index),
             prefix: Snapshot::of(prefix),
-            stays: Some(HubFault::Misplaced {
+            stays: Some(HubFault::WrongShard {
                 found: shard_state.index(),
             }),
             woken: None,
@@ -123,7 +123,7 @@ impl<L: LogId> ShardAdvance<L> {
 
 /// Evidence of why there is no answer under a ticket.
 ///
-/// The ticket's shard has filed no answer, and the fault stopped it. With `Misplaced`, the shard
+/// The ticket's shard has filed no answer, and the fault stopped it. With `WrongShard`, the shard
 /// was not found, and may have filed one.
 #[derive(Drop)]
 pub struct NoAnswer<L: LogId> {
@@ -164,11 +164,11 @@ impl<L: LogId> NoAnswer<L> {
         ticket: &Ticket,
     ) -> NoAnswer<L>
         requires { shard_state.now.shard.index ≢ ticket.now.shard }
-        ensures { (result.fault ≡ faults.Misplaced shard_state.now.shard.index) × (result.ticket.value ≡ ticket.now) }
+        ensures { (result.fault ≡ faults.WrongShard shard_state.now.shard.index) × (result.ticket.value ≡ ticket.now) }
     {
         NoAnswer {
             ticket: Snapshot::of(ticket),
-            fault: HubFault::Misplaced {
+            fault: HubFault::WrongShard {
                 found: shard_state.index(),
             },
             of: PhantomData,
@@ -222,7 +222,7 @@ impl<L: LogId> WatchEvidence<L> {
         said: &Watch,
     ) -> WatchEvidence<L>
         requires own { ticket.now.shard ≡ shard_state.now.shard.index }
-        requires holds { HoldsOf shard_state.now.shard.is_shut waker.value
+        requires holds { HoldsOf shard_state.now.shard.is_closed_to_wakers waker.value
             (connect_in (state P.place_of shard_state.now.shard) ticket.now.place) said.now }
         ensures { (result.ticket.value ≡ ticket.now) × (result.waker.value ≡ waker.value)
             × (result.said.value ≡ said.now) }

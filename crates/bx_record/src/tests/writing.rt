@@ -2,7 +2,10 @@
 ghost use Rattle.std.specs.Prelude.{◌≡◌, ◌==◌, [], codes, if◌then◌else◌};
 
 use crate::writer::SOON;
-use crate::{Chunk, CountedFile, End, Extent, RecordFile, Source, Taken, Written, write_out};
+use crate::{
+    Chunk, CountedFile, RecordFile, Source, TakenText, TextPosition, WriteSummary, WriterEnd,
+    write_until_stopped,
+};
 use std::io;
 use std::io::Write;
 use std::sync::atomic::{AtomicBool, Ordering};
@@ -14,7 +17,7 @@ struct Stage {
     count: u8,
 }
 
-impl Extent for Stage {
+impl TextPosition for Stage {
     ghost text = { λ it. if it.count == 0 then [] else (if it.count == 1 then codes "one\ntwo\n" else codes "one\ntwo\nthree\n") };
 
     ghost is_copy = { λ it copy. copy.count ≡ it.count };
@@ -39,7 +42,7 @@ struct Lines<'a> {
 }
 
 impl<'a> Source for Lines<'a> {
-    type Extent = Stage;
+    type TextPosition = Stage;
 
     type Fault = u8;
 
@@ -47,19 +50,19 @@ impl<'a> Source for Lines<'a> {
         self.waiting
     }
 
-    fn take(&mut self, empty: Vec<u8>) -> Option<Taken<Stage, u8>> {
+    fn take(&mut self, empty: Vec<u8>) -> Option<TakenText<Stage, u8>> {
         self.turn = self.turn.saturating_add(1);
         let mut bytes = empty;
         match self.turn {
             1 => {
                 bytes.extend_from_slice(b"one\ntwo\n").ok()?;
                 let chunk = Chunk::new(Stage { count: 0 }, Stage { count: 1 }, bytes);
-                Some(Taken { chunk, fault: None })
+                Some(TakenText { chunk, fault: None })
             }
             2 => {
                 bytes.extend_from_slice(b"three\n").ok()?;
                 let chunk = Chunk::new(Stage { count: 1 }, Stage { count: 2 }, bytes);
-                Some(Taken {
+                Some(TakenText {
                     chunk,
                     fault: Some(7),
                 })
@@ -104,7 +107,7 @@ impl Write for Failing {
     }
 }
 
-// An `End` that can be compared.
+// An `WriterEnd` that can be compared.
 #[derive(Clone, Copy, Debug, PartialEq, Eq)]
 enum Ending {
     Told,
@@ -115,14 +118,15 @@ enum Ending {
     Other,
 }
 
-fn ending_of(written: &Written<u8>) -> Ending {
+fn ending_of(written: &WriteSummary<u8>) -> Ending {
     match &written.end {
-        End::Told => Ending::Told,
-        End::Ended(fault) => Ending::Fault(*fault),
-        End::Gone => Ending::Gone,
-        End::Refused(error) if error.kind() == io::ErrorKind::StorageFull => Ending::Full,
-        End::Refused(error) if error.kind() == io::ErrorKind::InvalidInput => Ending::Behind,
-        End::Refused(_) => Ending::Other,
+        WriterEnd::StopRequested => Ending::Told,
+        WriterEnd::Ended(fault) => Ending::Fault(*fault),
+        WriterEnd::AlreadyEnded => Ending::Gone,
+        WriterEnd::WriteFailed(error) if error.kind() == io::ErrorKind::StorageFull => Ending::Full,
+        WriterEnd::WriteFailed(error) if error.kind() == io::ErrorKind::InvalidInput =>
+            Ending::Behind,
+        WriterEnd::WriteFailed(_) => Ending::Other,
     }
 }
 
@@ -141,7 +145,7 @@ fn ends_at_each_write(rt: HostRuntime) -> Result<(), Fail> {
             got: Vec::new(rt.alloc()),
         };
         let out = RecordFile::new(CountedFile::new(&mut file), Stage { count: 0 });
-        let written = write_out(&rt, rt.alloc(), lines, out, &over);
+        let written = write_until_stopped(&rt, rt.alloc(), lines, out, &over);
         let (count, ending) = (written.count, ending_of(&written));
         assert_eq!(rt; file.got.as_slice(), &text[..left.min(17)]);
         assert_eq!(rt; count, left.min(17) as u64);
@@ -170,7 +174,7 @@ fn ends_as_it_is_told(rt: HostRuntime) -> Result<(), Fail> {
             stopped: &stopped,
         };
         let out = RecordFile::new(CountedFile::new(Vec::new(rt.alloc())), Stage { count: 0 });
-        let written = write_out(&rt, rt.alloc(), lines, out, &over);
+        let written = write_until_stopped(&rt, rt.alloc(), lines, out, &over);
         assert_eq!(rt; (written.count, ending_of(&written)), (count, wanted));
         assert_eq!(rt; stopped.load(Ordering::SeqCst), wanted != Ending::Told);
     }
@@ -188,7 +192,7 @@ fn few_bytes_are_written_too(rt: HostRuntime) -> Result<(), Fail> {
     };
     let mut got = Vec::new(rt.alloc());
     let out = RecordFile::new(CountedFile::new(&mut got), Stage { count: 0 });
-    let written = write_out(&rt, rt.alloc(), lines, out, &over);
+    let written = write_until_stopped(&rt, rt.alloc(), lines, out, &over);
     assert_eq!(rt; ending_of(&written), Ending::Fault(7));
     assert!(rt; got.as_slice() == b"one\ntwo\nn1\nthree\n".as_slice());
     Ok(())

@@ -26,8 +26,8 @@ returns-in-Ok-clause-hands g c =
     let run = ran old (c.args.input ∷ []) c.new-outs.result.items c.run.new.outs.items new c.run.result c.in-Ok.field-0 c.in-Ok.is c.run.ensures.run in
     let given : c.deref.result.now ≡ run.more = c.deref.ensures.value ∙ run.behind ∙ ap (λ (os : List Out). os ++ run.more) c.new-outs.ensures.items in
     let read = read_input c.args.input in
-    let kept = kept_given (setup_in old).config (inputs_of old) (inputs_of new) read (added_by old) (added_by new) run.more c.intake.result asked (get nat_cmp c.args.kept.now) (get nat_cmp c.insert.new.self) (setup_in old).config.limits.some_batch
-    c.requires.kept c.intake.ensures c.in_ok-insert.ensures.updates.0 c.requires.added run.inputs_are (run.all ∙ ap (λ (config : Config). outs config (inputs_of new)) run.setup) run.added in
+    let kept = kept_given (setup_in old).config (inputs_of old) (inputs_of new) read (added_by old) (added_by new) run.more c.started_inputs.result asked (get nat_cmp c.args.kept.now) (get nat_cmp c.insert.new.self) (setup_in old).config.limits.some_batch
+    c.requires.kept c.started_inputs.ensures c.in_ok-insert.ensures.updates.0 c.requires.added run.inputs_are (run.all ∙ ap (λ (config : Config). outs config (inputs_of new)) run.setup) run.added in
     on_ok_both c.print_outs.result
     (λ others h. record {
       held_are = subst (λ (config : Config). AllKept (get nat_cmp c.print_outs.new.kept) (held config (inputs_of new))) (sym run.setup)
@@ -39,8 +39,8 @@ returns-in-Ok-clause-hands g c =
       setup = run.setup;
       shards = run.shards;
       prints = λ ns many kept. subst (λ (os : List Out). PrintsOuts (ns ++ one ∷ []) (map seen_out os) before after (get nat_cmp c.print_outs.new.kept)) given
-          (h (ns ++ one ∷ []) (kept_more ns one (get nat_cmp c.args.kept.now) (get nat_cmp c.insert.new.self) asked (is_at (nat_cmp c.intake.result)) c.in_ok-insert.ensures.updates.0
-          (λ i e. at_is c.intake.result i e ∙ c.intake.ensures ∙ sym many) (kept_last ns one asked refl refl c.ticks-tick.ensures) kept));
+          (h (ns ++ one ∷ []) (kept_more ns one (get nat_cmp c.args.kept.now) (get nat_cmp c.insert.new.self) asked (is_at (nat_cmp c.started_inputs.result)) c.in_ok-insert.ensures.updates.0
+          (λ i e. at_is c.started_inputs.result i e ∙ c.started_inputs.ensures ∙ sym many) (kept_last ns one asked refl refl c.ticks-tick.ensures) kept));
     })
     c.print_outs.ensures.others c.print_outs.ensures.prints
 
@@ -51,8 +51,8 @@ print_outs-requires g c =
     let asked : PendingLine = record { line = c.args.line; callback = c.args.callback; tick = c.ticks-tick.result } in
     let run = ran old (c.args.input ∷ []) c.new-outs.result.items c.run.new.outs.items new c.run.result c.in-Ok.field-0 c.in-Ok.is c.run.ensures.run in
     let given : c.deref.result.now ≡ run.more = c.deref.ensures.value ∙ run.behind ∙ ap (λ (os : List Out). os ++ run.more) c.new-outs.ensures.items in
-    let kept = kept_given (setup_in old).config (inputs_of old) (inputs_of new) (read_input c.args.input) (added_by old) (added_by new) run.more c.intake.result asked (get nat_cmp c.args.kept.now) (get nat_cmp c.insert.new.self) (setup_in old).config.limits.some_batch
-    c.requires.kept c.intake.ensures c.in_ok-insert.ensures.updates.0 c.requires.added run.inputs_are (run.all ∙ ap (λ (config : Config). outs config (inputs_of new)) run.setup) run.added in
+    let kept = kept_given (setup_in old).config (inputs_of old) (inputs_of new) (read_input c.args.input) (added_by old) (added_by new) run.more c.started_inputs.result asked (get nat_cmp c.args.kept.now) (get nat_cmp c.insert.new.self) (setup_in old).config.limits.some_batch
+    c.requires.kept c.started_inputs.ensures c.in_ok-insert.ensures.updates.0 c.requires.added run.inputs_are (run.all ∙ ap (λ (config : Config). outs config (inputs_of new)) run.setup) run.added in
     record { kept = subst (λ (os : List Out). AllKept (get nat_cmp c.insert.new.self) (inputs_given os)) (sym given) (kept_front (inputs_given run.more) (held (setup_in old).config (inputs_of new)) (get nat_cmp c.insert.new.self) kept) }
 
 pub returns-in-Ok-clause-fault : goal.returns-in-Ok-clause-fault
@@ -71,8 +71,8 @@ returns-in-Ok-clause-fault g c =
       adds = ap (outs (setup_in old).config) (sym run.inputs_are) ∙ ap (λ (config : Config). outs config (inputs_of new)) (sym run.setup) ∙ sym run.all ∙ run.added
           ∙ ap (λ (os : List runs.Out). os ++ map seen_out run.more) c.requires.added;
       prints = λ ns many kept. subst (λ (os : List Out). AppendsFront before after (outs_text (ns ++ one ∷ []) (map seen_out os))) given
-          (h (ns ++ one ∷ []) (kept_more ns one (get nat_cmp c.args.kept.now) (get nat_cmp c.insert.new.self) asked (is_at (nat_cmp c.intake.result)) c.in_ok-insert.ensures.updates.0
-          (λ i e. at_is c.intake.result i e ∙ c.intake.ensures ∙ sym many) (kept_last ns one asked refl refl c.ticks-tick.ensures) kept));
+          (h (ns ++ one ∷ []) (kept_more ns one (get nat_cmp c.args.kept.now) (get nat_cmp c.insert.new.self) asked (is_at (nat_cmp c.started_inputs.result)) c.in_ok-insert.ensures.updates.0
+          (λ i e. at_is c.started_inputs.result i e ∙ c.started_inputs.ensures ∙ sym many) (kept_last ns one asked refl refl c.ticks-tick.ensures) kept));
     })
     c.print_outs.ensures.fault
 

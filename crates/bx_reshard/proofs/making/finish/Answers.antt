@@ -18,7 +18,7 @@ loop-sessions-init g c =
           (subst (λ (xs : List Sessions). 0 + length xs ≤ vec_capacity r.shards) (sym rest) (omega (arith, c.requires.capacity)));
       fit = subst (All (Fits r.place)) (sym rest) c.requires.fit;
       same = λ placing all. all;
-      made = subst (AreMadeWith r.handles.items c.args.count r.place r.is_shut) (sym c.requires.empty) (none_made r.handles.items c.args.count r.place r.is_shut);
+      made = subst (AreMadeWith r.handles.items c.args.count r.place r.is_closed_to_wakers) (sym c.requires.empty) (none_made r.handles.items c.args.count r.place r.is_closed_to_wakers);
     }
 
 pub resume-shard-requires : goal.resume-shard-requires
@@ -54,8 +54,8 @@ loop-sessions-preserved g c =
       capacity = omega (arith, longer, left, loop.invariant.capacity, c.push_reserved.ensures.capacity);
       fit = λ i d l. fit (suc i) d (omega (arith, l));
       same = λ placing all. all_but_last (λ h. arc_value h ≡ placing) c.pop.new.self.items c.in-Some-pop.placing (subst (AreHandlesOf placing) popped (loop.invariant.same placing all));
-      made = subst (AreMadeWith r.handles.items c.args.count r.place r.is_shut) (sym pushed)
-          (one_more_made r.handles.items c.args.count r.place r.is_shut loop.shards.items _ loop.invariant.made
+      made = subst (AreMadeWith r.handles.items c.args.count r.place r.is_closed_to_wakers) (sym pushed)
+          (one_more_made r.handles.items c.args.count r.place r.is_closed_to_wakers loop.shards.items _ loop.invariant.made
           (λ placing all. record {
             placing_is = ap (λ h. arc_value h) c.resume-shard.ensures.placing
                 ∙ last_of_all (λ h. arc_value h ≡ placing) c.pop.new.self.items c.in-Some-pop.placing (subst (AreHandlesOf placing) popped (loop.invariant.same placing all));

@@ -11,5 +11,5 @@ invariant-loop-sessions g l = record {
   capacity : length l.shards.items + length l.sessions-iterator.rest.items ≤ vec_capacity l.shards;
   fit : All (Fits l.fn.room.place) l.sessions-iterator.rest.items;
   same : (placing : g.row.P.Denot) → AreHandlesOf placing l.fn.room.handles.items → AreHandlesOf placing l.handles.items;
-  made : AreMadeWith l.fn.room.handles.items l.count l.fn.room.place l.fn.room.is_shut l.shards.items;
+  made : AreMadeWith l.fn.room.handles.items l.count l.fn.room.place l.fn.room.is_closed_to_wakers l.shards.items;
 }

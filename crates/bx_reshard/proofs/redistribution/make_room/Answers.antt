@@ -19,5 +19,5 @@ returns g c =
       empty = c.in_ok-made.ensures.items;
       capacity = omega (arith, c.in_ok-made.ensures.capacity, c.get-2.ensures.same);
       place_is = c.place.ensures.place;
-      shut_is = c.is_shut.ensures;
+      shut_is = c.is_closed_to_wakers.ensures;
     }

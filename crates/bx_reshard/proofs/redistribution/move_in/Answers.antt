@@ -28,6 +28,6 @@ returns g c =
     let r = c.requires.ready in
     let last = c.move_all.new.heirs.shards.items in
     all_redistributed g.P.Placing.place_of c.args.placing.now c.args.count c.args.shards.items r.first r.there c.requires.alike c.requires.apart c.args.room.heirs.shards.items last r.lent c.move_all.ensures
-    c.args.room.is_shut c.finish.result.items r.shut_is
-    (subst (λ (place : ℕ). AreMade c.args.placing.now c.args.count place c.args.room.is_shut c.finish.result.items) r.place_is (c.finish.ensures.made c.args.placing.now r.handles))
+    c.args.room.is_closed_to_wakers c.finish.result.items r.shut_is
+    (subst (λ (place : ℕ). AreMade c.args.placing.now c.args.count place c.args.room.is_closed_to_wakers c.finish.result.items) r.place_is (c.finish.ensures.made c.args.placing.now r.handles))
     c.finish.ensures.sessions

@@ -2,14 +2,14 @@ use Rattle.std.proofs.Common.{◌≡◌, List, ℕ, Bool, true, false, ap, sym, 
 use Rattle.std.specs.Prelude.{Option, Some, None}
 use Rattle.std.proofs.lemmas.Slice.Eq.{bytes_eq-Decides}
 use Rattle.bx_entry.specs.Registry.{live_with_id}
-use Rattle.bx_roster.specs.Tables.{known_at}
+use Rattle.bx_roster.specs.Tables.{client_and_ack_of}
 use Rattle.bx_registry.specs.Words.{number_in, Overlay, IsOverlay, IsSender, members_of}
 use Rattle.bx_registry.proofs.Digits.{Finds, finds}
 use Rattle.bx_registry.proofs.session_overlay.SessionOverlay.live_with_id.Goals as goal
 use Rattle.std.proofs.lemmas.Grind.{common_steps}
 use Rattle.std.proofs.Common.{arith}
 
-found : (d seen : Overlay) (text : List ℕ) (number : ℕ) {count opened : ℕ} → IsOverlay d.base d.edits count opened → d ≡ seen → number ≡ number_in text → Finds (members_of seen).live text (known_at number (members_of seen).live)
+found : (d seen : Overlay) (text : List ℕ) (number : ℕ) {count opened : ℕ} → IsOverlay d.base d.edits count opened → d ≡ seen → number ≡ number_in text → Finds (members_of seen).live text (client_and_ack_of number (members_of seen).live)
 found d seen text number i same e = grind (arith, common_steps, finds)
 
 none-some : (o : Option (List ℕ × Bool)) (k : List ℕ × Bool) → None ≡ o → o ≡ Some k → ⊥
@@ -24,7 +24,7 @@ returns-in_err-known c =
     let n : ℕ = c.number_in-number.result in
     let number : n ≡ number_in text = c.number_in-number.ensures ∙ ap number_in c.as_str.ensures in
     let finds = found (record { base = c.self.inside.table.now.members; edits = c.self.inside.edits }) c.args.self.now text n c.self.invariant c.self.view_is number in
-    rw c.from_residual.ensures (finds.1 (λ k e is. none-some (known_at n (members_of c.args.self.now).live) k c.in_err-known.ensures e))
+    rw c.from_residual.ensures (finds.1 (λ k e is. none-some (client_and_ack_of n (members_of c.args.self.now).live) k c.in_err-known.ensures e))
 
 pub returns-then-eq : goal.returns-then-eq
 returns-then-eq c =
@@ -45,7 +45,7 @@ returns-else-eq c =
     let finds = found (record { base = c.self.inside.table.now.members; edits = c.self.inside.edits }) c.args.self.now text n c.self.invariant c.self.view_is number in
     finds.1 (λ k e is.
     let whole : (c.in_ok-known.known.client.now, c.in_ok-known.known.ack) ≡ k =
-    some-same (known_at n (members_of c.args.self.now).live) (c.in_ok-known.known.client.now, c.in_ok-known.known.ack) k c.in_ok-known.ensures e in
+    some-same (client_and_ack_of n (members_of c.args.self.now).live) (c.in_ok-known.known.client.now, c.in_ok-known.known.ack) k c.in_ok-known.ensures e in
     let known : c.in_ok-known.known.client.now ≡ text = ap (λ (x : List ℕ × Bool). x.0) whole ∙ is in
     let same : c.as_str-2.result.now ≡ c.as_str-3.result.now = c.as_str-2.ensures ∙ known ∙ sym c.as_str-3.ensures in
     let yes : true ≡ false = sym ((bytes_eq-Decides c.as_str-2.result.now c.as_str-3.result.now).1 same) ∙ sym c.if-eq.ensures in

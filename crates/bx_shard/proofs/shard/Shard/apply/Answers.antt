@@ -19,7 +19,7 @@ invariant_of-self-2 g c =
       counted = c.follow.ensures.counted;
       held = c.follow.ensures.held;
       batches = formed_few _ e old.place old.sessions new followed.sessions old.batches;
-      fresh = still_fresh old.shards _ old.index old.is_shut old.place e old.sessions new c.requires.next sound followed;
+      fresh = still_fresh old.shards _ old.index old.is_closed_to_wakers old.place e old.sessions new c.requires.next sound followed;
     }
 
 pub returns-clause-done : goal.returns-clause-done
@@ -28,4 +28,4 @@ returns-clause-done g c =
     let e = c.args.entry.now in
     let new = c.follow.new.self in
     let followed : Followed (opens_in (setup_in g.P.Placing.place_of old) old.index e.kind) e old.sessions new = search rules in
-    applied old.shards _ old.index old.is_shut old.place e old.sessions new c.requires.next followed
+    applied old.shards _ old.index old.is_closed_to_wakers old.place e old.sessions new c.requires.next followed

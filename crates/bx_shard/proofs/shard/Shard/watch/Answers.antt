@@ -14,11 +14,11 @@ invariant_of-self g c =
       shards_in_range = old.shards_in_range;
       counted = old.counted;
       held = λ place n.
-          at_each (λ o q. held_until q n ≡ held_until o n) old.is_shut c.args.ticket.place c.args.waker before after c.watch.ensures.stored
-          (λ o. refl) (λ o. watched_held old.is_shut c.args.waker o n) place
+          at_each (λ o q. held_until q n ≡ held_until o n) old.is_closed_to_wakers c.args.ticket.place c.args.waker before after c.watch.ensures.stored
+          (λ o. refl) (λ o. watched_held old.is_closed_to_wakers c.args.waker o n) place
           ∙ old.held place n;
       batches = old.batches;
       fresh = λ p l.
-          at_each (λ o q. o ≡ None → q ≡ None) old.is_shut c.args.ticket.place c.args.waker before after c.watch.ensures.stored
-          (λ o e. e) (λ o e. watched_none old.is_shut c.args.waker o e) p (old.fresh p l);
+          at_each (λ o q. o ≡ None → q ≡ None) old.is_closed_to_wakers c.args.ticket.place c.args.waker before after c.watch.ensures.stored
+          (λ o e. e) (λ o e. watched_none old.is_closed_to_wakers c.args.waker o e) p (old.fresh p l);
     }

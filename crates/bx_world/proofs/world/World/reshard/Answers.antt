@@ -4,7 +4,7 @@ use Rattle.bx_advice.specs.Limits.{greatest_length}
 use Rattle.bx_reshard.specs.Redistribution.{AreAlike, AreApart, Redistributed}
 use Rattle.bx_shard.specs.Seen.{state}
 use Rattle.bx_shard.specs.declared.shard.Shard.{Shard}
-use Rattle.bx_reshard.proofs.RedistributionLaws.{holders_are_apart}
+use Rattle.bx_reshard.proofs.RedistributionLaws.{shards_are_disjoint}
 use Rattle.bx_world.specs.Words.{Admitting, EachRefines, some_stands_at}
 use Rattle.bx_entry.specs.Placings.{placed_by}
 use Rattle.bx_world.proofs.Redistribution.{AreAtEnd, redistributed_at_end, same_world, states_hold}
@@ -17,7 +17,7 @@ apart g c =
     let w = c.args.self in
     let place_of = g.P.Placing.place_of in
     let setup = placed_by w.admission.config w.admission.shards (place_of (arc_value w.placing)) in
-    holders_are_apart setup w.admission.list w.taken (length w.admission.list) (map (state place_of) w.shards.items)
+    shards_are_disjoint setup w.admission.list w.taken (length w.admission.list) (map (state place_of) w.shards.items)
     (states_hold place_of setup w.admission.list w.taken w.admission.first w.shards.items w.holding c.requires.level)
 
 pub redistribute-requires-clause-alike : goal.redistribute-requires-clause-alike

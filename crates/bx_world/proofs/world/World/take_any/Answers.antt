@@ -3,7 +3,7 @@ use Rattle.std.specs.Prelude.{IfNone}
 use Rattle.std.proofs.lemmas.{List.length-set, Option.slice_get_read}
 use Rattle.bx_entry.specs.declared.entry.Ticket.{Ticket}
 use Rattle.bx_connects.specs.Connects.{filed_answer}
-use Rattle.bx_connects.specs.declared.filing.Filing.{Filing}
+use Rattle.bx_connects.specs.declared.filing.TakenAnswer.{TakenAnswer}
 use Rattle.bx_shard.specs.declared.shard.Shard.{Shard}
 use Rattle.bx_world.specs.Words.{EachRefines, setup_of, world_of, WorldState, filed_under}
 use Rattle.bx_world.proofs.{Standing.same_places, Standing.still_some, Takings.each_same, Takings.each_taken, Takings.none_filed, Takings.taking_gives}
@@ -46,7 +46,7 @@ returns-in_err-filing-clause-none g c =
       ap (λ (ns : List ℕ). record (world_of w) { applied = ns }) (same_places w t.shard old (there g k) new (ap (λ (s : Shard g.row.P.Denot). s.place) c.in_err-filing.ensures.same)),
       refl,
     ) in
-    subst (λ (o : Option Filing). IfNone o (((place : ℕ) → filed_under (setup_of w) (world_of w) (record { place = place; shard = t.shard }) ≡ None) × (after ≡ world_of w) × (setup_of w ≡ setup_of w)))
+    subst (λ (o : Option TakenAnswer). IfNone o (((place : ℕ) → filed_under (setup_of w) (world_of w) (record { place = place; shard = t.shard }) ≡ None) × (after ≡ world_of w) × (setup_of w ≡ setup_of w)))
     (sym c.from_residual-in_err-filing.ensures) facts
 
 pub invariant_of-self-2 : goal.invariant_of-self-2

@@ -1,5 +1,0 @@
-use Rattle.bx_theory.proofs.Done.{done_never_falls}
-use Rattle.bx_laws.proofs.laws.done_never_falls.Goals as goal
-
-pub returns : goal.returns
-returns c = done_never_falls

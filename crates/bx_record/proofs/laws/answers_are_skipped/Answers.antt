@@ -1,5 +1,0 @@
-use Rattle.bx_record.proofs.Answered.{skipped}
-use Rattle.bx_record.proofs.laws.answers_are_skipped.Goals as goal
-
-pub returns : goal.returns
-returns c = skipped

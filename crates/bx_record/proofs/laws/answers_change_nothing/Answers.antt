@@ -1,5 +1,0 @@
-use Rattle.bx_record.proofs.Answered.{nothing_changes}
-use Rattle.bx_record.proofs.laws.answers_change_nothing.Goals as goal
-
-pub returns : goal.returns
-returns c = nothing_changes

@@ -1,5 +1,0 @@
-use Rattle.bx_shard.proofs.Holdings.{holds_reached}
-use Rattle.bx_shard.proofs.laws.sessions_are_reached.Goals as goal
-
-pub returns : goal.returns
-returns c = holds_reached

@@ -1,5 +1,0 @@
-use Rattle.bx_world.proofs.Apart.{plain_given_once}
-use Rattle.bx_world.proofs.laws.plain_given_once.Goals as goal
-
-pub returns : goal.returns
-returns c = plain_given_once
