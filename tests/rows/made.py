@@ -129,6 +129,8 @@ def long_lines():
         ("0 F message=[]", BODY - 9, "413", RECORD),
     ):
         yield f"{front} and {count} spaces", f"{front}{' ' * count}\n0 P []\n", f"1 {printed}\n2 200 []\n", *arguments
+    lines = f"x\n0 P\n0 P \n0 P {' ' * (BODY + 1)}\n0 P [1]\n"
+    yield "lines of other forms and rejected bodies in one script", lines, "1 bad\n2 bad\n3 400\n4 413\n5 400\n"
     yield "a long line of another form is bad", f"{'0' * (BODY * 3)}\n0 P []\n", "1 bad\n2 200 []\n"
     yield "a long nonce is bad", f"0 N {'0' * (BODY * 3)}\n0 P []\n", "1 bad\n2 200 []\n", RECORD
     # The lines have a place of `count` zeros, a space, and a digest of 64 digits.

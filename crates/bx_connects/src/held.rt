@@ -23,7 +23,8 @@ pub(crate) struct HeldConnect {
 }
 
 impl HeldConnect {
-    // Stores `waker` and returns the one that it replaces, or returns `waker` itself if `is_closed_to_wakers`.
+    // Stores `waker` and returns the one that it replaces. Returns `waker` itself if
+    // `is_closed_to_wakers`.
     fn watch(&mut self, waker: Waker, is_closed_to_wakers: bool) -> Watch
         ensures watch { result ≡ watched_hold is_closed_to_wakers waker (Some self.old) }
         ensures stored { self.new ≡ stored_at is_closed_to_wakers waker self.old }
@@ -134,8 +135,8 @@ impl HeldConnects {
 
     /// Registers `waker` with the connect at `place`, and returns the waker that it replaces.
     ///
-    /// Returns `waker` itself if no connect is held at `place` (`Unknown`), or `is_closed_to_wakers` is `true`
-    /// (`Shut`).
+    /// Returns `waker` itself if no connect is held at `place` (`Unknown`), or if
+    /// `is_closed_to_wakers` is `true` (`Shut`).
     pub(crate) fn watch(&mut self, place: u64, waker: Waker, is_closed_to_wakers: bool) -> Watch
         ensures watch { result ≡ watched_hold is_closed_to_wakers waker (hold_at self.old place) }
         ensures stored { (p : ℕ) → hold_at self.new p

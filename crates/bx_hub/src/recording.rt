@@ -176,7 +176,8 @@ pub(crate) fn inputs_by(wanted: &Submission) -> History<Input>
     History::of::<&Submission, Recorded>(&wanted)
 }
 
-// Returns the record's lines for `listed`. Fails with `Unrecordable` if no line can hold the request.
+// Returns the record's lines for `listed`. Fails with `Unrecordable` if no line can hold the
+// request.
 fn text_of(alloc: Global, listed: &Submission) -> Result<Vec<u8>, RecordFault>
     ensures text { IfOk result (λ text. text.items ≡ input_text (input_in listed.now)) }
     ensures recordable { OnOk result (CanRecord (input_in listed.now)) }

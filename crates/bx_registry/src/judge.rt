@@ -216,8 +216,9 @@ fn serve<P: Placing>(
     })
 }
 
-// Returns the senders for judging the next message: `NoneYet` if `posted` is its request's last
-// one, otherwise `senders`.
+// Returns the senders with which the next message is judged.
+//
+// They are `NoneYet` if `posted` is the last message of its request, and otherwise `senders`.
 fn senders_after(posted: Posted<'_>, senders: Senders) -> Senders
     ensures { result ≡ senders_after (posted_of posted.entry) senders }
 {
@@ -445,8 +446,9 @@ fn due_after(config: &Config, moment: u64, hold: u64) -> u64
     moment + hold + u64::from(interval)
 }
 
-// Returns an accepted message's edit: a disconnect closes session `number`, any other message
-// extends its due moment to `due`.
+// Returns the edit of an accepted message of session `number`.
+//
+// A disconnect closes the session. Any other message extends its due moment to `due`.
 fn edit_for(message_kind: MessageKind, number: u64, due: u64) -> Edit
     ensures { result ≡ edit_for message_kind number due }
 {

@@ -15,8 +15,8 @@ use std::sync::Arc;
 /// Everything that the new shards need, before anything moves into them.
 ///
 /// `heirs` has room for all sessions and connects. `handles` has a handle to the placing for each
-/// shard. `shards` is empty, with room for all new shards. `place` and `is_closed_to_wakers` are those of each
-/// new shard.
+/// shard. `shards` is empty, with room for all new shards. `place` and `is_closed_to_wakers` are
+/// those of each new shard.
 #[derive(Drop)]
 pub(crate) struct Room<P> {
     pub(crate) heirs: Heirs,

@@ -37,9 +37,9 @@ later due r = record r { due = max r.due due }
 abbrev pub vacant_count : Record → ℕ
 vacant_count o = if is_some o then 1 else 0
 
--- The map `at` has a record for each of the `count` live sessions, of which there are at most
--- `limit`. It may have one other record, a vacant one, under the number `opened + 1`. `records`:
--- how many records the map has.
+-- The map `at` has a record for each of the `count` live sessions, which are at most `limit`. It
+-- may have one other record, a vacant one, under the number `opened + 1`. `records`: how many
+-- records the map has.
 pub record IsKept (at : ℕ → Record) (records limit count opened : ℕ) : Type 0 where
   pub fits : count ≤ limit
   pub small : limit < 2 ^ 64

@@ -64,7 +64,7 @@ abbrev pub is_past : ℕ → Option ℕ → Bool
 is_past moment None = false
 is_past moment (Some due) = nat_lt due moment
 
--- The numbers in the entries `dues` whose sessions are live and were due before `moment`. Each
--- number comes as often as it has entries.
+-- The numbers in `dues` of sessions that are live and were due before `moment`. Each number occurs
+-- as often as it has entries.
 abbrev pub past_numbers : ℕ → List Registered → List Due → List ℕ
 past_numbers moment live dues = filter (λ n. is_past moment (due_at n live)) (map (λ (d : Due). d.number) dues)

@@ -71,8 +71,8 @@ impl Reads {
         Err(ScriptFault::Read)
     }
 
-    // Reads what the reader has buffered, up to the end of the line, and adds to `kept` the part of
-    // it that is kept.
+    // Reads what the reader has buffered, up to the end of the line. Adds the part of it that is
+    // kept to `kept`.
     fn read_part<R: BufRead>(
         &mut self,
         reader: &mut R,

@@ -30,8 +30,8 @@ impl Sessions {
 
     /// Files the answer to `rider`, which is at `place`, and returns room for the answer's events.
     ///
-    /// The answer is filed without events. No connect or answer may be known at `place`. On error, no
-    /// session or connect has changed.
+    /// The answer is filed without events. No connect or answer may be known at `place`. On error,
+    /// no session or connect has changed.
     pub(crate) fn prepare_ride(
         &mut self,
         alloc: Global,

@@ -168,6 +168,8 @@ fn check_tick(
 fn check_closed(rt: &impl Abort, alloc: Global, registry: &mut Registry) -> Result<(), Fail> {
     let opened = open(alloc, registry, 0)?;
     same(rt, opened, Some(Outcome::Opened), "outcome");
+    same(rt, registry.sessions(), 1, "live sessions");
+    same(rt, registry.entries(), 1, "entries");
     same(rt, registry.live(1), true, "session 1");
     same(rt, registry.live(2), false, "session 2");
     check_tick(rt, alloc, registry, 10_000, &[])?;

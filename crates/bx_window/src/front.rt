@@ -148,8 +148,10 @@ impl<L: LogId> Book<L> {
         self.front()
     }
 
-    // Appends the step that adds `elements`, the result of `inputs`, to the list and drops the
-    // `dropped` oldest batches. The list then has `len` elements, and the window begins at `begin`.
+    // Appends a step that adds `elements` to the list and drops the `dropped` oldest batches.
+    //
+    // `inputs`: the requests and ticks that `elements` are from. After the step, the list has `len`
+    // elements, and the window begins at `begin`.
     fn step(
         &mut self,
         elements: &Listing,
