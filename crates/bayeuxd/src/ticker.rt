@@ -1,7 +1,7 @@
 //! The thread that posts ticks.
 use crate::refusals::RefusalLogger;
 use bx_entry::Placing;
-use bx_hub::{Gate, Hub, Lagging, Pass, ShardSurvey, Survey};
+use bx_hub::{Gate, Hub, Lagging, Pass, ShardSurvey, Survey, Tick};
 use bx_metrics::{Counts, Metric};
 use bx_service::Clock;
 use bx_window::LogId;
@@ -68,7 +68,10 @@ where
         }
         // A tick that is not appended adds no place. Answers are then dropped only if too many are
         // filed.
-        match hub.tick(rt, alloc, &mut pass, clock.now()) {
+        let tick = Tick {
+            moment: clock.now(),
+        };
+        match hub.tick(rt, alloc, &mut pass, tick) {
             Ok(ticked) => {
                 count_tick(counts, ticked.advanced.behind());
                 let _ = places.push_back(ticked.place);

@@ -7,7 +7,7 @@ use crate::load::Load;
 use anyhow::{Result, anyhow};
 use bx_advice::Config;
 use bx_entry::{ByRemainder, Slot};
-use bx_hub::{Hub, OpenGate, Pass};
+use bx_hub::{Hub, OpenGate, Pass, Tick};
 use bx_window::{EmptyWindow, LogId};
 use std::alloc::Global;
 use std::marker::Brand;
@@ -154,7 +154,7 @@ fn post<L: LogId, H: Wait + Drop, R: Wait>(
     let mut events = 0u64;
     for slot in posted.slots.into_vec() {
         if let Slot::Waiting(ticket) = slot {
-            let answer = hub.poll_answer(rt, alloc, pass, ticket).ok()??;
+            let answer = hub.poll_answer(rt, alloc, pass, ticket).0.ok()??;
             events = events.saturating_add(answer.events.len() as u64);
         }
     }
@@ -244,7 +244,7 @@ fn ticked<L: LogId, H: Wait + Drop, R: Wait>(
     let mut pass = hub.pass();
     let mut behind = 0u64;
     for _ in 0..count {
-        let ticked = hub.tick(rt, alloc, &mut pass, 0).ok()?;
+        let ticked = hub.tick(rt, alloc, &mut pass, Tick { moment: 0 }).ok()?;
         behind = behind.saturating_add(ticked.advanced.behind().memory as u64);
     }
     Some(behind)

@@ -97,8 +97,7 @@ impl<L: LogId, R: Wait + Drop> Ticker<L, R> {
     ///
     /// `bundle`, and one of the following faults; the list is unchanged:
     ///
-    /// - `Full`, if `count` is 0, or `count`, the list's length or the number of steps is at least
-    ///   1,000,000.
+    /// - `Full`, if `count` is 0, or `count` or the list's length is at least 1,000,000.
     /// - The window's fault, otherwise.
     pub fn publish_bundle(
         &mut self,
@@ -112,7 +111,7 @@ impl<L: LogId, R: Wait + Drop> Ticker<L, R> {
         ensures back { IfErr result (λ e. e.0 ≡ bundle) }
         ensures same { OnErr result (self.new.end ≡ self.old.end) }
     {
-        if count == 0 || count >= MOST || self.end >= MOST || self.writer.tell().steps() >= MOST {
+        if count == 0 || count >= MOST || self.end >= MOST {
             return Err((bundle, PublishFault::Full));
         }
         match self.writer.publish(alloc, bundle) {
@@ -126,12 +125,8 @@ impl<L: LogId, R: Wait + Drop> Ticker<L, R> {
 
     /// Drops the batches that are wholly before `place`, and returns `true` if that succeeds.
     ///
-    /// Returns `false`, and drops nothing, after 1,000,000 steps of the writer, or if an earlier
-    /// change still cannot be shown to readers.
+    /// Returns `false`, and drops nothing, if an earlier change still cannot be shown to readers.
     pub fn trim(&mut self, place: u64) -> bool {
-        if self.writer.tell().steps() >= MOST {
-            return false;
-        }
         self.writer.trim(place).is_ok()
     }
 }

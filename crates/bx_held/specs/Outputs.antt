@@ -1,18 +1,13 @@
 -- What a poll for an answer returns.
-use Rattle.std.specs.Prelude.{◌≡◌, ◌≤◌, ◌⊎◌, List, Bool, false, Option, Result, Ok, Err, Some, None}
+use Rattle.std.specs.Prelude.{◌≡◌, List, Bool, false, Option, Result, Ok, Err, Some, None}
 use mathlib.Core.List.{IsPrefix}
 use Rattle.bx_entry.specs.declared.entry.Ticket.{Ticket}
 use Rattle.bx_message.specs.declared.reply.Answer.{Answer}
 use Rattle.bx_entry.specs.Placings.{Setup}
 use Rattle.bx_window.specs.declared.law.LogStep.{LogStep}
 use Rattle.bx_hub.specs.Faults.{IsStopped}
-use Rattle.bx_hub.specs.Held.{IsLevelWithout, answer_over}
+use Rattle.bx_hub.specs.Held.{answer_over}
 use Rattle.bx_hub.specs.declared.{shard_state.evidence.NoAnswer.NoAnswer, fault.HubFault.HubFault}
-
--- The ticket names no shard, or its shard has a possible state at the end of `front` without an
--- answer.
-abbrev pub HasNone : Setup → Ticket → List LogStep → Type 0
-HasNone setup ticket front = (setup.shards ≤ ticket.shard) ⊎ IsLevelWithout setup ticket front
 
 module _ {L : Type 0} where
   -- The output, with an error reduced to its fault.
@@ -21,12 +16,12 @@ module _ {L : Type 0} where
   output_of (Err stopped) = Err stopped.fault
 
 -- The output can be returned after a pass has seen `front`.
--- An answer is the one that a single-threaded server gives with the list of `front`. `None`: the
--- ticket names no shard, or no answer is filed for the ticket. A fault: it can stop the ticket's
--- shard, as `IsStopped` states.
+-- An answer is the one that a single-threaded server gives with the list of `front`. A fault can
+-- stop the ticket's shard, as `IsStopped` states. `None` claims nothing here; for a first output,
+-- `IsUnknown` does.
 abbrev pub IsGiven : Setup → Ticket → List LogStep → Result (Option Answer) HubFault → Type 0
 IsGiven setup ticket front (Ok (Some a)) = answer_over setup.config front ticket.place ≡ Some a
-IsGiven setup ticket front (Ok None) = HasNone setup ticket front
+IsGiven setup ticket front (Ok None) = Unit {0}
 IsGiven setup ticket front (Err fault) = IsStopped fault ticket.shard front
 
 -- If no output was returned before (`is_done`), `output` agrees with some front that extends

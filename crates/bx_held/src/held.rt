@@ -5,7 +5,7 @@ ghost use Rattle.futures.specs.Poll.{IfReady, OnPending};
 ghost use Rattle.futures.specs.Task.{Covers, Keeps};
 ghost use Rattle.futures.specs.declared.task.Poll.TheVariants as polls;
 ghost use Rattle.bx_window.specs.Steps.{list_of, setup_of};
-ghost use Rattle.bx_held.specs.Outputs.{HasNone, IsGiven, MayGive, output_of};
+ghost use Rattle.bx_held.specs.Outputs.{IsGiven, MayGive, output_of};
 ghost use Rattle.bx_held.specs.Waiting.{IsUnknown, IsWaitedFor};
 ghost use Rattle.bx_message.specs.declared.reply.Answer.{Answer};
 ghost use Rattle.bx_hub.specs.declared.fault.HubFault.{HubFault};
@@ -66,10 +66,9 @@ impl<L: LogId> PendingAnswer<L> {
         ensures given { IfSome result (λ o. IsGiven (setup_of L.config L.placing) self.new.ticket self.new.pass (output_of o)) }
         ensures own { IfSome result (λ o. IfErr o (λ s. s.ticket.value ≡ self.new.ticket)) }
         ensures done { IfSome result (λ o. (self.new.is_done ≡ true) × (o ≢ Ok None)) }
-        ensures none { IfNone result (HasNone (setup_of L.config L.placing) self.new.ticket self.new.pass) }
         ensures pending { IfNone result (self.new.is_done ≡ self.old.is_done) }
     {
-        match hub.poll_answer(rt, alloc, &mut self.pass, self.ticket) {
+        match hub.poll_answer(rt, alloc, &mut self.pass, self.ticket).0 {
             Ok(None) => None,
             Ok(Some(answer)) => {
                 self.is_done = true;

@@ -16,7 +16,7 @@ use Rattle.bx_window.specs.declared.law.LogStep.{LogStep}
 use Rattle.bx_window.specs.Steps.{list_of}
 use Rattle.bx_window.specs.Places.{IsOf, StandsIn}
 use Rattle.bx_window.proofs.{Fronts.prefix_self, Fronts.prefix_trans, Lists.list_of-prefix}
-use Rattle.bx_hub.specs.Held.{Held, IsLevelWithout, Stands, answer_over}
+use Rattle.bx_hub.specs.Held.{Held, Stands, answer_over}
 use Rattle.bx_shard.proofs.Given.{filed_answers_match_definitions, given_longer, as_before}
 use Rattle.bx_hub.proofs.Lists.{takes_same, got, list_length}
 
@@ -113,19 +113,6 @@ pub stands_untaken : (setup : Setup) (seen told : List LogStep) (taken : List �
     (b ≡ true → Took place s t) → (b ≡ false → t ≡ s) → IsSound t → Stands setup (held seen told taken t)
 stands_untaken setup seen told taken place s t true r h e is took same sound = stands_still setup seen told taken s t h (as_before place s t (sym e ∙ is) (took refl)) sound
 stands_untaken setup seen told taken place s t false r h e is took same sound = subst (λ (u : State). Stands setup (held seen told taken u)) (sym (same refl)) h
-
-pub level_without : (setup : Setup) (h : Held) (t : Ticket) (front : List LogStep) (r : Option Answer) → r ≡ (if nat_eq t.shard h.state.index then filed_answer (connect_in h.state t.place) else None) → t.shard ≡ h.state.index → Stands setup h → h.told ≡ front →
-    h.state.place ≡ length (list_of h.told) → IfNone r (IsLevelWithout setup t front)
-level_without setup h t front None filed here s told level =
-    record {
-      held = h;
-      stands = s;
-      index = sym here;
-      told = told;
-      level = level ∙ ap (λ (l : List LogStep). length (list_of l)) told;
-      none = none_own (nat_eq t.shard h.state.index) (filed_answer (connect_in h.state t.place)) None filed refl (eq-eqb t.shard h.state.index here);
-    }
-level_without setup h t front (Some a) filed here s told level = tt
 
 pub filed_first : {F : Type 0} (i j : ℕ) (o r : Option Answer) (given : Result (Option Answer) F) → r ≡ (if nat_eq i j then o else None) → i ≡ j → IfSome r (λ a. given ≡ Ok (Some a)) → IfSome o (λ a. given ≡ Ok (Some a))
 filed_first i j None r given filed here at = tt

@@ -27,7 +27,7 @@ by_any a (m ∷ ms) is = append-nil (added_by (read_input (Post a))) ∙ ap (λ 
 
 pub list_by_one : (wanted : Submission) → list_by (inputs_by wanted) ≡ added_by (input_of wanted)
 list_by_one (submission.Request r) = by_any r.arrival r.messages.items r.read
-list_by_one (submission.Tick moment) = refl
+list_by_one (submission.Tick tick) = refl
 
 no_request : (a : Arrival) (ms : List Message) → request a.moment a.nonce ms ≡ [] → where_any ms (Post a) ≡ []
 no_request a [] is = refl
@@ -35,4 +35,4 @@ no_request a (m ∷ ms) is = absurd (omega (arith, ap length is))
 
 pub none_by : (wanted : Submission) → added_by (input_of wanted) ≡ [] → inputs_by wanted ≡ []
 none_by (submission.Request r) is = no_request r.arrival r.messages.items is
-none_by (submission.Tick moment) is = absurd (omega (arith, ap length is))
+none_by (submission.Tick tick) is = absurd (omega (arith, ap length is))

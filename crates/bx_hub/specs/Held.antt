@@ -5,11 +5,10 @@ use Rattle.bx_advice.specs.declared.config.Config.{Config}
 use Rattle.bx_entry.specs.Answers.{answer}
 use Rattle.bx_message.specs.declared.reply.Answer.{Answer}
 use Rattle.bx_shard.specs.Words.{Refines, given_of, Setup, state, State, connect_in}
-use Rattle.bx_connects.specs.Connects.{filed_answer}
 use Rattle.bx_entry.specs.declared.Placing as Placing
 use Rattle.bx_entry.specs.declared.entry.Ticket.{Ticket}
 use Rattle.bx_window.specs.declared.law.LogId as LogId
-use Rattle.bx_hub.specs.declared.shard_state.ShardState.{ShardState}
+use Rattle.bx_hub.specs.declared.{shard_state.ShardState.ShardState, shard_state.evidence.Unfiled.Unfiled}
 use Rattle.bx_window.specs.declared.law.LogStep.{LogStep}
 use Rattle.bx_window.specs.Steps.{list_of}
 
@@ -45,12 +44,8 @@ taken_by (Err e) place taken = taken
 abbrev pub answer_over : Config → List LogStep → ℕ → Option Answer
 answer_over config log place = option_map given_of (answer config (list_of log) place)
 
--- `held` is a possible state of the ticket's shard. The shard has applied all entries of `front`,
--- and has filed no answer under `ticket`.
-pub record IsLevelWithout (setup : Setup) (ticket : Ticket) (front : List LogStep) : Type 0 where
-  pub held : Held
-  pub stands : Stands setup held
-  pub index : held.state.index ≡ ticket.shard
-  pub told : held.told ≡ front
-  pub level : held.state.place ≡ length (list_of front)
-  pub none : filed_answer (connect_in held.state ticket.place) ≡ None
+module _ {L : Type 0} where
+  -- `evidence` is of `ticket`, whose shard had applied all entries of `front`.
+  pub record IsUnfiledAt (ticket : Ticket) (front : List LogStep) (evidence : Unfiled L) : Type 0 where
+    pub ticket_is : evidence.ticket.value ≡ ticket
+    pub front_is : evidence.front.value ≡ front

@@ -30,9 +30,6 @@ use bx_window::{Front, LogId, LogWriter, PublishFault, UnpublishedBatch};
 use std::alloc::{AllocError, Global};
 use std::sync::Wait;
 
-/// The maximum number of steps (publishes and trims) in the window's log.
-const MOST_STEPS: u64 = 1 << 62;
-
 /// The rest of a record that has ended, and why it ended.
 #[derive(Drop)]
 struct RecordEnd<L: LogId> {
@@ -314,7 +311,7 @@ impl<L: LogId, R: Wait + Drop> Admission<L, R> {
                 request.arrival().nonce,
                 request.messages(),
             ),
-            Submission::Tick(moment) => self.registry.plan_tick(alloc, *moment),
+            Submission::Tick(tick) => self.registry.plan_tick(alloc, tick.moment),
         }
     }
 
@@ -342,9 +339,6 @@ impl<L: LogId, R: Wait + Drop> Admission<L, R> {
         ensures room { IfErr result (λ f. IsWhole f pass.new self.new.writer) }
         ensures kept { (self.new.closed ≡ self.old.closed) × (self.new.recording ≡ None) × (self.new.record_end ≡ self.old.record_end) }
     {
-        if pass.steps() >= MOST_STEPS {
-            return Err(PostFault::Refused(Refusal::Ended));
-        }
         let Plan {
             batch,
             slots,
@@ -364,6 +358,7 @@ impl<L: LogId, R: Wait + Drop> Admission<L, R> {
                 *pass = self.writer.tell();
                 Ok(Admitted { first, slots })
             }
+            Err((_, PublishFault::Ended)) => Err(PostFault::Refused(Refusal::Ended)),
             Err((_, PublishFault::Full)) => Err(PostFault::Behind {
                 first: pass.begin(),
             }),
@@ -393,9 +388,6 @@ impl<L: LogId, R: Wait + Drop> Admission<L, R> {
         let Some(lowest) = least.into_lowest() else {
             unreachable!()
         };
-        if self.writer.tell().steps() >= MOST_STEPS {
-            return Ok(lowest);
-        }
         match self.writer.trim(lowest.place()) {
             Ok(()) => Ok(lowest),
             Err(_) => Err(AllocError),

@@ -1,5 +1,5 @@
 //! The hub, a server for many threads: its calls, and the locks that they take.
-ghost use Rattle.std.specs.Prelude.{◌≡◌, ◌≢◌, ◌⊎◌, ◌≤◌, ◌<◌, ◌++◌, [], length, Ok, None, Some, IsErr, OnOk, IfOk, IfErr, IfSome, IfNone, is_some, nat_lt};
+ghost use Rattle.std.specs.Prelude.{◌≡◌, ◌≢◌, ◌⊎◌, ◌≤◌, ◌<◌, ◌++◌, [], length, Ok, None, Some, IsErr, OnOk, IfOk, IfErr, IfSome, IfNone, IsSomeAnd, MatchOption, is_some, nat_lt};
 ghost use Rattle.std.specs.Arc.{arc_value};
 ghost use mathlib.Core.List.{IsPrefix};
 ghost use Rattle.bx_entry.specs.Requests.{read_input};
@@ -13,9 +13,9 @@ use crate::parsed_request::{ParsedRequest, Rejection};
 use crate::recording::{NotRecording, RecordFront};
 use crate::shard_state::{
     AddedWakers, ChangeEvidence, NoAnswer, ShardAdvance, ShardChange, ShardPosition, ShardState,
-    WatchEvidence,
+    Unfiled, WatchEvidence,
 };
-use crate::submission::{ConsumedSubmission, Submission};
+use crate::submission::{ConsumedSubmission, Submission, Tick};
 use crate::survey::{ShardSurvey, Survey};
 use crate::walk::{AdvanceReport, ChangeReport, LowestPosition};
 use bx_advice::Config;
@@ -61,7 +61,7 @@ pub struct Hub<L: LogId, P: Placing, G: Gate + Drop, R: Wait + Drop> {
 
 impl<L: LogId, P: Placing, G: Gate + Drop, R: Wait + Drop> Hub<L, P, G, R> {
     ghost use Rattle.bx_hub.specs.Advancing.{IsOfAll};
-    ghost use Rattle.bx_hub.specs.Held.{IsLevelWithout, answer_over};
+    ghost use Rattle.bx_hub.specs.Held.{IsUnfiledAt, answer_over};
     ghost use Rattle.bx_hub.specs.Lags.{IsLagging};
     ghost use Rattle.bx_hub.specs.Submissions.{input_of};
     ghost use Rattle.bx_hub.specs.Records.{EndsIn, inputs_by, inputs_from};
@@ -160,10 +160,8 @@ impl<L: LogId, P: Placing, G: Gate + Drop, R: Wait + Drop> Hub<L, P, G, R> {
     /// let Some(Slot::Waiting(ticket)) = receipt.slots.as_slice().first() else {
     ///     return Err(Fail::from("answered at once"));
     /// };
-    /// let answer = hub
-    ///     .poll_answer(rt, alloc, &mut pass, *ticket)
-    ///     .map_err(|_| "stopped")?;
-    /// assert!(rt; answer.is_none());
+    /// let (answer, _) = hub.poll_answer(rt, alloc, &mut pass, *ticket);
+    /// assert!(rt; answer.map_err(|_| "stopped")?.is_none());
     /// ```
     pub fn post<W: Wait>(
         &self,
@@ -207,12 +205,12 @@ impl<L: LogId, P: Placing, G: Gate + Drop, R: Wait + Drop> Hub<L, P, G, R> {
 
     /// Appends a tick, advances every shard and trims the window.
     ///
-    /// `moment`: milliseconds since the server started. On success, `pass` has then seen the list
-    /// up to the tick.
+    /// Consumes `tick` on success and returns it on error. On success, `pass` has then seen the
+    /// list up to the tick.
     ///
     /// # Errors
     ///
-    /// The faults of [`post`](Self::post), except `Body`; nothing is appended.
+    /// `tick`, with one of the faults of [`post`](Self::post), except `Body`; nothing is appended.
     ///
     /// # Blocking
     ///
@@ -222,19 +220,25 @@ impl<L: LogId, P: Placing, G: Gate + Drop, R: Wait + Drop> Hub<L, P, G, R> {
         rt: &W,
         alloc: Global,
         pass: &mut Pass<L>,
-        moment: u64,
-    ) -> Result<TickReceipt<L>, Rejection<L>>
+        tick: Tick,
+    ) -> Result<TickReceipt<L>, (Tick, Rejection<L>)>
         ensures seen { IsPrefix pass.old pass.new }
-        ensures admitted { IfOk result (λ t. IsAdmittedAt (read_input (inputs.Tick moment)) t.place pass.old pass.new) }
-        ensures refused { IfErr result (λ u. IsRefused (read_input (inputs.Tick moment)) u.fault pass.new) }
-        ensures lags { IfErr result (λ u. IsLagging u.fault u.lag pass.new) }
+        ensures admitted { IfOk result (λ t. IsAdmittedAt (read_input (inputs.Tick tick.moment)) t.place pass.old pass.new) }
+        ensures back { IfErr result (λ r. r.0 ≡ tick) }
+        ensures refused { IfErr result (λ r. IsRefused (read_input (inputs.Tick tick.moment)) r.1.fault pass.new) }
+        ensures lags { IfErr result (λ r. IsLagging r.1.fault r.1.lag pass.new) }
         ensures behind { IfOk result (λ t. IsOfAll L.config.shards pass.new t.advanced) }
-        ensures inputs { OnOk result (EndsIn (inputs_of pass.new) (inputs_from (inputs.Tick moment))) }
+        ensures inputs { OnOk result (EndsIn (inputs_of pass.new) (inputs_from (inputs.Tick tick.moment))) }
     {
-        let wanted = Submission::Tick(moment);
+        let wanted = Submission::Tick(tick);
         let (Admitted { first, .. }, _) = match self.admit(rt, alloc, pass, wanted) {
             Ok(listed) => listed,
-            Err((_, why)) => return Err(why),
+            Err((wanted, why)) => {
+                let Some(tick) = wanted.into_tick() else {
+                    unreachable!()
+                };
+                return Err((tick, why));
+            }
         };
         let advanced = self.advance_all(rt, alloc, &*pass);
         self.let_go(rt);
@@ -432,6 +436,10 @@ impl<L: LogId, P: Placing, G: Gate + Drop, R: Wait + Drop> Hub<L, P, G, R> {
     /// `None` if there is still no answer, or if `ticket` names no shard. A filed answer can be
     /// taken even after [`close`](Self::close).
     ///
+    /// With `None`, the second value is evidence that the shard had no answer under `ticket` when
+    /// it had applied all that `pass` has seen. It is `None` if `ticket` names no shard, and in all
+    /// other cases.
+    ///
     /// # Errors
     ///
     /// `WrongShard` if the shard's lock guards another shard. Otherwise, if no answer is filed:
@@ -451,24 +459,23 @@ impl<L: LogId, P: Placing, G: Gate + Drop, R: Wait + Drop> Hub<L, P, G, R> {
         alloc: Global,
         pass: &mut Pass<L>,
         ticket: Ticket,
-    ) -> Result<Option<Answer>, NoAnswer<L>>
+    ) -> (Result<Option<Answer>, NoAnswer<L>>, Option<Unfiled<L>>)
         ensures seen { IsPrefix pass.old pass.new }
-        ensures answer { IfOk result (λ o. IfSome o (λ a. answer_over L.config pass.new ticket.place ≡ Some a)) }
-        ensures none { IfOk result (λ o. IfNone o ((L.config.shards ≤ ticket.shard)
-            ⊎ IsLevelWithout (setup_of L.config L.placing) ticket pass.new)) }
-        ensures stopped { IfErr result (λ s. (s.ticket.value ≡ ticket) × IsStopped s.fault ticket.shard pass.new) }
+        ensures answer { IfOk result.0 (λ o. IfSome o (λ a. answer_over L.config pass.new ticket.place ≡ Some a)) }
+        ensures none { IfOk result.0 (λ o. IfNone o (MatchOption result.1 (L.config.shards ≤ ticket.shard) (IsUnfiledAt ticket pass.new))) }
+        ensures stopped { IfErr result.0 (λ s. (s.ticket.value ≡ ticket) × IsStopped s.fault ticket.shard pass.new) }
     {
         if ticket.shard >= self.shards.len() {
-            return Ok(None);
+            return (Ok(None), None);
         }
         let mut wakers = Wakers::new(alloc);
-        let (answer, _woken) = self.poll_one(rt, alloc, pass, ticket, &mut wakers);
-        answer
+        let (answer, unfiled, _woken) = self.poll_one(rt, alloc, pass, ticket, &mut wakers);
+        (answer, unfiled)
     }
 
     // Takes the answer under `ticket` from its shard, which must exist, as `poll_answer` does. Adds
-    // the wakers of answered connects to `wakers`, and returns evidence of them, or `None` if the
-    // shard was not found.
+    // the wakers of answered connects to `wakers`. The third value is evidence of them, or `None`
+    // if the shard was not found.
     fn poll_one<W: Wait>(
         &self,
         rt: &W,
@@ -476,21 +483,27 @@ impl<L: LogId, P: Placing, G: Gate + Drop, R: Wait + Drop> Hub<L, P, G, R> {
         pass: &mut Front<L>,
         ticket: Ticket,
         wakers: &mut Wakers,
-    ) -> (Result<Option<Answer>, NoAnswer<L>>, Option<AddedWakers>)
+    ) -> (
+        Result<Option<Answer>, NoAnswer<L>>,
+        Option<Unfiled<L>>,
+        Option<AddedWakers>,
+    )
         requires { ticket.shard < length self.now.shards.items }
         ensures seen { IsPrefix pass.old pass.new }
         ensures answer { IfOk result.0 (λ o. IfSome o (λ a. answer_over L.config pass.new ticket.place ≡ Some a)) }
-        ensures none { IfOk result.0 (λ o. IfNone o (IsLevelWithout (setup_of L.config L.placing) ticket pass.new)) }
+        ensures none { IfOk result.0 (λ o. IfNone o (IsSomeAnd result.1 (IsUnfiledAt ticket pass.new))) }
         ensures stopped { IfErr result.0 (λ s. (s.ticket.value ≡ ticket) × IsStopped s.fault ticket.shard pass.new) }
-        ensures put { wakers.new ≡ wakers.old ++ put_of result.1 }
-        ensures asked { IfNone result.1 (IsErr result.0) }
+        ensures put { wakers.new ≡ wakers.old ++ put_of result.2 }
+        ensures asked { IfNone result.2 (IsErr result.0) }
     {
         match self.lock_shard(rt, ticket.shard) {
             Ok(mut shard_state) => {
-                let (answer, woken) = shard_state.poll(alloc, &self.gate, pass, ticket, wakers);
-                (answer, Some(woken))
+                let (answer, unfiled, woken) = shard_state.poll(
+                    alloc, &self.gate, pass, ticket, wakers,
+                );
+                (answer, unfiled, Some(woken))
             }
-            Err(other) => (Err(NoAnswer::misplaced(&*other, &ticket)), None),
+            Err(other) => (Err(NoAnswer::misplaced(&*other, &ticket)), None, None),
         }
     }
 

@@ -20,6 +20,7 @@ pub use fault::{HubFault, Lagging, PostFault, PostReceipt, TickReceipt};
 pub use hub::{Hub, Pass};
 pub use parsed_request::Rejection;
 pub use recording::{NotRecording, RecordFront};
-pub use shard_state::{ChangeEvidence, NoAnswer, ShardChange, WatchEvidence};
+pub use shard_state::{ChangeEvidence, NoAnswer, ShardChange, Unfiled, WatchEvidence};
+pub use submission::Tick;
 pub use survey::{ShardSurvey, Survey};
 pub use walk::{AdvanceReport, ChangeReport};

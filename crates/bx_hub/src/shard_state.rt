@@ -1,5 +1,5 @@
 //! The state that a shard's lock guards.
-ghost use Rattle.std.specs.Prelude.{◌≡◌, ◌+◌, ◌<◌, ◌≤◌, ◌⊎◌, ◌++◌, ◌∷◌, [], length, take, nat_eq, ℕ, if◌then◌else◌, is_some, true, Ok, Some, None, OnOk, IfOk, IfErr, IfSome, IfNone};
+ghost use Rattle.std.specs.Prelude.{◌≡◌, ◌+◌, ◌<◌, ◌≤◌, ◌⊎◌, ◌++◌, ◌∷◌, [], length, take, nat_eq, ℕ, if◌then◌else◌, is_some, true, Ok, Some, None, OnOk, IfOk, IfErr, IfSome, IfNone, IsSomeAnd};
 ghost use Rattle.std.specs.Arc.{arc_value};
 ghost use mathlib.Core.List.{IsPrefix};
 ghost use Rattle.std.specs.Map.{keys_of};
@@ -30,7 +30,7 @@ use bx_window::{Front, LogId, LogReader, Next, entry_of};
 use bx_workers::Gate;
 use evidence::listed;
 pub(crate) use evidence::{AddedWakers, ShardAdvance, ShardPosition};
-pub use evidence::{ChangeEvidence, NoAnswer, ShardChange, WatchEvidence};
+pub use evidence::{ChangeEvidence, NoAnswer, ShardChange, Unfiled, WatchEvidence};
 use futures::task::Waker;
 use std::alloc::Global;
 use std::snapshot::Snapshot;
@@ -56,7 +56,7 @@ pub(crate) struct ShardState<L: LogId, P: Placing> {
 }
 
 impl<L: LogId, P: Placing> ShardState<L, P> {
-    ghost use Rattle.bx_hub.specs.Held.{IsLevelWithout, Stands, answer_over, held_of, taken_by};
+    ghost use Rattle.bx_hub.specs.Held.{IsUnfiledAt, Stands, answer_over, held_of, taken_by};
     ghost use Rattle.bx_hub.specs.Changes.{MakesOf, activity_after};
     ghost use Rattle.bx_hub.specs.Watches.{IsBack, IsSaid};
     ghost use Rattle.bx_hub.specs.Lags.{IsLagging, IsOverrunIn};
@@ -101,6 +101,13 @@ impl<L: LogId, P: Placing> ShardState<L, P> {
         ensures longer { IsPrefix self.now.prefix result }
     {
         self.reader.note()
+    }
+
+    /// Returns the longest front of the list that the shard has learned.
+    pub(crate) fn learned(&self) -> &Front<L>
+        ensures { result.now ≡ self.now.prefix }
+    {
+        &self.prefix
     }
 
     /// Returns the shard's index.
@@ -342,11 +349,29 @@ impl<L: LogId, P: Placing> ShardState<L, P> {
         }
     }
 
+    // Takes the answer filed under `ticket`, if any, of a shard that has applied all of the longest
+    // front learned. The second value is evidence of a missing answer.
+    fn take_level(&mut self, ticket: Ticket) -> (Option<Answer>, Option<Unfiled<L>>)
+        requires own { ticket.shard ≡ self.old.shard.index }
+        requires level { self.old.shard.place ≡ length (list_of self.old.prefix) }
+        ensures answer { IfSome result.0 (λ a. answer_over L.config self.old.prefix ticket.place ≡ Some a) }
+        ensures none { IfNone result.0 (IsSomeAnd result.1 (IsUnfiledAt ticket self.old.prefix)) }
+        ensures taken { self.new.taken ≡ (if is_some result.0 then self.old.taken ++ ticket.place ∷ [] else self.old.taken) }
+        ensures waiting { (p : ℕ) → waker_of (connect_in (state P.place_of self.new.shard) p) ≡ waker_of (connect_in (state P.place_of self.old.shard) p) }
+        ensures same { (self.new.prefix ≡ self.old.prefix) × (self.new.reader ≡ self.old.reader) × (self.new.activity ≡ self.old.activity) }
+        ensures index { self.new.shard.index ≡ self.old.shard.index }
+    {
+        match self.take(ticket) {
+            Some(answer) => (Some(answer), None),
+            None => (None, Some(Unfiled::of(self, &ticket))),
+        }
+    }
+
     /// Takes the answer filed under `ticket`, if any.
     ///
     /// If there is none, learns `pass`, advances the shard to the end of the longest front learned,
-    /// and looks again. `pass` has then seen at least that front. Also returns which wakers were
-    /// added to `wakers`.
+    /// and looks again. `pass` has then seen at least that front. The second value is evidence of a
+    /// missing answer, if the result is `None`. The third is which wakers were added to `wakers`.
     ///
     /// # Errors
     ///
@@ -360,35 +385,40 @@ impl<L: LogId, P: Placing> ShardState<L, P> {
         pass: &mut Front<L>,
         ticket: Ticket,
         wakers: &mut Wakers,
-    ) -> (Result<Option<Answer>, NoAnswer<L>>, AddedWakers)
+    ) -> (
+        Result<Option<Answer>, NoAnswer<L>>,
+        Option<Unfiled<L>>,
+        AddedWakers,
+    )
         requires { ticket.shard ≡ self.old.shard.index }
         ensures seen { IsPrefix pass.old pass.new }
         ensures answer { IfOk result.0 (λ o. IfSome o (λ a. answer_over L.config pass.new ticket.place ≡ Some a)) }
-        ensures none { IfOk result.0 (λ o. IfNone o (IsLevelWithout (setup_of L.config L.placing) ticket pass.new)) }
+        ensures none { IfOk result.0 (λ o. IfNone o (IsSomeAnd result.1 (IsUnfiledAt ticket pass.new))) }
         ensures filed { IfSome (filed_answer (connect_in (state P.place_of self.old.shard) ticket.place)) (λ a. result.0 ≡ Ok (Some a)) }
         ensures taken { self.new.taken ≡ taken_by result.0 ticket.place self.old.taken }
         ensures stopped { IfErr result.0 (λ s. (s.ticket.value ≡ ticket) × IsStopped s.fault ticket.shard pass.new × IsStoppedIn self.old.activity s.fault) }
         ensures woken { AreWoken (connect_in (state P.place_of self.old.shard)) (connect_in (state P.place_of self.new.shard)) wakers.old wakers.new }
-        ensures put { wakers.new ≡ wakers.old ++ result.1 }
+        ensures put { wakers.new ≡ wakers.old ++ result.2 }
         ensures kept { (self.new.shard.index ≡ self.old.shard.index) × (self.new.activity ≡ self.old.activity) }
     {
         let before = listed(wakers);
         if let Some(answer) = self.take(ticket) {
             *pass = pass.longer(&self.prefix);
-            return (Ok(Some(answer)), AddedWakers::since(before, wakers));
+            return (Ok(Some(answer)), None, AddedWakers::since(before, wakers));
         }
         match self.advance(alloc, gate, pass, wakers) {
             Ok(()) => {
                 *pass = self.prefix.again();
-                (Ok(self.take(ticket)), AddedWakers::since(before, wakers))
+                let (answer, unfiled) = self.take_level(ticket);
+                (Ok(answer), unfiled, AddedWakers::since(before, wakers))
             }
             Err(fault) => {
                 *pass = self.front();
                 if let Some(filed) = self.take(ticket) {
-                    return (Ok(Some(filed)), AddedWakers::since(before, wakers));
+                    return (Ok(Some(filed)), None, AddedWakers::since(before, wakers));
                 }
                 let no_answer = NoAnswer::of(self, &ticket, fault);
-                (Err(no_answer), AddedWakers::since(before, wakers))
+                (Err(no_answer), None, AddedWakers::since(before, wakers))
             }
         }
     }

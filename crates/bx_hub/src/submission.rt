@@ -4,14 +4,22 @@ ghost use Rattle.std.specs.Prelude.{◌≡◌, ◌∷◌, [], MatchBool};
 use crate::parsed_request::ParsedRequest;
 use bx_entry::Arrival;
 
+/// A tick to append to the list.
+///
+/// It cannot be copied. Admission consumes it, so it is appended at most once.
+#[derive(Drop)]
+pub struct Tick {
+    /// Milliseconds since the server started.
+    pub moment: u64,
+}
+
 /// A request with its messages, or a tick.
 ///
 /// Admission consumes it, so it is appended to the list at most once.
 #[derive(Drop)]
 pub(crate) enum Submission {
     Request(ParsedRequest),
-    /// The tick's moment, in milliseconds since the server started.
-    Tick(u64),
+    Tick(Tick),
 }
 
 /// What is left of an admitted request or tick, to be dropped after unlocking.
@@ -23,7 +31,7 @@ pub(crate) struct ConsumedSubmission {
 }
 
 impl Submission {
-    ghost use Rattle.bx_hub.specs.Submissions.{arrival_of};
+    ghost use Rattle.bx_hub.specs.Submissions.{arrival_of, tick_of};
     ghost use Rattle.bx_hub.specs.Records.{input_in, inputs_by};
 
     /// Returns `true` unless `self` is a request without messages, which appends nothing.
@@ -50,6 +58,16 @@ impl Submission {
         match self {
             Submission::Request(request) => Some(request.into_arrival()),
             Submission::Tick(_) => None,
+        }
+    }
+
+    /// Returns the tick, or `None` for a request.
+    pub(crate) fn into_tick(self) -> Option<Tick>
+        ensures { result ≡ tick_of self }
+    {
+        match self {
+            Submission::Request(_) => None,
+            Submission::Tick(tick) => Some(tick),
         }
     }
 }

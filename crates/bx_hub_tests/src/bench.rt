@@ -5,7 +5,7 @@ use bx_calls::{
     post, publish,
 };
 use bx_entry::{Arrival, ByTable, Ticket};
-use bx_hub::{Gate, Hub, Lagging, Pass, PostFault, RecordFront, Watch};
+use bx_hub::{Gate, Hub, Lagging, Pass, PostFault, RecordFront, Tick, Watch};
 use bx_record::{Chunk, RecordFault};
 use bx_window::LogId;
 use futures::task::{Poll, Source, Waker};
@@ -232,9 +232,12 @@ impl<L: LogId, H: Wait + Drop> Bench<L, H> {
     ///
     /// The hub's fault.
     pub fn tick<R: Wait>(&mut self, rt: &R, moment: u64) -> Result<u64, PostFault> {
-        match self.hub.tick(rt, self.alloc, &mut self.pass, moment) {
+        match self
+            .hub
+            .tick(rt, self.alloc, &mut self.pass, Tick { moment })
+        {
             Ok(ticked) => Ok(ticked.place),
-            Err(refused) => Err(refused.fault()),
+            Err((_, refused)) => Err(refused.fault()),
         }
     }
 

@@ -5,5 +5,5 @@ use Rattle.bx_pieces.specs.Laws.{PiecesJoin}
 
 pub pieces_join : PiecesJoin
 pieces_join text [] given = sym given
-pieces_join text (frame ∷ frames) (piece, (left, (it, (is, same, cut, given)))) =
+pieces_join text (frame ∷ frames) (piece, (left, (it, (some, is, same, cut, given)))) =
     ap (λ f. bytes_in f.kind ++ joined_data frames) is ∙ ap (λ t. t ++ joined_data frames) same ∙ ap (λ t. piece ++ t) (pieces_join left frames given) ∙ sym cut

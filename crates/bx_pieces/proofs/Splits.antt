@@ -4,9 +4,10 @@ use Rattle.std.proofs.lemmas.List.{append_assoc, length-append, take_all, take_m
 use Rattle.std.proofs.lemmas.Bool.{eqb-true}
 use Rattle.std.specs.List.{join_with_byte, starts_with}
 use Rattle.bx_message.specs.Events.{array}
-use Rattle.bx_message.specs.Texts.{line_separator, paragraph_separator, guarded, script_safe}
+use Rattle.bx_message.specs.Texts.{body_text, line_separator, paragraph_separator, guarded, script_safe}
+use Rattle.bx_message.specs.declared.reply.Item.{Item}
 use Rattle.bx_pieces.specs.Elements.{element_text}
-use Rattle.bx_pieces.specs.Tails.{whole_text, beginning_text, led_text, tail_text, sent_as, end_text, rest_text, left_text, part_text, is_call}
+use Rattle.bx_pieces.specs.Tails.{answer_text, whole_text, beginning_text, led_text, tail_text, sent_as, end_text, rest_text, left_text, part_text, is_call}
 use Rattle.bx_pieces.specs.declared.element.Element.{Element}
 
 -- ---- a byte that occurs in no separator
@@ -147,3 +148,21 @@ whole-cut (Some callback) x xs =
 pub whole-first : (callback : Option (List ℕ)) (elements : List Element) (x : Element) → 0 < length elements → x ≡ get_or elements 0 x → beginning_text callback x ++ rest_text (is_call callback) (drop 1 elements) ≡ whole_text callback elements
 whole-first callback [] x h e = absurd (omega arith)
 whole-first callback (y ∷ ys) x h e = ap (λ z. beginning_text callback z ++ rest_text (is_call callback) ys) e ∙ sym (whole-cut callback y ys)
+
+-- ---- no piece is empty
+
+pub some_part : (last s : Bool) (xs : List Element) → (last ≡ false → 0 < length xs) → 0 < length (part_text last s xs)
+some_part true s xs some = omega (arith, rest-size s xs)
+some_part false s [] some = absurd (omega (arith, some refl))
+some_part false s (x ∷ xs) some =
+    let cut = sent-cut s 44 comma_apart [] (element_text x ++ led_text xs) in
+    let size = ap length cut ∙ length-append (sent_as s []) (44 ∷ sent_as s (element_text x ++ led_text xs)) in
+    omega (arith, size)
+
+pub some_beginning : (callback : Option (List ℕ)) (x : Element) → 0 < length (beginning_text callback x)
+some_beginning None x = omega arith
+some_beginning (Some callback) x = omega (arith, length-append callback (40 ∷ script_safe (91 ∷ element_text x)))
+
+pub some_text : (callback : Option (List ℕ)) (items : List Item) → 0 < length (answer_text callback items)
+some_text None items = omega arith
+some_text (Some callback) items = omega (arith, length-append callback (40 ∷ (script_safe (body_text items) ++ 41 ∷ [])))

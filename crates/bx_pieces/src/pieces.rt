@@ -37,7 +37,7 @@ pub struct Pieces<D> {
 }
 
 impl<D> Model for Pieces<D> {
-    ghost use Rattle.std.specs.Prelude.{◌≡◌, ◌≤◌, ◌++◌, ℕ, List, [], drop, length, unwrap_or};
+    ghost use Rattle.std.specs.Prelude.{◌≡◌, ◌<◌, ◌≤◌, ◌++◌, ℕ, List, [], IfSome, drop, length, unwrap_or};
     ghost use Rattle.bx_pieces.specs.Tails.{left_text};
 
     ghost Value = { List ℕ };
@@ -45,6 +45,7 @@ impl<D> Model for Pieces<D> {
     ghost view = { λ p. unwrap_or p.made [] ++ left_text p.is_written p.is_script (drop p.next p.elements.items) };
 
     ghost invariant = { λ p. (p.next ≤ length p.elements.items)
+        × IfSome p.made (λ piece. 0 < length piece)
         × (p.left ≡ length (unwrap_or p.made [] ++ left_text p.is_written p.is_script (drop p.next p.elements.items))) };
 }
 
@@ -138,10 +139,10 @@ impl<D> Pieces<D> {
 
     // Removes the next piece from the remaining text and returns it, or `None` at the end.
     //
-    // On error, `self` is unchanged.
+    // No piece is empty. On error, no text remains.
     fn take_piece(&mut self) -> Result<Option<Bytes>, AllocError>
-        ensures ok { IfOk result (λ given. MatchOption given ((self.old ≡ []) × (self.new ≡ [])) (λ piece. self.old ≡ piece ++ self.new)) }
-        ensures err { OnErr result ((self.new ≡ self.old) × (0 < length self.old)) }
+        ensures ok { IfOk result (λ given. MatchOption given ((self.old ≡ []) × (self.new ≡ [])) (λ piece. (0 < length piece) × (self.old ≡ piece ++ self.new))) }
+        ensures err { OnErr result ((self.new ≡ []) × (0 < length self.old)) }
     {
         if let Some(piece) = self.made.take() {
             self.left -= piece.len() as u64;
@@ -150,11 +151,25 @@ impl<D> Pieces<D> {
         if self.is_written {
             return Ok(None);
         }
-        let (piece, count) = piece_of(self.alloc, &self.elements[self.next..], self.is_script)?;
+        let made = piece_of(self.alloc, &self.elements[self.next..], self.is_script);
+        let Ok((piece, count)) = made else {
+            self.break_off();
+            return Err(AllocError);
+        };
         self.next += count;
         self.is_written = self.next == self.elements.len();
         self.left -= piece.len() as u64;
         Ok(Some(piece))
+    }
+
+    // Drops the remaining text.
+    fn break_off(&mut self)
+        ensures { self.new ≡ [] }
+    {
+        self.made = None;
+        self.next = self.elements.len();
+        self.is_written = true;
+        self.left = 0;
     }
 }
 
@@ -172,6 +187,7 @@ fn first_piece(
     elements: &[Element],
 ) -> Result<(Bytes, u64), AllocError>
     requires { 0 < length elements.now }
+    ensures some { IfOk result (λ made. 0 < length made.0) }
     ensures text { IfOk result (λ made. made.0 ++ rest_text (is_call (option_map (λ name. name.now) callback.entry)) (drop 1 elements.now)
         ≡ whole_text (option_map (λ name. name.now) callback.entry) elements.now) }
     ensures size { IfOk result (λ made. made.1 ≡ length made.0 + length (rest_text (is_call (option_map (λ name. name.now) callback.entry)) (drop 1 elements.now))) }

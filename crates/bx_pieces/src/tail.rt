@@ -97,6 +97,7 @@ pub(crate) fn piece_of(
     is_script: bool,
 ) -> Result<(Bytes, usize), AllocError>
     ensures within { IfOk result (λ made. made.1 ≤ length elements.now) }
+    ensures some { IfOk result (λ made. 0 < length made.0) }
     ensures text { IfOk result (λ made. rest_text is_script elements.now
         ≡ made.0 ++ left_text (made.1 == length elements.now) is_script (drop made.1 elements.now)) }
 {

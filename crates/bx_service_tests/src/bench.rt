@@ -1,6 +1,6 @@
 //! A hub, and services that post to it, for tests of exchanges.
 use bx_entry::ByRemainder;
-use bx_hub::{Hub, OpenGate, Pass};
+use bx_hub::{Hub, OpenGate, Pass, Tick};
 use bx_service::{BayeuxService, Clock, Nonces};
 use bx_window::LogId;
 use futures::test::MockTask;
@@ -57,7 +57,7 @@ impl<L: LogId, S: Drop, H: Wait + Drop> Bench<L, S, H> {
     /// If the tick is not appended.
     pub fn tick<W: Wait>(&mut self, rt: &W, moment: u64) -> Result<(), Fail> {
         self.hub
-            .tick(rt, self.alloc, &mut self.pass, moment)
+            .tick(rt, self.alloc, &mut self.pass, Tick { moment })
             .map_err(|_| "refused")?;
         Ok(())
     }

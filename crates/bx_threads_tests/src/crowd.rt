@@ -6,7 +6,7 @@ use crate::same::same;
 use bx_advice::Config;
 use bx_calls::{HANDSHAKE, post};
 use bx_entry::{ByRemainder, Placing};
-use bx_hub::{Gate, Hub, OpenGate, Pass};
+use bx_hub::{Gate, Hub, OpenGate, Pass, Tick};
 use bx_window::{EmptyWindow, LogId};
 use std::alloc::Global;
 use std::marker::Brand;
@@ -75,7 +75,7 @@ fn ticks<L: LogId, P: Placing, G: Gate + Drop, H: Wait + Drop, R: Wait>(
 ) -> Option<Vec<usize>> {
     let mut pass = hub.pass();
     for _ in 0..TICKS {
-        hub.tick(rt, alloc, &mut pass, 0).ok()?;
+        hub.tick(rt, alloc, &mut pass, Tick { moment: 0 }).ok()?;
     }
     Some(Vec::new(alloc))
 }
@@ -93,7 +93,7 @@ fn asks<L: LogId, P: Placing, G: Gate + Drop, H: Wait + Drop, R: Wait>(
     given: &mut Vec<usize>,
 ) -> Option<()> {
     let (_, ticket) = post(rt, alloc, hub, pass, ASKS.get(session)?).ok()?;
-    let answer = hub.poll_answer(rt, alloc, pass, ticket?).ok()??;
+    let answer = hub.poll_answer(rt, alloc, pass, ticket?).0.ok()??;
     for event in answer.events.as_slice() {
         let number = event.event().payload.as_str().parse::<usize>().ok()?;
         given

@@ -6,7 +6,7 @@ use crate::same::same;
 use bx_advice::Config;
 use bx_calls::{ANSWER, Found, HANDSHAKE, PUBLISH, Refused, find, hold, post};
 use bx_entry::{ByRemainder, Placing, Refusal, Ticket};
-use bx_hub::{Gate, Hub, Pass, PostFault};
+use bx_hub::{Gate, Hub, Pass, PostFault, Tick};
 use bx_window::{EmptyWindow, LogId};
 use std::alloc::Global;
 use std::hint;
@@ -86,9 +86,11 @@ fn takes<L: LogId, P: Placing, H: Wait + Drop, R: Wait>(
         }
         hint::spin_loop();
     }
-    let late = (1 << 62) + 1;
+    let late = Tick {
+        moment: (1 << 62) + 1,
+    };
     let refused = hub.tick(rt, alloc, &mut pass, late).err();
-    let is_bad_moment = refused.map(|it| it.fault())
+    let is_bad_moment = refused.map(|it| it.1.fault())
         == Some(PostFault::Refused(Refusal::BadMoment));
     let seen = pass.len();
     let found = find(rt, alloc, hub, &mut pass, ticket, ANSWER).unwrap_or(Found::Other);

@@ -6,7 +6,7 @@ use crate::same::same;
 use bx_advice::Config;
 use bx_calls::{CONNECT, HANDSHAKE, PING, post};
 use bx_entry::{ByRemainder, Placing, Ticket};
-use bx_hub::{Gate, Hub};
+use bx_hub::{Gate, Hub, Tick};
 use bx_window::{EmptyWindow, LogId};
 use std::alloc::{AllocError, Global};
 use std::marker::Brand;
@@ -157,11 +157,11 @@ fn calls<L: LogId, P: Placing, G: Gate + Drop, H: Wait + Drop, C: Clock + Drop, 
     }
     flags.holds_call.store(true, Ordering::SeqCst);
     match call {
-        Call::Tick => hub.tick(rt, alloc, &mut pass, 0).is_ok(),
+        Call::Tick => hub.tick(rt, alloc, &mut pass, Tick { moment: 0 }).is_ok(),
         Call::Post => post(rt, alloc, hub, &mut pass, PING).is_ok(),
         Call::Question => {
             let ticket = Ticket { place: 0, shard: 1 };
-            hub.poll_answer(rt, alloc, &mut pass, ticket).is_ok()
+            hub.poll_answer(rt, alloc, &mut pass, ticket).0.is_ok()
         }
     }
 }

@@ -6,7 +6,7 @@ use crate::same::same;
 use bx_advice::Config;
 use bx_calls::{ANSWER, Found, find, hold, publish};
 use bx_entry::{ByRemainder, Placing, Ticket};
-use bx_hub::{Gate, Hub, OpenGate, Pass};
+use bx_hub::{Gate, Hub, OpenGate, Pass, Tick};
 use bx_window::{EmptyWindow, LogId};
 use std::alloc::Global;
 use std::marker::Brand;
@@ -27,7 +27,7 @@ fn ticks<L: LogId, P: Placing, G: Gate + Drop, H: Wait + Drop, R: Wait>(
     mut pass: Pass<L>,
 ) -> Option<Pass<L>> {
     for _ in 0..TICKS {
-        hub.tick(rt, alloc, &mut pass, 0).ok()?;
+        hub.tick(rt, alloc, &mut pass, Tick { moment: 0 }).ok()?;
     }
     Some(pass)
 }

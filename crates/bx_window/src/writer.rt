@@ -1,5 +1,5 @@
 //! The writer of the window, which publishes batches and trims them.
-ghost use Rattle.std.specs.Prelude.{◌≡◌, ◌+◌, ◌<◌, ◌≤◌, ◌^◌, ◌++◌, ◌∷◌, [], length, drop, slice_index_or, List, None, IsTrue, IfNone, IfSome, IfOk, IfErr, OnOk, OnErr};
+ghost use Rattle.std.specs.Prelude.{◌≡◌, ◌+◌, ◌<◌, ◌≤◌, ◌^◌, ◌++◌, ◌∷◌, ◌⊎◌, [], length, drop, slice_index_or, List, None, IsTrue, IfNone, IfSome, IfOk, IfErr, OnOk, OnErr};
 ghost use Rattle.left_right.specs.Handles.{published, pending};
 ghost use mathlib.Core.List.{IsPrefix};
 ghost use Rattle.std.specs.Arc.{arc_value};
@@ -34,9 +34,16 @@ use std::sync::{Arc, Wait};
 /// Policy of this server.
 pub const MAX_BATCHES: usize = 4096;
 
+/// The greatest number of publishes and trims of a window.
+///
+/// At a million a second, it is reached after more than a hundred thousand years.
+const MAX_STEPS: u64 = 1 << 62;
+
 /// The reason why a batch was not published.
 #[derive(Clone, Copy, Debug, PartialEq, Eq)]
 pub enum PublishFault {
+    /// The window has had 2^62 publishes and trims.
+    Ended,
     /// The window has [`MAX_BATCHES`] batches.
     Full,
     /// Memory ran out, or an earlier change still cannot be shown to readers.
@@ -165,7 +172,8 @@ impl<L: LogId, R: Wait + Drop> Writer<L, R, Ring<L>, RingChange<L>> {
     ///
     /// `bundle`, with the first of these that applies; nothing is published:
     ///
-    /// - `Full`: the window has [`MAX_BATCHES`] batches.
+    /// - `Ended`: the window has had 2^62 publishes and trims.
+    /// - `Full`: it has [`MAX_BATCHES`] batches.
     /// - `Memory`: an earlier change still cannot be shown, or memory ran out.
     ///
     /// # Blocking
@@ -179,10 +187,12 @@ impl<L: LogId, R: Wait + Drop> Writer<L, R, Ring<L>, RingChange<L>> {
     ) -> Result<(), (UnpublishedBatch, PublishFault)>
         requires continues { Continues L.config (list_of self.old) bundle }
         requires places { length (list_of self.old) + length bundle.batch.entries ≤ greatest_length }
-        requires steps { length self.old < 2 ^ 62 }
         ensures ok { OnOk result (self.new ≡ self.old ++ adding bundle.elements bundle.inputs ∷ []) }
         ensures err { IfErr result (λ e. (e.0 ≡ bundle) × (self.new ≡ self.old) × IsFair self.old e.1) }
     {
+        if self.tell().steps() >= MAX_STEPS {
+            return Err((bundle, PublishFault::Ended));
+        }
         if self.firsts.len() >= MAX_BATCHES {
             return Err((bundle, PublishFault::Full));
         }
@@ -205,7 +215,8 @@ impl<L: LogId, R: Wait + Drop> Writer<L, R, Ring<L>, RingChange<L>> {
     /// Drops the batches with only places below `n`.
     ///
     /// Readers then find `Overrun` at the places of these batches. If the change cannot be shown,
-    /// it is late, as in [`publish`](Self::publish). Does not allocate.
+    /// it is late, as in [`publish`](Self::publish). Does nothing if the window has had 2^62
+    /// publishes and trims. Does not allocate.
     ///
     /// # Errors
     ///
@@ -217,13 +228,16 @@ impl<L: LogId, R: Wait + Drop> Writer<L, R, Ring<L>, RingChange<L>> {
     /// changed.
     #[tactic(auto, using(crate::proofs::Lists::begin_of_trimming, crate::proofs::Lists::list_of_trimming, crate::proofs::Lists::inputs_of_trimming, crate::proofs::Lists::firsts_of_trimming, crate::proofs::Rings::trimmed))]
     pub fn trim(&mut self, n: u64) -> Result<(), AllocError>
-        requires steps { length self.old < 2 ^ 62 }
         ensures grows { IsPrefix self.old self.new }
         ensures list { list_of self.new ≡ list_of self.old }
         ensures inputs { inputs_of self.new ≡ inputs_of self.old }
-        ensures ok { OnOk result (firsts_of self.new ≡ drop (below n (length (list_of self.old)) (firsts_of self.old)) (firsts_of self.old)) }
+        ensures ok { OnOk result ((firsts_of self.new ≡ drop (below n (length (list_of self.old)) (firsts_of self.old)) (firsts_of self.old))
+            ⊎ ((self.new ≡ self.old) × (2 ^ 62 ≤ length self.old))) }
         ensures err { OnErr result (self.new ≡ self.old) }
     {
+        if self.tell().steps() >= MAX_STEPS {
+            return Ok(());
+        }
         let end = self.tell().len();
         let count = count_below(&self.firsts, n, end);
         if count == 0 {

@@ -183,6 +183,38 @@ impl<L: LogId> NoAnswer<L> {
     }
 }
 
+/// Evidence that no answer is filed under a ticket.
+///
+/// The ticket's shard had applied all of the longest front that it had learned. The answer is not
+/// due yet, was taken or swept, or the ticket is not that of a connect or rider of the shard.
+///
+/// Ghost: that front.
+#[derive(Drop)]
+pub struct Unfiled<L: LogId> {
+    ticket: Snapshot<Ticket>,
+    front: Snapshot<Front<L>>,
+}
+
+impl<L: LogId> Unfiled<L> {
+    ghost use Rattle.bx_connects.specs.Connects.{filed_answer};
+    ghost use Rattle.bx_shard.specs.Seen.{state};
+    ghost use Rattle.bx_shard.specs.States.{connect_in};
+
+    /// Creates evidence that `shard_state`, which is at the end of the front that it has learned,
+    /// has filed no answer under `ticket`.
+    pub(super) fn of<P: Placing>(shard_state: &ShardState<L, P>, ticket: &Ticket) -> Unfiled<L>
+        requires own { ticket.now.shard ≡ shard_state.now.shard.index }
+        requires level { shard_state.now.shard.place ≡ length (list_of shard_state.now.prefix) }
+        requires unfiled { filed_answer (connect_in (state P.place_of shard_state.now.shard) ticket.now.place) ≡ None }
+        ensures { (result.ticket.value ≡ ticket.now) × (result.front.value ≡ shard_state.now.prefix) }
+    {
+        Unfiled {
+            ticket: Snapshot::of(ticket),
+            front: Snapshot::of(shard_state.learned()),
+        }
+    }
+}
+
 /// Evidence of the result of registering a waker under a ticket.
 ///
 /// The waker is registered, an answer is filed, no connect is known, or the shard is closed. If the

@@ -3,7 +3,7 @@ use crate::hubs::Served;
 use crate::requests::{CONNECT, HANDSHAKE, SUBSCRIBE, add_line, arrival, reply, text_of};
 use crate::unlike::Unlike;
 use bx_entry::{Slot, Ticket};
-use bx_hub::{HubFault, Lagging, Pass, PostFault, PostReceipt, TickReceipt};
+use bx_hub::{HubFault, Lagging, Pass, PostFault, PostReceipt, Tick, TickReceipt};
 use bx_message::Answer;
 use bx_window::LogId;
 use std::alloc::Global;
@@ -180,14 +180,14 @@ pub fn tick<L: LogId, H: Wait + Drop, R: Wait>(
     pass: &mut Pass<L>,
     said: &mut Said,
 ) -> Result<(), Unlike> {
-    let fault = match hub.tick(rt, alloc, pass, 0) {
+    let (tick, why) = match hub.tick(rt, alloc, pass, Tick { moment: 0 }) {
         Ok(ticked) => return end_of_tick(alloc, said, ticked),
-        Err(why) => why.fault(),
+        Err(refused) => refused,
     };
-    if fault != PostFault::Memory {
+    if why.fault() != PostFault::Memory {
         return Err(Unlike::Wrong("no tick"));
     }
-    match hub.tick(rt, alloc, pass, 0) {
+    match hub.tick(rt, alloc, pass, tick) {
         Ok(ticked) => end_of_tick(alloc, said, ticked),
         Err(_) => Err(Unlike::Wrong("refused once more")),
     }
@@ -219,14 +219,14 @@ pub fn poll<L: LogId, H: Wait + Drop, R: Wait>(
     pass: &mut Pass<L>,
     ticket: Ticket,
 ) -> Result<Option<Answer>, Unlike> {
-    let stopped = match hub.poll_answer(rt, alloc, pass, ticket) {
+    let stopped = match hub.poll_answer(rt, alloc, pass, ticket).0 {
         Ok(answer) => return Ok(answer),
         Err(stopped) => stopped,
     };
     if stopped.fault() != HubFault::Memory {
         return Err(Unlike::Wrong("no telling"));
     }
-    match hub.poll_answer(rt, alloc, pass, ticket) {
+    match hub.poll_answer(rt, alloc, pass, ticket).0 {
         Ok(answer) => Ok(answer),
         Err(_) => Err(Unlike::Wrong("refused once more")),
     }

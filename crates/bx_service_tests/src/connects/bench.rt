@@ -4,7 +4,7 @@ use crate::texts::{CONNECT, HANDSHAKE, SUBSCRIBE};
 use bx_cut::Bodies;
 use bx_entry::{Access, Arrival, Ticket};
 use bx_held::PendingAnswer;
-use bx_hub::{HubFault, Pass};
+use bx_hub::{HubFault, Pass, Tick};
 use bx_message::{Answer, event_text, reply_text};
 use bx_window::LogId;
 use futures::task::Poll;
@@ -135,7 +135,7 @@ impl<L: LogId, H: Wait + Drop, R: Wait + Copy + Drop> Bench<L, H, R> {
     /// If the tick is not appended.
     pub fn tick(&mut self, moment: u64) -> Result<(), Fail> {
         self.hub
-            .tick(&self.rt, self.alloc, &mut self.pass, moment)
+            .tick(&self.rt, self.alloc, &mut self.pass, Tick { moment })
             .map_err(|_| "refused")?;
         Ok(())
     }
