@@ -10,7 +10,7 @@ use std::sync::{Arc, Mutex, Wait};
 use std::time;
 use std::time::{Duration, Instant};
 
-/// A clock that counts milliseconds from `start`.
+/// A clock that counts milliseconds from `start`, and returns `u64::MAX` if time cannot be read.
 #[derive(Clone, Copy)]
 pub struct SinceStart<R> {
     /// The right to read the clock.

@@ -19,10 +19,10 @@ const PATIENCE: u64 = 2000;
 // of this server.
 const PAUSE: u64 = 20;
 
-// The most bytes that are read of a request. Policy of this server.
+// The most bytes that are read of one request. Policy of this server.
 const HEAD: usize = 4096;
 
-// The most reads of a request. Policy of this server.
+// The most calls that read data of one request. Policy of this server.
 const READS: usize = 16;
 
 /// Serves metrics at `address`, on a thread that runs until the program ends.
@@ -54,8 +54,8 @@ where
     Ok(())
 }
 
-// Answers one request on each connection, one connection at a time. A request gets no response if
-// its head takes too long.
+// Answers one request on each connection, one connection at a time, and updates the uptime before.
+// A request gets no response if its head takes too long, a system call fails or memory runs out.
 fn answer_all<R: Clock>(
     rt: &R,
     alloc: Global,

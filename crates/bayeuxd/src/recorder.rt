@@ -32,6 +32,8 @@ pub struct NewRecordFile<F> {
 
 /// Creates the record file at `path` and writes the line that describes `config`.
 ///
+/// `has_answers`: whether the digests of answers are to be recorded too.
+///
 /// # Errors
 ///
 /// `AlreadyExists` if there is a file at `path`. Otherwise the error of a system call, or of memory
@@ -177,8 +179,9 @@ impl<L: LogId, R: Wait + Log + Drop> Source for HubRecord<L, R> {
         })
     }
 
-    // Takes the lines of answers that wait, and leaves the buffer `empty`. Logs a warning if the
-    // log of answers ended early. The list has each request before the log has its answer.
+    // Takes the lines of answers that wait, and leaves the buffer `empty` in their place. Logs a
+    // warning if the log of answers ended early. The list has each request before the log has its
+    // answer.
     fn take_answers(&mut self, empty: Vec<u8>) -> Vec<u8> {
         let TakenAnswerLines { bytes, fault, .. } = self.log.take(&self.rt, empty);
         if let Some(fault) = fault {

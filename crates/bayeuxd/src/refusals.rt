@@ -43,14 +43,14 @@ const CAUSES: [(Metric, &str); 10] = [
 
 /// How many rejected or unanswered requests are already logged, by cause.
 ///
-/// With these counts, [`tell`](Self::tell) logs only new ones.
+/// With these counts, [`log_new`](Self::log_new) logs only new ones.
 #[derive(Clone, Copy)]
 pub struct RefusalLogger {
     logged: [u64; 10],
 }
 
 impl RefusalLogger {
-    /// Creates counts of 0.
+    /// Creates a logger that has not logged any rejected or unanswered request.
     pub fn new() -> RefusalLogger {
         RefusalLogger { logged: [0; 10] }
     }

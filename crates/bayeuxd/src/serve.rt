@@ -79,7 +79,7 @@ pub struct ListenAddress<'a> {
 // The publishers' listener and, if any, the read-only listener.
 type Listeners = (TcpListener, Option<TcpListener>);
 
-/// The runtime and its listeners.
+/// A runtime, with the listeners that [`listen`] opened on it.
 #[derive(Drop)]
 pub struct Listening {
     runtime: Runtime,
@@ -115,6 +115,8 @@ where
 }
 
 /// Serves connections until `arguments.connections` were accepted or `shutdown` is ready.
+///
+/// If `arguments.connections` is 0, there is no limit.
 ///
 /// Prints the listeners' addresses to `writer`, and records the list in `record_file`, if given.
 /// Once `shutdown` is ready, it closes the hub, which ends held connects. Then it waits for the
@@ -313,7 +315,8 @@ struct EndpointParts<S, O> {
 }
 
 impl<L: LogId, R: Wait + Clock + AllocGlobal + Copy + Drop> SharedParts<L, R> {
-    // Creates the backend and the observer for `listener`, and returns all three.
+    // Creates the backend and the observer for `listener`, and returns all three. `access`: what
+    // the listener allows.
     fn parts_for(
         &self,
         listener: TcpListener,
@@ -373,7 +376,8 @@ where
     serve_until(rt, runtime, first, other, arguments.connections, end)
 }
 
-// Creates the service of a listener, and returns both.
+// Creates the service for the listener in `parts`, and returns both. `body`: the size limit of
+// bodies and queries.
 fn endpoint_of<S: Backend, O: Observer>(
     alloc: Global,
     body: BodyLimit,

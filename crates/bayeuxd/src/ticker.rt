@@ -68,10 +68,7 @@ where
         }
         // A tick that is not appended adds no place. Answers are then dropped only if too many are
         // filed.
-        let tick = Tick {
-            moment: clock.now(),
-        };
-        match hub.tick(rt, alloc, &mut pass, tick) {
+        match hub.tick(rt, alloc, &mut pass, Tick::new(clock.now())) {
             Ok(ticked) => {
                 count_tick(counts, ticked.advanced.behind());
                 let _ = places.push_back(ticked.place);

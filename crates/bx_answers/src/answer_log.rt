@@ -8,7 +8,7 @@ use bx_record::RecordFault;
 use std::alloc::Global;
 use std::sync::{Mutex, Wait};
 
-/// The lines of answers that wait to be written.
+/// A log of answers: the lines that wait to be written.
 ///
 /// Any thread can add lines, and one thread takes them. At most 64 MiB wait. A log that has ended
 /// accepts no more lines.
@@ -18,7 +18,7 @@ pub struct WaitingAnswerLines {
 }
 
 impl WaitingAnswerLines {
-    /// Creates an empty log.
+    /// Creates a log of answers that has no lines and accepts them.
     pub fn new(alloc: Global) -> WaitingAnswerLines {
         WaitingAnswerLines {
             lines: Mutex::new(AnswerLines::new(alloc)),
@@ -63,7 +63,7 @@ impl WaitingAnswerLines {
         self.lines.lock(rt).end(fault);
     }
 
-    /// Ends the log without a fault, and drops the waiting lines.
+    /// Ends the log without a fault, and drops the waiting lines and a fault that is not reported.
     ///
     /// # Blocking
     ///
@@ -72,10 +72,11 @@ impl WaitingAnswerLines {
         self.lines.lock(rt).stop(alloc);
     }
 
-    /// Takes all waiting lines. The empty buffer `empty` replaces them.
+    /// Takes all waiting lines, and the fault that ended the log, if it is not reported yet.
     ///
-    /// A request is in the list before its line is added. To let each line follow its request, take
-    /// the lines before the hub's record, and write them after it.
+    /// The empty buffer `empty` replaces the lines. A request is in the list before its line is
+    /// added. To let each line follow its request, take the lines before the hub's record, and
+    /// write them after the record.
     ///
     /// # Blocking
     ///

@@ -1,4 +1,4 @@
-//! The lines that wait to be written, without the lock.
+//! The lines of answers that wait to be written, without a lock.
 ghost use Rattle.std.specs.Prelude.{◌≡◌, ◌≤◌, [], length, ◌↔◌, IsTrue};
 ghost use Rattle.bx_answers.specs.Notings.{IsAdded, ended_by, fault_in, told_of};
 ghost use Rattle.bx_answers.specs.declared.lines.Noting.TheVariants.{Open, Over};
@@ -7,28 +7,30 @@ ghost use Rattle.bx_record.specs.declared.waiting.TheConstants.{MAX_WAITING_BYTE
 use bx_record::{RecordFault, WaitingBytes};
 use std::alloc::Global;
 
-/// Whether the log accepts lines.
+/// Whether a log of answers accepts lines.
 #[derive(Clone, Copy, Debug, PartialEq, Eq)]
 pub(crate) enum Noting {
-    /// The log accepts lines.
+    /// The log of answers accepts lines.
     Open,
-    /// The log ended because of this fault, which is not reported yet.
+    /// The log of answers ended because of this fault, which is not reported yet.
     Ended(RecordFault),
-    /// The log ended, and has no fault left to report.
+    /// The log of answers ended, and has no fault left to report.
     Over,
 }
 
-/// The lines taken from a log.
+/// The lines taken from a log of answers, and the fault that ended the log, if any.
 #[derive(Drop)]
 pub struct TakenAnswerLines {
-    /// The lines, in the order in which they were added. They follow all lines taken before.
+    /// The lines taken from a log of answers, in the order in which they were added. They follow
+    /// all lines taken before.
     pub bytes: Vec<u8>,
-    /// The fault that ended the log, unless it was reported before.
+    /// The fault that ended the log of answers. `None` if the log has not ended, or the fault was
+    /// reported before.
     pub fault: Option<RecordFault>,
     pub ghost bounded: { length bytes.items ≤ MAX_WAITING_BYTES },
 }
 
-/// The waiting lines, and whether the log accepts more.
+/// The waiting lines of a log of answers, and whether the log accepts more.
 #[derive(Drop)]
 pub(crate) struct AnswerLines {
     waiting: WaitingBytes,
@@ -36,7 +38,7 @@ pub(crate) struct AnswerLines {
 }
 
 impl AnswerLines {
-    /// Creates an empty, open log.
+    /// Creates a log of answers that has no lines and accepts them.
     pub(crate) fn new(alloc: Global) -> AnswerLines
         ensures lines { result.waiting ≡ [] }
         ensures noting { result.noting ≡ Open }
@@ -78,7 +80,7 @@ impl AnswerLines {
         }
     }
 
-    /// Ends the log without a fault, and drops the waiting lines.
+    /// Ends the log without a fault, and drops the waiting lines and a fault that is not reported.
     pub(crate) fn stop(&mut self, alloc: Global)
         ensures lines { self.new.waiting ≡ [] }
         ensures noting { self.new.noting ≡ Over }
@@ -87,9 +89,9 @@ impl AnswerLines {
         self.noting = Noting::Over;
     }
 
-    /// Takes all waiting lines. The empty buffer `empty` replaces them.
+    /// Takes all waiting lines, and the fault that ended the log, if it is not reported yet.
     ///
-    /// Does not allocate or copy.
+    /// The empty buffer `empty` replaces the lines. Does not allocate or copy.
     pub(crate) fn take(&mut self, empty: Vec<u8>) -> TakenAnswerLines
         requires { empty.items ≡ [] }
         ensures bytes { result.bytes.items ≡ self.old.waiting }

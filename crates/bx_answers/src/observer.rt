@@ -17,7 +17,7 @@ pub struct AnswerLogger<R> {
 }
 
 impl<R> AnswerLogger<R> {
-    /// Creates an observer that appends to `log`, if given.
+    /// Creates an observer that appends to `log`, or one that does nothing if `log` is `None`.
     pub fn new(
         rt: R,
         alloc: Global,

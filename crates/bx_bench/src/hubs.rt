@@ -244,7 +244,7 @@ fn ticked<L: LogId, H: Wait + Drop, R: Wait>(
     let mut pass = hub.pass();
     let mut behind = 0u64;
     for _ in 0..count {
-        let ticked = hub.tick(rt, alloc, &mut pass, Tick { moment: 0 }).ok()?;
+        let ticked = hub.tick(rt, alloc, &mut pass, Tick::new(0)).ok()?;
         behind = behind.saturating_add(ticked.advanced.behind().memory as u64);
     }
     Some(behind)

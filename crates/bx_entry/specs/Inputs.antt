@@ -15,7 +15,8 @@ pub data ReadInput : Type 0 where
   Unread : (fault : BodyError) → ReadInput
   Tick : (moment : ℕ) → ReadInput
 
--- The elements that an input appends to the list, if it is admitted.
+-- The elements that an input appends to the list, if it is admitted. A request that is rejected for
+-- its documents appends none.
 abbrev pub added_by : ReadInput → List Listed
 added_by (Request moment nonce ms) = request moment nonce ms
 added_by (Unread fault) = []

@@ -20,7 +20,7 @@ pub record Kept : Type 0 where
   pub out : ℕ
   pub num : ℕ
 
--- What is kept of a session.
+-- What a server keeps of a session: all but its history (`events`, `done` and `answers`).
 abbrev pub kept : Session → Kept
 kept s = record {
   number = s.number;
@@ -34,7 +34,7 @@ kept s = record {
   num = s.num;
 }
 
--- A session with this state and an empty history.
+-- A session with the kept state `k` and an empty history.
 abbrev pub resumed : Kept → Session
 resumed k = record {
   number = k.number;
@@ -51,19 +51,19 @@ resumed k = record {
   answers = [];
 }
 
--- What is kept after a change to a session.
+-- What is kept of a session after `change`, if `k` is kept of it before.
 abbrev pub after : (Session → Session) → Kept → Kept
 after change k = kept (change (resumed k))
 
--- The answers that a change gives.
+-- The answers that `change` gives to a session, if `k` is kept of the session before.
 abbrev pub answers_of : (Session → Session) → Kept → List Filed
 answers_of change k = (change (resumed k)).answers
 
--- What is kept after an entry.
+-- What is kept of a session after entry `e`, if `k` is kept of it before.
 abbrev pub kept_step : Config → Kept → Entry → Kept
 kept_step config k e = after (λ s. step config s e) k
 
--- The answers that an entry gives.
+-- The answers that entry `e` gives to a session, if `k` is kept of the session before.
 abbrev pub kept_answers : Config → Kept → Entry → List Filed
 kept_answers config k e = answers_of (λ s. step config s e) k
 

@@ -19,8 +19,8 @@ pub data Listed : Type 0 where
   Post : (posted : Posted) → Listed
   Tick : (moment : ℕ) → Listed
 
--- The elements for messages of a request. `sole`: whether the request has one message. `seen`:
--- whether a message before these is a handshake.
+-- The elements for the last messages of a request, in order. `sole`: whether the whole request has
+-- one message. `seen`: whether a message before these is a handshake.
 abbrev pub listed_from : ℕ → ℕ → Bool → Bool → List Message → List Listed
 listed_from moment nonce sole seen [] = []
 listed_from moment nonce sole seen (m ∷ ms) =

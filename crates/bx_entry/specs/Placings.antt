@@ -30,11 +30,11 @@ by_table (x ∷ xs) number shards = slice_index (x ∷ xs) (number % length (x �
 
 -- ---- Each placing names a shard
 
--- Placing in turn names one of the shards.
+-- Placing in turn names one of the shards, if there is one.
 pub by_remainder-below : (number shards : ℕ) → 1 ≤ shards → by_remainder number shards < shards
 by_remainder-below number shards some = mod-lt number (omega arith)
 
--- Placing by a table names one of the shards.
+-- Placing by a table names one of the shards, if there is one.
 pub by_table-below : (table : List ℕ) (number shards : ℕ) → 1 ≤ shards → by_table table number shards < shards
 by_table-below [] number shards some = omega arith
 by_table-below (x ∷ xs) number shards some = mod-lt (slice_index (x ∷ xs) (number % length (x ∷ xs))) (omega arith)

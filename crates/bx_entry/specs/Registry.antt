@@ -20,8 +20,8 @@ use Rattle.bx_entry.specs.declared.senders.Senders.TheVariants.{NoneYet, Only, M
 
 -- ---- State
 
--- A session that was opened, with its client id. `due`: the moment after which a tick closes it.
--- `live`: whether it is not closed yet.
+-- A session that was opened, with its client id. `ack`: whether it acknowledges batches. `due`: the
+-- moment after which a tick closes it. `live`: whether it is not closed yet.
 pub record Registered : Type 0 where
   pub number : ℕ
   pub client : List ℕ
@@ -36,8 +36,8 @@ pub data PlaceSlot : Type 0 where
   Waiting : (session : ℕ) → PlaceSlot
   NoSlot : PlaceSlot
 
--- The result of one element: its entry, the session of an accepted message, how long it may be held
--- in milliseconds, and its slot.
+-- The result of judging one element: its entry, the session of an accepted message (`sender`), how
+-- long it may be held in milliseconds, and its slot.
 pub record Judged : Type 0 where
   pub entry : Entry
   pub sender : Option ℕ
@@ -63,7 +63,8 @@ pub record State : Type 0 where
   pub opened : ℕ
   pub senders : Senders
 
--- The verdict on an element: the state after it, and its result without place and moment.
+-- The verdict on an element: the state after it, and its result without place and moment. The
+-- result has what its entry does (`kind`), its rider, its session, its hold and its slot.
 pub record Verdict : Type 0 where
   pub state : State
   pub kind : EntryKind
@@ -101,7 +102,7 @@ sender_of sessions (Text client) = live_with_id sessions client
 
 -- ---- Errors of messages
 
--- Whether a member is a string.
+-- Whether a member of a message is a string.
 abbrev pub is_text : TextMember → Bool
 is_text Absent = false
 is_text NotText = false
@@ -147,7 +148,7 @@ client_cases needed sessions m =
     ∷ (needed && is_none (sender_of sessions m.client), UnknownClient)
     ∷ []
 
--- The error that only a connect can have, with whether it applies.
+-- The error of a connect that has a connection type that is not supported, with whether it applies.
 abbrev pub connect_cases : Message → List (Bool × Error)
 connect_cases m = (not (is_connection m.connection), UnknownConnectionType) ∷ []
 
@@ -190,7 +191,8 @@ refusal config sessions p = first_case (cases_of config sessions p (message_kind
 abbrev pub hold_of : Config → Posted → ℕ
 hold_of config p = if p.sole && is_connect p.message then min config.timeout (unwrap_or p.message.timeout config.timeout) else 0
 
--- The due moment that an accepted message at `moment` sets, if it may be held for `hold`.
+-- The due moment that an accepted message at `moment` sets, if it may be held for `hold`
+-- milliseconds: `config.max_interval` after the end of the hold.
 abbrev pub due_of : Config → ℕ → ℕ → ℕ
 due_of config moment hold = moment + hold + config.max_interval
 
@@ -210,11 +212,11 @@ is_overdue moment r = r.live && nat_lt r.due moment
 abbrev pub overdue_closed : ℕ → List Registered → List Registered
 overdue_closed moment sessions = map (λ (r : Registered). if is_overdue moment r then record r { live = false } else r) sessions
 
--- The numbers of the sessions that a tick closes, in ascending order.
+-- The numbers of the sessions that a tick at `moment` closes, in the order of `sessions`.
 abbrev pub overdue : ℕ → List Registered → List ℕ
 overdue moment sessions = map (λ (r : Registered). r.number) (filter (is_overdue moment) sessions)
 
--- Whether a handshake with this `ack` opens an acknowledging session.
+-- Whether a handshake with this `ack` opens a session that acknowledges batches: only `true` does.
 abbrev pub is_ack : AckMember → Bool
 is_ack NoAck = false
 is_ack AckTrue = true
@@ -242,11 +244,12 @@ joined NoneYet number = Only number
 joined (Only other) number = if other == number then Only other else Mixed
 joined Mixed number = Mixed
 
--- The senders after a message. After the last message of a request, there are none yet.
+-- The senders of the current request after message `p`: `senders`, or none yet if `p` is the last
+-- message of its request.
 abbrev pub senders_after : Posted → Senders → Senders
 senders_after p senders = if p.last then NoneYet else senders
 
--- Whether there are messages, and all come from one session.
+-- Whether some messages were judged, all were accepted, and all come from one session.
 abbrev pub is_one : Senders → Bool
 is_one NoneYet = false
 is_one (Only number) = true
@@ -265,7 +268,8 @@ may_ride _ = false
 abbrev pub is_rider : Config → Senders → MessageKind → Posted → Registered → Bool
 is_rider config senders message_kind p s = config.ride && (p.last && (not s.ack && (is_one (joined senders s.number) && may_ride message_kind)))
 
--- The rider for a message, if the message is one, with the reply from its slot.
+-- The rider of session `number` with the reply of a `Ready` slot, if the flag is true. There is
+-- none for any other slot.
 abbrev pub rider_for : Bool → ℕ → PlaceSlot → Option Rider
 rider_for true number (Ready reply) = Some (record { session = number; reply = reply })
 rider_for true number (Waiting session) = None
@@ -291,7 +295,7 @@ refused config state p error sender = record {
   slot = Ready (reply_to config (message_kind_of p.message.channel) p.message (option_map (λ (s : Registered). s.client) sender) (Failed error) replies.NoAck);
 }
 
--- The session that a handshake opens.
+-- Session `number`, which handshake `p` opens when the clock is at `moment`.
 abbrev pub newcomer : Config → ℕ → Posted → ℕ → Registered
 newcomer config moment p number =
     record { number = number; client = client_id p.nonce number; ack = is_ack p.message.ack; due = due_of config moment 0; live = true }
@@ -387,7 +391,8 @@ abbrev pub judged_by : Config → State → ℕ → Posted → Option Registered
 judged_by config state moment p sender (Some error) = refused config state p error sender
 judged_by config state moment p sender None = accepted config state moment p sender
 
--- The live session that a message names. Handshakes and unknown meta channels name none.
+-- The live session that a message names by its client id, if any. Handshakes and messages to
+-- unknown meta channels name none.
 abbrev pub named_by : List Registered → MessageKind → Message → Option Registered
 named_by sessions MessageKind.Handshake m = None
 named_by sessions MessageKind.UnknownMeta m = None
@@ -433,7 +438,7 @@ judge config r (messages.Tick moment) = noted r (max r.clock moment) (tick_verdi
 abbrev pub registry : Config → List Listed → Registry
 registry config list = fold (judge config) empty_registry list
 
--- The entries of a registry.
+-- The entries of a registry, in order of their places.
 abbrev pub entries_of : Registry → List Entry
 entries_of r = map (λ (j : Judged). j.entry) r.judged
 

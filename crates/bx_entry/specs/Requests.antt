@@ -86,22 +86,25 @@ abbrev pub with_channels : Option (List Message) → Result (List Message) BodyE
 with_channels None = Err NoChannel
 with_channels (Some ms) = Ok ms
 
--- The messages, unless the documents have a fault.
+-- The messages of split documents, unless they have this fault. Without it, the result is still
+-- `NoChannel` if a message has no channel.
 abbrev pub messages_by : List Cut → Option BodyError → Result (List Message) BodyError
 messages_by cs None = with_channels (all_messages (objects_of cs))
 messages_by cs (Some f) = Err f
 
--- The messages of split documents, or the first fault.
+-- The messages of split documents, or the first of the faults `NotJson`, `NotObject`, `TooMany` and
+-- `NoChannel` that applies.
 abbrev pub messages_of : List Cut → Result (List Message) BodyError
 messages_of cs = messages_by cs (cut_fault cs)
 
--- The messages of all documents in order, or the first fault.
+-- The messages of all documents in order, or the first fault that applies, whatever the listener
+-- allows.
 abbrev pub request_messages : List (List ℕ) → Result (List Message) BodyError
 request_messages documents = messages_of (map cut_of documents)
 
 -- ---- Listeners
 
--- Whether a message is to a broadcast channel.
+-- Whether any of the messages is to a broadcast channel.
 abbrev pub has_broadcast : List Message → Bool
 has_broadcast ms = list_any (λ m. is_broadcast m.channel) ms
 
@@ -116,8 +119,8 @@ let_in ReadOnly (Err f) = Err f
 abbrev pub arrival_messages : Arrival → Result (List Message) BodyError
 arrival_messages a = let_in a.access (request_messages (texts_of a.bodies))
 
--- A program may report this fault instead of `messages`: the fault of their documents, or that
--- memory ran out.
+-- A program may report this fault instead of `messages`: the fault of their documents, or at any
+-- time that memory ran out.
 abbrev pub IsUnread : Result (List Message) BodyError → AdmitFault → Type 0
 IsUnread messages (Refused (Body fault)) = messages ≡ Err fault
 IsUnread messages (Refused BadMoment) = ⊥

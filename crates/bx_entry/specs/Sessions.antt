@@ -56,7 +56,7 @@ pub record Session : Type 0 where
   pub done : ℕ
   pub answers : List Filed
 
--- A session before it is opened.
+-- Session `number` before it is opened: without patterns, events, batches and answers.
 abbrev pub unopened : ℕ → Session
 unopened number = record {
   number = number;
@@ -87,7 +87,7 @@ pending_count s = length s.queue
 abbrev pub pending_bytes : Session → ℕ
 pending_bytes s = bytes_of s.queue
 
--- The session's queue and batches, as a `Window`.
+-- The session's queue, how many of its events are outstanding, and the number of the last batch.
 abbrev pub window_in : Session → Window
 window_in s = record { queue = s.queue; out = s.out; number = s.num }
 
@@ -95,7 +95,7 @@ window_in s = record { queue = s.queue; out = s.out; number = s.num }
 abbrev pub with_window : Window → Session → Session
 with_window w s = record s { queue = w.queue; out = w.out; num = w.number }
 
--- The outstanding batch.
+-- The events of the outstanding batch, oldest first. There are none if no batch is outstanding.
 abbrev pub batch : Session → List Publication
 batch s = outstanding (window_in s)
 
@@ -122,7 +122,8 @@ answered config p place given outcome s = record s { answers = s.answers ++ fili
 abbrev pub unheld : Session → Session
 unheld s = record s { held = None }
 
--- What `released` gives for a session `s` with this held connect, if any.
+-- The session `s` after the entry at `place` answers this held connect, if any, without events and
+-- with `outcome`. The connect is then not held.
 abbrev pub released_from : Config → ℕ → Outcome → Session → Option Pending → Session
 released_from config place outcome s None = s
 released_from config place outcome s (Some p) = answered config p place [] outcome (unheld s)
@@ -144,7 +145,8 @@ abbrev pub acknowledged : Option ℕ → Session → Session
 acknowledged None s = s
 acknowledged (Some n) s = if s.ack && acknowledges n (window_in s) then cleared s else s
 
--- How many events a connect gets if no batch is outstanding.
+-- How many events a connect gets if no batch is outstanding: all of the queue, up to the size of a
+-- batch.
 abbrev pub portion : Config → Session → ℕ
 portion config s = windows.portion config.limits.batch (window_in s)
 
@@ -194,7 +196,8 @@ admitted config p acked overflow s =
     if overflow then answered config p p.place [] (Failed QueueOverflow) s
     else answered_or_held config p (acknowledged acked s)
 
--- The session `s` after a held connect, if any, fails as superseded, and connect `p` is admitted.
+-- The session `s` after a held connect, if any, fails as superseded, and connect `p` is answered or
+-- held. `acked`: the number that `p` acknowledges, if any. If `s` has overflowed, `p` fails.
 abbrev pub connected : Config → Pending → Option ℕ → Session → Session
 connected config p acked s = admitted config p acked s.overflow (released config p.place (Failed SupersededConnect) s)
 
@@ -238,7 +241,7 @@ abbrev pub delivered_to : Config → Publication → Session → Option Pending 
 delivered_to config e s None = s
 delivered_to config e s (Some p) = answered config p e.place (e ∷ []) Connected (gives_one (unheld s))
 
--- The session `s` with event `e` appended to its queue.
+-- The session `s` with event `e` appended to its queue and to its history.
 abbrev pub with_event : Publication → Session → Session
 with_event e s = record (with_window (windows.with_event e (window_in s)) s) { events = s.events ++ e ∷ [] }
 
@@ -267,7 +270,8 @@ deadline p = p.moment + p.hold
 abbrev pub ends_by : ℕ → Pending → Bool
 ends_by moment p = nat_le (deadline p) moment
 
--- What `expired` gives for a session `s` with this held connect, if any.
+-- The session `s` after a tick at `place`, which answers this held connect, if any, if its hold has
+-- ended by `moment`.
 abbrev pub expired_from : Config → ℕ → ℕ → Session → Option Pending → Session
 expired_from config place moment s None = s
 expired_from config place moment s (Some p) = if ends_by moment p then released config place Connected s else s

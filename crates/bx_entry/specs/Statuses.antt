@@ -5,7 +5,8 @@ use Rattle.bx_entry.specs.declared.input.BodyError.TheVariants as bodies
 use Rattle.bx_entry.specs.declared.input.Refusal.{Refusal}
 use Rattle.bx_entry.specs.declared.input.Refusal.TheVariants.{Body, BadMoment, Ended}
 
--- The status of a rejected request or tick.
+-- The HTTP status of a rejected request or tick: 403 for `Forbidden`, 503 for `Ended`, and
+-- otherwise 400.
 abbrev pub refusal_status : Refusal → Status
 refusal_status (Body bodies.Forbidden) = Forbidden
 refusal_status (Body fault) = BadRequest

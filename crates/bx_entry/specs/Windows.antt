@@ -19,7 +19,7 @@ pub record Window : Type 0 where
 abbrev pub empty : Window
 empty = record { queue = []; out = 0; number = 0 }
 
--- The size of the texts of these events, in bytes.
+-- The size of the JSON texts of these events together, in bytes.
 unfoldable pub bytes_of : List Publication → ℕ
 bytes_of [] = 0
 bytes_of (p ∷ ps) = event_size p.event + bytes_of ps
@@ -32,7 +32,7 @@ has_room events bytes e w = nat_lt (length w.queue) events && nat_le (bytes_of w
 abbrev pub with_event : Publication → Window → Window
 with_event e w = record w { queue = w.queue ++ e ∷ [] }
 
--- The outstanding batch.
+-- The events of the outstanding batch, oldest first. There are none if no batch is outstanding.
 abbrev pub outstanding : Window → List Publication
 outstanding w = take w.out w.queue
 

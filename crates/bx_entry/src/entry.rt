@@ -2,66 +2,66 @@
 use bx_message::{RawJson, Reply, Sequence, SharedEvent, Text};
 use bx_names::Pattern;
 
-/// The result of judging a message or a tick.
+/// What an entry does: the result of judging its message or tick.
 #[derive(Drop)]
 pub enum EntryKind {
-    /// An accepted handshake.
+    /// The entry of an accepted handshake, which opens a session.
     Opened {
         /// The number of the new session, from 1.
         session: u64,
-        /// Whether the session acknowledges batches.
+        /// Whether the new session acknowledges batches.
         ack: bool,
     },
-    /// An accepted connect, with all that its reply needs.
+    /// The entry of an accepted connect, with all that its reply needs.
     Connect {
-        /// The session's number.
+        /// The number of the session that the connect comes from.
         session: u64,
-        /// The session's client id, which the reply repeats.
+        /// The client id of the connect's session, which the reply repeats.
         client: Text,
-        /// The message's `id` as the sender wrote it, which the reply repeats.
+        /// The connect's `id`, if any, as the sender wrote it. The reply repeats it.
         id: Option<RawJson>,
         /// The number of the batch that the connect acknowledges, if any.
         acked: Option<u64>,
         /// How long the connect may be held, in milliseconds; 0 to answer it at once.
         hold: u64,
     },
-    /// An accepted subscription.
+    /// The entry of an accepted subscription.
     Subscribe {
-        /// The session's number.
+        /// The number of the session that subscribes.
         session: u64,
-        /// The patterns, in the message's order, except those of service channels.
+        /// The patterns to add, in the message's order, except those of service channels.
         patterns: Sequence<Pattern>,
     },
-    /// An accepted unsubscription.
+    /// The entry of an accepted unsubscription.
     Unsubscribe {
-        /// The session's number.
+        /// The number of the session that unsubscribes.
         session: u64,
-        /// The patterns, in the message's order, except those of service channels.
+        /// The patterns to remove, in the message's order, except those of service channels.
         patterns: Sequence<Pattern>,
     },
-    /// An accepted publish, to a broadcast or a service channel.
+    /// The entry of an accepted publish, to a broadcast or a service channel, with its event.
     Publish(SharedEvent),
-    /// An accepted disconnect.
+    /// The entry of an accepted disconnect.
     Disconnect {
         /// The number of the session that the disconnect closes.
         session: u64,
     },
-    /// A rejected message. It changes no session.
+    /// The entry of a rejected message. It changes no session.
     Refused,
-    /// A tick, with the numbers of the sessions that it closes, in ascending order.
+    /// The entry of a tick, with the numbers of the sessions that it closes, in ascending order.
     Tick(Sequence<u64>),
 }
 
 /// A message with a reply that carries the waiting events of its session.
 ///
 /// It is a subscription, an unsubscription or a publish, and the last message of its request. All
-/// messages of the request are accepted and come from one session, which does not acknowledge. None
-/// is a handshake. Only a server with `--ride` has riders.
+/// messages of the request are accepted and come from one session, which does not acknowledge
+/// batches. None of them is a handshake. Only a server with `--ride` has riders.
 #[derive(Drop)]
 pub struct Rider {
-    /// The session's number.
+    /// The number of the session that the rider comes from.
     pub session: u64,
-    /// The reply. It is sent after the events.
+    /// The rider's reply. It is sent after the events that the rider gets.
     pub reply: Reply,
 }
 
@@ -74,18 +74,20 @@ pub struct Entry {
     pub moment: u64,
     /// What the entry does.
     pub kind: EntryKind,
-    /// The rider, if the message is one.
+    /// The entry's message as a rider, if it is one.
     ///
-    /// It gets its events after `kind` has taken effect.
+    /// The rider gets its events after `kind` has taken effect.
     pub rides: Option<Rider>,
 }
 
 /// The entries of one request or tick.
 #[derive(Drop)]
 pub struct Batch {
-    /// The place of the first entry.
+    /// The place of the batch's first entry; without entries, the length of the list.
     pub first: u64,
-    /// The entries, at consecutive places: one for each message, in order, or one for the tick.
+    /// The entries of the batch, at consecutive places from `first` on.
+    ///
+    /// There is one for each message of the request, in order, or one for the tick.
     pub entries: Sequence<Entry>,
 }
 
@@ -95,26 +97,26 @@ pub struct Batch {
 /// the wrong shard.
 #[derive(Clone, Copy, Debug, PartialEq, Eq)]
 pub struct Ticket {
-    /// The message's place in the list.
+    /// The place of the connect or rider in the list.
     pub place: u64,
-    /// The shard of the message's session.
+    /// The shard of the session of the connect or rider, when the message was admitted.
     pub shard: usize,
 }
 
 /// How a message is answered.
 #[derive(Drop)]
 pub enum Slot {
-    /// At once, by this reply.
+    /// The message is answered at once, by this reply.
     Ready(Reply),
-    /// By the answer to a connect or a rider, which is filed under this ticket.
+    /// The message is a connect or a rider. Its answer is filed under this ticket.
     Waiting(Ticket),
 }
 
 /// The place of an admitted request or tick, and how its messages are answered.
 #[derive(Drop)]
 pub struct Admitted {
-    /// The place of the tick or the first message; without messages, the length of the list.
+    /// The place of the tick or the request's first message; without messages, the list's length.
     pub first: u64,
-    /// How each message is answered, in order; empty for a tick.
+    /// How each message of the request is answered, in order; empty for a tick.
     pub slots: Sequence<Slot>,
 }

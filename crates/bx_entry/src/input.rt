@@ -22,22 +22,22 @@ pub enum Access {
 /// A request as it arrived, with its documents still to be read.
 #[derive(Drop)]
 pub struct Arrival {
-    /// The moment of arrival, in milliseconds since the server started.
+    /// The moment at which the request arrived, in milliseconds since the server started.
     pub moment: u64,
     /// 128 random bits, from which the client id of a session that the request opens is made.
     pub nonce: u128,
     /// What the listener that received the request allows.
     pub access: Access,
-    /// The request's documents.
+    /// The documents of the request, still to be parsed as JSON.
     pub bodies: Bodies,
 }
 
 /// A request or a tick of the clock.
 #[derive(Drop)]
 pub enum Input {
-    /// A request.
+    /// The input is a request, as it arrived.
     Post(Arrival),
-    /// A tick, with its moment in milliseconds since the server started.
+    /// The input is a tick, with its moment in milliseconds since the server started.
     Tick(u64),
 }
 
@@ -64,11 +64,11 @@ pub enum BodyError {
 /// nothing.
 #[derive(Clone, Copy, Debug, PartialEq, Eq)]
 pub enum Refusal {
-    /// The documents of the request are not messages that its listener allows.
+    /// The request is rejected for its documents, by this error.
     Body(BodyError),
-    /// The moment exceeds `MAX_MOMENT`, 2^62 milliseconds.
+    /// The moment of the request or tick exceeds `MAX_MOMENT`, 2^62 milliseconds.
     BadMoment,
-    /// The list would have more than `MAX_ENTRIES` entries, 2^62.
+    /// With the request or tick, the list would have more than `MAX_ENTRIES` (2^62) entries.
     Ended,
 }
 
@@ -77,14 +77,14 @@ pub enum Refusal {
 /// Nothing has changed in either case.
 #[derive(Clone, Copy, Debug, PartialEq, Eq)]
 pub enum AdmitFault {
-    /// The request or tick is rejected.
+    /// The request or tick is rejected, for this reason.
     Refused(Refusal),
-    /// Memory ran out.
+    /// Memory ran out before the request or tick was admitted.
     Memory,
 }
 
 impl AdmitFault {
-    /// Creates the fault of a request that is rejected for its documents.
+    /// Creates the fault of a request that is rejected for its documents, by the error `fault`.
     pub(crate) fn unread(fault: BodyError) -> AdmitFault
         ensures { result ≡ Refused (Body fault) }
     {

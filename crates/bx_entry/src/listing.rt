@@ -71,14 +71,14 @@ impl Listing {
         self.elements.join(&History::of::<u64, Tick>(&moment));
     }
 
-    /// Appends all of `later`.
+    /// Appends all messages and ticks of `later`, in order.
     pub fn join(&mut self, later: &Listing)
         ensures { self.new ≡ self.old ++ later.now }
     {
         self.elements.join(&later.elements);
     }
 
-    /// Returns an equal listing. Does not allocate.
+    /// Returns a copy of the listing. Does not allocate.
     pub fn again(&self) -> Listing
         ensures { result ≡ self.now }
     {
@@ -95,7 +95,8 @@ struct Request<'a> {
     messages: &'a [Message],
 }
 
-// Ghost: the maps from a request and from a tick's moment to the elements that each appends.
+// Ghost: the maps from a request and from a tick's moment to the elements that each appends to the
+// list.
 
 struct Messages;
 

@@ -68,7 +68,7 @@ impl Model for ByTable {
 }
 
 impl ByTable {
-    /// Creates a placing by a copy of `table`.
+    /// Creates the rule that places sessions by a copy of `table`.
     ///
     /// # Errors
     ///

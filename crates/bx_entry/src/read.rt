@@ -34,7 +34,7 @@ impl Arrival {
     }
 }
 
-// Returns `true` if a message is to a broadcast channel.
+// Returns `true` if any of `messages` is to a broadcast channel.
 fn has_broadcast(messages: &[Message]) -> bool
     ensures { result ≡ has_broadcast messages.now }
 {
@@ -43,7 +43,7 @@ fn has_broadcast(messages: &[Message]) -> bool
         .any(|message| is_broadcast(message.channel.as_str()))
 }
 
-// A document that is split into its messages, or its error.
+// A document that is split into its messages, or why it cannot be split.
 type Cut<'a> = Result<Document<'a>, CutError>;
 
 /// Reads the messages of all documents, in order, whatever the listener allows.
@@ -67,9 +67,10 @@ pub fn read_messages(alloc: Global, bodies: &Bodies) -> Result<Vec<Message>, Adm
     }
 }
 
-// Splits every document into its messages.
+// Splits every document into its messages. The result has the document or its error, in order.
 //
-// Goes on after an error, since a later document may have an error that is tested earlier.
+// Goes on after an error, since a later document may have an error that is tested earlier. Fails
+// only if memory runs out.
 fn cut_all(alloc: Global, bodies: &Bodies) -> Result<Vec<Cut<'_>>, AllocError>
     ensures { IfOk result (λ cuts. cuts.items ≡ map cut_of (texts_of bodies.now)) }
 {
@@ -83,7 +84,7 @@ fn cut_all(alloc: Global, bodies: &Bodies) -> Result<Vec<Cut<'_>>, AllocError>
     Ok(cuts)
 }
 
-// Returns the first error of the documents, except `NoChannel` and `Forbidden`.
+// Returns the first of `NotJson`, `NotObject` and `TooMany` that applies to the documents, if any.
 fn fault_in(cuts: &[Cut<'_>]) -> Option<BodyError>
     ensures { result ≡ cut_fault cuts.now }
 {
@@ -148,7 +149,9 @@ fn read_all(alloc: Global, cuts: &[Cut<'_>]) -> Result<Vec<Message>, MessageErro
     Ok(messages)
 }
 
-// Appends the messages of a document. Appends none if the document has an error.
+// Appends the messages of a document to `messages`. Appends none if the document has an error.
+//
+// Fails if a message has no channel or memory runs out. Earlier messages may then be appended.
 fn read_cut(alloc: Global, cut: &Cut<'_>, messages: &mut Vec<Message>) -> Result<(), MessageError>
     ensures added { OnOk result (option_map (λ ms. messages.old.items ++ ms)
         (all_messages (objects_in cut.now)) ≡ Some messages.new.items) }

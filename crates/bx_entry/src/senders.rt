@@ -5,11 +5,11 @@ ghost use Rattle.bx_entry.specs.Registry.{is_one, joined};
 /// Whether the messages of a request judged so far all come from one session.
 #[derive(Clone, Copy, Debug, PartialEq, Eq)]
 pub enum Senders {
-    /// No message has been judged yet.
+    /// No message of the request has been judged yet.
     NoneYet,
-    /// All messages were accepted and come from this session.
+    /// All messages so far were accepted and come from the session with this number.
     Only(u64),
-    /// Some message was rejected, is a handshake, has no session, or comes from another session.
+    /// Not all messages so far are accepted ones of one session, or one of them is a handshake.
     Mixed,
 }
 
@@ -25,7 +25,7 @@ impl Senders {
         }
     }
 
-    /// Returns `true` if there are messages, and all come from one session.
+    /// Returns `true` if there are messages so far, all accepted and all from one session.
     pub fn is_one(self) -> bool
         ensures { result ≡ is_one self }
     {

@@ -1,6 +1,6 @@
 -- What a shard's lock guards stays right when the shard learns, advances and returns answers.
 use Rattle.std.proofs.Common.{◌≡◌, ℕ, ◌+◌, ◌-◌, ◌<◌, ◌≤◌, List, [], ◌∷◌, ◌++◌, length, take, drop, slice_get, option_map, Option, Some, None, refl, ap, sym, ◌∙◌, subst, arith, take-append-drop}
-use Rattle.std.specs.Prelude.{Result, Ok, Err, OnOk, OnErr, IfSome, IfNone, Bool, true, false, nat_eq, if◌then◌else◌}
+use Rattle.std.specs.Prelude.{Result, Ok, Err, OnOk, OnErr, IfSome, Bool, true, false, nat_eq, if◌then◌else◌}
 use Rattle.std.specs.Option.{IsSome}
 use Rattle.std.proofs.lemmas.Bool.{eq-eqb}
 use mathlib.Core.List.{IsPrefix}
@@ -101,10 +101,6 @@ over_longer config xs ys place a room p e = given_longer config (list_of xs) (li
 pub own_filed : (b : Bool) (o r : Option Answer) (a : Answer) → r ≡ (if b then o else None) → r ≡ Some a → (b ≡ true) × (o ≡ Some a)
 own_filed true o r a e is = (refl, sym e ∙ is)
 own_filed false o r a e is = let no : None ≡ Some a = sym e ∙ is in cc
-
-pub none_own : (b : Bool) (o r : Option Answer) → r ≡ (if b then o else None) → r ≡ None → b ≡ true → o ≡ None
-none_own true o r e is t = sym e ∙ is
-none_own false o r e is t = cc
 
 pub some_filed : (o : Option Answer) (a : Answer) → o ≡ Some a → IsSome o
 some_filed o a e = subst IsSome (sym e) refl

@@ -311,7 +311,7 @@ impl<L: LogId, R: Wait + Drop> Admission<L, R> {
                 request.arrival().nonce,
                 request.messages(),
             ),
-            Submission::Tick(tick) => self.registry.plan_tick(alloc, tick.moment),
+            Submission::Tick(tick) => self.registry.plan_tick(alloc, tick.moment()),
         }
     }
 

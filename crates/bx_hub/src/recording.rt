@@ -190,7 +190,7 @@ fn text_of(alloc: Global, listed: &Submission) -> Result<Vec<u8>, RecordFault>
                 None => Err(RecordFault::Unrecordable),
             }
         }
-        Submission::Tick(tick) => Ok(tick_text(alloc, tick.moment)?),
+        Submission::Tick(tick) => Ok(tick_text(alloc, tick.moment())?),
     }
 }
 

@@ -3,14 +3,36 @@ ghost use Rattle.std.specs.Prelude.{◌≡◌, ◌∷◌, [], MatchBool};
 
 use crate::parsed_request::ParsedRequest;
 use bx_entry::Arrival;
+use futures::task::Source;
 
 /// A tick to append to the list.
 ///
-/// It cannot be copied. Admission consumes it, so it is appended at most once.
+/// Admission consumes it, so it is appended at most once.
 #[derive(Drop)]
 pub struct Tick {
-    /// Milliseconds since the server started.
-    pub moment: u64,
+    moment: u64,
+    // Takes no bytes. No contract states the name of a new tick, so contracts distinguish this tick
+    // from another one of the same moment.
+    name: Source,
+}
+
+impl Tick {
+    /// Creates a tick at `moment`, in milliseconds since the server started.
+    pub fn new(moment: u64) -> Tick
+        ensures { result.moment ≡ moment }
+    {
+        Tick {
+            moment,
+            name: Source::new(),
+        }
+    }
+
+    /// Returns the moment of the tick.
+    pub(crate) fn moment(&self) -> u64
+        ensures { result ≡ self.now.moment }
+    {
+        self.moment
+    }
 }
 
 /// A request with its messages, or a tick.

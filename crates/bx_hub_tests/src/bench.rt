@@ -234,7 +234,7 @@ impl<L: LogId, H: Wait + Drop> Bench<L, H> {
     pub fn tick<R: Wait>(&mut self, rt: &R, moment: u64) -> Result<u64, PostFault> {
         match self
             .hub
-            .tick(rt, self.alloc, &mut self.pass, Tick { moment })
+            .tick(rt, self.alloc, &mut self.pass, Tick::new(moment))
         {
             Ok(ticked) => Ok(ticked.place),
             Err((_, refused)) => Err(refused.fault()),

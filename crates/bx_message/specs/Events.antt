@@ -4,15 +4,15 @@ use Rattle.std.specs.List.{join_with_byte}
 use Rattle.json.specs.Print.{quoted}
 use Rattle.bx_message.specs.declared.event.Event.{Event}
 
--- A member: its quoted name, a colon and `value`.
+-- The JSON text of a member: its quoted name, a colon and `value`.
 abbrev pub member : List ℕ → List ℕ → List ℕ
 member name value = quoted name ++ (58 ∷ value)
 
--- An object with `members`.
+-- The JSON text of an object with these members, each given as text.
 abbrev pub object : List (List ℕ) → List ℕ
 object members = 123 ∷ (join_with_byte 44 members ++ 125 ∷ [])
 
--- An array of `values`.
+-- The JSON text of an array of these values, each given as text.
 abbrev pub array : List (List ℕ) → List ℕ
 array values = 91 ∷ (join_with_byte 44 values ++ 93 ∷ [])
 
@@ -26,7 +26,7 @@ abbrev pub text_member : List ℕ → Option (List ℕ) → List (List ℕ)
 text_member name None = []
 text_member name (Some text) = member name (quoted text) ∷ []
 
--- The members of an event, in order.
+-- The texts of an event's members, in order: `channel`, `data` and, if the event has one, `id`.
 abbrev pub event_members : Event → List (List ℕ)
 event_members e =
     text_member (codes "channel") (Some e.channel)

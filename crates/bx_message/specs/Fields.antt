@@ -45,7 +45,7 @@ ack_field (Some json) = if bytes_eq json (codes "true") then AckTrue else option
 abbrev pub is_text : List ℕ → Bool
 is_text json = is_some (spelled json)
 
--- The texts among `values`.
+-- The decoded texts among the JSON `values`, in order.
 abbrev pub texts_among : List (List ℕ) → List (List ℕ)
 texts_among values = filter_map spelled values
 
@@ -54,7 +54,8 @@ abbrev pub listed_texts : Option (List ℕ) → List (List ℕ)
 listed_texts None = []
 listed_texts (Some json) = texts_among (elements json)
 
--- The text, if a value is one, or the texts among its elements, if it is an array.
+-- The text, if a value is one, or the texts among its elements, if it is an array. Any other value
+-- has none.
 abbrev pub subscribed_texts : Option (List ℕ) → List (List ℕ)
 subscribed_texts None = []
 subscribed_texts (Some json) = option_map_or (λ text. text ∷ []) (spelled json) (texts_among (elements json))
@@ -70,7 +71,7 @@ is_listed (Some json) = is_text json || (is_array json && list_all is_text (elem
 
 -- ---- Messages
 
--- The value of member `inner` in the object that is the value of member `outer`.
+-- The value of member `inner` in the object that is the value of member `outer`, if any.
 abbrev pub nested_in : List ℕ → List ℕ → List Member → Option (List ℕ)
 nested_in outer inner members = option_and_then (member_text inner) (last_member outer members)
 
@@ -91,10 +92,10 @@ fields_of members channel = record {
   timeout = option_and_then number_of (nested_in (codes "advice") (codes "timeout") members);
 }
 
--- The channel, if the member exists and is a text.
+-- The decoded value of member `channel`, if it exists and is a text.
 abbrev pub channel_in : List Member → Option (List ℕ)
 channel_in members = option_and_then spelled (last_member (codes "channel") members)
 
--- The message with these members, or `None` if they have no channel.
+-- The message with these members, or `None` if they have no `channel` that is a text.
 abbrev pub message_in : List Member → Option Message
 message_in members = option_map (fields_of members) (channel_in members)

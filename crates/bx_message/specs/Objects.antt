@@ -19,7 +19,7 @@ open_object_code =
 abbrev pub opened : List ℕ → OpenObject
 opened before = record { text = before ++ 123 ∷ []; is_empty = true }
 
--- The comma before the next member, unless it is the first.
+-- The comma before the next member, or no byte if that member is the first.
 abbrev pub separator : OpenObject → List ℕ
 separator o = if o.is_empty then [] else 44 ∷ []
 
@@ -40,7 +40,7 @@ abbrev pub with_members : OpenObject → List (List ℕ) → OpenObject
 with_members o [] = o
 with_members o (m ∷ ms) = with_members (with_member o m) ms
 
--- The bytes with the object's closing brace.
+-- All bytes of an object that is finished: those so far and its closing brace.
 abbrev pub closed : OpenObject → List ℕ
 closed o = o.text ++ 125 ∷ []
 

@@ -1,4 +1,4 @@
--- The status codes of HTTP.
+-- The status codes of HTTP, as numbers.
 use Rattle.std.specs.Prelude.{ℕ}
 use Rattle.bx_message.specs.declared.status.Status.{Status}
 use Rattle.bx_message.specs.declared.status.Status.TheVariants.{Ok, BadRequest, Forbidden, NotFound, MethodNotAllowed, TooLarge, NotImplemented, Unavailable}

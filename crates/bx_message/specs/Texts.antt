@@ -22,7 +22,7 @@ reconnect_text Retry = codes "retry"
 reconnect_text Handshake = codes "handshake"
 reconnect_text Never = codes "none"
 
--- The members of an advice, in order.
+-- The texts of an advice's members, in order: `interval`, `reconnect` and, if any, `timeout`.
 abbrev pub advice_members : Advice → List (List ℕ)
 advice_members a =
     member (codes "interval") (decimal a.interval)
@@ -33,18 +33,19 @@ advice_members a =
 abbrev pub advice_text : Advice → List ℕ
 advice_text a = object (advice_members a)
 
--- The member `advice`, if any.
+-- The member `advice` with this advice as its value, or no member if there is no advice.
 abbrev pub advice_member : Option Advice → List (List ℕ)
 advice_member None = []
 advice_member (Some a) = member (codes "advice") (advice_text a) ∷ []
 
--- The member `ext` of CometD's acknowledgement extension, if any.
+-- The member `ext`, an object with the one member `ack`: `true` or a number. There is no member for
+-- `NoAck`. CometD's acknowledgement extension.
 abbrev pub ack_member : AckReply → List (List ℕ)
 ack_member NoAck = []
 ack_member AckTrue = member (codes "ext") (object (member (codes "ack") (codes "true") ∷ [])) ∷ []
 ack_member (AckNumber n) = member (codes "ext") (object (member (codes "ack") (decimal n) ∷ [])) ∷ []
 
--- The member `error`, if any.
+-- The member `error` with the text of a failed outcome's error, or no member for other outcomes.
 abbrev pub error_member : Outcome → List (List ℕ)
 error_member (Failed error) = member (codes "error") (quoted (error_text error)) ∷ []
 error_member _ = []
@@ -64,11 +65,12 @@ abbrev pub version_member : MessageKind → List (List ℕ)
 version_member MessageKind.Handshake = member (codes "version") (quoted (codes "1.0")) ∷ []
 version_member _ = []
 
--- The members that only replies to handshakes have.
+-- The members that only replies to handshakes have: the supported connection types and the version.
 abbrev pub handshake_members : MessageKind → List (List ℕ)
 handshake_members message_kind = types_member message_kind ++ version_member message_kind
 
--- The members of a reply, in order.
+-- The texts of a reply's members, in byte order of their names. Members without a value are left
+-- out.
 abbrev pub reply_members : Reply → List (List ℕ)
 reply_members r =
     advice_member r.advice
@@ -114,6 +116,6 @@ script_safe [] = []
 script_safe (x ∷ xs) = guarded (x ∷ script_safe xs)
 
 -- The response to callback-polling: the function's `name`, then the array of `items` in
--- parentheses.
+-- parentheses. Line and paragraph separators in the array are escaped.
 abbrev pub callback_text : List ℕ → List Item → List ℕ
 callback_text name items = name ++ (40 ∷ (script_safe (body_text items) ++ 41 ∷ []))

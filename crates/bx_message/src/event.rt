@@ -15,7 +15,7 @@ use std::sync::Arc;
 /// Bayeux 1.0, delivery of events.
 #[derive(Drop)]
 pub struct Event {
-    /// The channel, a valid channel name.
+    /// The channel of the event, a valid channel name.
     pub channel: Text,
     /// The publish's `data`, as the sender wrote it.
     pub payload: RawJson,

@@ -2,14 +2,14 @@
 use crate::sequence::Sequence;
 use crate::text::{RawJson, Text};
 
-/// A member that should be a JSON string.
+/// A member of a message that should be a JSON string.
 #[derive(Drop)]
 pub enum TextMember {
     /// The message does not have the member.
     Absent,
     /// The member is not a string.
     NotText,
-    /// The string, with escapes decoded.
+    /// The member is this string, with escapes decoded.
     Text(Text),
 }
 
@@ -18,11 +18,11 @@ pub enum TextMember {
 /// CometD's acknowledgement extension.
 #[derive(Clone, Copy, Debug, PartialEq, Eq)]
 pub enum AckMember {
-    /// The member is absent, or has a value that no other variant describes.
+    /// `ack` is absent, or is neither `true` nor a number in digits that is at most 2^64-1.
     NoAck,
-    /// The literal `true`.
+    /// `ack` is the literal `true`.
     AckTrue,
-    /// A number written in digits only, at most 2^64-1.
+    /// `ack` is this number, written in digits only and at most 2^64-1.
     AckNumber(u64),
 }
 
@@ -33,28 +33,32 @@ pub enum AckMember {
 /// Bayeux 1.0, message fields, and CometD's acknowledgement extension.
 #[derive(Drop)]
 pub struct Message {
-    /// `channel`, with escapes decoded, possibly an invalid channel name.
+    /// The message's `channel`, with escapes decoded, possibly an invalid channel name.
     pub channel: Text,
-    /// `id` as the sender wrote it, if it is a JSON string or number.
+    /// The message's `id` as the sender wrote it, if it is a JSON string or number.
     pub id: Option<RawJson>,
-    /// `clientId`.
+    /// The message's `clientId`.
     pub client: TextMember,
-    /// `version`.
+    /// The message's `version`.
     pub version: TextMember,
-    /// The strings in `supportedConnectionTypes`, if it is an array.
+    /// The strings in the message's `supportedConnectionTypes`, or none if it is not an array.
     pub supported: Sequence<Text>,
-    /// `connectionType`.
+    /// The message's `connectionType`.
     pub connection: TextMember,
-    /// `subscription` as the sender wrote it.
+    /// The message's `subscription`, if any, as the sender wrote it.
     pub subscription: Option<RawJson>,
-    /// `subscription` if it is a string, or the strings in it if it is an array.
+    /// The message's `subscription` if it is a string, or the strings in it if it is an array.
+    ///
+    /// Otherwise there are none.
     pub texts: Sequence<Text>,
-    /// Whether `subscription` is a string or an array of strings only.
+    /// Whether the message's `subscription` is a string or an array of strings only.
     pub listed: bool,
-    /// `data` as the sender wrote it.
+    /// The message's `data`, if any, as the sender wrote it.
     pub payload: Option<RawJson>,
-    /// `ack` of `ext`.
+    /// The member `ack` of the message's `ext`.
     pub ack: AckMember,
-    /// `timeout` of `advice`, in milliseconds, if written in digits only and at most 2^64-1.
+    /// The `timeout` of the message's `advice`, in milliseconds.
+    ///
+    /// `Some` only if it is written in digits only and is at most 2^64-1.
     pub timeout: Option<u64>,
 }

@@ -85,7 +85,7 @@ fn text_member(alloc: Global, piece: &Piece<'_>, name: &str) -> Result<TextMembe
     }
 }
 
-// Copies `id` if it is a JSON string or number.
+// Copies the value of member `id` of `piece`, if it is a JSON string or number.
 fn id_member(alloc: Global, piece: &Piece<'_>) -> Result<Option<RawJson>, AllocError>
     ensures { IfOk result (λ id. id ≡ id_field (last_member (codes "id") piece.now.1)) }
 {
@@ -125,6 +125,8 @@ fn listed_texts(alloc: Global, array: Option<&str>) -> Result<Sequence<Text>, Al
 }
 
 // Parses the strings among the elements of `array`, and returns whether all elements are strings.
+//
+// If `array` is not an array, it has no elements, and the result is `true`.
 fn texts_among(alloc: Global, array: &str) -> Result<(Sequence<Text>, bool), AllocError>
     ensures texts { IfOk result (λ r. r.0 ≡ texts_among (elements array.now)) }
     ensures all { IfOk result (λ r. r.1 ≡ list_all is_text (elements array.now)) }
@@ -141,6 +143,9 @@ fn texts_among(alloc: Global, array: &str) -> Result<(Sequence<Text>, bool), All
 }
 
 // Parses a subscription's strings, and returns whether it is a string or an array of strings only.
+//
+// The strings are the subscription itself, or the strings among the elements if it is an array.
+// There are none for any other value, or without a subscription.
 fn subscription_texts(
     alloc: Global,
     subscription: Option<&str>,
@@ -162,14 +167,14 @@ fn subscription_texts(
     Ok((texts, is_array(json) && all_texts))
 }
 
-// Returns the value of member `inner` in the object that is the value of member `outer`.
+// Returns the value of member `inner` in the object that is the value of member `outer`, if any.
 fn nested_member<'a>(piece: &Piece<'a>, outer: &str, inner: &str) -> Option<&'a str>
     ensures { option_map (λ t. t.now) result ≡ nested_in outer.now inner.now piece.now.1 }
 {
     member_of(piece.member(outer)?, inner)
 }
 
-// Parses member `ack` of member `ext`: `true`, a number, or neither.
+// Parses member `ack` of the member `ext` of `piece`: `true`, a number in digits only, or neither.
 //
 // CometD's acknowledgement extension.
 fn ack_member(piece: &Piece<'_>) -> AckMember
@@ -185,7 +190,7 @@ fn ack_member(piece: &Piece<'_>) -> AckMember
     }
 }
 
-// Parses member `timeout` of member `advice`, if it is a number in digits only.
+// Parses member `timeout` of the member `advice` of `piece`, if it is a number in digits only.
 //
 // Bayeux 1.0, the field `advice`.
 fn timeout_member(piece: &Piece<'_>) -> Option<u64>

@@ -18,22 +18,22 @@ use std::alloc::AllocError;
 pub enum AckReply {
     /// The reply has no `ext`.
     NoAck,
-    /// `true`, in the reply to a handshake that turned acknowledgement on.
+    /// The reply is to a handshake that turned acknowledgement on, and its `ack` is `true`.
     AckTrue,
-    /// The number of the last batch, in the reply to a connect.
+    /// The reply is to a connect, and its `ack` is this number, that of the last batch.
     AckNumber(u64),
 }
 
 /// The reply to one message.
 #[derive(Clone, Drop)]
 pub struct Reply {
-    /// The kind of the message. Replies to handshakes have more members.
+    /// The kind of the answered message. Replies to handshakes have more members.
     pub message_kind: MessageKind,
-    /// The message's channel.
+    /// The channel of the answered message.
     pub channel: Text,
     /// The client id of the message's session, if the reply carries it.
     pub client: Option<Text>,
-    /// The message's `id`, as the sender wrote it.
+    /// The answered message's `id`, if any, as the sender wrote it.
     pub id: Option<RawJson>,
     /// The message's `subscription`, as the sender wrote it, if the reply repeats it.
     pub subscription: Option<RawJson>,
@@ -41,12 +41,14 @@ pub struct Reply {
     pub outcome: Outcome,
     /// The advice for the client, if the reply has one.
     pub advice: Option<Advice>,
-    /// The acknowledgement in `ext`.
+    /// The member `ack` of the reply's `ext`, if the reply has one.
     pub ack: AckReply,
 }
 
 impl Reply {
-    /// Creates the reply to `message`.
+    /// Creates the reply to `message`, unless it is an accepted connect.
+    ///
+    /// For an accepted connect, use [`to_connect`](Self::to_connect).
     ///
     /// `client`: the client id of the message's session, if known. Only replies to the five meta
     /// messages carry it. Replies to subscriptions and unsubscriptions repeat `subscription`, even
@@ -156,7 +158,7 @@ pub fn share_json(json: Option<&RawJson>) -> Result<Option<RawJson>, AllocError>
 /// The answer to a connect or a rider: its events and its reply.
 #[derive(Drop)]
 pub struct Answer {
-    /// The events, oldest first, which precede the reply in the response.
+    /// The events of the answer, oldest first. They precede the reply in the response.
     pub events: Sequence<SharedEvent>,
     /// The reply to the connect or the rider.
     pub reply: Reply,

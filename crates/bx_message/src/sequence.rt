@@ -30,7 +30,7 @@ impl<T> Sequence<T> {
         }
     }
 
-    /// Converts a vector without copying its elements.
+    /// Converts the vector `items` to a sequence without copying its elements.
     pub fn from_vec(items: Vec<T>) -> Sequence<T>
         ensures { result ≡ items.items }
     {

@@ -9,21 +9,21 @@ ghost use Rattle.bx_message.specs.Statuses.{code_of};
 /// The choice of statuses is a policy of this server.
 #[derive(Clone, Copy, Debug, PartialEq, Eq)]
 pub enum Status {
-    /// 200
+    /// The HTTP status 200.
     Ok,
-    /// 400
+    /// The HTTP status 400.
     BadRequest,
-    /// 403
+    /// The HTTP status 403.
     Forbidden,
-    /// 404
+    /// The HTTP status 404.
     NotFound,
-    /// 405
+    /// The HTTP status 405.
     MethodNotAllowed,
-    /// 413
+    /// The HTTP status 413.
     TooLarge,
-    /// 501
+    /// The HTTP status 501.
     NotImplemented,
-    /// 503
+    /// The HTTP status 503.
     Unavailable,
 }
 

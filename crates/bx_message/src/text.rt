@@ -10,15 +10,15 @@ use std::sync::ArcStr;
 // Where a text is stored.
 #[derive(Drop)]
 enum Stored {
-    // In memory that the text shares with its clones.
+    // The text is in memory that it shares with its clones.
     Shared(ArcStr),
-    // In the program itself: the text is `/meta/connect`, the channel of connects.
+    // The text is `/meta/connect`, the channel of connects, and is stored in the program itself.
     Connect,
 }
 
 /// An immutable text that shares its bytes with its clones.
 ///
-/// Model: its bytes, in UTF-8.
+/// Model: the bytes of the text, in UTF-8.
 #[derive(Drop)]
 pub struct Text {
     stored: Stored,
@@ -41,7 +41,7 @@ impl Model for Text {
 }
 
 impl Text {
-    /// Creates a copy of `text`.
+    /// Creates a text with a copy of the bytes of `text`.
     ///
     /// # Errors
     ///
@@ -55,7 +55,7 @@ impl Text {
         Ok(Text { stored, plain })
     }
 
-    // Creates a copy of `text`, which must need no escapes in JSON.
+    // Creates a text with a copy of the bytes of `text`, which must need no escapes in JSON.
     pub(crate) fn plain(alloc: Global, text: &str) -> Result<Text, AllocError>
         requires { list_all is_plain text.now ≡ true }
         ensures { IfOk result (λ t. t ≡ text.now) }
@@ -140,7 +140,7 @@ impl Clone for Text {
 ///
 /// Its clones share its bytes. [`new`](Self::new) does not check that the text is JSON.
 ///
-/// Model: its bytes.
+/// Model: the bytes of the text.
 #[derive(Drop)]
 pub struct RawJson {
     json: ArcStr,
@@ -156,7 +156,7 @@ impl Model for RawJson {
 }
 
 impl RawJson {
-    /// Creates a copy of `json`, the text of a JSON value.
+    /// Creates a copy of `json`, which should be the text of a JSON value. This is not checked.
     ///
     /// # Errors
     ///

@@ -213,7 +213,7 @@ fn write_number(
     }
 }
 
-// Returns the value of `reconnect` in an advice.
+// Returns the value of `reconnect` in an advice, without quotation marks.
 //
 // Bayeux 1.0, the advice field `reconnect`.
 fn reconnect_text(reconnect: Reconnect) -> &'static str

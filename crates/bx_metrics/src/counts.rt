@@ -56,6 +56,8 @@ impl Counts {
     }
 
     /// Records that `shard` has applied the first `place` of the list's `entries` entries.
+    ///
+    /// Does nothing if there is no such shard.
     pub fn set_lag(&self, shard: usize, entries: u64, place: u64) {
         if let Some(lag) = self.lags.get(shard) {
             lag.store(entries.saturating_sub(place), Ordering::SeqCst);
@@ -121,7 +123,7 @@ pub struct MetricValues {
 }
 
 impl MetricValues {
-    /// Creates a copy from `values`, in the order of the page, and `lags`, by shard.
+    /// Creates a copy from `values`, in the order of the metrics page, and `lags`, by shard.
     ///
     /// `lags`: the number of entries that each shard lacks. A missing value counts as 0.
     pub fn of(values: Vec<u64>, lags: Vec<u64>) -> MetricValues
@@ -137,7 +139,7 @@ impl MetricValues {
         self.lags.as_slice()
     }
 
-    /// Returns the value at index `place` in the order of the page, or 0 if it is missing.
+    /// Returns the value at index `place` in the order of the metrics page, or 0 if it is missing.
     pub(crate) fn value(&self, place: usize) -> u64
         ensures { result ≡ unwrap_or (slice_get self.now.values.items place) 0 }
     {

@@ -9,28 +9,29 @@ use bx_message::{MessageKind, Status};
 /// Why a request was not admitted.
 #[derive(Clone, Copy, Debug, PartialEq, Eq)]
 pub enum Reason {
-    /// The documents are not valid messages, or have too many of them.
+    /// Requests not admitted because their messages are not valid, or are too many.
     Body,
-    /// The request has a message that the read-only listener forbids.
+    /// Requests not admitted because they have a message that the read-only listener forbids.
     Forbidden,
-    /// The moment of the request is too large.
+    /// Requests not admitted because their moment is too large.
     BadMoment,
-    /// The list would become too long with the request.
+    /// Requests not admitted because the list would become too long with them.
     Ended,
-    /// The hub was closed.
+    /// Requests not admitted because the hub was closed.
     Closed,
-    /// The window is full because a shard has not applied the oldest entries.
+    /// Requests not admitted because a shard has not applied the oldest entries of the full window.
     Behind,
-    /// The window is full, and no longer has the entry that a shard must apply next.
+    /// Requests not admitted because the full window lacks the entry that a shard must apply next.
     Overrun,
-    /// A shard's lock guards another shard.
+    /// Requests not admitted because the lock of a shard guards another shard. A server never has
+    /// this.
     WrongShard,
-    /// Memory ran out.
+    /// Requests not admitted because memory ran out.
     Memory,
 }
 
 impl Reason {
-    /// Returns the reason's name, as the label `reason` of the page has it.
+    /// Returns the name of the reason, which is the label `reason` on the metrics page.
     pub fn name(self) -> &'static str {
         match self {
             Reason::Body => "body",
@@ -51,55 +52,55 @@ impl Reason {
 /// Policy of this server.
 #[derive(Clone, Copy, Debug, PartialEq, Eq)]
 pub enum Metric {
-    /// How long the program has run, in seconds.
+    /// How long the program has run, in seconds. A counter.
     Uptime,
-    /// Open connections.
+    /// The number of connections that are open now.
     OpenConnections,
-    /// Connections accepted so far.
+    /// The number of connections accepted since the program started.
     AcceptedConnections,
-    /// Requests in progress.
+    /// The number of requests that have arrived and have not ended.
     RequestsInProgress,
-    /// Admitted requests in progress, even if they wait for no answer.
+    /// The number of admitted requests that have not ended, even if they wait for no answer.
     AdmittedInProgress,
-    /// Requests admitted so far.
+    /// The number of requests admitted so far.
     AdmittedRequests,
-    /// Events in answers to requests, counted before the response is created.
+    /// The number of events in answers so far, counted before the response is created.
     Events,
-    /// Admitted requests for which an answer was unavailable.
+    /// The number of admitted requests for which an answer was unavailable.
     UnansweredRequests,
-    /// Requests without a response because memory ran out.
+    /// The number of requests that got no response because memory ran out.
     MissingResponses,
     /// Length of the list at the last tick, in entries.
     Entries,
-    /// Ticks appended to the list.
+    /// The number of ticks appended to the list so far.
     Ticks,
-    /// Ticks that were not appended.
+    /// The number of ticks that the hub did not append to the list.
     RefusedTicks,
-    /// Shards that had not applied the last tick.
+    /// The number of shards that had not applied the last tick when it was posted.
     ShardsBehind,
-    /// Answers dropped because nobody took them.
+    /// The number of filed answers that were dropped because nobody took them.
     SweptAnswers,
-    /// Live sessions at the last tick.
+    /// The number of live sessions at the last tick.
     Sessions,
-    /// Sessions opened up to the last tick.
+    /// The number of sessions opened up to the last tick.
     OpenedSessions,
-    /// Batches in the window at the last tick.
+    /// The number of batches in the window at the last tick.
     Batches,
-    /// Held connects at the last tick.
+    /// The number of held connects at the last tick.
     HeldConnects,
-    /// Filed answers that nobody has taken, at the last tick.
+    /// The number of filed answers that nobody has taken, at the last tick.
     FiledAnswers,
-    /// Responses with this status.
+    /// The number of responses with this status.
     Responses(Status),
-    /// Requests that were not admitted, for this reason.
+    /// The number of requests that were not admitted, for this reason.
     Refused(Reason),
-    /// Successful replies to messages of this kind.
+    /// The number of successful replies to messages of this kind.
     SuccessfulReplies(MessageKind),
-    /// Replies with this error.
+    /// The number of replies with this error.
     ErrorReplies(Error),
 }
 
-/// All metrics in the order of the page, with those of the same name adjacent.
+/// All metrics in the order of the metrics page, with those of the same name adjacent.
 pub(crate) const METRICS: [Metric; 59] = [
     Metric::Uptime,
     Metric::OpenConnections,
@@ -223,7 +224,7 @@ impl Metric {
         }
     }
 
-    /// Returns the help text of the metric's name.
+    /// Returns the help text, which metrics with the same name share.
     pub(crate) fn help(self) -> &'static str {
         match self {
             Metric::Uptime => "Seconds since the program started.",
@@ -267,7 +268,7 @@ impl Metric {
         }
     }
 
-    /// Returns `true` if this metric is the first with its name.
+    /// Returns `true` if this metric is the first in [`METRICS`] with its name.
     pub(crate) fn is_first(self) -> bool {
         match self {
             Metric::Responses(Status::Ok)
@@ -283,7 +284,7 @@ impl Metric {
     }
 }
 
-// Returns the index of the metric `Responses(status)`.
+// Returns the index of the metric `Responses(status)` in `METRICS`.
 fn response_place(status: Status) -> usize
     ensures { slice_get METRICS result ≡ Some (Responses status) }
 {
@@ -299,7 +300,7 @@ fn response_place(status: Status) -> usize
     }
 }
 
-// Returns the index of the metric `Refused(reason)`.
+// Returns the index of the metric `Refused(reason)` in `METRICS`.
 fn refused_place(reason: Reason) -> usize
     ensures { slice_get METRICS result ≡ Some (Refused reason) }
 {
@@ -316,7 +317,7 @@ fn refused_place(reason: Reason) -> usize
     }
 }
 
-// Returns the index of the metric `SuccessfulReplies(kind)`.
+// Returns the index of the metric `SuccessfulReplies(kind)` in `METRICS`.
 fn reply_place(kind: MessageKind) -> usize
     ensures { slice_get METRICS result ≡ Some (SuccessfulReplies kind) }
 {
@@ -331,7 +332,7 @@ fn reply_place(kind: MessageKind) -> usize
     }
 }
 
-// Returns the index of the metric `ErrorReplies(error)`.
+// Returns the index of the metric `ErrorReplies(error)` in `METRICS`.
 fn error_place(error: Error) -> usize
     ensures { slice_get METRICS result ≡ Some (ErrorReplies error) }
 {

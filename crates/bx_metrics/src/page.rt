@@ -4,15 +4,16 @@ use crate::metric::{METRICS, Metric};
 use bx_message::MessageKind;
 use std::alloc::{AllocError, Global};
 
-// Initial capacity of the page in bytes: enough for 64 shards if each value has twenty digits.
+// Initial capacity of the metrics page in bytes: enough for 64 shards if each value has twenty
+// digits.
 const ROOM: usize = 16384;
 
-// The name of the metric for the entries that a shard has not applied.
+// The name of the metric for the number of entries that a shard has not applied.
 const LAG: &str = "bayeux_shard_lag_entries";
 
 const LAG_HELP: &str = "Entries of the list that the shard has not applied.";
 
-/// Formats the page: a row for each metric, and one for each shard.
+/// Formats the page of metrics: a row for each metric, and one for each shard.
 ///
 /// The row of a shard is the number of entries that it has not applied.
 ///
@@ -65,7 +66,7 @@ fn label_of(alloc: Global, metric: Metric) -> Result<String, AllocError> {
     }
 }
 
-// Returns the name of a kind of message, as the label `kind` of the page has it.
+// Returns the name of a kind of message, which is the label `kind` on the metrics page.
 fn kind_name(kind: MessageKind) -> &'static str {
     match kind {
         MessageKind::Handshake => "handshake",

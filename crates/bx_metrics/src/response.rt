@@ -10,9 +10,9 @@ use std::alloc::{AllocError, Global};
 /// What a request asks for.
 #[derive(Clone, Copy, Debug, PartialEq, Eq)]
 pub enum MetricsRequest {
-    /// The page of metrics: `GET /metrics`.
+    /// A request for the page of metrics: `GET /metrics`.
     Metrics,
-    /// Whether the server listens: `GET /healthz`.
+    /// A request for whether the server listens: `GET /healthz`.
     Health,
     /// A GET of a target other than `/metrics` and `/healthz`.
     Other,
@@ -64,7 +64,8 @@ pub fn response_text(
     respond(alloc, asked, listens, page.as_str())
 }
 
-// Creates the response to `asked`. `page`: the page of metrics, used only for `Metrics`.
+// Creates the response to `asked`. `listens`: whether the server listens, used only for `Health`.
+// `page`: the page of metrics, used only for `Metrics`.
 fn respond(
     alloc: Global,
     asked: MetricsRequest,

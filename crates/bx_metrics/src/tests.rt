@@ -4,8 +4,8 @@ use bx_message::{MessageKind, Status};
 use bx_service::{Observer, ServiceEvent};
 use std::test::Fail;
 
-// The page of 57 values: 1, the greatest number, and 3 to 57. The last two values are missing.
-// There are two shards.
+// The expected page for 57 values: 1, the greatest number, and 3 to 57. The values of the last two
+// metrics are missing. There are two shards.
 const PAGE: &str = r#"# HELP bayeux_uptime_seconds_total Seconds since the program started.
 # TYPE bayeux_uptime_seconds_total counter
 bayeux_uptime_seconds_total 1

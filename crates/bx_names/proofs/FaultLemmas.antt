@@ -11,7 +11,8 @@ past_case : {E : Type 0} (test : Bool) (fault : E) (others : Option E) → cond 
 past_case true fault others h = (cc, cc)
 past_case false fault others h = (refl, h)
 
--- What holds of a text without a fault as a name or a pattern.
+-- The text begins with a slash and has at most 256 bytes and 32 segments. This holds of each text
+-- without a fault as a name or a pattern.
 pub record IsSound (text : List ℕ) : Type 0 where
   pub absolute : IsTrue (is_absolute text)
   pub short : length text ≤ 256

@@ -16,7 +16,7 @@ first_case (c ∷ cs) = if c.0 then Some c.1 else first_case cs
 abbrev pub is_bad_byte : ℕ → Bool
 is_bad_byte byte = nat_lt byte 33 || (byte == 127)
 
--- Whether a text has a byte that no name may have.
+-- Whether a text has a byte that no name may have: a control byte, a space or DEL.
 abbrev pub has_bad_byte : List ℕ → Bool
 has_bad_byte = list_any is_bad_byte
 

@@ -10,7 +10,8 @@ is_slash byte = byte == 47
 abbrev pub parts : List ℕ → List (List ℕ)
 parts = slice_split is_slash
 
--- The segments of an absolute path: the parts after its first byte, a slash.
+-- The segments of an absolute path: the parts after its first byte, a slash. The empty text has
+-- none.
 abbrev pub segments : List ℕ → List (List ℕ)
 segments [] = []
 segments (first ∷ rest) = parts rest

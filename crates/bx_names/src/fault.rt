@@ -32,7 +32,8 @@ pub fn pattern_fault(text: &str) -> Option<NameError>
 
 /// Splits the text of a pattern into its segments without the wildcard, and the wildcard.
 ///
-/// The slash before the wildcard is in neither: `/a/*` results in `/a` and `One`.
+/// The slash before the wildcard is in neither: `/a/*` results in `/a` and `One`. Without a wildcard,
+/// the result is all of `text`, and `Exact`.
 #[tactic(auto, using(crate::proofs::GlobLemmas::cut))]
 pub(crate) fn split_tail(text: &str) -> (&str, Tail)
     ensures parts { text.now ≡ result.0.now ++ ending_text result.1 }
@@ -78,7 +79,7 @@ fn path_fault(path: &str, own: &str) -> Option<NameError>
     }
 }
 
-/// What one pass over a path's bytes finds.
+/// What one pass over a path's bytes finds: two kinds of errors, and the number of segments.
 #[derive(Drop)]
 struct Findings {
     has_empty_segment: bool,

@@ -7,11 +7,11 @@ ghost use Rattle.bx_names.specs.Kinds.{is_broadcast, is_meta, is_service, kind_o
 /// Bayeux 1.0, channel names.
 #[derive(Clone, Copy, Debug, PartialEq, Eq, Hash)]
 pub enum ChannelKind {
-    /// `/meta/..`: messages of the protocol.
+    /// A channel `/meta/..`, for messages of the protocol.
     Meta,
-    /// `/service/..`: messages to the server, which are not delivered to other clients.
+    /// A channel `/service/..`, for messages to the server. They are not delivered to other clients.
     Service,
-    /// All others, including `/meta` and `/service` themselves.
+    /// Any other channel, including `/meta` and `/service` themselves.
     ///
     /// Policy of this server.
     Broadcast,

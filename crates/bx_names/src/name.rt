@@ -84,7 +84,7 @@ impl ChannelName {
         kind_of(self.as_str())
     }
 
-    /// Returns an iterator over the segments, at most [`MAX_NAME_SEGMENTS`].
+    /// Returns an iterator over the segments of the name, at most [`MAX_NAME_SEGMENTS`].
     pub fn segments(&self) -> Segments<'_>
         ensures segments { result ≡ self.now }
         ensures limit { length self.now ≤ MAX_NAME_SEGMENTS }
@@ -92,7 +92,7 @@ impl ChannelName {
         segments_of(self.text.as_str())
     }
 
-    /// Returns the number of segments.
+    /// Returns the number of segments of the name.
     pub fn segment_count(&self) -> usize
         ensures { result ≡ length self.now }
     {

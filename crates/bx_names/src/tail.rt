@@ -5,10 +5,10 @@
 /// Bayeux 1.0, channel globbing.
 #[derive(Clone, Copy, Debug, PartialEq, Eq, Hash)]
 pub enum Tail {
-    /// No wildcard: the pattern is a channel name.
+    /// The pattern has no wildcard: it is a channel name.
     Exact,
-    /// `*`, which matches exactly one segment.
+    /// The pattern ends in `*`, which matches exactly one segment.
     One,
-    /// `**`, which matches one or more segments.
+    /// The pattern ends in `**`, which matches one or more segments.
     Many,
 }

@@ -106,7 +106,8 @@ impl Arguments {
         }
     }
 
-    // Sets the limit of waiting bytes to `arg`, if given. Returns `None` if `arg` is invalid.
+    // Sets the limit of waiting bytes to `arg`. Changes nothing if `arg` is `None` or `-`, and
+    // returns `None` if `arg` is invalid.
     fn with_bytes(self, arg: Option<&[u8]>) -> Option<Arguments>
         requires { HasStandardLimits self }
         ensures settings { option_map run_by result ≡ with_bytes (option_map (λ arg. arg.now) arg.entry) (run_by self) }
@@ -125,7 +126,8 @@ impl Arguments {
         })
     }
 
-    // Sets the limit of live sessions to `arg`, if given. Returns `None` if `arg` is invalid.
+    // Sets the limit of live sessions to `arg`. Changes nothing if `arg` is `None`, and returns
+    // `None` if `arg` is invalid.
     fn with_sessions(self, arg: Option<&[u8]>) -> Option<Arguments>
         requires { HasStandardLimits self }
         ensures settings { option_map run_by result ≡ with_sessions (option_map (λ arg. arg.now) arg.entry) (run_by self) }
@@ -141,8 +143,8 @@ impl Arguments {
         })
     }
 
-    // Sets the limit of a session's patterns to `arg`, if given. Returns `None` if `arg` is
-    // invalid.
+    // Sets the limit of a session's patterns to `arg`. Changes nothing if `arg` is `None`, and
+    // returns `None` if `arg` is invalid.
     fn with_patterns(self, arg: Option<&[u8]>) -> Option<Arguments>
         requires { HasStandardLimits self }
         ensures settings { option_map run_by result ≡ with_patterns (option_map (λ arg. arg.now) arg.entry) (run_by self) }

@@ -86,7 +86,8 @@ fn print_out<W: Write>(
 ///
 /// # Errors
 ///
-/// `Memory` or `Write` if a write fails. A prefix of the output may be written.
+/// - `Memory`: memory ran out.
+/// - `Write`: a write failed.
 pub fn print_held<W: Write>(
     kept: &BTreeMap<usize, PendingLine>,
     numbers: &[usize],

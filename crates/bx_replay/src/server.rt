@@ -149,7 +149,8 @@ fn take_nonce(nonce: u128, input: Input) -> (Input, u128)
     }
 }
 
-// Runs one more input, which is at line `line`, and prints the outs that result.
+// Runs one more input, which is at line `line`, and prints the outs that result. Keeps in `kept`
+// what the out of each unanswered input needs.
 fn hand<T: Threads + Sync, P: Placing + Send + Sync, W: Write>(
     rt: &T,
     alloc: Global,

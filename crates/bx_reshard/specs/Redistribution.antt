@@ -8,7 +8,7 @@ use Rattle.bx_shard.specs.Words.{Refines, Setup, IsSound, State, connect_in, ses
 
 -- ---- Contents of the shards
 
--- The first value that `f` gives for any of the shards.
+-- The first value that `f` gives for one of the shards, or `None` if it gives no value.
 abbrev pub among : {X : Type 0} → (State → Option X) → List State → Option X
 among f [] = None
 among f (s ∷ ss) = option_or (f s) (among f ss)
@@ -47,7 +47,8 @@ redistributed_connect placing count k (Some (Held session deadline waker)) = if 
 redistributed_connect placing count k (Some (Filed session place answer)) = if placing session count == k then Some (Filed session place answer) else None
 
 -- `new` is shard `k` of `count`, with the sessions of the shards `old` that are placed in it, and
--- their connects without wakers. It is shut if the first old shard is.
+-- their connects without wakers. It is shut if the first old shard is. Its configuration and its
+-- place are those of the old shards, and its placing is `placing`.
 pub record IsRedistributed (placing : ℕ → ℕ → ℕ) (count : ℕ) (old : List State) (k : ℕ) (new : State) : Type 0 where
   pub index : new.index ≡ k
   pub setup : (j : ℕ) (s : State) → slice_get old j ≡ Some s → new.setup ≡ record { config = s.setup.config; shards = count; placing = placing }

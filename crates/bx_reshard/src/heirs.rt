@@ -61,7 +61,8 @@ impl Heirs {
     /// Reserves in shard `slot` the connect that `session` holds at `place` until `deadline`.
     ///
     /// `slot`: the index of the shard, counted from 0. `deadline`: milliseconds since the server
-    /// started. Without one, no tick ends the hold. Does nothing if a connect is known at `place`.
+    /// started. Without one, no tick ends the hold. Does nothing if a connect is already reserved
+    /// at `place`.
     pub(crate) fn reserve_connect(
         &mut self,
         slot: usize,
@@ -82,6 +83,8 @@ impl Heirs {
     }
 
     /// Stores `session` in shard `slot` as session `number`, if that number is reserved there.
+    ///
+    /// `slot`: the index of the shard, counted from 0.
     pub(crate) fn settle(&mut self, slot: usize, number: u64, session: Session)
         requires within { slot < length self.old.shards.items }
         ensures sessions { (k n : ℕ) → kept_of self.new.shards.items k n

@@ -99,7 +99,10 @@ pub(crate) fn lend_from<P: Placing>(
     lend_connects(heirs, connects, connects.filed_places(), placing, count)
 }
 
-/// Creates the contents of `count` new shards, in which everything in `shards` is reserved.
+/// Reserves all sessions and connects of the old `shards` in `count` new shards.
+///
+/// Each is reserved in the shard that `placing` chooses for its session. Returns the contents of
+/// the new shards, which have the configuration `config`.
 pub(crate) fn lend_all<P: Placing>(
     alloc: Global,
     config: Config,

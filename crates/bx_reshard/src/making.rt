@@ -44,6 +44,8 @@ pub(crate) fn copy_handle<P: Drop>(
 }
 
 /// Returns the new shards, in order, made from what is in `room`. Does not allocate.
+///
+/// `count`: the number of shards among which sessions are placed.
 pub(crate) fn finish<P: Placing + Drop>(room: Room<P>, count: ShardCount) -> Vec<Shard<P>>
     requires empty { room.shards.items ≡ [] }
     requires capacity { length room.heirs.shards.items ≤ vec_capacity room.shards }

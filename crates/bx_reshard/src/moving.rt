@@ -12,6 +12,9 @@ use bx_shard::{Shard, Wakers};
 use indexmap::IndexMap;
 
 /// Moves the sessions of an old shard to the new shards in which they are placed.
+///
+/// `by_number`: the sessions, by number. A session that is not reserved in its new shard is
+/// dropped.
 pub(crate) fn move_sessions<P: Placing>(
     heirs: &mut Heirs,
     mut by_number: IndexMap<u64, Session>,
@@ -32,7 +35,7 @@ pub(crate) fn move_sessions<P: Placing>(
 /// Moves the filed answers of an old shard to the new shards in which their sessions are placed.
 ///
 /// Drops the wakers in `connects`, which wakes their tasks. Moves the wakers of the reserved
-/// connects, if any, to `wakers`.
+/// connects, if any, to `wakers`. An answer to a connect that is not reserved is dropped.
 pub(crate) fn move_answers<P: Placing>(
     heirs: &mut Heirs,
     mut connects: Connects,

@@ -20,15 +20,15 @@ TimerNeeds timer source = IsSomeAnd timer (λ sleep. source ≡ sleep_source sle
 abbrev pub OrTimer : (ℕ → Type 0) → Option Sleep → ℕ → Type 0
 OrTimer sources timer source = sources source ⊎ TimerNeeds timer source
 
--- The second result may be that of a call under a time limit: the call's own result, the first one,
--- if it is ready, and otherwise pending or the error `TimedOut`.
+-- What a call under a time limit may return, the second result, if the call itself returns the
+-- first. A ready result is unchanged. A pending one stays pending, or becomes the error `TimedOut`.
 abbrev pub InTime : {O : Type 0} → Poll (Result O Error) → Poll (Result O Error) → Type 0
 InTime (Ready given) made = made ≡ Ready given
 InTime Pending (Ready (Ok given)) = ⊥
 InTime Pending (Ready (Err e)) = error_kind e ≡ TimedOut
 InTime Pending Pending = ⊤
 
--- `e` is an error of the call, or `TimedOut`.
+-- `e` is an error with which the call may fail, or the error `TimedOut`.
 abbrev pub OrLate : (Error → Type 0) → Error → Type 0
 OrLate fails e = fails e ⊎ (error_kind e ≡ TimedOut)
 

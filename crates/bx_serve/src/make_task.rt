@@ -66,7 +66,7 @@ pub struct Server<R, S> {
     pub http: http1::Builder<TokioTimer<R>>,
     /// The service, cloned for each connection.
     pub service: S,
-    /// The timer for bodies and peers.
+    /// The timer for the limits on bodies and on writes to peers.
     pub timer: TokioTimer<R>,
     /// The longest wait for more of a body, or for the peer to take data.
     pub limit: Duration,

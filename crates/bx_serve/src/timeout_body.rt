@@ -17,9 +17,9 @@ use std::time::Duration;
 /// Why a body failed.
 #[derive(Drop)]
 pub enum TimeoutBodyFault<E> {
-    /// The body itself failed.
+    /// The inner body failed, with this error.
     Body(E),
-    /// No data arrived in time, or the body was not complete in time.
+    /// The body failed, because no frame arrived in time or because it was not complete in time.
     Late,
 }
 
@@ -83,7 +83,7 @@ pub struct TimeoutService<S, T> {
     pub service: S,
     /// The timer for bodies.
     pub timer: T,
-    /// The longest wait for a frame.
+    /// The longest wait for the next frame of a request's body.
     pub limit: Duration,
     /// The longest time for a complete body, from the first wait for more of it.
     pub whole: Duration,

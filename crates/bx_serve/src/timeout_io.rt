@@ -32,7 +32,8 @@ impl<I, T> TimeoutIo<I, T> {
 }
 
 impl<I: AsyncWrite, T: Timer> TimeoutIo<I, T> {
-    // Returns `written`, the result of a call, or `TimedOut` if it is pending for too long.
+    // Returns `written`, the result of a write, flush or shutdown. If `written` is pending for too
+    // long, returns the error `TimedOut`.
     fn poll_taken<O>(
         &mut self,
         cx: &mut Context<'_>,

@@ -43,7 +43,7 @@ impl<T> ProgressTimeout<T> {
         }
     }
 
-    /// Records progress, so that the next wait may last for the full `limit`.
+    /// Records progress, so that the next wait may again last for the full limit on a wait.
     pub fn renew(&mut self)
         ensures sleep { self.new.sleep ≡ self.old.sleep }
         ensures end { self.new.end ≡ self.old.end }

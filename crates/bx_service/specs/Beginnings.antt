@@ -28,7 +28,8 @@ abbrev pub query_of : Uri → List ℕ
 query_of uri = unwrap_or (uri_query uri) []
 
 module _ {I B : Type 0} where
-  -- `state` stores `content_type` and collects `body`, up to `limit` bytes. It has no bytes yet.
+  -- `state` is that of a POST: it stores `content_type` and collects `body`, up to `limit` bytes.
+  -- No bytes are collected yet.
   abbrev pub IsCollecting : ℕ → Option FieldValue → B → State I B → Type 0
   IsCollecting limit content_type body (Collecting value collect) =
       (value ≡ content_type) × (collect.body ≡ body) × (collect.limit ≡ limit) × (collect.bytes.items ≡ [])
@@ -47,13 +48,14 @@ module _ {I B : Type 0} where
   abbrev pub IsAsking : ℕ → Uri → State I B → Type 0
   IsAsking limit uri state = OrTooLarge (nat_lt limit (length (query_of uri))) (λ asked. asked ≡ Asked uri) state
 
-  -- A POST with `fields` and `body` begins in `state`: it collects `body`, or is rejected as too
-  -- large if its `content-length` is above `limit`.
+  -- A POST with `fields` and `body` begins in `state`: it collects `body` and stores its content
+  -- type. If its `content-length` is above `limit`, it is rejected as too large.
   abbrev pub IsPosted : ℕ → Entries FieldValue → B → State I B → Type 0
   IsPosted limit fields body state =
       OrTooLarge (says_more limit (length_of fields)) (IsCollecting limit (get fields (codes "content-type")) body) state
 
-  -- A request with this route begins in `state`: as a POST, as a GET, or rejected with a status.
+  -- A request with this route begins in `state`: as a POST, as a GET, or rejected with a status. A
+  -- POST or GET is also rejected if its body or query exceeds `limit` bytes.
   abbrev pub BeginsAs : Route → ℕ → Parts → B → State I B → Type 0
   BeginsAs routes.Post limit head body state = IsPosted limit head.headers body state
   BeginsAs routes.Get limit head body state = IsAsking limit head.uri state

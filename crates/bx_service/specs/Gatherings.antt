@@ -52,7 +52,7 @@ awaited held = option_map (λ h. awaited_as h.ticket h.pass h.is_done) held
 
 module _ (setup : Setup) where
   -- `items` are those of an answer that may be given under `ticket`, by a front that extends
-  -- `seen`. If `is_done` is `true`, every answer may be.
+  -- `seen`. If `is_done` is `true`, any answer may be given.
   abbrev pub AreItemsSince : Ticket → List LogStep → Bool → List Item → Type 0
   AreItemsSince ticket seen is_done items = (a : Answer)
       × (MayGive setup ticket seen is_done (Ok (Some a)) × (items ≡ items_of a))

@@ -55,20 +55,20 @@ impl<L: LogId> From<NoAnswer<L>> for Unanswered {
     }
 }
 
-/// The documents of a request that was not admitted, with the reason.
+/// A request that was not admitted: its JSON documents, and the reason.
 #[derive(Drop)]
 pub struct Declined {
     /// Why the request was not admitted.
     pub fault: PostFault,
-    /// The documents of the request, unchanged.
+    /// The JSON documents of the request that was not admitted, unchanged.
     pub bodies: Bodies,
 }
 
-/// A server that answers requests, given their documents.
+/// A server that answers requests, given the JSON documents with their messages.
 ///
 /// A service depends only on this trait, so its types do not name the parts of a hub.
 pub trait Backend: Drop {
-    /// The future of a response's items.
+    /// The future of a response's items: events and replies.
     type Items: Future<Output = Result<Vec<Item>, Unanswered>>;
 
     // Ghost: what `admit` may return for the documents of a request.
@@ -77,11 +77,11 @@ pub trait Backend: Drop {
     // Ghost: what `place` may return for the items of a response.
     ghost stands: { Self.Items → Option ℕ → Type 0 } = { λ _ _. ⊤ };
 
-    /// Admits the documents of a request, and returns the future of the response's items.
+    /// Admits a request with `bodies`, its JSON documents, and returns the future of its response.
     ///
     /// # Errors
     ///
-    /// [`Declined`], with the unchanged documents and the reason, if they are not admitted.
+    /// [`Declined`], with the unchanged documents and the reason, if the request is not admitted.
     fn admit(&self, bodies: Bodies) -> Result<Self::Items, Declined>
         ensures can_poll { IfOk result Self.Items.can_poll }
         ensures back { IfErr result (λ d. d.bodies ≡ bodies) }

@@ -15,11 +15,12 @@ const BUDGET: usize = 64;
 /// Why a body was not collected.
 #[derive(Clone, Copy, Debug, PartialEq, Eq)]
 pub enum CollectError {
-    /// The data of the body exceeds the limit.
+    /// The body was not collected, because it has more bytes than the limit allows.
     TooLarge,
-    /// The body failed, for example because the connection ended early.
+    /// The body was not collected, because reading it failed, for example at the end of its
+    /// connection.
     Failed,
-    /// Memory ran out.
+    /// The body was not collected, because memory ran out.
     Memory,
 }
 
@@ -35,9 +36,11 @@ impl From<AllocError> for CollectError {
 
 /// A future of all the data of a body, in one buffer.
 ///
-/// The data of each frame is appended to the buffer, and the frame is dropped. The buffer never has
-/// more bytes than the limit, and small frames need no more memory than large ones. Trailers are
-/// dropped.
+/// The data of each frame is appended to the buffer, and the frame is dropped. Trailers are
+/// dropped. The output is an error if the data exceeds the limit, the body fails or memory runs
+/// out.
+///
+/// The buffer never has more bytes than the limit, even if the body has many small frames.
 #[derive(Drop)]
 pub struct Collect<B> {
     alloc: Global,
@@ -48,7 +51,7 @@ pub struct Collect<B> {
 }
 
 impl<B> Collect<B> {
-    /// Creates a future that collects `body`, up to `limit` bytes.
+    /// Creates a future that collects `body`, and fails if it has more than `limit` bytes.
     pub fn new(alloc: Global, body: B, limit: usize) -> Collect<B>
         ensures { (result.body ≡ body) × (result.limit ≡ limit) × (result.bytes.items ≡ []) }
     {
@@ -92,8 +95,8 @@ where
     }
 }
 
-// Appends the data of `frame`, if any. Fails with `TooLarge`, and appends no data, if `bytes` would
-// exceed `limit`, or with `Memory`.
+// Appends the data of `frame`, if any, to `bytes`. Fails with `TooLarge`, and appends no data, if
+// `bytes` would exceed `limit`. Fails with `Memory` if memory runs out.
 fn add<D: Buf + Drop>(
     bytes: &mut Vec<u8>,
     limit: usize,

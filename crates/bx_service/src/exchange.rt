@@ -44,7 +44,8 @@ use std::sync::Arc;
 #[derive(Drop)]
 pub struct Exchange<S, I, B, O: Observer> {
     pub(crate) alloc: Global,
-    // `None` after the output, or if memory ran out for a handle on the backend or the observer.
+    // The backend. `None` once the response or an error was returned, or if memory ran out for a
+    // handle on the backend or the observer.
     pub(crate) backend: Option<Arc<S, Global>>,
     pub(crate) state: State<I, B>,
     pub(crate) probe: RequestProbe<O>,
@@ -53,29 +54,30 @@ pub struct Exchange<S, I, B, O: Observer> {
 /// The progress of a request.
 #[derive(Drop)]
 pub(crate) enum State<I, B> {
-    /// The body of a POST is being collected.
+    /// The request is a POST, and its body is being collected.
     Collecting {
         content_type: Option<HeaderValue>,
         body: Collect<B>,
     },
-    /// A GET, with the documents in the query of this target.
+    /// The request is a GET that is not read yet. The query of this target has its messages.
     Asked(Uri),
-    /// The request was admitted, and waits for its items.
+    /// The request was admitted, and waits for the items of its response: events and replies.
     ///
     /// With a `callback` the response is a script that calls it.
     Held {
         callback: Option<String>,
         items: I,
     },
-    /// The response has this status and no body.
+    /// The request is rejected: its response has this status and no body.
     Refused(Status),
 }
 
 impl<I: Future, B: Body> State<I, B> {
-    /// Creates the state of a new request, from its head.
+    /// Creates the state of a new request, from its body and the parts of its head.
     ///
-    /// The state is `Refused` if the route is `Refused`, or if the query of a GET or the
-    /// `Content-Length` of a POST exceeds `limit`.
+    /// The state is `Refused` if the path, the method or `Transfer-Encoding` is not served. It is
+    /// also `Refused` if the query of a GET or the `Content-Length` of a POST exceeds `limit`.
+    /// Otherwise it is `Asked` for a GET and `Collecting` for a POST.
     pub(crate) fn new(alloc: Global, limit: BodyLimit, parts: Parts, body: B) -> State<I, B>
         requires { B.can_poll body }
         ensures again { CanPoll I.can_poll B.can_poll result }
@@ -128,7 +130,8 @@ fn says_more(limit: BodyLimit, length: Option<&HeaderValue>) -> bool
     }
 }
 
-// Posts `bodies` and returns the next state, `Held` or `Refused`. Reports the outcome to `probe`.
+// Posts the messages in `bodies` to `backend`, and reports the outcome to `probe`. Returns the next
+// state of the request: `Held` if it is admitted, otherwise `Refused`.
 fn admitted<S, I, B, D, O>(
     backend: &S,
     probe: &mut RequestProbe<O>,
@@ -158,8 +161,8 @@ where
     }
 }
 
-// Returns the next state of a POST, `Held` or `Refused`. Posts the documents if the body was
-// collected and is valid.
+// Returns the next state of a POST: `Held` if its messages are admitted, otherwise `Refused`. Posts
+// the messages to `backend` if the body was collected and can be read.
 fn posted<S, I, B, D, O>(
     alloc: Global,
     backend: &S,
@@ -188,7 +191,8 @@ where
     }
 }
 
-// Returns the next state of a GET, `Held` or `Refused`. Posts the documents if the query is valid.
+// Returns the next state of a GET: `Held` if its messages are admitted, otherwise `Refused`. Posts
+// the messages to `backend` if the query can be read.
 fn asked<S, I, B, D, O>(
     alloc: Global,
     backend: &S,

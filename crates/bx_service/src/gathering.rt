@@ -1,4 +1,4 @@
-//! The items of a response, collected as the answers arrive.
+//! The items of a response (events and replies), collected as the answers arrive.
 ghost use Rattle.std.specs.Prelude.{◌≡◌, ◌++◌, ◌∷◌, ◌<◌, List, Result, [], None, Some, false, IfOk, OnOk, MatchOption, length};
 ghost use Rattle.std.specs.Vec.Iter.{into_iter_items};
 ghost use Rattle.futures.specs.Poll.{IfReady, OnPending};
@@ -21,7 +21,7 @@ use std::mem;
 use std::sync::{Arc, Wait};
 use std::vec::IntoIter;
 
-/// The future of the items that answer an admitted request.
+/// The future of the events and replies that answer an admitted request.
 ///
 /// It handles the slots in order, and waits for the answer to each connect or rider. Polling for an
 /// answer locks its shard.
@@ -34,7 +34,7 @@ pub struct ItemsFuture<L: LogId, P: Placing, G: Gate + Drop, R: Wait + Drop> {
     items: Vec<Item>,
     held: Option<PendingAnswer<L>>,
     slots: IntoIter<Slot>,
-    // The place of the first message. `None` if the request has no messages.
+    // The place of the request's first message. `None` if the request has no messages.
     first: Option<u64>,
     ghost within: { AreBelow (length (list_of pass)) (into_iter_items slots) } by { are_below-prop (length (list_of pass)) (into_iter_items slots) },
 }
@@ -42,7 +42,7 @@ pub struct ItemsFuture<L: LogId, P: Placing, G: Gate + Drop, R: Wait + Drop> {
 impl<L: LogId, P: Placing + Drop, G: Gate + Drop, R: Wait + Copy + Drop> ItemsFuture<L, P, G, R> {
     /// Creates the future for `slots`, which the hub returned for a post that updated `pass`.
     ///
-    /// `first`: the place of the first message.
+    /// `first`: the place of the request's first message.
     pub(crate) fn new(
         rt: R,
         alloc: Global,
@@ -69,7 +69,7 @@ impl<L: LogId, P: Placing + Drop, G: Gate + Drop, R: Wait + Copy + Drop> ItemsFu
         }
     }
 
-    /// Returns the place of the first message, or `None` if the request has no messages.
+    /// Returns the place of the request's first message, or `None` if the request has no messages.
     pub(crate) fn place(&self) -> Option<u64>
         ensures { result ≡ self.now.first }
     {
@@ -85,8 +85,9 @@ impl<L: LogId, P: Placing + Drop, G: Gate + Drop, R: Wait + Copy + Drop> ItemsFu
         self.held = Some(PendingAnswer::new(self.pass.again(), ticket));
     }
 
-    // Polls the awaited answer, if any, and appends its items. Pending until the answer is given.
-    // Fails if the answer is unavailable or memory runs out.
+    // Polls the awaited answer, and appends its events and its reply to `items`. Ready at once if
+    // no answer is awaited, and pending until the answer is given. Fails if the answer is
+    // unavailable or memory runs out.
     fn poll_held(&mut self, cx: &mut Context<'_>) -> Result<Poll<()>, Unanswered>
         ensures same { OnOk result ((all : List Item)
             → AreAll (setup_of L.config L.placing) self.new.pass self.new.items.items (awaited self.new.held)

@@ -1,4 +1,4 @@
-//! The size limit on a request's documents.
+//! The size limit on the body of a POST, or on the query of a GET.
 use bx_advice::BODY_LIMIT;
 use std::marker::Model;
 

@@ -19,7 +19,8 @@ pub enum ServiceEvent<'a> {
     Admitted(Option<u64>),
     /// A request was not admitted, for this reason.
     Refused(PostFault),
-    /// The items of the response are complete, or unavailable if `items` is `None`.
+    /// The items of a response, which are events and replies, are complete. `items` is `None` if
+    /// they are unavailable.
     ///
     /// `place`: the place of the request's first message, if any.
     Answered {
@@ -28,7 +29,7 @@ pub enum ServiceEvent<'a> {
     },
     /// A response with this status was created. `None`: memory ran out for the response.
     Responded(Option<Status>),
-    /// The future of the response was dropped, which ends the request.
+    /// The future of a response was dropped, which ends the request.
     ///
     /// `was_admitted`: whether the request was admitted.
     RequestEnded {
@@ -40,7 +41,7 @@ pub enum ServiceEvent<'a> {
 ///
 /// An observer is called for each connection and request, and cannot change a response.
 pub trait Observer: Drop {
-    /// Receives `event`.
+    /// Handles `event`, which happened at the service.
     fn see(&self, event: ServiceEvent<'_>);
 }
 

@@ -85,7 +85,8 @@ pub(crate) struct RequestProbe<O: Observer> {
     // `None` if memory ran out for the handle.
     observer: Option<Arc<O, Global>>,
     is_admitted: bool,
-    // The place of the first message. `None` before admission, or if the request has no messages.
+    // The place of the request's first message. `None` before admission, or if the request has no
+    // messages.
     place: Option<u64>,
 }
 

@@ -1,4 +1,4 @@
-//! Which requests are served, and where their documents are.
+//! Which requests are served, and whether their messages are in the body or in the query.
 ghost use Rattle.std.specs.Prelude.{◌≡◌, codes};
 ghost use Rattle.http_header.specs.HeaderMap.{get_all};
 ghost use Rattle.bx_service.specs.Statuses.{are_plain, is_served, route_of, unless_coded};
@@ -7,21 +7,21 @@ use bx_message::Status;
 use http::header::TRANSFER_ENCODING;
 use http::{HeaderMap, Method};
 
-/// Where the documents of a request are, or why it is rejected.
+/// Where the messages of a request are, or why it is rejected.
 #[derive(Clone, Copy, Debug, PartialEq, Eq)]
 pub(crate) enum Route {
-    /// The documents are in the body of a POST.
+    /// The request is a POST, with its messages in the body.
     Post,
-    /// The documents are in the query of a GET.
+    /// The request is a GET, with its messages in the query.
     Get,
     /// The request is rejected with this status.
     Refused(Status),
 }
 
 impl Route {
-    /// Returns the route of a request with this method, path and fields.
+    /// Returns where a request with this method, path and fields has its messages.
     ///
-    /// The request is rejected for the first of these reasons that applies:
+    /// The request is rejected, with a status, for the first of these reasons that applies:
     ///
     /// - 404: the path is not served.
     /// - 405: the method is neither POST nor GET.

@@ -25,7 +25,7 @@ use std::sync::Arc;
 /// Why a connection ends without a response.
 #[derive(Clone, Copy, Debug, PartialEq, Eq)]
 pub enum ServiceFault {
-    /// Memory ran out, even for a response without a body.
+    /// The connection ends, because memory ran out even for a response without a body.
     Memory,
 }
 

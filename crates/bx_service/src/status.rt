@@ -21,7 +21,7 @@ pub(crate) fn code_of(status: Status) -> StatusCode
 
 /// Returns the status of a POST if its body was not collected.
 ///
-/// `Failed`: 400. `TooLarge` and `Memory`: the status of the `TransportError` of this name.
+/// `Failed`: 400. `TooLarge`: 413. `Memory`: 503.
 ///
 /// Policy of this server.
 pub(crate) fn body_status(fault: CollectError) -> Status
@@ -36,7 +36,8 @@ pub(crate) fn body_status(fault: CollectError) -> Status
 
 /// Returns the status of a request that the hub did not admit.
 ///
-/// `Refused`: the status of its reason. All other faults: 503.
+/// `Refused`: the status of its reason, for example 400 for a body that is not valid. All other
+/// faults: 503.
 ///
 /// Policy of this server.
 pub(crate) fn post_status(fault: PostFault) -> Status

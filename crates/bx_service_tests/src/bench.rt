@@ -57,7 +57,7 @@ impl<L: LogId, S: Drop, H: Wait + Drop> Bench<L, S, H> {
     /// If the tick is not appended.
     pub fn tick<W: Wait>(&mut self, rt: &W, moment: u64) -> Result<(), Fail> {
         self.hub
-            .tick(rt, self.alloc, &mut self.pass, Tick { moment })
+            .tick(rt, self.alloc, &mut self.pass, Tick::new(moment))
             .map_err(|_| "refused")?;
         Ok(())
     }

@@ -29,12 +29,14 @@ rider_in sessions e = option_and_then (λ (r : Rider). if is_some (sessions r.se
 abbrev pub unridden : Rider → Answer
 unridden rider = record { events = []; reply = rider.reply }
 
--- A session after its waiting events, at most one batch, moved into the answer to its rider.
+-- A session after its waiting events, at most one batch, moved into the answer to its rider. No
+-- events move if the session acknowledges.
 abbrev pub given_up : Config → Kept → Kept
 given_up config k = after (forgotten (ride_portion config (resumed k))) k
 
--- The state of a rider after its filed answer got its session's waiting events, at most one batch.
--- It is unchanged if the session is not in the shard.
+-- The state of a rider after its filed answer got its session's waiting events: at most one batch,
+-- and no events if the session acknowledges. The state is unchanged if the session is not in the
+-- shard.
 abbrev pub completed_by : Config → Option Kept → Option ConnectState → Option ConnectState
 completed_by config None state = state
 completed_by config (Some k) state = completed (events_of (take (ride_portion config (resumed k)) k.queue)) state
@@ -42,7 +44,8 @@ completed_by config (Some k) state = completed (events_of (take (ride_portion co
 -- ---- Entries
 
 -- `new` is the sessions and connects of a shard after entry `e` is applied to `old`. `stands`:
--- whether a session that `e` opens is placed in the shard.
+-- whether a session that `e` opens is placed in the shard. In `new`, the tree has exactly the
+-- patterns of the sessions, and a connect is held if and only if its session holds it.
 pub record Followed (stands : Bool) (e : Entry) (old new : Sessions) : Type 0 where
   pub config : new.config ≡ old.config
   pub sessions : (n : ℕ) → kept_in new n ≡ session_after old.config stands e n (kept_in old n)

@@ -46,7 +46,7 @@ AllReady s [] = Unit {0}
 AllReady s (x ∷ xs) = IsReady s x × NoneFor x.number xs × AllReady s xs
 
 -- `new` is the sessions of a shard after parcel `x` is delivered to its session in `old`. `place`:
--- that of the publish.
+-- that of the publish. In `new`, a connect is held if and only if its session holds it.
 pub record Turn (config : Config) (place : ℕ) (x : Parcel) (old new : Sessions) : Type 0 where
   pub sessions : (n : ℕ) → kept_in new n ≡ (if nat_eq x.number n then option_map (after (received config (published_at place x.event))) (kept_in old x.number) else kept_in old n)
   pub connects : (p : ℕ) → connect_at new.connects p ≡ filing_each place (answers_by (received config (published_at place x.event)) (kept_in old x.number)) (connect_at old.connects) p

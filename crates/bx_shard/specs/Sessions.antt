@@ -42,21 +42,21 @@ abbrev pub IsCounted : ℕ → Option Kept → List Glob → Type 0
 IsCounted n None patterns = patterns ≡ []
 IsCounted n (Some k) patterns = IsOwn n k patterns
 
--- The deadline of a connect, if session `n` holds it. The deadline is `None` if no tick can be that
--- late.
+-- `Some` with the deadline of a connect if session `n` holds it, and otherwise `None`. The deadline
+-- itself is `None` if no tick can be that late.
 abbrev pub held_until : Option ConnectState → ℕ → Option (Option ℕ)
 held_until None n = None
 held_until (Some (Held m deadline waker)) n = if nat_eq m n then Some deadline else None
 held_until (Some (Filed session place answer)) n = None
 
--- The deadline of a held connect, if its place is `place`. The deadline is `None` if no tick can be
--- that late.
+-- `Some` with the deadline of a held connect if its place is `place`, and otherwise `None`. The
+-- deadline itself is `None` if no tick can be that late.
 abbrev pub ends_for : Option Pending → ℕ → Option (Option ℕ)
 ends_for None place = None
 ends_for (Some p) place = if nat_eq p.place place then Some (deadline_of p) else None
 
--- The deadline of the connect at `place`, if a session holds it. The deadline is `None` if no tick
--- can be that late.
+-- `Some` with the deadline of the connect at `place` if a session holds it, and otherwise `None`.
+-- The deadline itself is `None` if no tick can be that late.
 abbrev pub holds_until : Option Kept → ℕ → Option (Option ℕ)
 holds_until None place = None
 holds_until (Some k) place = ends_for k.held place

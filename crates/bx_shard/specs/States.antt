@@ -46,8 +46,9 @@ opening stands _ n = None
 abbrev pub if_live : Kept → Option Kept
 if_live k = if is_live k.stage then Some k else None
 
--- Session `n` of a shard after an entry, which may open it. `None` if it is closed or not in the
--- shard.
+-- Session `n` of a shard after entry `e`, which may open the session. `stands`: whether a session
+-- that `e` opens is placed in the shard. The result is `None` if the session is closed or not in
+-- the shard.
 abbrev pub session_after : Config → Bool → Entry → ℕ → Option Kept → Option Kept
 session_after config stands e n o = option_and_then (λ k. if_live (kept_step config k e)) (option_or o (opening stands e.kind n))
 
@@ -139,6 +140,8 @@ pub record IsSound (s : State) : Type 0 where
 -- ---- Other calls
 
 -- `new` is the shard `old` after a call of `watch` with `waker` for the connect at place `connect`.
+-- If the connect is held and the shard is not shut, the connect stores `waker`. Nothing else has
+-- changed.
 pub record Watched (connect : ℕ) (waker : Waker) (old new : State) : Type 0 where
   pub place : new.place ≡ old.place
   pub setup : new.setup ≡ old.setup

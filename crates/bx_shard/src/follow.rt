@@ -50,7 +50,9 @@ impl Sessions {
         Ok(())
     }
 
-    // Applies `entry` without its rider. On error, no session or connect has changed.
+    // Applies `entry` without its rider. `stands`: whether a session that `entry` opens belongs to
+    // this shard. If `entry` answers or removes held connects, their wakers move to `wakers`. On
+    // error, no session or connect has changed.
     fn follow_alone(
         &mut self,
         alloc: Global,

@@ -62,7 +62,8 @@ pub fn refines_taken()
     ensures { RefinesTaken }
 {}
 
-/// Proves that a shard still agrees with its definition `shard_at` after another's answer is taken.
+/// Proves that taking an answer leaves all other shards in agreement with their definition
+/// `shard_at`.
 pub fn refines_other_taken()
     ensures { RefinesBeside }
 {}

@@ -76,7 +76,8 @@ impl Sessions {
         Ok(parcels)
     }
 
-    // Delivers the parcels in order. Moves the wakers of answered connects to `wakers`.
+    // Delivers the parcels of the publish at `place`, in order. Moves the wakers of answered
+    // connects to `wakers`.
     fn hand_out(&mut self, place: u64, parcels: Vec<Parcel>, wakers: &mut Wakers)
         requires ready { AllReady self.old parcels.items }
         requires tied { AreHeld self.old }

@@ -30,8 +30,8 @@ impl Sessions {
 
     /// Files the answer to `rider`, which is at `place`, and returns room for the answer's events.
     ///
-    /// The answer is filed without events. No connect or answer may be known at `place`. On error,
-    /// no session or connect has changed.
+    /// The answer is filed without events. At `place`, no connect may be held and no answer filed.
+    /// On error, no session or connect has changed.
     pub(crate) fn prepare_ride(
         &mut self,
         alloc: Global,
@@ -55,6 +55,7 @@ impl Sessions {
     }
 
     // Allocates and returns room for the events that session `number` sends with a rider's reply.
+    // If the session is not in this shard, the room is for no events.
     fn ride_room(&self, alloc: Global, number: u64) -> Result<RideRoom, AllocError>
         ensures { IfOk result (λ room. IfSome (kept_in self.now number) (λ (k : Kept). ride_most self.now.config k ≤ room)) }
     {
@@ -64,9 +65,10 @@ impl Sessions {
         }
     }
 
-    /// Moves the events for a rider from session `number` into the answer filed for `place`.
+    /// Moves waiting events of session `number` into the answer filed for the rider at `place`.
     ///
-    /// `room`: from [`prepare_ride`](Self::prepare_ride).
+    /// Moves at most one batch, and no events if the session acknowledges batches. Does nothing if
+    /// the session is not in this shard. `room`: from [`prepare_ride`](Self::prepare_ride).
     pub(crate) fn ride(&mut self, place: u64, number: u64, room: RideRoom)
         requires room { IfSome (kept_in self.old number) (λ (k : Kept). ride_portion self.old.config (resumed k) ≤ room) }
         ensures sessions { (n : ℕ) → kept_in self.new n

@@ -73,9 +73,9 @@ impl Sessions {
 
     /// Answers or holds `connect`, if session `number` is in this shard.
     ///
-    /// `acked`: the batch number that the connect acknowledges, if any. No connect or answer may be
-    /// known at the place of `connect`. Moves the waker of a superseded connect to `wakers`. On
-    /// error, no session or connect has changed.
+    /// `acked`: the batch number that the connect acknowledges, if any. At the place of `connect`,
+    /// no connect may be held and no answer filed. If the session already holds a connect, answers
+    /// that connect and moves its waker to `wakers`. On error, no session or connect has changed.
     pub(crate) fn connect(
         &mut self,
         alloc: Global,
@@ -170,7 +170,8 @@ impl Sessions {
 
     /// Closes session `number`, for a tick.
     ///
-    /// If the session still holds a connect, removes it, and moves the connect's waker to `wakers`.
+    /// Removes the session and its patterns. If the session still holds a connect, removes that
+    /// connect, and moves its waker to `wakers`.
     pub(crate) fn close(&mut self, number: u64, wakers: &mut Wakers)
         ensures sessions { (n : ℕ) → kept_in self.new n ≡ (if nat_eq number n then None else kept_in self.old n) }
         ensures patterns { (n : ℕ) → patterns_in self.new n ≡ (if nat_eq number n then [] else patterns_in self.old n) }
@@ -192,7 +193,8 @@ impl Sessions {
 
     /// Closes session `number`, for a disconnect, and answers its held connect.
     ///
-    /// `place`: the place of the disconnect. Moves the connect's waker to `wakers`.
+    /// `place`: the place of the disconnect. Removes the session and its patterns. Moves the waker
+    /// of the held connect to `wakers`.
     pub(crate) fn disconnect(&mut self, place: u64, number: u64, wakers: &mut Wakers)
         ensures sessions { (n : ℕ) → kept_in self.new n ≡ (if nat_eq number n then None else kept_in self.old n) }
         ensures patterns { (n : ℕ) → patterns_in self.new n ≡ (if nat_eq number n then [] else patterns_in self.old n) }
@@ -232,7 +234,8 @@ impl Sessions {
         self.by_number.keys().as_slice()
     }
 
-    /// Reserves session `number` and copies its patterns from `from`, unless it is already here.
+    /// Reserves session `number` and copies its patterns from `from`, unless the session is already
+    /// here.
     ///
     /// An empty session is stored under `number` until [`settle`](Self::settle) is called.
     ///
@@ -261,7 +264,7 @@ impl Sessions {
         self.tree.copy(alloc, &from.tree, number)
     }
 
-    /// Reserves a connect that `session` holds at `place`, unless one is known there.
+    /// Adds a held connect of `session` at `place`, unless a connect is held or answered there.
     ///
     /// `deadline`: milliseconds since the server started. Without one, no tick ends the hold.
     ///
@@ -282,9 +285,9 @@ impl Sessions {
         self.connects.reserve_connect(place, session, deadline)
     }
 
-    /// Replaces session `number`, which [`lend`](Self::lend) has reserved, with `session`.
+    /// Replaces the session that [`reserve_session`](Self::reserve_session) stored under `number`.
     ///
-    /// Does nothing if session `number` is not here.
+    /// Stores `session` in its place. Does nothing if there is no session `number`.
     pub fn settle(&mut self, number: u64, session: Session)
         ensures sessions { (n : ℕ) → kept_in self.new n
             ≡ (if nat_eq number n then option_map (λ _. session.kept) (kept_in self.old number) else kept_in self.old n) }
@@ -295,10 +298,11 @@ impl Sessions {
         }
     }
 
-    /// Files the answer in `answered`, if the connect that it answers is known.
+    /// Files the answer in `answered`, if a connect is held or already answered at
+    /// `answered.place`.
     ///
-    /// `place`: the place of the entry that gives the answer. Moves the connect's waker to
-    /// `wakers`.
+    /// `place`: the place of the entry that gives the answer. An answer that is already filed is
+    /// replaced. Moves the connect's waker to `wakers`.
     pub fn file(&mut self, place: u64, answered: Answered, wakers: &mut Wakers)
         ensures connects { (p : ℕ) → connect_at self.new.connects p
             ≡ (if nat_eq answered.place p then filed_as place answered.answer (connect_at self.old.connects p)

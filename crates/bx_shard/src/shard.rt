@@ -26,7 +26,7 @@ pub struct Shard<P> {
     pub(crate) index: usize,
     // Number of shards among which sessions are placed.
     pub(crate) shards: usize,
-    // Number of applied entries.
+    // Number of entries that the shard has applied.
     pub(crate) place: u64,
     pub(crate) is_closed_to_wakers: bool,
     pub(crate) sessions: Sessions,
@@ -50,9 +50,10 @@ impl<P: Placing> Shard<P> {
     ghost use Rattle.bx_shard.specs.States.{Applied, IsAsBefore, IsSound, Swept, Watched, WasShut, connect_in, opens_in, session_in, takes_no_memory};
     ghost use Rattle.bx_shard.specs.Seen.{setup_in, state};
 
-    /// Creates shard `index` without sessions, at place 0.
+    /// Creates shard `index`, without sessions and without applied entries.
     ///
-    /// `index`: counted from 0.
+    /// `index`: counted from 0. `placing` chooses the shard of each session, among `config.shards`
+    /// shards.
     pub fn new(alloc: Global, index: usize, config: Config, placing: Arc<P>) -> Shard<P>
         ensures config { result.sessions.config ≡ config }
         ensures placing { arc_value result.placing ≡ arc_value placing }
@@ -90,12 +91,12 @@ impl<P: Placing> Shard<P> {
 
     /// Applies `entry`, the next entry of the list.
     ///
-    /// `entry.place` must be [`place`](Self::place), and less than 2^62. Disconnects, rejected
-    /// messages, ticks, and unsubscriptions that are not riders always succeed.
+    /// `entry.place` must be equal to [`place`](Self::place), and less than 2^62. Disconnects,
+    /// rejected messages, ticks, and unsubscriptions that are not riders always succeed.
     ///
     /// If `entry` answers or removes held connects, their wakers move to `wakers`. To wake their
-    /// tasks, drop `wakers` after unlocking the shard. If memory runs out for the list, a task is
-    /// woken at once.
+    /// tasks, drop `wakers` after unlocking the shard. If there is no memory for `wakers` to grow,
+    /// a task is woken at once.
     ///
     /// # Errors
     ///
@@ -164,11 +165,12 @@ impl<P: Placing> Shard<P> {
         self.sessions.connects.take_any()
     }
 
-    /// Registers `waker` with a held connect, and returns the waker that it replaces.
+    /// Registers `waker` with the connect held under `ticket`, and returns the waker that it
+    /// replaces.
     ///
     /// Returns `waker` itself if the answer is filed (`Ready`), no connect of this shard is held
-    /// under `ticket` (`Unknown`), or the shard was shut (`Shut`). When
-    /// [`apply`](Self::apply) answers the connect, it moves the stored waker to its `wakers`.
+    /// under `ticket` (`Unknown`), or the shard was shut (`Shut`). When [`apply`](Self::apply)
+    /// answers or removes the connect, the stored waker moves to the `wakers` of that call.
     pub fn watch(&mut self, ticket: Ticket, waker: Waker) -> Watch
         ensures watch { nat_eq ticket.shard self.old.index ≡ true
             → result ≡ watched self.old.is_closed_to_wakers waker (connect_in (state P.place_of self.old) ticket.place) }
@@ -186,7 +188,7 @@ impl<P: Placing> Shard<P> {
             .watch(ticket.place, waker, self.is_closed_to_wakers)
     }
 
-    /// Drops the answers given by entries before place `before`, and returns their number.
+    /// Drops the filed answers that entries before place `before` gave, and returns their number.
     pub fn sweep(&mut self, before: u64) -> usize
         ensures swept { Swept before (state P.place_of self.old) (state P.place_of self.new) }
         ensures count { result ≡ count_filed_below before self.old.sessions.connects }
@@ -208,9 +210,14 @@ impl<P: Placing> Shard<P> {
 
     /// Creates shard `index` of `shards` from `sessions`, after `place` entries.
     ///
-    /// `index`: counted from 0. `shards`: 1 to 64. The patterns and connects in `sessions` must be
-    /// those of its sessions. No session may have formed more than `place` batches, and no connect
-    /// at or after `place` may be known.
+    /// `index`: counted from 0. `shards`: 1 to 64, the number of shards among which `placing`
+    /// places sessions. `is_closed_to_wakers`: whether the shard is shut, so that it stores no
+    /// wakers.
+    ///
+    /// In `sessions`, each session must be live, and the patterns must be exactly those of the
+    /// sessions. A connect must be held if and only if its session holds it. No session may have
+    /// formed more than `place` batches. At `place` and later, no connect may be held and no answer
+    /// filed.
     pub fn resume(
         placing: Arc<P>,
         index: usize,

@@ -40,8 +40,8 @@ impl Sessions {
 
     /// Closes each session of `numbers`.
     ///
-    /// If the sessions still hold connects, removes the connects, and moves their wakers to
-    /// `wakers`.
+    /// Removes the sessions and their patterns. If the sessions still hold connects, removes these
+    /// connects, and moves their wakers to `wakers`.
     pub(crate) fn close_all(&mut self, numbers: &[u64], wakers: &mut Wakers)
         requires held { AreHeld self.old }
         ensures sessions { (n : ℕ) → kept_in self.new n

@@ -75,7 +75,7 @@ fn ticks<L: LogId, P: Placing, G: Gate + Drop, H: Wait + Drop, R: Wait>(
 ) -> Option<Vec<usize>> {
     let mut pass = hub.pass();
     for _ in 0..TICKS {
-        hub.tick(rt, alloc, &mut pass, Tick { moment: 0 }).ok()?;
+        hub.tick(rt, alloc, &mut pass, Tick::new(0)).ok()?;
     }
     Some(Vec::new(alloc))
 }

@@ -86,9 +86,7 @@ fn takes<L: LogId, P: Placing, H: Wait + Drop, R: Wait>(
         }
         hint::spin_loop();
     }
-    let late = Tick {
-        moment: (1 << 62) + 1,
-    };
+    let late = Tick::new((1 << 62) + 1);
     let refused = hub.tick(rt, alloc, &mut pass, late).err();
     let is_bad_moment = refused.map(|it| it.1.fault())
         == Some(PostFault::Refused(Refusal::BadMoment));

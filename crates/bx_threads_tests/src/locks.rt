@@ -157,7 +157,7 @@ fn calls<L: LogId, P: Placing, G: Gate + Drop, H: Wait + Drop, C: Clock + Drop, 
     }
     flags.holds_call.store(true, Ordering::SeqCst);
     match call {
-        Call::Tick => hub.tick(rt, alloc, &mut pass, Tick { moment: 0 }).is_ok(),
+        Call::Tick => hub.tick(rt, alloc, &mut pass, Tick::new(0)).is_ok(),
         Call::Post => post(rt, alloc, hub, &mut pass, PING).is_ok(),
         Call::Question => {
             let ticket = Ticket { place: 0, shard: 1 };

@@ -27,7 +27,7 @@ fn ticks<L: LogId, P: Placing, G: Gate + Drop, H: Wait + Drop, R: Wait>(
     mut pass: Pass<L>,
 ) -> Option<Pass<L>> {
     for _ in 0..TICKS {
-        hub.tick(rt, alloc, &mut pass, Tick { moment: 0 }).ok()?;
+        hub.tick(rt, alloc, &mut pass, Tick::new(0)).ok()?;
     }
     Some(pass)
 }

@@ -180,7 +180,7 @@ pub fn tick<L: LogId, H: Wait + Drop, R: Wait>(
     pass: &mut Pass<L>,
     said: &mut Said,
 ) -> Result<(), Unlike> {
-    let (tick, why) = match hub.tick(rt, alloc, pass, Tick { moment: 0 }) {
+    let (tick, why) = match hub.tick(rt, alloc, pass, Tick::new(0)) {
         Ok(ticked) => return end_of_tick(alloc, said, ticked),
         Err(refused) => refused,
     };

@@ -135,7 +135,7 @@ impl<L: LogId, H: Wait + Drop, R: Wait + Copy + Drop> Bench<L, H, R> {
     /// If the tick is not appended.
     pub fn tick(&mut self, moment: u64) -> Result<(), Fail> {
         self.hub
-            .tick(&self.rt, self.alloc, &mut self.pass, Tick { moment })
+            .tick(&self.rt, self.alloc, &mut self.pass, Tick::new(moment))
             .map_err(|_| "refused")?;
         Ok(())
     }

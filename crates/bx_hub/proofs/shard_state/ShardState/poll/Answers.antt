@@ -1,7 +1,5 @@
-use Rattle.std.proofs.Common.{◌∙◌, sym, arith}
-use Rattle.bx_window.specs.Steps.{setup_of}
-use Rattle.bx_shard.specs.Seen.{state}
-use Rattle.bx_hub.proofs.Held.{held, stands_of, level_without, over_longer}
+use Rattle.std.proofs.Common.{arith}
+use Rattle.bx_hub.proofs.Held.{over_longer}
 use Rattle.bx_hub.proofs.shard_state.ShardState.poll.Goals as goal
 
 pub returns-in-Some-take-clause-answer : goal.returns-in-Some-take-clause-answer
