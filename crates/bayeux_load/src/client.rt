@@ -103,7 +103,7 @@ impl Client {
         self.go_on(context, tally, items.as_slice(), now)
     }
 
-    // Records the events, and checks that the request was answered with success.
+    // Records the events in a response, and checks that the request was answered with success.
     fn take_items(
         &mut self,
         context: &Context,
@@ -140,7 +140,8 @@ impl Client {
         }
     }
 
-    // Sends the request that follows the response, if any.
+    // Sends the request that follows the response, if any. Counts a client that becomes ready, and
+    // a publish that is answered.
     fn go_on(
         &mut self,
         context: &Context,
@@ -192,7 +193,7 @@ impl Client {
         }
     }
 
-    // Sends a connect.
+    // Sends a connect, which acknowledges the last batch that a subscriber received.
     fn poll(&mut self, context: &Context, now: u64) -> Result<(), Fault> {
         let acknowledged = match &self.role {
             Role::Subscriber(session) => session.acknowledged,

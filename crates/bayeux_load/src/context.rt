@@ -17,7 +17,8 @@ pub struct Context {
     pub address: SocketAddr,
     /// When the load started. All other times count from here.
     pub start: Instant,
-    /// Number of clients that have not yet opened a session and, if subscribers, subscribed.
+    /// Number of clients that are not ready: each must open a session, and a subscriber must
+    /// subscribe.
     pub unready: AtomicU64,
     /// When the publishers started, in nanoseconds since `start`, or 0 before.
     pub begun: AtomicU64,
@@ -68,7 +69,7 @@ impl Context {
 
     /// Returns when the publishers started, or `None` while a client is not ready.
     ///
-    /// The first call for which all clients are ready sets this time to `now`. Both are in
+    /// The first call for which all clients are ready sets this time to `now`. Times are in
     /// nanoseconds since the load started.
     pub fn begun(&self, now: u64) -> Option<u64> {
         if self.unready.load(Ordering::SeqCst) > 0 {
@@ -83,7 +84,8 @@ impl Context {
         }
     }
 
-    /// Returns `unready`, `unpublished` and `delivered`.
+    /// Returns the numbers of clients that are not ready, unanswered publishes, and events that
+    /// arrived.
     pub fn progress(&self) -> (u64, u64, u64) {
         (
             self.unready.load(Ordering::SeqCst),

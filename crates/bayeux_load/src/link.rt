@@ -48,7 +48,8 @@ impl Link {
         })
     }
 
-    /// Writes as much of `request` as it can without waiting. The previous one must be answered.
+    /// Writes as much of `request` as it can without waiting. The previous request must be
+    /// answered.
     ///
     /// # Errors
     ///
@@ -110,7 +111,7 @@ impl Link {
     ///
     /// # Errors
     ///
-    /// `BadResponse` if it is malformed, its status is not 200, or more data follows.
+    /// `BadResponse` if the response is malformed, its status is not 200, or more data follows.
     pub fn body(&self) -> Result<Option<&[u8]>, Fault> {
         match read_response(self.input.as_slice()) {
             Err(_) => Err(Fault::BadResponse),

@@ -64,7 +64,8 @@ fn context_of<R: Net + Clock + AllocGlobal>(
     }
 }
 
-// Runs all parts, the first on this thread, and adds their results to `whole`.
+// Runs all parts, the first on this thread, and adds their results to `whole`. Returns the fault of
+// the first part that failed.
 fn all_parts<R>(
     rt: R,
     context: &Arc<Context, Global>,
@@ -98,7 +99,7 @@ where
     }
 }
 
-// Spawns a thread that runs part `index`.
+// Spawns a thread that runs part `index` of `threads`, and appends its handle to `others`.
 fn begin<R>(
     rt: R,
     context: &Arc<Context, Global>,
@@ -126,7 +127,8 @@ where
     }
 }
 
-// Adds the results of all parts to `whole`, or returns why the first one failed.
+// Adds the results of all parts to `whole`, `own` first. Returns why the first one failed, if one
+// did.
 fn added<R: Threads>(
     rt: R,
     whole: &mut Tally,
@@ -163,7 +165,8 @@ fn address_of(net: &impl Net, target: &Target) -> Result<SocketAddr, Fault> {
     }
 }
 
-// Returns half the number of processors, from 1 to 8. The server may need the other half.
+// Returns half the number of processors, from 1 to 8, or 1 if it is unknown. The server may need
+// the other half.
 fn threads_for(rt: &impl Threads) -> u64 {
     match thread::available_parallelism(rt) {
         Ok(count) => (count.get() as u64 / 2).clamp(1, MOST_THREADS),

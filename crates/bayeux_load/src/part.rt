@@ -32,7 +32,8 @@ pub struct LoadPart {
     // Number of events to receive.
     expected: u64,
     tally: Tally,
-    // The last progress of all threads, and when it changed, in nanoseconds since the load started.
+    // The last result of `Context::progress`, and when it changed. The time is in nanoseconds since
+    // the load started.
     progress: (u64, u64, u64),
     changed: u64,
     // Whether all events of this part have arrived.
@@ -134,7 +135,7 @@ impl LoadPart {
         Ok(())
     }
 
-    /// Calls [`Client::publish`] for each publisher.
+    /// Records when the publishers started, and calls [`Client::publish`] for each publisher.
     ///
     /// `now`: nanoseconds since the load started.
     ///

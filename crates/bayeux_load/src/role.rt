@@ -5,9 +5,9 @@ use std::alloc::{AllocError, Global};
 /// The role of a client.
 #[derive(Drop)]
 pub enum Role {
-    /// Receives events.
+    /// The client is a session that receives events.
     Subscriber(Subscriber),
-    /// Publishes events.
+    /// The client publishes events.
     Publisher(Publisher),
 }
 
@@ -16,9 +16,9 @@ pub enum Role {
 pub struct Subscriber {
     /// The number of its channel, counted from 0.
     pub channel: u32,
-    /// The batch that its next connect acknowledges, if any.
+    /// The number of the batch that the session's next connect acknowledges, if any.
     pub acknowledged: Option<u64>,
-    // The arrivals of events, with one element for each publisher of the channel.
+    // The arrivals of events at this session, with one element for each publisher of the channel.
     arrivals: Vec<Arrivals>,
 }
 
@@ -86,9 +86,9 @@ pub struct Publisher {
     number: u64,
     /// The number of its channel, counted from 0.
     pub channel: u32,
-    // Number of events sent.
+    // Number of events that the publisher has sent.
     sent: u64,
-    // The number of its next event, among those of all publishers.
+    // The number of the publisher's next event, counted from 0 among those of all publishers.
     next: u64,
 }
 
@@ -104,6 +104,8 @@ impl Publisher {
     }
 
     /// Returns the data of the next event if it is due, and counts the event as sent.
+    ///
+    /// Returns `None` if it is not due, or if all events are sent.
     ///
     /// `passed`: nanoseconds since the publishers started. `now`: nanoseconds since the load
     /// started.

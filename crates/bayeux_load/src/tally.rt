@@ -9,8 +9,9 @@ use std::alloc::{AllocError, Global};
 pub struct Tally {
     /// The latencies of events.
     pub latencies: Latencies,
-    /// Number of the thread's clients that have opened a session and, if subscribers, have
-    /// subscribed.
+    /// Number of the thread's clients that are ready.
+    ///
+    /// Each has opened a session, and each subscriber has subscribed.
     pub ready: usize,
     /// When all clients were ready and the publishers started.
     pub begun: u64,
@@ -77,6 +78,8 @@ impl Tally {
     }
 
     /// Adds the results of another thread's part, except `ready`.
+    ///
+    /// Each time in `self` becomes the later one of the two.
     pub fn add(&mut self, other: &Tally) {
         self.latencies.add(&other.latencies);
         self.begun = self.begun.max(other.begun);
@@ -91,6 +94,8 @@ impl Tally {
     }
 
     /// Returns `true` if each event reached each session of its channel once and in order.
+    ///
+    /// Returns `false` also if an unknown event arrived.
     pub fn is_whole(&self) -> bool {
         self.lost == 0 && self.doubled == 0 && self.out_of_order == 0 && self.unknown == 0
     }

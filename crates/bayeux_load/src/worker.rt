@@ -13,7 +13,7 @@ use std::time::Clock;
 // Nanoseconds between updates of the line of progress.
 const SHOWN: u64 = 200_000_000;
 
-/// What a thread needs to wait and to read.
+/// What a thread needs to wait for its connections, to read from them, and to show progress.
 #[derive(Drop)]
 struct Waiting {
     poll: Poll,
@@ -80,7 +80,8 @@ where
     Ok(())
 }
 
-// Serves the clients once, and returns `true` if the load is over.
+// Serves the clients once, publishes what is due, and updates the line of progress if it is shown.
+// Returns `true` if the load is over.
 fn is_last<R>(
     rt: &R,
     context: &Context,

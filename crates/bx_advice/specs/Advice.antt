@@ -5,11 +5,12 @@ use Rattle.bx_advice.specs.declared.error.Error.TheVariants.{UnsupportedVersion,
 use Rattle.bx_advice.specs.declared.advice.Reconnect.TheVariants.{Retry, Handshake, Never}
 use Rattle.bx_advice.specs.declared.advice.Outcome.TheVariants.{Opened, Connected, Disconnected, Done, Failed}
 
--- Advice to connect again.
+-- Advice to connect again, with the interval and the timeout of the configuration.
 abbrev pub retry : Config → Advice
 retry c = record { interval = c.interval; reconnect = Retry; timeout = Some c.timeout }
 
--- Advice to do `reconnect`, which is not to connect again. It has no timeout.
+-- Advice to do `reconnect`, which is not to connect again. It has the configured interval and no
+-- timeout.
 abbrev pub instead : Config → Reconnect → Advice
 instead c reconnect = record { interval = c.interval; reconnect = reconnect; timeout = None }
 
@@ -26,7 +27,9 @@ reconnect_of UnknownClient = Some Handshake
 reconnect_of QueueOverflow = Some Handshake
 reconnect_of _ = None
 
--- The advice for an outcome, if any.
+-- The advice for an outcome, if any. It is `Retry` after a handshake or a connect that succeeded,
+-- and `Never` after a disconnect ended a held connect. After an error, it is what `reconnect_of`
+-- gives, if anything. Other outcomes have none.
 abbrev pub advice_of : Config → Outcome → Option Advice
 advice_of c Opened = Some (retry c)
 advice_of c Connected = Some (retry c)

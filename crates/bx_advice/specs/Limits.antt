@@ -12,7 +12,7 @@ greatest_moment = MAX_MOMENT
 abbrev pub greatest_length : ℕ
 greatest_length = MAX_ENTRIES
 
--- The standard limits.
+-- The default limits of sessions and messages.
 abbrev pub standard_limits : Limits
 standard_limits = record {
   events = STANDARD_EVENTS;
@@ -24,7 +24,7 @@ standard_limits = record {
   some_batch = lit≤ tt;
 }
 
--- Each limit in `limits` is the standard one.
+-- Each limit in `limits` is the default one.
 pub record IsStandard (limits : Limits) : Type 0 where
   pub events : limits.events ≡ standard_limits.events
   pub bytes : limits.bytes ≡ standard_limits.bytes

@@ -25,15 +25,15 @@ pub enum Outcome {
 /// Bayeux 1.0, the advice field `reconnect`.
 #[derive(Clone, Copy, Debug, PartialEq, Eq)]
 pub enum Reconnect {
-    /// Connect again.
+    /// The client should connect again.
     Retry,
-    /// Handshake again.
+    /// The client should handshake again.
     Handshake,
-    /// Do neither. In JSON this is `none`.
+    /// The client should neither connect nor handshake again. In JSON this is `none`.
     Never,
 }
 
-/// The advice in a reply.
+/// The advice in a reply: what the client should do next, and after how long.
 ///
 /// Bayeux 1.0, the field `advice`. Sending `timeout` with `Retry` only is a policy of this server.
 #[derive(Clone, Copy, Debug, PartialEq, Eq)]

@@ -8,7 +8,7 @@ use std::marker::Model;
 /// The maximum length of a request's body or query, in bytes.
 pub const BODY_LIMIT: usize = 1_048_576;
 
-/// The maximum number of shards.
+/// The maximum number of shards of a server.
 pub const MAX_SHARDS: usize = 64;
 
 /// The greatest moment of a request or a tick: 2^62 milliseconds after the server started.
@@ -61,7 +61,7 @@ pub const STANDARD_SESSIONS: usize = 65_536;
 /// The default of [`Limits::texts`], the maximum number of strings in a `subscription`.
 pub const STANDARD_TEXTS: usize = 64;
 
-/// The default limits.
+/// The default limits of sessions and messages.
 pub const STANDARD_LIMITS: Limits = Limits {
     events: STANDARD_EVENTS,
     bytes: STANDARD_BYTES,
@@ -74,7 +74,7 @@ pub const STANDARD_LIMITS: Limits = Limits {
 /// The configuration of a server, with times in milliseconds.
 #[derive(Clone, Copy, Debug)]
 pub struct Config {
-    /// The number of shards, from 1 to [`MAX_SHARDS`].
+    /// The number of shards of the server, from 1 to [`MAX_SHARDS`].
     pub shards: usize,
     /// The maximum hold of a connect and the advised timeout, in milliseconds.
     pub timeout: u32,
@@ -146,7 +146,7 @@ impl Config {
     ghost use Rattle.std.specs.Prelude.{◌≡◌, ◌≤◌, ◌↔◌, IsSome, IfSome, false};
     ghost use Rattle.bx_advice.specs.Limits.{IsStandard};
 
-    /// Creates a configuration with the standard limits and without options.
+    /// Creates a configuration with the limits [`STANDARD_LIMITS`], and without `ride` and `anonymous`.
     ///
     /// The times are in milliseconds. Returns `None` if `shards` is not from 1 to [`MAX_SHARDS`].
     ///

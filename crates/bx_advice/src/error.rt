@@ -12,35 +12,39 @@ use std::fmt;
 /// Bayeux 1.0, the field `error`, leaves codes and texts open. These are a policy of this server.
 #[derive(Clone, Copy, Debug, PartialEq, Eq, Hash)]
 pub enum Error {
-    /// The channel begins with `/meta/` and is not one of the five meta channels.
+    /// The message's channel begins with `/meta/` and is not one of Bayeux's five meta channels.
     UnknownMetaChannel,
     /// The message is a handshake after another one in the same request.
     SecondHandshake,
-    /// `version` is not a string that equals `1` or begins with `1.`.
+    /// The `version` of a handshake is not a string that equals `1` or begins with `1.`.
     UnsupportedVersion,
-    /// `supportedConnectionTypes` is not an array with at least one of the two polling types.
+    /// A handshake's `supportedConnectionTypes` is not an array with at least one polling type.
+    ///
+    /// The polling types are `long-polling` and `callback-polling`.
     NoSupportedConnectionType,
     /// The message is a handshake, but the server already has its maximum number of live sessions.
     TooManySessions,
-    /// `clientId` is not a string, or is absent although the message needs it.
+    /// The message's `clientId` is not a string, or is absent although the message needs it.
     NoClientId,
-    /// `clientId` is not the id of a live session.
+    /// The message's `clientId` is not the id of a live session.
     UnknownClient,
-    /// `connectionType` is present and is not one of the two polling types.
+    /// The `connectionType` of a connect is neither absent nor one of the two polling types.
+    ///
+    /// The polling types are `long-polling` and `callback-polling`.
     UnknownConnectionType,
     /// The channel of a publish is not a channel name.
     InvalidChannel,
-    /// A string in `subscription` is not a pattern.
+    /// A string in the message's `subscription` is not a pattern.
     InvalidPattern,
-    /// `subscription` has more strings than `Limits::texts`.
+    /// The message's `subscription` has more strings than `Limits::texts`.
     TooManyPatterns,
-    /// A pattern begins with `/meta/`.
+    /// A pattern in the message's `subscription` begins with `/meta/`.
     SubscriptionDenied,
-    /// `subscription` is absent, or neither a string nor an array of strings.
+    /// The message's `subscription` is absent, or neither a string nor an array of strings.
     MissingSubscription,
     /// The message is a publish without `data`.
     MissingData,
-    /// A newer connect of the session ended the held connect.
+    /// A held connect was ended by a newer connect of its session.
     SupersededConnect,
     /// The session of the connect has overflowed.
     QueueOverflow,

@@ -76,8 +76,8 @@ fn serves<L: LogId + Send + Sync, R: Threads + Wait + Sync>(
     events.ok_or(anyhow!("not served"))
 }
 
-// Opens the sessions of `thread`: one that publishes, and those that receive. Returns `Some(0)`, or
-// `None` if memory runs out or the hub does not admit a request.
+// Opens the sessions of `thread`: one that publishes, and those that receive, which it subscribes.
+// Returns `Some(0)`, or `None` if memory runs out or the hub does not admit a request.
 fn opens<L: LogId, H: Wait + Drop, R: Wait>(
     rt: &R,
     alloc: Global,
@@ -119,8 +119,9 @@ fn works<L: LogId, H: Wait + Drop, R: Wait>(
     Some(events)
 }
 
-// Publishes, and then connects each receiving session. Returns the number of events that the
-// connects get, or `None` if memory runs out or the hub does not admit a request.
+// Runs one turn of `load`: publishes, and then connects each receiving session. Returns the number
+// of events that the connects get, or `None` if memory runs out or the hub does not admit a
+// request.
 fn round<L: LogId, H: Wait + Drop, R: Wait>(
     rt: &R,
     alloc: Global,

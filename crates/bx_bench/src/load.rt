@@ -1,35 +1,35 @@
 //! How many publishes and connects each thread makes.
 
-/// The load of one thread, in rounds.
+/// The load of one thread, in turns.
 ///
-/// In each round a thread makes `publishes` publishes, a request each, and then each of `sessions`
-/// sessions connects.
+/// In each of `rounds` turns, a thread makes `publishes` publishes, a request each. Then each of
+/// `sessions` sessions connects.
 #[derive(Clone, Copy, Debug)]
 pub struct Load {
-    /// The number of rounds.
+    /// The number of turns of a thread. In each, it publishes and then connects its sessions.
     pub rounds: u64,
-    /// The number of publishes in a round.
+    /// The number of publishes that a thread makes in each of its turns.
     pub publishes: u64,
-    /// The number of sessions that connect in a round.
+    /// The number of sessions of a thread that connect in each of its turns.
     pub sessions: u64,
 }
 
 impl Load {
-    /// 100,000 publishes that reach no session.
+    /// A load of 100,000 publishes that reach no session.
     pub const NONE: Load = Load {
         rounds: 500,
         publishes: 200,
         sessions: 0,
     };
 
-    /// 100,000 publishes that reach ten sessions each.
+    /// A load of 100,000 publishes that reach ten sessions each.
     pub const TEN: Load = Load {
         rounds: 500,
         publishes: 200,
         sessions: 10,
     };
 
-    /// 10,000 publishes that reach a thousand sessions each.
+    /// A load of 10,000 publishes that reach a thousand sessions each.
     pub const THOUSAND: Load = Load {
         rounds: 50,
         publishes: 200,

@@ -17,8 +17,8 @@ const SHARDS: usize = 8;
 
 const SESSIONS: u64 = 10_000;
 
-// Number of rooms. Each session subscribes to one room by two patterns, so a publish reaches 1,000
-// sessions.
+// Number of rooms, which are channels `/room/N/..`. Each session subscribes to one room by two
+// patterns, so a publish reaches 1,000 sessions.
 const ROOMS: u64 = 10;
 
 const TURNS: u64 = 10;
@@ -29,7 +29,7 @@ const PUBLISHES: u64 = 50;
 // After this number of turns, 1,000 events wait for each session, since no session connects.
 const TURNS_OF_WAITING: u64 = 20;
 
-// More inputs than any workload has.
+// A limit on the number of inputs that no workload reaches.
 const MOST_INPUTS: usize = 1_000_000_000;
 
 // Creates a body with a handshake that opens session `number`, and with its subscription.

@@ -5,7 +5,8 @@ use std::alloc::Global;
 use std::io::{BufRead, BufReader};
 use std::str;
 
-// Reads the body in `line` as a `serde_json` value, and returns the number of its messages.
+// Reads the body in `line` as a `serde_json` value, and returns the number of its messages. The
+// body begins at the first `[`; without one, the number is 0.
 fn messages(alloc: Global, line: &[u8]) -> Result<usize> {
     let Some(start) = line.iter().position(|byte| *byte == b'[') else {
         return Ok(0);

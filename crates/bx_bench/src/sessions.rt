@@ -8,10 +8,10 @@ use std::alloc::Global;
 
 const SESSIONS: u64 = 1_000;
 
-// More batches than any workload forms.
+// A limit on the number of batches that no workload reaches.
 const MANY: u64 = 1_000_000_000;
 
-// Number of events delivered to a session before it connects, in each of `ROUNDS` rounds.
+// Number of events delivered to a session before it connects, in each of `ROUNDS` turns.
 const ROUND: u64 = 100;
 
 const ROUNDS: u64 = 10;
@@ -51,7 +51,8 @@ impl Setting {
         Ok(sessions)
     }
 
-    // Delivers the event, and returns how many events the held connect gets: 0 if none is held.
+    // Delivers the event of `self`, and returns how many events the held connect gets: 0 if none is
+    // held. Fails if the session overflows or memory runs out.
     fn deliver(&self, session: &mut Session, place: u64) -> Result<u64> {
         session.reserve()?;
         let event = self.event.clone()?;

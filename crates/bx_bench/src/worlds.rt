@@ -38,7 +38,7 @@ impl Server {
     }
 
     // Admits a request with `body`, advances every shard and takes the answers. Returns how many
-    // events they have.
+    // events the answers have.
     fn serve(&mut self, alloc: Global, body: String) -> Result<u64> {
         let admitted = self.world.admit(alloc, &arrival(body));
         let admitted = admitted.map_err(|_| anyhow!("not admitted"))?;
@@ -163,7 +163,9 @@ fn connect_all(alloc: Global, server: &mut Server) -> Result<u64> {
     Ok(events)
 }
 
-/// Runs what one thread of a hub runs for `load`, and returns the number of events delivered.
+/// Makes the publishes and connects of `load` in a single-threaded server of `shards` shards.
+///
+/// Returns the number of events that the connects get.
 ///
 /// # Errors
 ///

@@ -58,7 +58,7 @@ nest-string false depth (x ∷ xs) = grind (arith, common_steps, span-cons, one_
 
 -- ---- a scan ends with the text, or after a quote or a closing bracket
 
--- `n` is the end of the text, or follows a byte of this kind.
+-- `n` is the length of the text `t`, or `P` holds of the byte of `t` before index `n`.
 abbrev pub EndsBy : (ℕ → Type 0) → List ℕ → ℕ → Type 0
 EndsBy P t n = (n ≡ length t) ⊎ ((k : ℕ) × (n ≡ suc k) × (k < length t) × P (get_or t k 0))
 

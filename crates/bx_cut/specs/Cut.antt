@@ -24,9 +24,10 @@ pub data Scan : Type 0 where
   quoted : Scan
   escaped : Scan
 
--- The length of the rest of an array or object, through its closing bracket, in bytes. The text
--- begins inside it, with `depth` more brackets open. `Scan` is the state at the start of the text:
--- outside strings, in a string (`quoted`), or after a backslash in a string (`escaped`).
+-- The length of the rest of an array or object, through its closing bracket, in bytes. Without a
+-- closing bracket, it is the length of the whole text. The text begins inside the array or object,
+-- with `depth` more brackets open. `Scan` is the state at the start of the text: outside strings,
+-- in a string (`quoted`), or after a backslash in a string (`escaped`).
 unfoldable pub nest_len : Scan → ℕ → List ℕ → ℕ
 nest_len m depth [] = 0
 nest_len outside depth (x ∷ xs) =
@@ -82,8 +83,8 @@ pub record IsRest (rest text : List ℕ) : Type 0 where
 
 -- ---- Parts separated by commas
 
--- The parts at the start of a text, and the rest. `split` splits off one part. The last part has no
--- comma after it, or no part after its comma.
+-- The parts at the start of a text, separated by commas, and the rest. `split` splits off one part.
+-- The last part has no comma after it, or no part after its comma.
 -- The number in `separated` limits the recursion; the text's length is always enough.
 module _ {A : Type 0} (split : List ℕ → Option (A × List ℕ)) where
   abbrev pub then_more : (List ℕ → List A × List ℕ) → List ℕ → Option (List ℕ) → List A × List ℕ

@@ -39,8 +39,8 @@ abbrev pub IsOnlyObject : List Object → Data → Type 0
 IsOnlyObject (o ∷ []) d = IsObjectOf o d
 IsOnlyObject _ d = ⊥
 
--- The messages parse as the elements of an array, in order, or as the one object. Nothing is
--- claimed about other values.
+-- If the value is an array, the messages parse as its elements, in order. If it is an object, the
+-- one message parses as this object. Nothing is claimed about other values.
 abbrev pub ArePiecesOf : List Object → Data → Type 0
 ArePiecesOf os (array ds) = AreObjectsOf os ds
 ArePiecesOf os (object ms) = IsOnlyObject os (object ms)
@@ -53,7 +53,8 @@ AreTextsOf [] no_items = ⊤
 AreTextsOf (v ∷ vs) (item d ds) = (read v ≡ Some d) × IsBare v × AreTextsOf vs ds
 AreTextsOf _ _ = ⊥
 
--- The texts parse as the elements of an array, in order. There are none for any other value.
+-- The texts parse as the elements of an array, in order, and have no whitespace around them. There
+-- are none for any other value.
 abbrev pub AreElementsOf : List (List ℕ) → Data → Type 0
 AreElementsOf vs (array ds) = AreTextsOf vs ds
 AreElementsOf vs _ = vs ≡ []
@@ -78,7 +79,8 @@ abbrev mutual
   GoesOnIn [] t = IsShut t
   GoesOnIn (o ∷ os) t = (w : List ℕ) × (rest : List ℕ) × (t ≡ w ++ (44 ∷ rest)) × IsBlank w × (v : List ℕ) × (more : List ℕ) × (rest ≡ v ++ (o.0 ++ more)) × IsBlank v × GoesOnIn os more
 
--- The text is an array of the messages, in order, between an opening and a closing bracket.
+-- The text is an array of the messages, in order, between an opening and a closing bracket. Around
+-- the brackets, messages and commas is only whitespace.
 abbrev pub IsBracketed : List Object → List ℕ → Type 0
 IsBracketed os t = (w : List ℕ) × (rest : List ℕ) × (t ≡ w ++ (91 ∷ rest)) × IsBlank w × StandsIn os rest
 

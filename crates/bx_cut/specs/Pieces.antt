@@ -21,7 +21,7 @@ abbrev pub members_inside : Option (List ℕ) → List Member
 members_inside None = []
 members_inside (Some inside) = (listed split_member inside).0
 
--- An object's keys and the texts of their values, or none if the value is not an object.
+-- An object's quoted keys and the texts of their values, or none if the value is not an object.
 abbrev pub members : List ℕ → List Member
 members object = members_inside (past_byte ascii.open_brace object)
 
@@ -33,7 +33,7 @@ abbrev pub later_or : Option (List ℕ) → Option (List ℕ) → Option (List �
 later_or None earlier = earlier
 later_or (Some value) earlier = Some value
 
--- The text of the value of the last member that has `name` as its unescaped key.
+-- The text of the value of the last member that has `name` as its unescaped key, if any.
 abbrev pub last_member : List ℕ → List Member → Option (List ℕ)
 last_member name [] = None
 last_member name (m ∷ ms) = later_or (last_member name ms) (cond (is_name name (spelled m.0)) (Some m.1) None)
@@ -63,6 +63,6 @@ abbrev pub pieces_of : List ℕ → Option (List ℕ) → List Object
 pieces_of text None = only (split_object text)
 pieces_of text (Some inside) = (listed split_object inside).0
 
--- The messages of a document: its one object, or the objects of its array.
+-- The messages of a document, in order: its one object, or the objects of its array.
 abbrev pub pieces : List ℕ → List Object
 pieces text = pieces_of text (past_byte ascii.open_bracket text)

@@ -17,9 +17,10 @@ quoted text = ascii.quote ∷ (text ++ (ascii.quote ∷ []))
 
 -- ---- The next part of a string, for private clauses
 
--- `r` is the character of an escape, and the length in bytes of its part in `text`. `within`: its
--- part before `text`, such as the backslash. The last byte of the escape is ASCII. If `r` is
--- `None`, `text` is not the rest of a string.
+-- `text` is the rest of a string, and begins in an escape. `within`: which part of the escape comes
+-- before `text`, such as the backslash. `r`: the escape's character, and the length in bytes of its
+-- part in `text`, which ends with an ASCII byte. If `r` is `None`, `text` is not the rest of a
+-- string.
 abbrev pub Unescapes : Within → List ℕ → Option (ℕ × ℕ) → Type 0
 Unescapes within text r =
     MatchOption r (content within text ≡ None)

@@ -5,9 +5,9 @@ ghost use Rattle.bx_cut.specs.Bodies.{texts_of};
 /// The documents of one request, before they are parsed.
 #[derive(Drop)]
 pub enum Bodies {
-    /// One document: the whole body.
+    /// The request has one document: its whole body.
     Whole(Vec<u8>),
-    /// The documents of a form or a query, already percent-decoded.
+    /// The request has these documents, from a form or a query, already percent-decoded.
     Decoded(Vec<String>),
 }
 

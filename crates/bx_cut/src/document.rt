@@ -19,7 +19,7 @@ use serde_json::Value;
 use std::alloc::{AllocError, Global};
 use std::marker::Model;
 
-/// The maximum number of messages in a document.
+/// The maximum number of messages in a document, and in all documents of a request together.
 ///
 /// Policy of this server.
 pub const MAX_MESSAGES: usize = 256;
@@ -172,7 +172,7 @@ fn are_objects(items: &[Value]) -> bool
     items.iter().all(|item| item.is_object())
 }
 
-// Splits a valid document into its messages.
+// Splits a valid document into its messages: its one object, or the objects of its array.
 fn cut(alloc: Global, text: &str) -> Result<Vec<Piece<'_>>, AllocError>
     ensures { IfOk result (λ found. found.items ≡ pieces text.now) }
 {

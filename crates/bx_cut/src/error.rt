@@ -24,7 +24,7 @@ pub enum CutError {
     ///
     /// Policy of this server.
     TooMany,
-    /// Memory ran out.
+    /// Memory ran out while the document was parsed or split.
     Memory,
 }
 

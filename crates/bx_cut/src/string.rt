@@ -13,15 +13,15 @@ ghost use Rattle.bx_cut.specs.Strings.{spelled, quoted, IsPart, Unescapes};
 use crate::scan::{after_first, begins_with, plain_len};
 use std::alloc::{AllocError, Global};
 
-// What follows the bytes before the first escape or closing quote of a JSON string.
+// The start of the rest of a JSON string: its closing quote, an escape, or neither (`Fault`).
 enum Part<'a> {
     End,
-    // A decoded escape, and the text after it.
+    // The rest begins with an escape: its decoded character, and the text after the escape.
     Escape(char, &'a str),
     Fault,
 }
 
-// Parses the four hexadecimal digits at index `at`.
+// Parses the four hexadecimal digits at index `at` of `text`. Returns `None` for other characters.
 #[tactic(auto, unfolding(json::specs::Text::code_unit))]
 fn unit_at(text: &[u8], at: usize) -> Option<u32>
     requires { at + 4 ≤ length text.now }
@@ -84,7 +84,7 @@ fn with_low_half(high: u32, text: &[u8]) -> Option<char>
 
 // Decodes an escape. Returns its character, and its length in bytes without the backslash.
 //
-// `text` begins after the backslash.
+// `text` begins after the backslash. Returns `None` if `text` does not begin with an escape's rest.
 #[tactic(auto, using(crate::proofs::Contents::escapes))]
 fn escape(text: &[u8]) -> Option<(char, usize)>
     ensures { Unescapes after_backslash text.now result }

@@ -44,7 +44,7 @@ impl Nonces for Zeros {
     }
 }
 
-/// Sends all requests to a new service, and returns the names of the requests with the responses.
+/// Sends this program's requests to a new service, and returns their names and the responses.
 ///
 /// # Errors
 ///

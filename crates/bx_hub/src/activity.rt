@@ -1,4 +1,4 @@
-//! The activity of a shard.
+//! Whether a shard is active, paused or closed.
 
 /// Whether a shard applies entries.
 #[derive(Clone, Copy)]

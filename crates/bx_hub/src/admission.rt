@@ -47,7 +47,7 @@ pub(crate) struct Admission<L: LogId, R: Wait + Drop> {
     closed: bool,
     writer: LogWriter<L, R>,
     recording: Option<Recording<L>>,
-    // What a fault left of a record, until it is taken.
+    // The rest of a record that a fault ended, until it is taken.
     record_end: Option<RecordEnd<L>>,
     ghost config: { registry.config ≡ L.config },
     ghost counted: { registry.shards ≡ L.config.shards },
@@ -82,14 +82,17 @@ impl<L: LogId, R: Wait + Drop> Admission<L, R> {
         })
     }
 
-    /// Appends a request or a tick to the list and to the record.
+    /// Appends a request or a tick to the list, and to the record if one is kept.
     ///
-    /// Also returns what is left of `wanted`, to be dropped after admission is unlocked. A request
-    /// without messages appends nothing. On success, `pass` has then seen the whole list.
+    /// Returns the first place and the slots of `wanted`, and what is left of `wanted`, to be
+    /// dropped after admission is unlocked. A request without messages appends nothing. On success,
+    /// `pass` has then seen the whole list. If `wanted` cannot be recorded, the record ends before
+    /// it, and the call still succeeds.
     ///
     /// # Errors
     ///
-    /// `wanted`, with the first of these that applies; nothing is appended:
+    /// `wanted`, with the first of these that applies. Nothing is appended, and the record is
+    /// unchanged:
     ///
     /// - `Closed`: admission is closed.
     /// - `Refused`: the moment is too large, or the list or the window's log is too long.
@@ -138,7 +141,9 @@ impl<L: LogId, R: Wait + Drop> Admission<L, R> {
         }
     }
 
-    // Records `listed`, which was just admitted. If that fails, the record ends at `before`.
+    // Appends `listed`, which was just admitted, to `recording`, and keeps the result as the
+    // record. If that fails, the record ends at `before`, the front without `listed`. A request
+    // without messages adds nothing.
     fn record(
         &mut self,
         alloc: Global,
@@ -203,7 +208,9 @@ impl<L: LogId, R: Wait + Drop> Admission<L, R> {
         self.record_end = None;
     }
 
-    /// Returns how many bytes wait to be written, or 0 if there is no record or it has ended.
+    /// Returns how many bytes of the record wait to be written.
+    ///
+    /// Returns 0 if nothing is recorded or the record has ended.
     pub(crate) fn waiting_record_bytes(&self) -> usize
         ensures { MatchOption self.now.recording (result ≡ 0) (λ r. result ≡ length r.waiting) }
     {
@@ -213,10 +220,11 @@ impl<L: LogId, R: Wait + Drop> Admission<L, R> {
         }
     }
 
-    /// Takes what waits to be written, and leaves the empty buffer `empty` in its place.
+    /// Takes what waits to be written to the record, and leaves the empty buffer `empty` in its
+    /// place.
     ///
     /// If a fault ended the record, returns its rest once, with the fault. Returns `None` if
-    /// nothing is recorded.
+    /// nothing is recorded and no such rest is left.
     pub(crate) fn take_record(
         &mut self,
         empty: Vec<u8>,
@@ -247,7 +255,8 @@ impl<L: LogId, R: Wait + Drop> Admission<L, R> {
     }
 
     // Appends `wanted` to the list, and returns its first place and slots. A request without
-    // messages appends nothing.
+    // messages appends nothing. `pass` has then seen the whole list, unless the result is `Closed`.
+    // Does not record `wanted`. Fails as `admit` does.
     #[tactic(auto, using(crate::proofs::Posts::whole_planned))]
     fn list<P: Placing>(
         &mut self,
@@ -286,7 +295,8 @@ impl<L: LogId, R: Wait + Drop> Admission<L, R> {
         self.publish(alloc, pass, plan, inputs_by(wanted))
     }
 
-    // Returns a plan with the entries and slots that `wanted` gets at the end of the list.
+    // Returns a plan with the entries and slots that `wanted` gets at the end of the list. The list
+    // is unchanged. Fails if a rule rejects `wanted` or memory runs out.
     #[tactic(auto, using(crate::proofs::Posts::planning))]
     fn plan<P: Placing>(
         &mut self,
@@ -315,8 +325,10 @@ impl<L: LogId, R: Wait + Drop> Admission<L, R> {
         }
     }
 
-    // Publishes `plan` and applies it to the registry. Returns its first place and slots. Admission
-    // must have been locked since `plan` was made.
+    // Publishes `plan` and applies it to the registry. Returns its first place and slots. `inputs`:
+    // the request or tick of `plan`. `pass` must have seen the whole list, and has then seen `plan`
+    // too. `plan` must have entries, and admission must have been locked since it was made. On
+    // error nothing has changed.
     fn publish(
         &mut self,
         alloc: Global,
@@ -366,7 +378,7 @@ impl<L: LogId, R: Wait + Drop> Admission<L, R> {
         }
     }
 
-    /// Drops the batches that all shards have applied, and returns a shard at the lowest position.
+    /// Drops the batches that all shards have applied, and returns the lowest position of a shard.
     ///
     /// `least` has the positions of all shards. Drops nothing if the window's log has no room for
     /// another step.
@@ -394,7 +406,8 @@ impl<L: LogId, R: Wait + Drop> Admission<L, R> {
         }
     }
 
-    /// Returns the state of the list and the sessions.
+    /// Returns how many entries, live sessions, sessions ever opened and batches in the window
+    /// there are.
     ///
     /// `pass` has then seen the whole list.
     pub(crate) fn survey(&mut self, pass: &mut Front<L>) -> Survey

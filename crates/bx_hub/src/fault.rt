@@ -12,18 +12,18 @@ use std::alloc::AllocError;
 /// The result of a post: the places of its messages, and how each is answered.
 #[derive(Drop)]
 pub struct PostReceipt<L: LogId> {
-    /// The place of the first message, or the list's length if there are no messages.
+    /// The place of the first message of a post, or the list's length if the post has no messages.
     pub first: u64,
-    /// For each message in order, its reply or the ticket of a connect or a rider.
+    /// For each message of a post in order: its reply, or a ticket if it is a connect or a rider.
     pub slots: Sequence<Slot>,
-    /// How many shards have not applied the whole request, and why.
+    /// How many shards have not applied the whole request of a post, and why.
     pub advanced: AdvanceReport<L>,
 }
 
-/// The result of a tick.
+/// The result of a tick: its place, and how many shards have not applied it.
 #[derive(Drop)]
 pub struct TickReceipt<L: LogId> {
-    /// The place of the tick.
+    /// The place of the tick in the list.
     pub place: u64,
     /// How many shards have not applied the tick, and why.
     pub advanced: AdvanceReport<L>,
@@ -45,7 +45,7 @@ pub struct Lagging {
 }
 
 impl Lagging {
-    /// Creates counts of zero.
+    /// Creates counts that are all zero: no fault has stopped a shard.
     pub fn none() -> Lagging
         ensures { result ≡ record { memory = 0; overrun = 0; paused = 0; closed = 0; misplaced = 0 } }
     {
@@ -92,36 +92,42 @@ impl Lagging {
 /// The reason why a post or a tick was not admitted.
 #[derive(Clone, Copy, Debug, PartialEq, Eq)]
 pub enum PostFault {
-    /// The post or tick is rejected by a rule.
+    /// A rule rejects the post or tick.
     ///
     /// `Refused(Ended)` also means that the window's log has no room for another step.
     Refused(Refusal),
-    /// The hub is closed.
+    /// The post or tick was not admitted, because the hub is closed.
     Closed,
-    /// The window is full: a shard has not applied all of the oldest batch.
+    /// The post or tick was not admitted: the window is full, and some shard lacks its oldest
+    /// batch.
     ///
-    /// `first`: the place at which that batch begins.
+    /// `first`: the place at which that batch begins. The shard has not applied all entries of the
+    /// batch.
     Behind { first: u64 },
-    /// The window is full, and begins after `place`, the position of `shard`.
+    /// The post or tick was not admitted: the window was full and lacks the next entry of `shard`.
+    ///
+    /// `place`: the position of the shard. The window begins after it.
     Overrun { shard: usize, place: u64 },
-    /// The window is full, and the lock of `shard` guards another shard, `found`.
+    /// The post or tick was not admitted: the window was full, and `shard` was not found.
+    ///
+    /// The lock of `shard` guards another shard, `found`.
     WrongShard { shard: usize, found: usize },
-    /// Memory ran out.
+    /// The post or tick was not admitted, because memory ran out.
     Memory,
 }
 
 /// The reason why a shard did not advance, or why a poll found no answer.
 #[derive(Clone, Copy, Debug, PartialEq, Eq)]
 pub enum HubFault {
-    /// The hub is closed.
+    /// The shard did not advance, because the hub is closed.
     Closed,
-    /// The shard is paused.
+    /// The shard did not advance, because it is paused.
     Paused,
-    /// The window begins after `place`, the position of `shard`.
+    /// The shard did not advance: the window begins after `place`, the position of `shard`.
     Overrun { shard: usize, place: u64 },
-    /// Memory ran out.
+    /// The shard did not advance further, because memory ran out.
     Memory,
-    /// The shard's lock guards shard `found`.
+    /// The shard was not found, because its lock guards shard `found`.
     ///
     /// This does not happen, since each shard stays under the lock of its index, but no contract
     /// can state it.

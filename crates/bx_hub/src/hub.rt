@@ -37,7 +37,8 @@ const TRIM_EVERY: u64 = 64;
 
 /// The part of a hub's list that a caller has seen.
 ///
-/// It only grows, by the caller's calls and by the passes of other callers.
+/// It never shrinks. Each call that takes the pass can extend it, also by entries of other callers.
+/// [`Front::longer`] joins the passes of two callers.
 pub type Pass<L> = Front<L>;
 
 /// The server for any number of threads.
@@ -129,26 +130,28 @@ impl<L: LogId, P: Placing, G: Gate + Drop, R: Wait + Drop> Hub<L, P, G, R> {
     /// Appends a request to the list and advances every shard.
     ///
     /// Consumes `arrival` on success and returns it on error. On success, `pass` has then seen the
-    /// list up to the request. A request without messages appends nothing. Trims the window when
-    /// the list's length reaches or passes a multiple of 64.
+    /// list through the last message of the request. A request without messages appends nothing. If
+    /// the list's length reaches or passes a multiple of 64, trims the window.
     ///
     /// # Errors
     ///
-    /// The first of these that applies; nothing is appended:
+    /// The first of these that applies. Nothing is appended, but `pass` may have seen more of the
+    /// list:
     ///
-    /// - `Refused(Body(_))`: the documents are not messages, or the read-only listener forbids
-    ///   them.
+    /// - `Refused(Body(_))`: the documents are not messages, are more than 256 messages, or the
+    ///   read-only listener forbids them.
     /// - `Closed`: [`close`](Self::close) was called.
-    /// - `Refused(BadMoment)`, `Refused(Ended)`: the moment is too large, or the list too long.
+    /// - `Refused(BadMoment)`, `Refused(Ended)`: the moment is too large; the list or the window's
+    ///   log is too long.
     /// - `Overrun`, `WrongShard`, `Behind`: the window is full, and advancing the shards made no
     ///   room.
     /// - `Memory`: memory ran out, at any step.
     ///
     /// # Blocking
     ///
-    /// Locks admission, then each shard in turn. Tasks are woken after their shard is unlocked, or
-    /// before if memory runs out. If the window is full, all of this also happens while admission
-    /// is locked. Trimming takes all locks again.
+    /// Locks admission, then each shard in turn. Tasks with an answered connect are woken after its
+    /// shard is unlocked, or before if memory runs out. If the window is full, the shards are also
+    /// advanced while admission is locked. Trimming locks each shard again, and then admission.
     ///
     /// # Examples
     ///
@@ -206,7 +209,7 @@ impl<L: LogId, P: Placing, G: Gate + Drop, R: Wait + Drop> Hub<L, P, G, R> {
     /// Appends a tick, advances every shard and trims the window.
     ///
     /// Consumes `tick` on success and returns it on error. On success, `pass` has then seen the
-    /// list up to the tick.
+    /// list through the tick.
     ///
     /// # Errors
     ///
@@ -249,8 +252,8 @@ impl<L: LogId, P: Placing, G: Gate + Drop, R: Wait + Drop> Hub<L, P, G, R> {
     }
 
     // Appends `wanted`, making room first if the window is full. Returns its first place and slots,
-    // and what is left of `wanted`, to be dropped after admission is unlocked. On error, returns
-    // `wanted` and the reason.
+    // and what is left of `wanted`, to be dropped after admission is unlocked. On success, `pass`
+    // has then seen the entries of `wanted`. On error, returns `wanted` and the reason.
     fn admit<W: Wait>(
         &self,
         rt: &W,
@@ -283,8 +286,8 @@ impl<L: LogId, P: Placing, G: Gate + Drop, R: Wait + Drop> Hub<L, P, G, R> {
         }
     }
 
-    // Advances every shard, trims the full window, and returns a shard at the lowest position. On
-    // error, returns the fault and, if a shard is overrun, its position.
+    // Advances every shard to the end of `pass`, and trims the full window. Returns the lowest
+    // position of a shard. On error, returns the fault and, if a shard is overrun, its position.
     fn make_room<W: Wait>(
         &self,
         rt: &W,
@@ -304,8 +307,8 @@ impl<L: LogId, P: Placing, G: Gate + Drop, R: Wait + Drop> Hub<L, P, G, R> {
         }
     }
 
-    // Drops the batches that all shards have applied. If memory runs out or a shard is not found, a
-    // later call drops them.
+    // Drops the window's batches that all shards have applied. If memory runs out or a shard is not
+    // found, drops nothing; a later call drops the batches then.
     fn let_go<W: Wait>(&self, rt: &W) {
         let mut least = LowestPosition::new();
         for index in 0..self.shards.len() {
@@ -319,8 +322,10 @@ impl<L: LogId, P: Placing, G: Gate + Drop, R: Wait + Drop> Hub<L, P, G, R> {
         let _ = self.admission.lock(rt).trim(least);
     }
 
-    // Advances every shard to the end of `pass` and returns the lowest position. Stops with an
-    // error at a shard that is overrun or not found. Wakes tasks as in `post`.
+    // Advances every shard to the end of `pass` and returns the lowest position. A shard that stops
+    // earlier counts with its position. An error is returned at the first shard that is overrun or
+    // not found. On an overrun, `pass` grows to what the shard's reader has seen. Wakes tasks as in
+    // `post`.
     fn advance_and_find_lowest<W: Wait>(
         &self,
         rt: &W,
@@ -340,8 +345,10 @@ impl<L: LogId, P: Placing, G: Gate + Drop, R: Wait + Drop> Hub<L, P, G, R> {
         Ok(least)
     }
 
-    // Advances a shard to the end of `pass` and returns its position. Fails if the shard is overrun
-    // or not found. Adds the wakers of answered connects to `wakers`, and returns evidence of them.
+    // Advances a shard to the end of `pass`, and returns the position where it stops. A pause, the
+    // closed hub or a lack of memory can stop it earlier. Fails if the shard is overrun or not
+    // found. On an overrun, `pass` grows to what the shard's reader has seen. Adds the wakers of
+    // answered connects to `wakers`, and returns evidence of them, unless the shard is not found.
     // When `wakers` is dropped, after the shard is unlocked, their tasks are woken.
     fn advance_one_to_end<W: Wait>(
         &self,
@@ -390,7 +397,8 @@ impl<L: LogId, P: Placing, G: Gate + Drop, R: Wait + Drop> Hub<L, P, G, R> {
         round
     }
 
-    // Advances a shard to the end of `prefix`, and returns the result. Adds the wakers of answered
+    // Advances shard `index` to the end of `prefix`, and returns what stopped it before, if
+    // anything. If the shard is not found, the result is `WrongShard`. Adds the wakers of answered
     // connects to `wakers`.
     fn advance_one<W: Wait>(
         &self,
@@ -410,7 +418,8 @@ impl<L: LogId, P: Placing, G: Gate + Drop, R: Wait + Drop> Hub<L, P, G, R> {
         }
     }
 
-    // Locks shard `index`. Returns `Err` if the lock guards another shard.
+    // Locks shard `index`, and returns the guard of the lock. Returns the guard as `Err` if the
+    // lock guards another shard.
     //
     // Prover: no contract can state which shard a lock guards, so every call checks.
     fn lock_shard<W: Wait>(
@@ -432,13 +441,14 @@ impl<L: LogId, P: Placing, G: Gate + Drop, R: Wait + Drop> Hub<L, P, G, R> {
 
     /// Takes the answer to a connect or a rider, if it is filed.
     ///
-    /// If it is not, advances the ticket's shard to the end of `pass` and looks again. Returns
+    /// If it is not, advances the ticket's shard to the end of the longest front that it has
+    /// learned, `pass` included, and looks again. `pass` has then seen at least that front. Returns
     /// `None` if there is still no answer, or if `ticket` names no shard. A filed answer can be
     /// taken even after [`close`](Self::close).
     ///
     /// With `None`, the second value is evidence that the shard had no answer under `ticket` when
-    /// it had applied all that `pass` has seen. It is `None` if `ticket` names no shard, and in all
-    /// other cases.
+    /// it had applied all that `pass` has seen. The second value is `None` with an answer or an
+    /// error, and if `ticket` names no shard.
     ///
     /// # Errors
     ///
@@ -497,10 +507,8 @@ impl<L: LogId, P: Placing, G: Gate + Drop, R: Wait + Drop> Hub<L, P, G, R> {
         ensures asked { IfNone result.2 (IsErr result.0) }
     {
         match self.lock_shard(rt, ticket.shard) {
-            Ok(mut shard_state) => {
-                let (answer, unfiled, woken) = shard_state.poll(
-                    alloc, &self.gate, pass, ticket, wakers,
-                );
+            Ok(mut shard) => {
+                let (answer, unfiled, woken) = shard.poll(alloc, &self.gate, pass, ticket, wakers);
                 (answer, unfiled, Some(woken))
             }
             Err(other) => (Err(NoAnswer::misplaced(&*other, &ticket)), None, None),
@@ -544,7 +552,8 @@ impl<L: LogId, P: Placing, G: Gate + Drop, R: Wait + Drop> Hub<L, P, G, R> {
         }
     }
 
-    /// Returns the state of the list and the sessions.
+    /// Returns how many entries, live sessions, sessions ever opened and batches in the window
+    /// there are.
     ///
     /// `pass` has then seen the whole list.
     ///
@@ -558,7 +567,9 @@ impl<L: LogId, P: Placing, G: Gate + Drop, R: Wait + Drop> Hub<L, P, G, R> {
         self.admission.lock(rt).survey(pass)
     }
 
-    /// Returns the state of a shard, or `None` if it does not exist.
+    /// Returns how far a shard has advanced, and how many held connects and filed answers it has.
+    ///
+    /// Returns `None` if the shard does not exist.
     ///
     /// # Blocking
     ///
@@ -606,7 +617,8 @@ impl<L: LogId, P: Placing, G: Gate + Drop, R: Wait + Drop> Hub<L, P, G, R> {
     ///
     /// # Errors
     ///
-    /// `NotRecording` if nothing is recorded; nothing has changed.
+    /// `NotRecording` if nothing is recorded, or if the rest of an ended record was already taken;
+    /// nothing has changed.
     ///
     /// # Blocking
     ///
@@ -653,7 +665,7 @@ impl<L: LogId, P: Placing, G: Gate + Drop, R: Wait + Drop> Hub<L, P, G, R> {
 
     /// Pauses a shard until [`resume`](Self::resume), and returns evidence of that.
     ///
-    /// Returns `None` if the shard does not exist.
+    /// Returns `None` if the shard does not exist. A closed shard stays closed.
     ///
     /// The window keeps the entries that the shard has yet to apply.
     ///
@@ -672,9 +684,9 @@ impl<L: LogId, P: Placing, G: Gate + Drop, R: Wait + Drop> Hub<L, P, G, R> {
 
     /// Resumes a shard, and returns evidence of that.
     ///
-    /// Returns `None` if the shard does not exist.
+    /// Returns `None` if the shard does not exist. A closed shard stays closed.
     ///
-    /// The next post, tick or poll for an answer advances the shard.
+    /// The next post or tick, or the next poll for an answer of the shard, advances the shard.
     ///
     /// # Blocking
     ///
@@ -716,7 +728,8 @@ impl<L: LogId, P: Placing, G: Gate + Drop, R: Wait + Drop> Hub<L, P, G, R> {
         }
     }
 
-    // Applies `change` to shard `index`, and returns evidence of that.
+    // Applies `change` to shard `index`, and returns evidence of that. If the lock at `index`
+    // guards another shard, nothing changes, and the evidence states that.
     fn change<W: Wait>(&self, rt: &W, index: usize, change: ShardChange) -> ChangeEvidence<L>
         requires { index < length self.now.shards.items }
         ensures { IsChanged index change result }

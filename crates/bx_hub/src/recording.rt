@@ -31,7 +31,8 @@ pub struct RecordFront<L: LogId> {
 }
 
 impl<L: LogId> RecordFront<L> {
-    // Creates a `RecordFront` at `front`.
+    // Creates a `RecordFront` at `front`. The list of `front` must be the result of its requests
+    // and ticks, and all of these must be recordable.
     fn of(front: Front<L>) -> RecordFront<L>
         requires listed { list_by (inputs_of front) ≡ list_of front }
         requires recordable { AllByRecursion CanRecord (inputs_of front) }
@@ -47,7 +48,7 @@ impl<L: LogId> RecordFront<L> {
         self.front.len()
     }
 
-    /// Creates the start of a record, before the first entry.
+    /// Creates the start of a record, before the first entry. `front` must be empty.
     pub(crate) fn first(front: Front<L>) -> RecordFront<L>
         requires { front ≡ [] }
         ensures { result.front ≡ front }
@@ -83,7 +84,7 @@ pub struct NotRecording<L: LogId> {
 }
 
 impl<L: LogId> NotRecording<L> {
-    /// Creates evidence that `admission` records nothing.
+    /// Creates evidence that `admission` records nothing and has no rest of an ended record.
     pub(crate) fn of<R: Wait + Drop>(admission: &Admission<L, R>) -> NotRecording<L>
         requires recording { admission.now.recording ≡ None }
         requires end { admission.now.record_end ≡ None }
@@ -107,7 +108,7 @@ pub(crate) struct Recording<L: LogId> {
 }
 
 impl<L: LogId> Recording<L> {
-    /// Creates a record of an empty list.
+    /// Creates a record without requests and ticks. `from`: the start of the record.
     pub(crate) fn new(alloc: Global, from: RecordFront<L>) -> Recording<L>
         requires { from.front ≡ [] }
         ensures { (result.from ≡ from) × (result.inputs ≡ []) × (result.waiting ≡ []) }
@@ -151,7 +152,8 @@ impl<L: LogId> Recording<L> {
 
     /// Takes all bytes that wait, and leaves the empty buffer `empty` in their place.
     ///
-    /// Returns the text of the record between the front of the last call and `upto`. Does not
+    /// Returns the text of the record from the front of the last call, or from the beginning, to
+    /// `upto`. `upto` must be the front that ends with the last recorded request or tick. Does not
     /// allocate or copy.
     pub(crate) fn take(&mut self, upto: Front<L>, empty: Vec<u8>) -> Chunk<RecordFront<L>>
         requires inputs { self.old.inputs ≡ inputs_of upto }
@@ -177,7 +179,7 @@ pub(crate) fn inputs_by(wanted: &Submission) -> History<Input>
 }
 
 // Returns the record's lines for `listed`. Fails with `Unrecordable` if no line can hold the
-// request.
+// request, and with `Memory` if memory runs out.
 fn text_of(alloc: Global, listed: &Submission) -> Result<Vec<u8>, RecordFault>
     ensures text { IfOk result (λ text. text.items ≡ input_text (input_in listed.now)) }
     ensures recordable { OnOk result (CanRecord (input_in listed.now)) }

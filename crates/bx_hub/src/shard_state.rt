@@ -46,7 +46,7 @@ pub(crate) struct ShardState<L: LogId, P: Placing> {
     shard: Shard<P>,
     reader: LogReader<L>,
     prefix: Front<L>,
-    // Ghost: the places of the answers that were taken or swept.
+    // Ghost: the places of the connects and riders with answers that were taken or swept.
     taken: History<u64>,
     activity: Activity,
     ghost learnt: { take (length prefix) reader ≡ prefix },
@@ -117,8 +117,10 @@ impl<L: LogId, P: Placing> ShardState<L, P> {
         self.shard.index()
     }
 
-    // Learns `prefix`, and advances the shard to the end of the longest front learned. Fails if the
-    // shard is closed or paused, or if it stops before that end.
+    // Learns `prefix`, and advances the shard to the end of the longest front learned. Calls `gate`
+    // before and after that. A closed or paused shard only learns `prefix`, and the call fails.
+    // Also fails if the shard stops before that end. Adds the wakers of answered connects to
+    // `wakers`.
     fn advance<G: Gate>(
         &mut self,
         alloc: Global,
@@ -237,7 +239,7 @@ impl<L: LogId, P: Placing> ShardState<L, P> {
     }
 
     // Applies the entries up to the end of the longest front learned, batch by batch. Stops at the
-    // first fault and returns it.
+    // first fault and returns it. Adds the wakers of answered connects to `wakers`.
     fn go_on(&mut self, alloc: Global, wakers: &mut Wakers) -> Result<(), HubFault>
         ensures told { self.new.prefix ≡ self.old.prefix }
         ensures woken { AreWoken (connect_in (state P.place_of self.old.shard)) (connect_in (state P.place_of self.new.shard)) wakers.old wakers.new }
@@ -254,8 +256,9 @@ impl<L: LogId, P: Placing> ShardState<L, P> {
         Ok(())
     }
 
-    // Returns the batch that has the next entry. Fails with `Overrun` if the window begins after
-    // that entry, and with `Memory` if memory runs out.
+    // Returns the batch that has the entry that the shard applies next. The longest front learned
+    // must have this entry. Fails with `Overrun` if the window begins after the entry, and with
+    // `Memory` if memory runs out.
     fn next_batch(&mut self) -> Result<Arc<Batch, Global>, HubFault>
         requires { self.old.shard.place < length (list_of self.old.prefix) }
         ensures same { (self.new.prefix ≡ self.old.prefix) × (self.new.shard ≡ self.old.shard) × (self.new.taken ≡ self.old.taken) × (self.new.activity ≡ self.old.activity) }
@@ -275,8 +278,9 @@ impl<L: LogId, P: Placing> ShardState<L, P> {
         }
     }
 
-    // Applies the entries of `batch` that the shard lacks, up to place `end`. Fails if memory runs
-    // out.
+    // Applies the entries of `batch` that the shard lacks, up to place `end`, the end of the
+    // longest front learned. Adds the wakers of answered connects to `wakers`. Fails if memory runs
+    // out; the shard then stops at the entry that failed.
     fn apply_batch(
         &mut self,
         alloc: Global,
@@ -304,7 +308,8 @@ impl<L: LogId, P: Placing> ShardState<L, P> {
         Ok(())
     }
 
-    // Applies the next entry, which `batch` has at `place`. Fails if memory runs out.
+    // Applies the next entry, which `batch` has at `place`. Adds the wakers of answered connects to
+    // `wakers`. Fails if memory runs out.
     fn step(
         &mut self,
         alloc: Global,
@@ -330,7 +335,7 @@ impl<L: LogId, P: Placing> ShardState<L, P> {
         }
     }
 
-    // Takes the answer filed under `ticket`, if any.
+    // Takes the answer filed under `ticket`, if any. Returns `None` for a ticket of another shard.
     fn take(&mut self, ticket: Ticket) -> Option<Answer>
         ensures answer { IfSome result (λ a. answer_over L.config self.old.prefix ticket.place ≡ Some a) }
         ensures filed { result ≡ (if nat_eq ticket.shard self.old.shard.index then filed_answer (connect_in (state P.place_of self.old.shard) ticket.place) else None) }
@@ -349,8 +354,8 @@ impl<L: LogId, P: Placing> ShardState<L, P> {
         }
     }
 
-    // Takes the answer filed under `ticket`, if any, of a shard that has applied all of the longest
-    // front learned. The second value is evidence of a missing answer.
+    // Takes the answer filed under `ticket`, a ticket of this shard. Returns evidence if there is
+    // none. The shard must have applied all of the longest front learned.
     fn take_level(&mut self, ticket: Ticket) -> (Option<Answer>, Option<Unfiled<L>>)
         requires own { ticket.shard ≡ self.old.shard.index }
         requires level { self.old.shard.place ≡ length (list_of self.old.prefix) }
@@ -370,8 +375,10 @@ impl<L: LogId, P: Placing> ShardState<L, P> {
     /// Takes the answer filed under `ticket`, if any.
     ///
     /// If there is none, learns `pass`, advances the shard to the end of the longest front learned,
-    /// and looks again. `pass` has then seen at least that front. The second value is evidence of a
-    /// missing answer, if the result is `None`. The third is which wakers were added to `wakers`.
+    /// and looks again. In every case, `pass` has then seen at least the longest front learned.
+    ///
+    /// `ticket` must be one of this shard. The second value is evidence of a missing answer, if the
+    /// result is `None`. The third is which wakers were added to `wakers`.
     ///
     /// # Errors
     ///
@@ -423,10 +430,10 @@ impl<L: LogId, P: Placing> ShardState<L, P> {
         }
     }
 
-    /// Registers `waker` with a held connect of this shard.
+    /// Registers `waker` with the connect held under `ticket`, a ticket of this shard.
     ///
-    /// Returns the shard's result and evidence of that result. A waker that is replaced or not
-    /// stored is returned in the result.
+    /// Returns the result and evidence of it. A waker that is replaced or not stored is returned in
+    /// the result.
     #[tactic(auto, using(crate::proofs::Watches::holds_after, crate::proofs::Watches::back_of))]
     pub(crate) fn watch(&mut self, ticket: Ticket, waker: Waker) -> (Watch, WatchEvidence<L>)
         requires own { ticket.shard ≡ self.old.shard.index }
@@ -496,7 +503,7 @@ impl<L: LogId, P: Placing> ShardState<L, P> {
         self.shard.sweep(before)
     }
 
-    /// Returns the state of the shard.
+    /// Returns how far the shard has advanced, and how many held connects and filed answers it has.
     pub(crate) fn survey(&self) -> ShardSurvey
         ensures place { result.place ≡ self.now.shard.place }
         ensures held { result.held ≡ length (keys_of self.now.shard.sessions.connects.held) }

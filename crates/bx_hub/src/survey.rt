@@ -18,8 +18,8 @@ pub struct Survey {
 pub struct ShardSurvey {
     /// Number of entries that the shard has applied.
     pub place: u64,
-    /// Number of held connects.
+    /// Number of held connects of the shard.
     pub held: usize,
-    /// Number of filed answers that were not taken.
+    /// Number of answers that the shard has filed and that were not taken or swept.
     pub filed: usize,
 }

@@ -15,7 +15,7 @@ use std::marker::PhantomData;
 use std::snapshot::Snapshot;
 use std::sync::Wait;
 
-/// A shard at the lowest position among those added so far.
+/// The lowest of the shards' positions that were added so far.
 #[derive(Drop)]
 pub(crate) struct LowestPosition<L: LogId> {
     lowest: Option<ShardPosition<L>>,
@@ -26,7 +26,7 @@ pub(crate) struct LowestPosition<L: LogId> {
 }
 
 impl<L: LogId> LowestPosition<L> {
-    /// Creates a `LowestPosition` with no shards.
+    /// Creates a `LowestPosition` to which no position was added.
     pub(crate) fn new() -> LowestPosition<L>
         ensures { (result.lowest ≡ None) × (result.positions ≡ []) }
     {
@@ -36,7 +36,7 @@ impl<L: LogId> LowestPosition<L> {
         }
     }
 
-    /// Adds the position of the next shard.
+    /// Adds the position of the next shard, in the order of the shards' indices.
     pub(crate) fn add(&mut self, position: ShardPosition<L>)
         requires next { position.index.value ≡ length self.old.positions }
         ensures added { self.new.positions ≡ self.old.positions ++ position.place ∷ [] }
@@ -51,7 +51,7 @@ impl<L: LogId> LowestPosition<L> {
         }
     }
 
-    /// Returns a shard at the lowest position, or `None` if no shard was added.
+    /// Returns the lowest position that was added, or `None` if no position was added.
     pub(crate) fn into_lowest(self) -> Option<ShardPosition<L>>
         ensures lowest { result ≡ self.lowest }
         ensures least { IfSome result (λ s. All (λ p. s.place ≤ p) self.positions) }
@@ -107,7 +107,7 @@ impl<L: LogId> AdvanceReport<L> {
         }
     }
 
-    /// Adds the result of the next shard.
+    /// Adds the result of the next shard, in the order of [`index_at`](Self::index_at).
     pub(crate) fn add(&mut self, advanced: ShardAdvance<L>)
         requires next { advanced.index.value ≡ walked_at self.old.first self.old.shards (length self.old.stays) }
         requires prefix { advanced.prefix.value ≡ self.old.prefix.value }
@@ -124,7 +124,7 @@ impl<L: LogId> AdvanceReport<L> {
         }
     }
 
-    /// Returns how many shards did not reach the end of `prefix`, by what stopped them.
+    /// Returns how many shards did not reach the end of the report's front, by what stopped them.
     pub fn behind(&self) -> Lagging
         ensures { result ≡ lagging_of self.now.stays }
     {
@@ -134,7 +134,8 @@ impl<L: LogId> AdvanceReport<L> {
 
 /// Evidence that a change was applied to each shard in turn, or that a shard was not found.
 ///
-/// For [`ShardChange::Shut`], admission was closed before.
+/// For [`ShardChange::Shut`], admission was closed before. The report also has the number of
+/// answers that the change dropped.
 #[derive(Drop)]
 pub struct ChangeReport<L: LogId> {
     change: Snapshot<ShardChange>,
@@ -171,7 +172,7 @@ impl<L: LogId> ChangeReport<L> {
         }
     }
 
-    /// Adds evidence of the change to the next shard.
+    /// Adds evidence of the change to the next shard, in the order of the shards' indices.
     pub(crate) fn add(&mut self, changed: ChangeEvidence<L>)
         requires next { changed.shard.value ≡ length self.old.done }
         requires change { changed.change.value ≡ self.old.change.value }
@@ -182,7 +183,7 @@ impl<L: LogId> ChangeReport<L> {
         self.dropped = self.dropped.saturating_add(changed.dropped());
     }
 
-    /// Returns how many answers were dropped in all.
+    /// Returns how many answers the change dropped in all shards together.
     pub fn dropped(&self) -> usize
         ensures { result ≡ self.now.dropped }
     {

@@ -6,27 +6,27 @@ use std::alloc::{AllocError, Global};
 /// How an event arrived.
 #[derive(Clone, Copy)]
 pub enum Reception {
-    /// It arrived for the first time, and before any later event of its publisher.
+    /// The event arrived for the first time, and before any later event of its publisher.
     InOrder,
-    /// It arrived for the first time, but after a later event of its publisher.
+    /// The event arrived for the first time, but after a later event of its publisher.
     OutOfOrder,
-    /// It had already arrived.
+    /// The event had already arrived.
     Doubled,
-    /// The publisher has no event with this number.
+    /// The event is unknown: its publisher has no event with this number.
     Unknown,
 }
 
 /// The events of one publisher, numbered from 0, that one session received.
 #[derive(Drop)]
 pub struct Arrivals {
-    /// Whether each event arrived, by its number.
+    /// Whether each event of the publisher arrived, by the event's number.
     pub seen: Vec<bool>,
-    /// One more than the greatest number that arrived, or 0.
+    /// One more than the greatest number of an event that arrived, or 0 if no event arrived.
     pub next: usize,
 }
 
 impl Arrivals {
-    /// Creates a record of `count` events that have not arrived.
+    /// Creates the record of `count` events of one publisher. None of them has arrived.
     ///
     /// # Errors
     ///

@@ -4,28 +4,28 @@ use serde_json::Value;
 /// The data of an event that a load publishes.
 #[derive(Clone, Copy)]
 pub struct Stamp {
-    /// The number of its publisher, counted from 0.
+    /// The number of the publisher that sent the event, counted from 0.
     pub publisher: u64,
-    /// The number of earlier events of that publisher.
+    /// The number of events that the same publisher sent before this one.
     pub number: u64,
-    /// When it was sent, in nanoseconds since the load started.
+    /// When the event was sent, in nanoseconds since the load started.
     pub moment: u64,
 }
 
-/// The meaning of an item of a response.
+/// What an item of a response means to a load: an event, a reply, or something else.
 #[derive(Clone, Copy)]
 pub enum Received {
     /// An event that a load published.
     Event(Stamp),
-    /// A reply: the message succeeded. Has the number of the batch to acknowledge, if any.
+    /// A reply to a message that succeeded. It has the number of the batch to acknowledge, if any.
     Success(Option<u64>),
-    /// A reply: the message was rejected.
+    /// A reply to a message that was rejected.
     Refusal,
-    /// Any other item.
+    /// An item that is neither an event that a load published nor a reply.
     Unknown,
 }
 
-/// Returns what `item` means.
+/// Returns whether `item` is an event that a load published, a reply, or neither.
 pub fn item_of(item: &Value) -> Received {
     if let Some(data) = item.get("data") {
         return match stamp_of(data) {
@@ -57,7 +57,9 @@ fn acknowledgement_of(reply: &Value) -> Option<u64> {
     reply.get("ext")?.get("ack")?.as_u64()
 }
 
-/// Returns the client id in the reply to a handshake, if it has only ASCII letters and digits.
+/// Returns the client id in the reply to a handshake.
+///
+/// Returns `None` if it is missing, or has characters other than ASCII letters and digits.
 pub fn client_of(reply: &Value) -> Option<&str> {
     let client = reply.get("clientId")?.as_str()?;
     if is_plain(client) { Some(client) } else { None }

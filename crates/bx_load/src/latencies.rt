@@ -7,7 +7,7 @@ use std::alloc::{AllocError, Global};
 // Each latency below this number of microseconds has its own count.
 const EXACT: u64 = 65_536;
 
-// The width of a count of longer latencies, in microseconds.
+// The number of microseconds that share a count, from `EXACT` on.
 const WIDTH: u64 = 1024;
 
 // Number of counts. They reach to 67 seconds; the last one also counts all longer latencies.

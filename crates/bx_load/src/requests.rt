@@ -3,7 +3,7 @@ use crate::items::Stamp;
 use crate::settings::Target;
 use std::alloc::{AllocError, Global};
 
-/// Formats a handshake, which asks for acknowledgement if `acknowledges` is `true`.
+/// Formats the POST of a handshake, which asks for acknowledgement if `acknowledges` is `true`.
 ///
 /// # Errors
 ///
@@ -20,7 +20,7 @@ pub fn handshake(alloc: Global, target: &Target, acknowledges: bool) -> Result<S
     post(alloc, target, body.as_str())
 }
 
-/// Formats a subscription of `client` to channel `/load/{channel}`.
+/// Formats the POST of a subscription of `client` to channel `/load/{channel}`.
 ///
 /// # Errors
 ///
@@ -37,7 +37,7 @@ pub fn subscribe(
     post(alloc, target, body.as_str())
 }
 
-/// Formats a connect of `client` that acknowledges batch `acknowledged`, if any.
+/// Formats the POST of a connect of `client` that acknowledges batch `acknowledged`, if any.
 ///
 /// # Errors
 ///
@@ -58,7 +58,7 @@ pub fn connect(
     post(alloc, target, body.as_str())
 }
 
-/// Formats a connect of `client` that the server answers at once.
+/// Formats the POST of a connect of `client` that the server answers at once.
 ///
 /// # Errors
 ///
@@ -70,7 +70,7 @@ pub fn touch(alloc: Global, target: &Target, client: &str) -> Result<String, All
     post(alloc, target, body.as_str())
 }
 
-/// Formats a publish of `stamp` by `client` to channel `/load/{channel}`.
+/// Formats the POST of a publish by `client` to channel `/load/{channel}`, with the data `stamp`.
 ///
 /// # Errors
 ///
@@ -93,7 +93,7 @@ pub fn publish(
     post(alloc, target, body.as_str())
 }
 
-// Formats a POST with `body`.
+// Formats an HTTP POST to `target` with the JSON `body`.
 fn post(alloc: Global, target: &Target, body: &str) -> Result<String, AllocError> {
     let (host, path) = (target.host.as_str(), target.path.as_str());
     let length = body.len();

@@ -53,7 +53,7 @@ pub fn read_response(input: &[u8]) -> Result<Option<Response>, Malformed>
     }))
 }
 
-// Returns the index of the line end that the first empty line follows.
+// Returns the index of the line end before the first empty line, or `None` if no line is empty.
 fn end_of_head(input: &[u8]) -> Option<usize>
     ensures { IfSome result (λ at. at + 4 ≤ length input.now) }
 {
@@ -65,13 +65,13 @@ fn end_of_head(input: &[u8]) -> Option<usize>
     None
 }
 
-// Parses the status in the first line of a head.
+// Parses the status in the first line of a head. Returns `None` if this is not a line of HTTP/1.1.
 fn status_of(head: &str) -> Option<u16> {
     let (status, _) = head.strip_prefix("HTTP/1.1 ")?.split_once(' ')?;
     status.parse().ok()
 }
 
-// Parses the first `content-length` field of a head.
+// Parses the first `content-length` field of a head. Returns `None` if it is missing or no number.
 fn size_of_body(head: &str) -> Option<usize> {
     for line in head.lines() {
         if let Some((name, value)) = line.split_once(':')

@@ -47,21 +47,22 @@ pub struct LoadSettings {
 /// Why arguments are rejected.
 #[derive(Clone, Copy, Debug, PartialEq, Eq)]
 pub enum SettingsFault {
-    /// Memory ran out.
+    /// The arguments are not parsed, because memory ran out.
     Memory,
-    /// There are fewer than five arguments, or more than seven.
+    /// There are fewer than five arguments for a load, or more than seven.
     Count,
-    /// The URL is wrong.
+    /// The URL does not have the form `http://HOST/PATH`, or has characters that are not visible
+    /// ASCII.
     Url,
-    /// The number of sessions is wrong.
+    /// The number of sessions is not a number below 2^32.
     Sessions,
-    /// The number of channels is wrong or 0.
+    /// The number of channels is not a number from 1 to 2^32 - 1.
     Channels,
-    /// The number of publishers is wrong or 0.
+    /// The number of publishers is not a number from 1 to 2^32 - 1.
     Publishers,
-    /// The number of events is wrong or 0.
+    /// The number of events is not a number from 1 to 2^32 - 1.
     Events,
-    /// The rate is wrong or 0.
+    /// The rate is not a number from 1 to 2^32 - 1.
     Rate,
     /// The last of seven arguments is not `ack`.
     Ack,
@@ -144,7 +145,7 @@ fn rate_of(arg: &String) -> Result<u32, SettingsFault> {
     count_of(arg.as_str()).ok_or(SettingsFault::Rate)
 }
 
-// Parses a positive number.
+// Parses a number from 1 to 2^32 - 1. Returns `None` for other texts.
 fn count_of(digits: &str) -> Option<u32>
     ensures { IfSome result (λ count. 0 < count) }
 {
@@ -155,6 +156,7 @@ fn count_of(digits: &str) -> Option<u32>
 }
 
 // Splits a URL such as http://127.0.0.1:8087/cometd into its host and its path without the `/`.
+// Returns `None` for other texts.
 fn place_of(url: &str) -> Option<(&str, &str)> {
     if is_plain(url) {
         url.strip_prefix("http://")?.split_once('/')

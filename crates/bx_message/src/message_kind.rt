@@ -17,7 +17,7 @@ pub enum MessageKind {
     Disconnect,
     /// A message to a channel outside `/meta/`.
     Publish,
-    /// A message to a channel that begins with `/meta/` and is not one of Bayeux's five meta channels.
+    /// A message to a channel that begins with `/meta/`, except Bayeux's five meta channels.
     UnknownMeta,
 }
 

@@ -46,9 +46,9 @@ pub struct Reply {
 }
 
 impl Reply {
-    /// Creates the reply to `message`, unless it is an accepted connect.
+    /// Creates the reply to `message`.
     ///
-    /// For an accepted connect, use [`to_connect`](Self::to_connect).
+    /// For an accepted connect, use [`to_connect`](Self::to_connect), which does not allocate.
     ///
     /// `client`: the client id of the message's session, if known. Only replies to the five meta
     /// messages carry it. Replies to subscriptions and unsubscriptions repeat `subscription`, even

@@ -23,8 +23,7 @@ pub enum Reason {
     Behind,
     /// Requests not admitted because the full window lacks the entry that a shard must apply next.
     Overrun,
-    /// Requests not admitted because the lock of a shard guards another shard. A server never has
-    /// this.
+    /// Requests not admitted because the lock of a shard guards another shard.
     WrongShard,
     /// Requests not admitted because memory ran out.
     Memory,
@@ -52,7 +51,7 @@ impl Reason {
 /// Policy of this server.
 #[derive(Clone, Copy, Debug, PartialEq, Eq)]
 pub enum Metric {
-    /// How long the program has run, in seconds. A counter.
+    /// How long the program has run, in seconds.
     Uptime,
     /// The number of connections that are open now.
     OpenConnections,

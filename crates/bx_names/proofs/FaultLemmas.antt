@@ -28,7 +28,8 @@ pub read_by-ok : {V : Type 0} (fault : Option NameError) (v w : V) → read_by f
 read_by-ok None v w h = (refl, cc)
 read_by-ok (Some fault) v w h = (cc, cc)
 
--- What holds of a `text` that parses as the name with segments `name`.
+-- The `text` is a path with the segments `name`. This holds if `text` parses as the name with these
+-- segments.
 pub record IsNameText (text : List ℕ) (name : List (List ℕ)) : Type 0 where
   pub path : IsTrue (is_path text)
   pub is : segments text ≡ name

@@ -18,7 +18,8 @@ last_segment [] = []
 last_segment (s ∷ []) = s
 last_segment (s ∷ t ∷ ts) = last_segment (t ∷ ts)
 
--- The wildcard of a pattern with this last segment: `One` for `*`, `Many` for `**`, or else `Exact`.
+-- The wildcard of a pattern with this last segment: `One` for `*`, `Many` for `**`, and otherwise
+-- `Exact`.
 abbrev pub tail_of : List ℕ → Tail
 tail_of segment = if bytes_eq segment (codes "*") then One else (if bytes_eq segment (codes "**") then Many else Exact)
 

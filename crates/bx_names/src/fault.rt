@@ -32,8 +32,8 @@ pub fn pattern_fault(text: &str) -> Option<NameError>
 
 /// Splits the text of a pattern into its segments without the wildcard, and the wildcard.
 ///
-/// The slash before the wildcard is in neither: `/a/*` results in `/a` and `One`. Without a wildcard,
-/// the result is all of `text`, and `Exact`.
+/// The slash before the wildcard is in neither: `/a/*` results in `/a` and `One`. Without a
+/// wildcard, the result is all of `text`, and `Exact`.
 #[tactic(auto, using(crate::proofs::GlobLemmas::cut))]
 pub(crate) fn split_tail(text: &str) -> (&str, Tail)
     ensures parts { text.now ≡ result.0.now ++ ending_text result.1 }

@@ -9,7 +9,7 @@ ghost use Rattle.bx_names.specs.Kinds.{is_broadcast, is_meta, is_service, kind_o
 pub enum ChannelKind {
     /// A channel `/meta/..`, for messages of the protocol.
     Meta,
-    /// A channel `/service/..`, for messages to the server. They are not delivered to other clients.
+    /// A channel `/service/..`, for messages to the server, which no other client receives.
     Service,
     /// Any other channel, including `/meta` and `/service` themselves.
     ///

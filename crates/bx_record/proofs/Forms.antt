@@ -53,7 +53,7 @@ form_is_some [] some = absurd (omega arith)
 form_is_some (d ∷ []) some = omega arith
 form_is_some (d ∷ e ∷ ds) some = omega arith
 
--- ---- Its length
+-- ---- The length of the form
 
 abbrev pub weight_of : List ℕ → ℕ
 weight_of d = 1 + length (parameter_of d)

@@ -16,14 +16,15 @@ pub struct CountedFile<W> {
 }
 
 impl<W> CountedFile<W> {
-    /// Creates a `CountedFile` with a count of 0.
+    /// Creates a `CountedFile` that writes to `file`, with a count of 0.
     pub fn new(file: W) -> CountedFile<W>
         ensures { result ≡ record { file = file; count = 0 } }
     {
         CountedFile { file, count: 0 }
     }
 
-    /// Returns how many bytes were written.
+    /// Returns how many bytes were written to the file since `self` was created, at most
+    /// `u64::MAX`.
     pub fn count(&self) -> u64
         ensures { result ≡ self.now.count }
     {

@@ -3,7 +3,7 @@ ghost use Rattle.std.specs.Prelude.{◌≡◌, []};
 
 use crate::chunk::{Chunk, TextPosition};
 
-/// Text taken from a source.
+/// The text taken from a [`Source`], and whether the text may grow further.
 #[derive(Drop)]
 pub struct TakenText<F: TextPosition, E> {
     /// All text that waited to be written.
@@ -20,7 +20,7 @@ pub trait Source {
     /// Why the text ends.
     type Fault: Drop;
 
-    /// Returns how many bytes of text wait.
+    /// Returns how many bytes of text wait to be written.
     fn waiting(&self) -> usize;
 
     /// Takes all waiting text, or returns `None` if the text has ended.

@@ -66,7 +66,7 @@ impl WaitingBytes {
         self.bytes.len()
     }
 
-    /// Appends `bytes`, all or none.
+    /// Appends all of `bytes`, or no bytes on error.
     ///
     /// # Errors
     ///

@@ -19,20 +19,20 @@ const LOOKS: u32 = 10;
 // If a check finds at least this many waiting bytes, they are written. Policy of this server.
 pub(crate) const SOON: usize = 64 << 10;
 
-/// Why writing ended.
+/// Why [`write_until_stopped`] ended.
 #[derive(Debug, Drop)]
 pub enum WriterEnd<E> {
-    /// `stop` was set, and everything that waited is written.
+    /// Writing ended because `stop` was set; everything that waited is written.
     StopRequested,
-    /// The text ended, for the reason that the source gave; its last part is written.
+    /// Writing ended because the text ended, for this reason; the last part of the text is written.
     Ended(E),
-    /// The source returned no text, since its text had ended before.
+    /// Writing ended because the source returned no text; the text had ended before.
     AlreadyEnded,
-    /// A write to the file failed, or the chunk taken does not follow the text written so far.
+    /// Writing ended because a write failed, or a chunk does not follow the text written so far.
     WriteFailed(io::Error),
 }
 
-/// How much was written, and why writing ended.
+/// How many bytes were written to a record's file, and why writing ended.
 #[derive(Debug, Drop)]
 pub struct WriteSummary<E> {
     /// Number of bytes written to the file, including what a failed write wrote.

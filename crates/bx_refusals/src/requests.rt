@@ -6,27 +6,29 @@ use bx_entry::{Access, Arrival};
 use bx_message::{Answer, Item, Reply, body_text, reply_text};
 use std::alloc::Global;
 
-/// A request with a handshake.
+/// The body of a request with a handshake.
 pub const HANDSHAKE: &str =
     r#"[{"channel":"/meta/handshake","version":"1.0","supportedConnectionTypes":["long-polling"]}]"#;
 
-/// A request with the handshake of an acknowledging session.
+/// The body of a request with the handshake of an acknowledging session.
 pub const ACK_HANDSHAKE: &str =
     r#"[{"channel":"/meta/handshake","version":"1.0","supportedConnectionTypes":["long-polling"],"ext":{"ack":true}}]"#;
 
-/// A subscription of the first session to `/a/*`.
+/// The body of a request with a subscription of the first session to `/a/*`.
 pub const SUBSCRIBE: &str =
     r#"[{"channel":"/meta/subscribe","clientId":"000000000000000000000000000000000000000000000001","subscription":"/a/*"}]"#;
 
-/// A connect of the first session that is held if it gets no events.
+/// The body of a request with a connect of the first session, held if it gets no events.
 pub const CONNECT: &str =
     r#"[{"channel":"/meta/connect","clientId":"000000000000000000000000000000000000000000000001","connectionType":"long-polling"}]"#;
 
-/// A connect of the first session that acknowledges no batch, held if it gets no events.
+/// The body of a request with a connect of the first session, held if it gets no events.
+///
+/// The connect acknowledges no batch.
 pub const HOLD_NONE: &str =
     r#"[{"channel":"/meta/connect","clientId":"000000000000000000000000000000000000000000000001","connectionType":"long-polling","ext":{"ack":0}}]"#;
 
-/// A publish of the second session to `/a/b`, with the data 7.
+/// The body of a request with a publish of the second session to `/a/b`, with the data 7.
 pub const PUBLISH: &str =
     r#"[{"channel":"/a/b","clientId":"000000000000000000000000000000000000000000000002","data":7}]"#;
 
@@ -99,7 +101,7 @@ pub fn reply(alloc: Global, reply: &Reply) -> Result<String, Unlike> {
     string(reply_text(alloc, reply)?)
 }
 
-/// Converts bytes to a string.
+/// Converts `text`, bytes in UTF-8, to a string.
 ///
 /// # Errors
 ///

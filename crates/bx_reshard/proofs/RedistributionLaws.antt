@@ -76,7 +76,7 @@ session_found : (setup : Setup) (list : List Listed) (taken : List ℕ) (shard n
     find_kept m (shard_at setup list taken shard n).sessions ≡ cond (is_placed_in setup shard m) (kept_of m (everyone setup.config list n)) None
 session_found setup list taken shard n m = found_standing setup shard m (entries_of (registry setup.config (take n list))) (registry setup.config (take n list)).sessions
 
--- ---- its answers
+-- ---- the answers of a shard by its definition
 
 abbrev answers_of : List Session → List Filed
 answers_of us = flat_map (λ (u : Session). u.answers) us

@@ -38,7 +38,7 @@ value_fits ds all many =
     let bound : 16 ^ 32 ≡ 2 ^ 128 = refl in
     subst (λ (n : ℕ). n < 2 ^ 128) (sym (digits_value_is 16 ds)) (subst (λ (n : ℕ). number_from_digits 16 (map digit_value ds) < n) (ap (λ (k : ℕ). 16 ^ k) count ∙ bound) low)
 
--- ---- Their value
+-- ---- The value of the digits
 
 nonce_is : (ds : List ℕ) → length ds ≡ 32 → list_all is_ascii_hexdigit ds ≡ true → nonce_of ds ≡ Some (digits_value 16 ds)
 nonce_is ds many all = rw (eq-eqb (length ds) 32 many, all) refl

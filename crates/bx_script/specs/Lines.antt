@@ -11,12 +11,12 @@ use Rattle.bx_script.specs.declared.dialect.Dialect as dialects
 use Rattle.bx_script.specs.declared.line.Line.TheVariants.{Bad, Rejected, Accepted, Resharded, Announced, Noted}
 use Rattle.bx_script.specs.declared.dialect.Dialect.TheVariants.{Script, Recorded}
 
--- A dialect in the definitions' form.
+-- The program's dialect as a `Dialect` of the definitions.
 abbrev pub dialect_of : dialects.Dialect → Dialect
 dialect_of Script = replay.Script
 dialect_of Recorded = replay.Recorded
 
--- A line in the definitions' form.
+-- The program's line as a `Line` of the definitions: its meaning.
 abbrev pub meaning_of : Line → replay.Line
 meaning_of Bad = replay.Bad
 meaning_of (Rejected status) = replay.Rejected (code_of status)

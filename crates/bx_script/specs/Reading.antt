@@ -23,26 +23,27 @@ PartRead Line before after kept now = (before ≢ []) × (now ≡ kept_with kept
 PartRead End before after kept now = (before ≡ []) × (after ≡ before) × (now ≡ kept)
 
 -- What one read with the outcome `step` changes, as in `PartRead`. Nothing is stated if the bytes
--- before it are not known.
+-- that were left before the read are not known.
 abbrev pub ReadsPart : ReadOutcome → Option (List ℕ) → Option (List ℕ) → List ℕ → List ℕ → Type 0
 ReadsPart step None new kept now = ⊤
 ReadsPart step (Some before) None kept now = ⊥
 ReadsPart step (Some before) (Some after) kept now = PartRead step before after kept now
 
--- If a line was found, it is the first one of `before`: `kept` is what is kept of it, and `after`
--- comes after it. Otherwise no byte was left.
+-- If a line was found (`true`), it is the first line of `before`. `kept` is what is kept of this
+-- line, and `after` is what follows the line. Otherwise no byte was left.
 abbrev pub LineRead : Bool → List ℕ → List ℕ → List ℕ → Type 0
 LineRead true before after kept = (before ≢ []) × (kept ≡ kept_with [] (first_of before)) × (after ≡ rest_of before)
 LineRead false before after kept = (before ≡ []) × (after ≡ [])
 
--- The result of reading a line, as in `LineRead`. Nothing is stated if the bytes before it are not
--- known.
+-- The result of reading a line, as in `LineRead`. Nothing is stated if the bytes that were left
+-- before the line are not known.
 abbrev pub ReadsLine : Bool → Option (List ℕ) → Option (List ℕ) → List ℕ → Type 0
 ReadsLine found None new kept = ⊤
 ReadsLine found (Some before) None kept = ⊥
 ReadsLine found (Some before) (Some after) kept = LineRead found before after kept
 
--- Whether a line has begun. If it has, bytes were left. If not, nothing was read.
+-- If a line has begun (`true`), bytes were left before it. If no line has begun (`false`), no byte
+-- was read.
 abbrev pub IsBegun : Bool → List ℕ → List ℕ → Type 0
 IsBegun true before after = before ≢ []
 IsBegun false before after = after ≡ before
@@ -55,7 +56,8 @@ ReadingOn began (Some before) None kept = ⊥
 ReadingOn began (Some before) (Some after) kept = IsBegun began before after × (kept_with kept (first_of after) ≡ kept_with [] (first_of before)) × (rest_of after ≡ rest_of before)
 
 -- The first `n` of the `shown` bytes belong to the line, and `used` are consumed, including the
--- line feed, if any.
+-- line feed, if any. The outcome is `Line` with a line feed, `More` without one, and `End` if no
+-- bytes are shown.
 abbrev pub IsCut : List ℕ → ℕ → ℕ → ReadOutcome → Type 0
 IsCut shown n used Again = ⊥
 IsCut shown n used More = (shown ≢ []) × (n ≡ length shown) × (used ≡ length shown) × (position_or_len is_newline shown ≡ length shown)

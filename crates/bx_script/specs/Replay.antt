@@ -54,11 +54,11 @@ abbrev pub body_by : Result (List (List ℕ)) TransportError → Taken
 body_by (Ok documents) = Documents None documents
 body_by (Err error) = not_taken error
 
--- A body is read as that of a POST without a content type.
+-- What the body of a POST without a content type is read as.
 abbrev pub body_taken : List ℕ → Taken
 body_taken body = body_by (post_taken None body)
 
--- A form is read as the body of a POST with the media type of forms.
+-- What a form is read as: the body of a POST with the media type of forms.
 abbrev pub form_taken : List ℕ → Taken
 form_taken form = body_by (post_taken (Some (codes "application/x-www-form-urlencoded")) form)
 
@@ -67,7 +67,7 @@ abbrev pub query_by : Result (List ℕ × List (List ℕ)) TransportError → Ta
 query_by (Ok query) = Documents (Some query.0) query.1
 query_by (Err error) = not_taken error
 
--- A query is read as that of a GET.
+-- What the query of a GET is read as.
 abbrev pub query_taken : List ℕ → Taken
 query_taken query = query_by (get_taken query)
 
@@ -106,18 +106,21 @@ abbrev pub announces : Option ℕ → Line
 announces None = Bad
 announces (Some nonce) = Announced nonce
 
--- A line that announces the nonce with these digits.
+-- A line that announces the nonce with these digits. It is bad unless they are 32 hexadecimal
+-- digits.
 abbrev pub announced_by : List ℕ → Line
 announced_by digits = announces (nonce_of digits)
 
--- A line with a form or a nonce after its moment, which only records have.
+-- What a line means with the command `rest` after its moment, if only a record can have the
+-- command: a form or a nonce. Any other line, and every line of a script, is bad.
 abbrev pub recorded_command : Dialect → ℕ → List ℕ → Line
 recorded_command Script moment rest = Bad
 recorded_command Recorded moment rest =
     if starts_with nat_eq rest (codes "F ") then handed_by moment (form_taken (drop 2 rest))
     else (if starts_with nat_eq rest (codes "N ") then announced_by (drop 2 rest) else Bad)
 
--- A line with `rest` after its moment.
+-- What a line means with the command `rest` after its moment: a tick, a body, a query, a number of
+-- shards or, in a record, a form or a nonce. Any other line is bad.
 abbrev pub command : Dialect → ℕ → List ℕ → Line
 command dialect moment rest =
     if bytes_eq rest (codes "T") then Accepted None (Tick moment)
@@ -126,12 +129,13 @@ command dialect moment rest =
     else (if starts_with nat_eq rest (codes "S ") then resharded_by (drop 2 rest)
     else recorded_command dialect moment rest)))
 
--- A line with this moment, and `rest` after it. It is bad if no moment could be parsed.
+-- What a line means with a moment and, after it, the command `rest`. The line is bad if no moment
+-- could be parsed.
 abbrev pub line_by : Dialect → Option ℕ → List ℕ → Line
 line_by dialect None rest = Bad
 line_by dialect (Some moment) rest = command dialect moment rest
 
--- A line of a moment that fits in 64 bits, a space and a command.
+-- What a text means: a moment that fits in 64 bits, a space and a command. Any other text is bad.
 abbrev pub timed_line : Dialect → List ℕ → Line
 timed_line dialect text = line_by dialect (number_of (before_first is_space text)) (after_first is_space text)
 
@@ -139,8 +143,8 @@ timed_line dialect text = line_by dialect (number_of (before_first is_space text
 abbrev pub is_digest : List ℕ → Bool
 is_digest digits = length digits == 64 && list_all is_ascii_hexdigit digits
 
--- The note of an answer: a place that fits in 64 bits, a space and a digest. It is bad if it has
--- more than `BODY_LIMIT` bytes.
+-- What the text after `A` and a space means: the note of an answer, if it is a place that fits in
+-- 64 bits, a space and a digest. Any other text, and one of more than `BODY_LIMIT` bytes, is bad.
 abbrev pub noted_by : List ℕ → Line
 noted_by note =
     if nat_lt BODY_LIMIT (length note) then Bad
@@ -244,7 +248,7 @@ printed_from ws numbered number index (Resharded shards ∷ ls) = printed_from w
 printed_from ws numbered number index (Announced nonce ∷ ls) = printed_from ws numbered (number + 1) index ls
 printed_from ws numbered number index (Noted ∷ ls) = printed_from ws numbered (number + 1) index ls
 
--- What is printed for an input that is held at the end.
+-- What is printed for an input that is held at the end, or nothing if there is no such input.
 abbrev pub held_text : Option Numbered → List ℕ
 held_text None = []
 held_text (Some n) = line_text n.line (codes "held")

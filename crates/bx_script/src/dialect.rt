@@ -3,8 +3,8 @@
 /// Which kinds of lines are allowed: those of a script, or those of a record.
 #[derive(Clone, Copy, Debug, PartialEq, Eq)]
 pub enum Dialect {
-    /// A script of requests, ticks and changes of the number of shards.
+    /// The lines of a script: requests, ticks and changes of the number of shards.
     Script,
-    /// A record of what a server admitted, which may also have forms, nonces and notes of answers.
+    /// The lines of a record of what a server admitted: also forms, nonces and notes of answers.
     Recorded,
 }

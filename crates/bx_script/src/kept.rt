@@ -11,8 +11,8 @@ use std::alloc::AllocError;
 /// zero, 20 digits, a letter and two spaces are kept.
 pub(crate) const KEPT_LIMIT: usize = BODY_LIMIT + 32;
 
-// Appends the next part of the line to `kept`, up to `KEPT_LIMIT` bytes. If the line begins with
-// several zeros, only the first is kept.
+// Appends `part`, the next part of a line, to `kept`, up to `KEPT_LIMIT` bytes in all. If the line
+// begins with several zeros, only the first is kept.
 pub(crate) fn keep(kept: &mut Vec<u8>, part: &[u8]) -> Result<(), AllocError>
     ensures { OnOk result (kept.new.items ≡ kept_with kept.old.items part.now) }
 {
@@ -26,8 +26,8 @@ pub(crate) fn keep(kept: &mut Vec<u8>, part: &[u8]) -> Result<(), AllocError>
     keep_on(kept, rest)
 }
 
-// Appends `part` to `kept`, up to `KEPT_LIMIT` bytes. `kept` must not be empty. If it is a single
-// zero, leading zeros of `part` are dropped.
+// Appends `part` to `kept`, up to `KEPT_LIMIT` bytes in all. `kept` must not be empty. If `kept` is
+// a single zero, leading zeros of `part` are dropped.
 fn keep_on(kept: &mut Vec<u8>, part: &[u8]) -> Result<(), AllocError>
     requires { 0 < vec_len kept.old }
     ensures { OnOk result (kept.new.items ≡ kept_with kept.old.items part.now) }
@@ -37,7 +37,8 @@ fn keep_on(kept: &mut Vec<u8>, part: &[u8]) -> Result<(), AllocError>
     kept.extend_from_slice(&part[..room])
 }
 
-// Returns `part`, without its leading zeros if `kept` is a single zero. They change no number.
+// Returns `part`, without its leading zeros if `kept` is a single zero. Leading zeros change no
+// number.
 fn significant_part<'a>(kept: &[u8], part: &'a [u8]) -> &'a [u8]
     ensures { result.now ≡ (if is_lone_zero kept.now then without_zeros part.now else part.now) }
 {

@@ -26,29 +26,29 @@ const FORM_TYPE: &[u8] = b"application/x-www-form-urlencoded";
 pub enum Line {
     /// The line is malformed.
     Bad,
-    /// A request with a body or query that is rejected.
+    /// The line is a request with a body or query that is rejected.
     Rejected {
-        /// The status to print.
+        /// The HTTP status with which the request is rejected.
         status: Status,
     },
-    /// A request or a tick.
+    /// The line is a request or a tick.
     Accepted {
-        /// The name of the callback, if the request is a GET.
+        /// The name of the callback, if the line is a GET.
         callback: Option<String>,
         /// The request, with the nonce 0, or the tick.
         input: Input,
     },
-    /// A change of the number of shards.
+    /// The line changes the number of shards.
     Resharded {
         /// The new number of shards, from 1 to 64.
         shards: ShardCount,
     },
-    /// The nonce of the next request.
+    /// The line has the nonce of the next request.
     Announced {
-        /// The nonce.
+        /// The nonce of the next request.
         nonce: u128,
     },
-    /// A note that an answer was given, which has no effect.
+    /// The line is a note that an answer was given, which has no effect.
     Noted,
 }
 
@@ -89,7 +89,7 @@ impl Line {
     }
 }
 
-// Parses a line that has a moment.
+// Parses a line of a moment, a space and a command. Any other text is `Bad`.
 fn read_timed(alloc: Global, dialect: Dialect, text: &[u8]) -> Result<Line, AllocError>
     ensures { IfOk result (λ line. meaning_of line ≡ timed_line (dialect_of dialect) text.now) }
 {
@@ -118,7 +118,8 @@ fn space_in(text: &[u8]) -> Option<usize>
     text.iter().position(|byte| *byte == b' ')
 }
 
-// Parses what follows the moment.
+// Parses the command `rest`, which follows the moment and a space. If `dialect` has no such
+// command, the line is `Bad`.
 fn read_command(
     alloc: Global,
     dialect: Dialect,
@@ -148,7 +149,8 @@ fn read_command(
     }
 }
 
-// Parses what can follow the moment only in a record.
+// Parses the command `rest` as one that only a record can have: a form or a nonce. Any other text
+// is `Bad`.
 fn read_recorded(alloc: Global, moment: u64, rest: &[u8]) -> Result<Line, AllocError>
     ensures { IfOk result (λ line. meaning_of line ≡ recorded_command Recorded moment rest.now) }
 {
@@ -161,7 +163,7 @@ fn read_recorded(alloc: Global, moment: u64, rest: &[u8]) -> Result<Line, AllocE
     }
 }
 
-// Parses the body of a POST.
+// Parses the body of a POST into the request at `moment`, or into `Rejected`.
 fn read_body(
     alloc: Global,
     moment: u64,
@@ -177,7 +179,7 @@ fn read_body(
     }
 }
 
-// Parses the query of a GET.
+// Parses the query of a GET into the request at `moment`, or into `Rejected`.
 fn read_query(alloc: Global, moment: u64, query: &[u8]) -> Result<Line, AllocError>
     ensures { IfOk result (λ line. meaning_of line ≡ handed_by moment (query_taken query.now)) }
 {
@@ -244,7 +246,8 @@ fn read_nonce(digits: &[u8]) -> Line
     }
 }
 
-// Parses what follows `A` and a space: a place and a digest.
+// Parses what follows `A` and a space: a place and a digest, in at most `BODY_LIMIT` bytes. Any
+// other text is `Bad`.
 fn read_note(note: &[u8]) -> Line
     ensures { meaning_of result ≡ noted_by note.now }
 {

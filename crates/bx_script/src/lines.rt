@@ -21,9 +21,10 @@ pub struct Lines<R> {
 }
 
 impl<R: BufRead> Lines<R> {
-    /// Creates a reader of the lines in `reader`, which it reads a limited number of times.
+    /// Creates a reader of the lines that `reader` gives.
     ///
-    /// The limit is [`MAX_READS`](crate::MAX_READS). Does not allocate.
+    /// It reads from `reader` at most [`MAX_READS`](crate::MAX_READS) times. `dialect`: whether the
+    /// lines are those of a script or of a record. Does not allocate.
     pub fn new(alloc: Global, dialect: Dialect, reader: R) -> Lines<R>
         ensures dialect { read_as result ≡ dialect_of dialect }
         ensures script { unread R.remaining result ≡ R.remaining reader }

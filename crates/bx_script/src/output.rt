@@ -49,7 +49,7 @@ impl<W: Write> Output<W> {
         }
     }
 
-    // Writes a prefix of `text` and returns its length in bytes. It is 0 if the write was
+    // Writes a prefix of `text` and returns its length in bytes. The length is 0 if the write was
     // interrupted. `text` must not be empty.
     pub(crate) fn write_some(&mut self, text: &[u8]) -> Result<usize, ScriptFault>
         ensures within { WritesAtMost result text.now }

@@ -8,16 +8,16 @@ use crate::kept::keep;
 use memchr::memchr;
 use std::io::{BufRead, ErrorKind};
 
-// What reading a part of a line results in.
+// The outcome of one read of a part of a line.
 #[derive(Clone, Copy)]
 enum ReadOutcome {
     // The read was interrupted.
     Again,
-    // The line continues.
+    // The read gave a part of a line that continues.
     More,
-    // The line is complete.
+    // The read gave the end of a line.
     Line,
-    // The script is at its end.
+    // The read found the end of the script.
     End,
 }
 
@@ -47,7 +47,7 @@ impl Reads {
     }
 
     // Reads a line, and stores at most `KEPT_LIMIT` bytes of it in `kept`. Returns `false` if the
-    // script has no more lines.
+    // script has no more lines. Fails if a read fails, no reads are left, or memory runs out.
     pub(crate) fn read_text<R: BufRead>(
         &mut self,
         reader: &mut R,
@@ -71,8 +71,8 @@ impl Reads {
         Err(ScriptFault::Read)
     }
 
-    // Reads what the reader has buffered, up to the end of the line. Adds the part of it that is
-    // kept to `kept`.
+    // Reads what `reader` has buffered, at most up to the end of the line. Appends the bytes that
+    // must be kept to `kept`.
     fn read_part<R: BufRead>(
         &mut self,
         reader: &mut R,
@@ -98,7 +98,8 @@ impl Reads {
     }
 }
 
-// Returns how many bytes of `shown` belong to the line, how many to consume, and the outcome.
+// Returns how many bytes of `shown` belong to the line, how many to consume, and the outcome. If
+// `shown` is empty, the script is at its end.
 fn cut(shown: &[u8]) -> (usize, usize, ReadOutcome)
     ensures parts { IsCut shown.now result.0 result.1 result.2 }
     ensures before { result.0 ≤ length shown.now }

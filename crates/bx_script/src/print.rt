@@ -15,7 +15,7 @@ use itoa::Buffer;
 use std::alloc::{AllocError, Global};
 use std::io::Write;
 
-/// Writes `bad` for line `number`, which is malformed.
+/// Writes the result of line `number`, which is malformed: `number`, a space and `bad`.
 ///
 /// # Errors
 ///
@@ -29,7 +29,7 @@ pub fn write_bad<W: Write>(writer: &mut Output<W>, number: u64) -> Result<(), Sc
     write_line(writer, number, b"bad", b"")
 }
 
-/// Writes `held` for line `number`, a request that is still held at the end of the script.
+/// Writes the result of line `number`, a request held at the end: `number`, a space and `held`.
 ///
 /// # Errors
 ///
@@ -43,7 +43,8 @@ pub fn write_held<W: Write>(writer: &mut Output<W>, number: u64) -> Result<(), S
     write_line(writer, number, b"held", b"")
 }
 
-/// Writes the code of `status`, with which line `number` is rejected.
+/// Writes the result of line `number`, which is rejected: `number`, a space and the code of
+/// `status`.
 ///
 /// # Errors
 ///
@@ -67,8 +68,9 @@ pub fn write_status<W: Write>(
 /// `tick`: whether the input is a tick. `answer`: the items of the response, or why the input is
 /// rejected.
 ///
-/// Writes the status of a rejected input, or 200 and the response. The response is an array, or a
-/// call of `callback` with it. Writes nothing for a tick that is not rejected.
+/// Writes `number`, a space and, for a rejected input, its status, or otherwise 200 and the
+/// response. The response is an array, or a call of `callback` with the array. Writes nothing for a
+/// tick that is not rejected.
 ///
 /// # Errors
 ///
@@ -109,7 +111,7 @@ fn write_response<W: Write>(
     write_line(writer, number, b"200 ", body.as_slice())
 }
 
-// Formats the body of a response.
+// Formats the body of a response: the array of `items`, or a call of `callback` with the array.
 fn body_of(alloc: Global, callback: &Option<String>, items: &[Item]) -> Result<Vec<u8>, AllocError>
     ensures { IfOk result (λ body. body.items
         ≡ response_text (option_map string_bytes callback.now) items.now) }
@@ -120,7 +122,7 @@ fn body_of(alloc: Global, callback: &Option<String>, items: &[Item]) -> Result<V
     }
 }
 
-// Writes a line: its number, a space, `lead` and `text`.
+// Writes a line: `number`, a space, `lead`, `text` and a line feed.
 fn write_line<W: Write>(
     writer: &mut Output<W>,
     number: u64,

@@ -198,7 +198,7 @@ answered list taken n e s p f b some =
       first = none_answer (filed_then list taken s n p) (sym (h.filed p) ∙ u.filed);
     }
 
--- ---- the shard after it
+-- ---- the shard after the entry
 
 untaken_then : (taken : List ℕ) (p : ℕ) → (is_taken taken p ≡ true → ⊥) → is_taken taken p ≡ false
 untaken_then taken p h = either (is_taken taken p) (is_taken taken p ≡ false) (λ t. absurd (h t)) (λ u. u)

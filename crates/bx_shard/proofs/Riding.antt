@@ -192,7 +192,7 @@ module _ (stands : Bool) (e : Entry) (rider : Rider) (rides : rides_of e ≡ Som
       by None is c g = rw (mid_gone rider.session is) tt
       by (Some k) is c g = rw (mid_there rider.session k (patterns_in old rider.session) is c, mid_config) (rider_fits e.kind e.rides rider rides config e.place e.moment k room g)
 
-  -- ---- its answers
+  -- ---- the answers of the rest of the entry
 
   given_seated : (n : ℕ) (k : Kept) (a : Answered) → kept_in old n ≡ Some k → Contains (map answered_of (effect k).answers) a → IsGiven seated.config (kept_in seated) (alone e) n a
   given_seated n k a is there = rw (seated_sessions n, is, seated_config, rider_of_none e.kind) there
@@ -214,7 +214,7 @@ module _ (stands : Bool) (e : Entry) (rider : Rider) (rides : rides_of e ≡ Som
       by n a None is g = absurd (nowhere a (rw is at g))
       by n a (Some k) is g = elsewhere n k a is (rw (is, rider_of_none e.kind) at g)
 
-  -- ---- the whole
+  -- ---- the entry with its rider
 
   ridden_step : (k : Kept) → step config (resumed k) e ≡ ridden_by config e.place (effect k) (Some rider)
   ridden_step k = ap (ridden_by config e.place (effect k)) rides

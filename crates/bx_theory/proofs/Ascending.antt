@@ -1,4 +1,4 @@
--- The open inputs are in the order of their numbers and of their places.
+-- The inputs with an unanswered message are in the order of their numbers and of their places.
 use Rattle.std.proofs.Common.{◌≡◌, ℕ, zero, suc, ◌+◌, ◌<◌, ◌≤◌, ⊎_elim, Bool, true, not, Option, Some, None, List, [], ◌∷◌, ◌++◌, length, map, filter, fold, slice_index, sym, subst, arith, length-append}
 use Rattle.std.proofs.lemmas.{Bool.cond_both, Bool.both_ways, Bool.cases_lt, Bool.not-true, Grind.common_steps}
 use Rattle.std.specs.List.Sorted.{IsStrictlyIncreasing}

@@ -56,7 +56,7 @@ prints_on ws numbered number index (l ∷ ls) ms =
     ∙ sym (append_assoc first rest (printed_from ws numbered (number + length (l ∷ ls)) last ms))
     ∙ ap (λ (t : List ℕ). t ++ printed_from ws numbered (number + length (l ∷ ls)) last ms) (sym (first_prints ws numbered number index l ls))
 
--- ---- What earlier inputs make whole
+-- ---- What earlier inputs complete
 
 prints_same : (ws us : List Whole) (numbered many : List Numbered) (number index end : ℕ) (ls : List Line) → index + length (inputs_from number ls) ≤ end →
     ((j : ℕ) → j < end → outs_at ws numbered j ≡ outs_at us many j) → printed_from ws numbered number index ls ≡ printed_from us many number index ls

@@ -1,4 +1,4 @@
--- A plain session sends its first `done` events, in order, each once.
+-- A session that does not acknowledge sends its first `done` events, in order, each once.
 use Rattle.std.proofs.Common.{◌≡◌, ℕ, ◌<◌, false, Option, List, [], ◌∷◌, ◌++◌, take, fold, ◌==◌, refl, ap, ◌∙◌, arith, append-nil}
 use Rattle.std.proofs.lemmas.{Bool.cond_both, List.take-append-le, List.drop_at, Grind.common_steps, Grind.flat_map-append}
 use Rattle.std.proofs.Math.Seq.{take-add}

@@ -1,4 +1,4 @@
--- One more input makes some open inputs whole, and the others stay open.
+-- One more input completes some inputs with unanswered messages, and no others.
 use Rattle.std.proofs.Common.{◌≡◌, ℕ, zero, suc, ◌+◌, ◌<◌, ◌≤◌, ⊎_elim, Bool, true, false, cond, not, ◌&&◌, is_some, is_none, Option, Some, None, List, [], ◌∷◌, ◌++◌, length, map, filter, flat_map, fold, nat_lt, refl, sym, ap, ◌∙◌, subst, arith, append-nil, length-append, ne_eqb, eq-eqb, lt-ltb}
 use Rattle.std.proofs.lemmas.{Bool.cond-true, Bool.cases_lt, List.map-append, List.Elements.filter-append, List.Sums.fold-append, Grind.common_steps, Grind.flat_map-append}
 use Rattle.std.specs.List.{position, position_or_len}
@@ -70,7 +70,7 @@ late_place t u d k n ends h l =
     ∙ position_there (has_place k) (t.intake ++ d ∷ []) (omega (arith, here, length-append t.intake (d ∷ [])))
     ∙ ap Some (let same : position_or_len (has_place k) (t.intake ++ d ∷ []) ≡ length t.intake = omega (arith, here, late) in same)
 
--- ---- Whether the newest input makes an input whole
+-- ---- Whether the newest input completes an input
 
 record Round (f g : ℕ → Option PlacedAnswer) (intake : List Intake) (end last n : ℕ) : Type 0 where
   ahead : AheadAll end f g
@@ -220,7 +220,7 @@ input_appends_outs_it_completes config inputs input room =
     ∙ round_outs config (taken_in inputs) (taken_in (inputs ++ input ∷ [])) (newest inputs input).intake room (newly_of inputs input) (covers_of inputs) (ends_of inputs)
     ∙ ap (λ (i : ℕ). map (out_of config s) (filter (is_whole config s) (open_after config inputs ++ record { number = i; intake = (newest inputs input).intake } ∷ []))) (many_of inputs))
 
--- ---- Inputs that stay open
+-- ---- Inputs that stay incomplete
 
 stays_whole : (end : ℕ) (f g : ℕ → Option PlacedAnswer) (ps : List ℕ) → AheadAll end f g →
     not (is_some (latest 0 (map g ps))) ≡ (not (is_some (latest 0 (map f ps))) && not (is_some (latest 0 (map g ps))))

@@ -1,4 +1,4 @@
--- An open input is a request of one message, a held connect.
+-- An input with an unanswered message is a request of one message, a held connect.
 use Rattle.std.proofs.Common.{◌≡◌, ℕ, suc, ◌+◌, ◌<◌, max, Bool, true, false, not, is_some, Option, Some, None, List, [], ◌∷◌, ◌++◌, length, map, filter, fold, option_map, slice_get, ◌==◌, refl, sym, ap, ◌∙◌, subst, arith, append-nil, append_assoc, ne_eqb}
 use Rattle.std.proofs.lemmas.Bool.{cond_both, both_ways, not-true}
 use Rattle.std.specs.List.{AllByRecursion}
@@ -74,7 +74,7 @@ rider_answered config xs x rider rides =
       ticks = λ moment e. cc;
     }) x rides))
 
--- ---- Inputs that are not whole
+-- ---- Inputs that are not complete
 
 abbrev NotWhole : Config → List Listed → List ℕ → Type 0
 NotWhole config list ps = is_some (latest 0 (map (answer_in config (registry config list)) ps)) ≡ false

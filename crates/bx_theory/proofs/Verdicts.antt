@@ -22,7 +22,8 @@ by_verdict P config state moment p sender (Some e) refuses opens none serves = r
 by_verdict P config state moment p None None refuses opens none serves = elim (is_handshake p.message) as (λ (b : Bool). P (unnamed config state moment p b)) [ true ↦ opens | false ↦ none ]
 by_verdict P config state moment p (Some s) None refuses opens none serves = serves s refl
 
--- The verdict on an element, at the greatest moment so far.
+-- The verdict on an element after the registry, at the greatest moment so far, including the
+-- element's own.
 abbrev pub verdict_of : Config → Registry → Listed → Verdict
 verdict_of config r (Post p) = verdict config (state_of r) (max r.clock p.moment) p
 verdict_of config r (messages.Tick moment) = tick_verdict (state_of r) (max r.clock moment)
@@ -56,7 +57,8 @@ pub judge_is : (config : Config) (r : Registry) (x : Listed) → judge config r 
 judge_is config r (Post p) = refl
 judge_is config r (messages.Tick moment) = refl
 
--- What holds after each kind of verdict holds for the next registry.
+-- If `P` holds for the registry after each kind of verdict, it holds for the registry after any
+-- element.
 pub each_judge : (config : Config) (r : Registry) (P : Registry → Type 0) → EachVerdict config r (λ x v. P (next_noted r x v)) → (x : Listed) → P (judge config r x)
 each_judge config r P e x = subst P (sym (judge_is config r x)) (each_verdict config r (λ y v. P (next_noted r y v)) e x)
 
@@ -88,7 +90,8 @@ slotted config r x = each_verdict config r (λ y v. Slotted y v.slot) (record {
 pub registry_next : (config : Config) (ys : List Listed) (x : Listed) → registry config (ys ++ x ∷ []) ≡ judge config (registry config ys) x
 registry_next config ys x = fold-append (judge config) empty_registry ys (x ∷ [])
 
--- What holds for the empty registry, and for each next one, holds for the registry of every list.
+-- If `P` holds for the empty registry, and stays true for each next one, it holds for the registry
+-- of every list.
 pub each_registry : (config : Config) (P : Registry → Type 0) → P empty_registry → ((ys : List Listed) (x : Listed) → P (registry config ys) → P (judge config (registry config ys) x)) → (list : List Listed) → P (registry config list)
 each_registry config P first next list = onwards [] list first
   where
@@ -120,7 +123,8 @@ judged_length config xs = ap length (judged_run config empty_registry xs) ∙ fo
 pub entries_after : (config : Config) (ys zs : List Listed) → entries_of (registry config (ys ++ zs)) ≡ entries_of (registry config ys) ++ map (λ (j : Judged). j.entry) (found_from config (registry config ys) zs)
 entries_after config ys zs = ap (map (λ (j : Judged). j.entry)) (judged_after config ys zs) ∙ map-append (λ (j : Judged). j.entry) (registry config ys).judged (found_from config (registry config ys) zs)
 
--- What holds for the result of each element, after those before it, holds for all that were judged.
+-- If `P` holds for the result of each element after those before it, it holds for all results of a
+-- list.
 pub each_found : (config : Config) (list : List Listed) (P : Judged → Type 0) → ((ys : List Listed) (x : Listed) (zs : List Listed) → ys ++ x ∷ zs ≡ list → P (next_found config (registry config ys) x)) →
     AllByRecursion P (registry config list).judged
 each_found config list P each = subst (AllByRecursion P) (sym (judged_run config empty_registry list)) (onwards [] list refl)

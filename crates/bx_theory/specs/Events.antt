@@ -15,9 +15,9 @@ use Rattle.bx_theory.specs.Readings.{since_opening, unclosed, mention_by, last_o
 -- ---- Which publishes are events
 
 -- A publish of `e` after the entries `before` reaches session `number`. Its channel is a broadcast
--- channel, and a pattern that was last mentioned in a subscription matches it. The session was
--- opened and not closed since. The session has not overflowed, and its queue has room for the
--- event.
+-- channel. A pattern that the session has subscribed to, and not unsubscribed from since, matches
+-- the channel. The session was opened and not closed since. The session has not overflowed, and its
+-- queue has room for the event.
 pub record IsEvent (config : Config) (number : ℕ) (before : List Entry) (e : Event) : Type 0 where
   pub broadcast : is_broadcast e.channel ≡ true
   pub live : unclosed number (since_opening number before) ≡ true
@@ -59,14 +59,14 @@ abbrev pub Rising : List Publication → Type 0
 Rising [] = ⊤
 Rising (p ∷ ps) = EachOf (λ q. p.place < q.place) ps × Rising ps
 
--- The events of a session have rising places. So they are in the order of the list, and a publish
--- is at most one of them.
+-- If entries are at consecutive places, the events of a session have rising places. So they are in
+-- the order of the list, and a publish is at most one of them.
 abbrev pub EventsRise : Type 0
 EventsRise = (config : Config) (number : ℕ) (es : List Entry) → PlacesFrom 0 es → Rising (session config number es).events
 
 -- ---- Events in answers
 
--- `P` holds for each event.
+-- The predicate `P` holds for each event of the list.
 abbrev pub EachEvent : (Event → Type 0) → List Event → Type 0
 EachEvent P [] = ⊤
 EachEvent P (e ∷ es) = P e × EachEvent P es
@@ -83,8 +83,8 @@ pub record WasPublished (config : Config) (list : List Listed) (place : ℕ) (e 
   pub event : e ≡ event_of message.message
   pub gets : GetsPublish config number (entries config list) (record { place = source; event = e })
 
--- Each event in an answer is that of an accepted publish, byte for byte, which reached the session
--- that is answered.
+-- Each event in an answer is the event of an accepted publish, byte for byte. The publish reached
+-- the session that is answered.
 abbrev pub GivenWasPublished : Type 0
 GivenWasPublished = (config : Config) (list : List Listed) (place : ℕ) (a : PlacedAnswer) → 0 < config.limits.batch →
     answer config list place ≡ Some a → EachEvent (WasPublished config list place) a.events

@@ -10,14 +10,16 @@ use Rattle.bx_entry.specs.Sessions.{Session, Publication, Filed, Unopened, step,
 
 -- ---- Counts
 
--- The number of events that are never sent again does not fall.
+-- While entries are added, the number of a session's events that are never sent again does not
+-- fall.
 abbrev pub DoneNeverFalls : Type 0
 DoneNeverFalls = (config : Config) (number : ℕ) (xs ys : List Entry) → (session config number xs).done ≤ (session config number (xs ++ ys)).done
 
--- What always holds of a session `s`. Its queue has the events after the first `done` ones, which
--- are never sent again. After an overflow, queue and patterns are empty. The outstanding batch is
--- at the start of the queue, within its limit. A session that does not acknowledge has no batch.
--- While a connect is held, no event waits.
+-- What always holds of a session `s`. Its first `done` events are never sent again. Its queue has
+-- the later ones or, after an overflow, is empty. After an overflow, its patterns are empty, too.
+-- The outstanding batch is at the start of the queue, within the limit of a batch. A session that
+-- does not acknowledge has no outstanding batch, and an unopened session does not acknowledge.
+-- While a connect is held, no event waits or is outstanding.
 pub record InStep (config : Config) (s : Session) : Type 0 where
   pub queue : s.queue ≡ (if s.overflow then [] else drop s.done s.events)
   pub emptied : s.overflow ≡ true → s.patterns ≡ []
@@ -28,25 +30,25 @@ pub record InStep (config : Config) (s : Session) : Type 0 where
   pub fresh : s.stage ≡ Unopened → s.ack ≡ false
   pub idle : is_some s.held ≡ true → (length s.events ≤ s.done) × (s.out ≡ 0)
 
--- A session's queue, batch and counts always agree.
+-- The queue, the outstanding batch and the counts of a session always agree, as `InStep` requires.
 abbrev pub CountsAgree : Type 0
 CountsAgree = (config : Config) (number : ℕ) (es : List Entry) → 0 < config.limits.batch → InStep config (session config number es)
 
 -- ---- Answers stay
 
--- An answer depends only on the elements up to the one that gives it.
+-- An answer depends only on the elements of the list up to the one that gives it.
 abbrev pub AnswersStay : Type 0
 AnswersStay = (config : Config) (list other : List Listed) (place : ℕ) (a : PlacedAnswer) → 0 < config.limits.batch →
     answer config list place ≡ Some a → take (a.place + 1) other ≡ take (a.place + 1) list → answer config other place ≡ Some a
 
 -- ---- Events in answers
 
--- `P` holds for each answer.
+-- The predicate `P` holds for each answer of the list.
 abbrev pub Each : (Filed → Type 0) → List Filed → Type 0
 Each P fs = AllByRecursion P fs
 
--- `given` is `count` of the events from index `from` on, which is at least `low` unless `count` is
--- 0.
+-- `given` has `count` of the `events`, from index `from` on. Unless `count` is 0, `from` is at
+-- least `low`.
 pub record Slice (events : List Publication) (low : ℕ) (given : List Publication) : Type 0 where
   pub from : ℕ
   pub count : ℕ
@@ -55,20 +57,20 @@ pub record Slice (events : List Publication) (low : ℕ) (given : List Publicati
   pub is : given ≡ take count (drop from events)
 
 -- The session is `s` before an entry, `u` after it, and `t` later. An event is done if it is never
--- sent again. The answers that are only in `t` contain no event that is done in `s`. If the session
--- acknowledges, they contain none that is done in `u`.
+-- sent again. Each answer that `t` has and `s` lacks contains consecutive events. None of them is
+-- done in `s` or, if the session acknowledges, in `u`.
 pub record GivesFrom (config : Config) (s u t : Session) : Type 0 where
   pub filed : List Filed
   pub answers : t.answers ≡ s.answers ++ filed
   pub slices : Each (λ f. Slice t.events (if u.ack then u.done else s.done) f.publications) filed
 
--- An event is never sent again after it is acknowledged, or sent by a session that does not
--- acknowledge.
+-- An event is never sent again once it is acknowledged or, if the session does not acknowledge,
+-- once it is sent.
 abbrev pub NeverGivenAgain : Type 0
 NeverGivenAgain = (config : Config) (number : ℕ) (xs : List Entry) (e : Entry) (ys : List Entry) → 0 < config.limits.batch →
     GivesFrom config (session config number xs) (step config (session config number xs) e) (fold (step config) (step config (session config number xs) e) ys)
 
--- `P` holds for each publication.
+-- The predicate `P` holds for each publication of the list.
 abbrev pub EachOf : (Publication → Type 0) → List Publication → Type 0
 EachOf P ps = AllByRecursion P ps
 
@@ -76,26 +78,26 @@ EachOf P ps = AllByRecursion P ps
 abbrev pub AllBelow : List Publication → List Publication → Type 0
 AllBelow ps qs = EachOf (λ p. EachOf (λ q. p.place < q.place) qs) ps
 
--- Entries at consecutive places from `n`.
+-- The entries are at consecutive places from `n` on.
 abbrev pub PlacesFrom : ℕ → List Entry → Type 0
 PlacesFrom n [] = ⊤
 PlacesFrom n (e ∷ es) = (e.place ≡ n) × PlacesFrom (n + 1) es
 
 -- The session is `s` before an entry, `u` after it, and `t` later. An event is done if it is never
--- sent again. The answers that are only in `t` contain only events at later places than those that
--- are done in `s` or, if the session acknowledges, in `u`.
+-- sent again. Each answer that `t` has and `s` lacks contains only events at later places than the
+-- done ones. Those are the events done in `s` or, if the session acknowledges, in `u`.
 pub record GivesLater (s u t : Session) : Type 0 where
   pub filed : List Filed
   pub answers : t.answers ≡ s.answers ++ filed
   pub apart : Each (λ f. AllBelow (take (if u.ack then u.done else s.done) t.events) f.publications) filed
 
 -- The events in an answer have later places than all events that were done before it. An event is
--- done if it is acknowledged, or sent by a session that does not acknowledge.
+-- done once it is acknowledged or, if the session does not acknowledge, once it is sent.
 abbrev pub NoEventTwice : Type 0
 NoEventTwice = (config : Config) (number : ℕ) (xs : List Entry) (e : Entry) (ys : List Entry) → 0 < config.limits.batch → PlacesFrom 0 (xs ++ e ∷ ys) →
     GivesLater (session config number xs) (step config (session config number xs) e) (fold (step config) (step config (session config number xs) e) ys)
 
--- The entries of a list are at consecutive places.
+-- The entries of a list are at consecutive places from 0 on.
 abbrev pub EntriesInOrder : Type 0
 EntriesInOrder = (config : Config) (list : List Listed) → PlacesFrom 0 (entries config list)
 
@@ -103,8 +105,8 @@ EntriesInOrder = (config : Config) (list : List Listed) → PlacesFrom 0 (entrie
 abbrev pub given_in : List Filed → List Publication
 given_in answers = flat_map (λ (f : Filed). f.publications) answers
 
--- The answers of a session that does not acknowledge, to connects and riders, have its events in
--- order, each once. They have the first `done` events, which are never sent again.
+-- If a session does not acknowledge, its answers to connects and riders have its first `done`
+-- events, in order, each once.
 abbrev pub GivenOnce : Type 0
 GivenOnce = (config : Config) (number : ℕ) (es : List Entry) → 0 < config.limits.batch →
     (session config number es).ack ≡ false → given_in (session config number es).answers ≡ take (session config number es).done (session config number es).events
@@ -126,7 +128,8 @@ RidersArePlain = (config : Config) (list : List Listed) → AllByRecursion (λ (
 
 -- ---- Repeated batches
 
--- A missing number, or one below `num`, acknowledges nothing new.
+-- An acknowledged number is missing, or less than the number `num` of the last batch. So it
+-- acknowledges nothing new.
 abbrev pub Repeats : ℕ → Option ℕ → Type 0
 Repeats num None = ⊤
 Repeats num (Some n) = n < num
@@ -135,7 +138,7 @@ Repeats num (Some n) = n < num
 abbrev pub LastAnswer : Session → Filed → Type 0
 LastAnswer s f = (rest : List Filed) × (s.answers ≡ rest ++ f ∷ [])
 
--- `answers` is one answer without events, to the entry's rider, which belongs to session `number`.
+-- `answers` has one answer: to the rider `rides` of session `number` at `place`, without events.
 pub record EmptyRide (place : ℕ) (rides : Option Rider) (number : ℕ) (answers : List Filed) : Type 0 where
   pub rider : Rider
   pub is : rides ≡ Some rider
@@ -150,8 +153,9 @@ pub record LastGiven (place : ℕ) (rides : Option Rider) (s : Session) (f : Fil
   pub answers : s.answers ≡ rest ++ f ∷ behind
   pub last : (behind ≡ []) ⊎ EmptyRide place rides s.number behind
 
--- The answer that first sent a batch, and the one to the connect at `now` that sends it again, with
--- the same events and number.
+-- After entry `former`, the session is `forming`, and its last answer sends a batch. Only a rider's
+-- answer without events may follow. After the connect at `now`, the session is `after`. Its last
+-- answer, to this connect, has the same events and batch number.
 pub record SameBatch (former : Entry) (forming : Session) (now : ℕ) (after : Session) : Type 0 where
   pub first : Filed
   pub again : Filed
@@ -163,7 +167,8 @@ pub record SameBatch (former : Entry) (forming : Session) (now : ℕ) (after : S
   pub number : first.reply.ack ≡ AckNumber forming.num
   pub same_number : again.reply.ack ≡ AckNumber forming.num
 
--- Some entry formed the outstanding batch, and the later connect `e` is answered with it again.
+-- Some entry of `es` formed the last batch of session `number`. The later connect `e` is answered
+-- with that batch again.
 pub record Repetition (config : Config) (number : ℕ) (es : List Entry) (e : Entry) : Type 0 where
   pub before : List Entry
   pub forming : Entry
@@ -173,8 +178,8 @@ pub record Repetition (config : Config) (number : ℕ) (es : List Entry) (e : En
   pub current : (step config (session config number before) forming).num ≡ (session config number es).num
   pub same : SameBatch forming (step config (session config number before) forming) e.place (step config (session config number es) e)
 
--- While a batch is outstanding, a connect that acknowledges nothing new gets it again at once, with
--- the same number and events.
+-- While a batch is outstanding, a connect that acknowledges nothing new gets that batch again at
+-- once, with the same number and events.
 abbrev pub BatchRepeats : Type 0
 BatchRepeats = (config : Config) (number : ℕ) (es : List Entry) (e : Entry) (client : List ℕ) (id : Option (List ℕ)) (acked : Option ℕ) (hold : ℕ) → 0 < config.limits.batch →
     0 < (session config number es).out → (session config number es).overflow ≡ false →

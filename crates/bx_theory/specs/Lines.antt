@@ -5,15 +5,16 @@ use Rattle.bx_advice.specs.declared.config.Config.{Config}
 use Rattle.bx_entry.specs.Words.{ReadInput, Out, wholes, outs, held}
 use Rattle.bx_script.specs.Replay.{Dialect, Line, Bad, Rejected, Accepted, Resharded, Announced, Noted, Numbered, Script, inputs_from, line_of, line_text, line_with, nonce_at, out_by, printed_from, printed, held_text, with_nonces}
 
--- The inputs among a script's first lines.
+-- The inputs among these lines of a script, in order.
 abbrev pub inputs_in : List Line → List ReadInput
 inputs_in ls = map (λ (n : Numbered). n.input) (inputs_from 1 ls)
 
--- What the lines print, without the held lines at the end.
+-- What a replay prints for these lines, without the lines for held inputs at the end.
 abbrev pub printed_so_far : Config → List Line → List ℕ
 printed_so_far config ls = printed_from (wholes config (inputs_in ls)) (inputs_from 1 ls) 1 0 ls
 
--- If the line is an input, the input appends the outs `more`.
+-- If the line is an input, the input appends the outs `more` after those of `inputs`. Nothing is
+-- claimed of other lines.
 abbrev pub AddsOuts : Config → List ReadInput → Line → List Out → Type 0
 AddsOuts config inputs (Accepted callback input) more = outs config (inputs ++ input ∷ []) ≡ outs config inputs ++ more
 AddsOuts config inputs _ more = ⊤
@@ -23,7 +24,8 @@ AddsOuts config inputs _ more = ⊤
 abbrev pub outs_text : List Numbered → List Out → List ℕ
 outs_text numbered os = flat_map (λ (o : Out). out_by o (slice_get numbered o.input)) os
 
--- What line `number` prints, if its input appends the outs `more`.
+-- What line `number` prints: `bad`, the status of a rejected body or query, or the outs `more` that
+-- its input appends. Other lines print nothing.
 abbrev pub line_prints : ℕ → List Numbered → Line → List Out → List ℕ
 line_prints number numbered Bad more = line_text number (codes "bad")
 line_prints number numbered (Rejected status) more = line_text number (decimal status)

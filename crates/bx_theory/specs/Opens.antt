@@ -1,5 +1,5 @@
--- The open inputs of a run, which have an unanswered message, and which of them one more input
--- completes.
+-- The open inputs of a run, and those that one more input completes. An input is open if one of its
+-- messages is not answered.
 use Rattle.std.specs.Prelude.{ℕ, ◌+◌, ◌<◌, ◌≡◌, not, Bool, List, [], ◌∷◌, ◌++◌, length, filter, map, is_some, Option, Some, None}
 use Rattle.bx_advice.specs.declared.config.Config.{Config}
 use Rattle.bx_entry.specs.Words.{PlacedAnswer, answer_in, ReadInput, added_by, refusal_of, Registry, registry, Intake, Out, held, latest, outs, places_of, result_by, taken_in}
@@ -10,7 +10,7 @@ pub record Numbered : Type 0 where
   pub number : ℕ
   pub intake : Intake
 
--- Inputs, numbered from `number`.
+-- These inputs in order, numbered from `number` on.
 abbrev pub numbered_from : ℕ → List Intake → List Numbered
 numbered_from number [] = []
 numbered_from number (d ∷ ds) = record { number = number; intake = d } ∷ numbered_from (number + 1) ds
@@ -24,11 +24,11 @@ answers_to config r o = map (answer_in config r) (places_of o.intake o.intake.in
 abbrev pub is_whole : Config → Registry → Numbered → Bool
 is_whole config r o = is_some (latest 0 (answers_to config r o))
 
--- The response to an input, or its refusal.
+-- The number of the input `o`, and its response or refusal.
 abbrev pub out_of : Config → Registry → Numbered → Out
 out_of config r o = record { input = o.number; result = result_by (answers_to config r o) o.intake.refusal }
 
--- The registry after the inputs.
+-- The registry after all `inputs`, each admitted or rejected.
 abbrev pub registry_after : Config → List ReadInput → Registry
 registry_after config inputs = registry config (taken_in inputs).list
 
@@ -60,7 +60,8 @@ OutsAdd = (config : Config) (inputs : List ReadInput) (input : ReadInput) → 0 
     let r : Registry = registry_after config (inputs ++ input ∷ []) in
     outs config (inputs ++ input ∷ []) ≡ outs config inputs ++ map (out_of config r) (filter (is_whole config r) (waiting_at config inputs input))
 
--- An input with an unanswered message stays incomplete until some input completes it.
+-- After `input`, the inputs with an unanswered message are those that had one before, and `input`
+-- itself, except those that are then complete.
 abbrev pub OpensGoOn : Type 0
 OpensGoOn = (config : Config) (inputs : List ReadInput) (input : ReadInput) → 0 < config.limits.batch →
     let r : Registry = registry_after config (inputs ++ input ∷ []) in

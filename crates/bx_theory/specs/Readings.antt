@@ -17,27 +17,30 @@ use Rattle.bx_entry.specs.Sessions.{Session, Pending, Filed, Publication, ack_gi
 
 -- ---- Live: opened, and not closed since
 
--- Whether an entry of this kind opens the session.
+-- Whether an entry of this kind opens the session with this number.
 abbrev pub opens_by : ℕ → EntryKind → Bool
 opens_by number (Opened n ack) = n == number
 opens_by number _ = false
 
--- Whether an entry of this kind closes the session: its disconnect, or a tick that names it.
+-- Whether an entry of this kind closes the session with this number: its disconnect, or a tick that
+-- names it.
 abbrev pub closes_by : ℕ → EntryKind → Bool
 closes_by number (Disconnect n) = n == number
 closes_by number (Tick numbers) = list_any (λ n. n == number) numbers
 closes_by number _ = false
 
--- Whether an entry closes the session.
+-- Whether an entry closes the session with this number.
 abbrev pub closes : ℕ → Entry → Bool
 closes number e = closes_by number e.kind
 
--- The entries after the one that opens the session, if any.
+-- The entries after the first one that opens the session with this number, or `None` if no entry
+-- opens it.
 abbrev pub since_opening : ℕ → List Entry → Option (List Entry)
 since_opening number [] = None
 since_opening number (e ∷ es) = if opens_by number e.kind then Some es else since_opening number es
 
--- Whether the session was opened and no later entry closes it.
+-- Whether a session was opened, and no later entry closes it. The list has the entries after its
+-- opening. It is `None` if the session was not opened.
 abbrev pub unclosed : ℕ → Option (List Entry) → Bool
 unclosed number None = false
 unclosed number (Some es) = not (list_any (closes number) es)
@@ -66,10 +69,10 @@ abbrev pub InForceReading : Type 0
 InForceReading = (config : Config) (number : ℕ) (es : List Entry) (p : Glob) →
     in_force (session config number es).patterns p ≡ (not (session config number es).overflow && last_of false (filter_map (λ (e : Entry). mention_by number p e.kind) es))
 
--- ---- Held: not ended since
+-- ---- Held: until an entry ends the hold
 
 -- Whether an entry of this kind, at `moment`, ends the hold of the connect `p`: an event that
--- session `s` gets, a newer connect or a disconnect of the session, or a tick at or after the
+-- session `s` gets, a newer connect or a disconnect of the session, or a tick at or after its
 -- deadline.
 abbrev pub ends_by : Config → Session → Pending → ℕ → EntryKind → Bool
 ends_by config s p moment (Connect n client id acked hold) = n == s.number
@@ -87,21 +90,22 @@ abbrev pub NoneEnds : Config → Pending → Session → List Entry → Type 0
 NoneEnds config p s [] = ⊤
 NoneEnds config p s (e ∷ es) = (ends config s p e ≡ false) × NoneEnds config p (step config s e) es
 
--- A publish that ends a hold gives its event. Other entries give none.
+-- The events in the answer to a held connect, by the entry that ends the hold: the event of a
+-- publish. Other entries give none.
 abbrev pub ending_events : ℕ → EntryKind → List Publication
 ending_events place (Publish event) = record { place = place; event = event } ∷ []
 ending_events place _ = []
 
--- A newer connect ends a hold as superseded, a disconnect as disconnected, an event or a tick as
--- connected.
+-- The outcome of a held connect, by the kind of the entry that ends the hold. A newer connect
+-- supersedes it, and a disconnect disconnects it. With an event or a tick, it succeeds.
 abbrev pub ending_outcome : EntryKind → Outcome
 ending_outcome (Connect n client id acked hold) = Failed SupersededConnect
 ending_outcome (Disconnect n) = Disconnected
 ending_outcome _ = Connected
 
--- Entry `e` turns session `s` into `t`. Its first answer is to the held connect `p`, with the
--- events and the outcome that end the hold. If the session acknowledges and the connect succeeds,
--- the reply has the number of the last batch.
+-- Entry `e` turns session `s` into `t`. The first answer that the entry gives is to the held
+-- connect `p`. It has the events and the outcome for an entry of this kind. If the session
+-- acknowledges and the connect succeeds, the reply has the number of the last batch.
 pub record AnsweredAt (config : Config) (p : Pending) (e : Entry) (s t : Session) : Type 0 where
   pub answer : Filed
   pub others : List Filed
@@ -120,32 +124,32 @@ abbrev pub EndingReading : Type 0
 EndingReading = (config : Config) (s : Session) (p : Pending) (es : List Entry) (e : Entry) → s.held ≡ Some p → NoneEnds config p s es →
     ends config (fold (step config) s es) p e ≡ true → AnsweredAt config p e (fold (step config) s es) (step config (fold (step config) s es) e)
 
--- ---- Overflow: some earlier entry found no room
+-- ---- Overflow: an earlier entry exceeded a limit
 
--- Whether an entry of this kind overflows session `s`: a publish that its patterns match but its
+-- Whether an entry of this kind exceeds a limit of session `s`: a publish that it gets but its
 -- queue has no room for, or a subscription to too many patterns.
 abbrev pub overfills_by : Config → Session → EntryKind → Bool
 overfills_by config s (Subscribe n ps) = (n == s.number) && nat_lt config.limits.patterns (length (fold with_pattern s.patterns ps))
 overfills_by config s (Publish e) = is_hit s e && not (has_room config e s)
 overfills_by config s _ = false
 
--- Whether some entry overflows session `s`: a publish that its patterns match but its queue has no
--- room for, or a subscription to too many patterns.
+-- Whether one of the entries, applied in order to session `s`, exceeds a limit: a publish that it
+-- gets but its queue has no room for, or a subscription to too many patterns.
 abbrev pub some_overfills : Config → Session → List Entry → Bool
 some_overfills config s [] = false
 some_overfills config s (e ∷ es) = overfills_by config s e.kind || some_overfills config (step config s e) es
 
--- After more entries, a session has overflowed exactly if it had before them, or if one of them
--- found no room.
+-- After more entries, a session has overflowed exactly if it had overflowed before them, or one of
+-- them exceeds its limit of events, bytes or patterns.
 abbrev pub OverflowReading : Type 0
 OverflowReading = (config : Config) (s : Session) (es : List Entry) → (fold (step config) s es).overflow ≡ (s.overflow || some_overfills config s es)
 
--- A session's queue is within both of its limits.
+-- The queue of session `s` is within its limits: the number of events, and their size in bytes.
 pub record Bounded (config : Config) (s : Session) : Type 0 where
   pub events : pending_count s ≤ config.limits.events
   pub bytes : pending_bytes s ≤ config.limits.bytes
 
--- Every queue is within its limits.
+-- The queue of each session is always within the limits of events and of bytes.
 abbrev pub QueueBounded : Type 0
 QueueBounded = (config : Config) (number : ℕ) (es : List Entry) → Bounded config (session config number es)
 
@@ -157,17 +161,17 @@ abbrev pub is_from : ℕ → Option ℕ → Bool
 is_from number None = false
 is_from number (Some n) = number == n
 
--- The due moments that the session's accepted messages set, in order.
+-- The due moments that the accepted messages of session `number` set, in order.
 abbrev pub given_moments : Config → ℕ → List Judged → List ℕ
 given_moments config number js = map (λ (j : Judged). due_of config j.entry.moment j.hold) (filter (λ (j : Judged). is_from number j.sender) js)
 
--- `P` holds for each session.
+-- The predicate `P` holds for each session of the list.
 abbrev pub EachSession : (Registered → Type 0) → List Registered → Type 0
 EachSession P [] = ⊤
 EachSession P (r ∷ rs) = P r × EachSession P rs
 
--- The due moment of a session is the greatest that its accepted messages set. Each sets its moment,
--- plus the time that it may be held, plus `config.max_interval`.
+-- The due moment of a session is the greatest that its accepted messages set. Each sets the
+-- greatest moment up to it, plus the time that it may be held, plus `config.max_interval`.
 abbrev pub DueReading : Type 0
 DueReading = (config : Config) (list : List Listed) → EachSession (λ r. r.due ≡ fold max 0 (given_moments config r.number (registry config list).judged)) (registry config list).sessions
 
@@ -183,7 +187,7 @@ AcceptedWhileLive = (config : Config) (list : List Listed) (before : List Judged
     unclosed number (since_opening number (map (λ (i : Judged). i.entry) before)) ≡ true
 
 -- The kind of entry for a publish without a client id. Under `--anonymous`, the publish is accepted
--- if its channel is a name and it has data.
+-- if its channel is a name and it has data. Otherwise it is rejected.
 abbrev pub entry_without_client : Config → Message → EntryKind
 entry_without_client config m = if config.anonymous && (not (is_some (name_fault m.channel)) && not (is_none m.payload)) then Publish (event_of m) else Refused
 
@@ -219,6 +223,6 @@ abbrev pub moment_of : Listed → ℕ
 moment_of (messages.Post p) = p.moment
 moment_of (messages.Tick moment) = moment
 
--- The clock is the greatest moment in the list.
+-- The clock is the greatest moment in the list, or 0 if the list is empty.
 abbrev pub ClockReading : Type 0
 ClockReading = (config : Config) (list : List Listed) → (registry config list).clock ≡ fold max 0 (map moment_of list)

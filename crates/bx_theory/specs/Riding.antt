@@ -29,9 +29,9 @@ may_have_rider _ = false
 
 -- The message with the result `j` is a rider of session `number`. `before` and `behind`: the
 -- results of the earlier and the later messages of its request. `--ride` is set, and the session
--- does not acknowledge. The message ends the request. All messages of the request are accepted,
--- come from the session, and are no handshakes. The rider is a subscription, an unsubscription or a
--- publish.
+-- does not acknowledge after the entries `es`. The message ends the request. All messages of the
+-- request are accepted, come from the session, and are no handshakes. The rider is a subscription,
+-- an unsubscription or a publish.
 pub record IsRiderOf (number : ℕ) (config : Config) (es : List Entry) (before : List Judged) (j : Judged) (behind : List Judged) : Type 0 where
   pub asked : config.ride ≡ true
   pub plain : (session config number es).ack ≡ false
@@ -39,7 +39,7 @@ pub record IsRiderOf (number : ℕ) (config : Config) (es : List Entry) (before 
   pub own : AllByRecursion (λ (i : Judged). is_own number i ≡ true) (before ++ j ∷ behind)
   pub kind : may_have_rider j.entry.kind ≡ true
 
--- The session of a rider, if any.
+-- The number of the rider's session, if there is a rider.
 abbrev pub rider_session : Option Rider → Option ℕ
 rider_session rides = option_map (λ (rider : Rider). rider.session) rides
 
@@ -64,8 +64,8 @@ OthersNeverRide = (config : Config) (list : List Listed) → AllByRecursion (λ 
 
 -- ---- What a rider gets
 
--- The only new answer in `t` is that to the rider. It has the first events that wait in `s`, up to
--- `most`. The others still wait.
+-- Session `s` becomes `t` with one more answer, to the rider at `place`. The answer has the first
+-- events that wait in `s`, up to `most`. The others still wait in `t`.
 pub record GivesRider (most place : ℕ) (rider : Rider) (s t : Session) : Type 0 where
   pub given : List Publication
   pub answers : t.answers ≡ s.answers ++ record { connect = place; place = place; publications = given; reply = rider.reply } ∷ []

@@ -1,4 +1,4 @@
-//! The terms of the server's laws, and lemmas about its definitions.
+//! The definitions in which the server's laws are stated, and lemmas about the server.
 //!
-//! They hold for every configuration and every list. The proofs of other crates cite them.
+//! The lemmas hold for every list of messages and ticks. The proofs of other crates cite them.
 #![tactic(auto)]

@@ -26,7 +26,7 @@ skip x xs v (there y ys u R) n = (u, refl, R)
 
 -- ---- the content of a string
 
--- If `o` has bytes, `p` has the same.
+-- If `o` is `Some` with bytes, `p` is `Some` with the same bytes.
 abbrev Stays : Option (List ℕ) → Option (List ℕ) → Type 0
 Stays o p = (s : List ℕ) → o ≡ Some s → p ≡ Some s
 
@@ -94,7 +94,7 @@ contents _ w v R = λ s e. no_some s e
 
 -- ---- lexemes
 
--- No token is bad.
+-- No token of the list is bad.
 abbrev pub Sound : List Lexeme → Type 0
 Sound [] = Unit {0}
 Sound (token t ∷ ls) = (t ≡ bad → ⊥) × Sound ls

@@ -25,7 +25,7 @@ pub enum TransportError {
 }
 
 impl TransportError {
-    /// Returns the HTTP status of the response.
+    /// Returns the HTTP status of the response to a request that is rejected with this error.
     ///
     /// Policy of this server.
     pub fn status(self) -> Status

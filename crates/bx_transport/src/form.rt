@@ -50,7 +50,7 @@ fn semicolon_in(content_type: &[u8]) -> Option<usize>
 pub(crate) struct Parameters {
     // The values of all parameters `message`, in order.
     pub(crate) documents: Vec<String>,
-    // The value of the last parameter `jsonp`.
+    // The value of the last parameter `jsonp`, if any.
     pub(crate) callback: Option<String>,
 }
 

@@ -9,7 +9,8 @@ use Rattle.bx_shard.specs.declared.shard.Shard.{Shard}
 use Rattle.bx_shard.proofs.{Holding.refines_unchanged, Onwards.refines_applied}
 use Rattle.bx_workers.specs.Upward.{AreConsecutive, AreOf, IsWithin, WentOn, end_of, first_of}
 
--- `new` is the shard `old` after it applied `n` more entries of `es`.
+-- `new` is the shard `old` after it applied `n` more entries of `es`. If `old` agrees with its
+-- definition `shard_at` for a list that has the entries, `new` does too.
 pub record Goes {P : Type 0} (place_of : P → ℕ → ℕ → ℕ) (es : List Entry) (n : ℕ) (old new : Shard P) : Type 0 where
   pub place : new.place ≡ old.place + n
   pub setup : setup_in place_of new ≡ setup_in place_of old

@@ -14,8 +14,8 @@ use std::thread::Threads;
 /// Advances every shard to the end of `entries`, and returns how many shards do not reach it.
 ///
 /// `entries` must have consecutive places. Each shard's next entry must be one of `entries`, or the
-/// one after the last. A shard stops at the first entry for which memory runs out. Tasks are woken
-/// once their shard has advanced.
+/// one after the last. A shard stops at the first entry for which memory runs out. The tasks of
+/// answered connects are woken once their shard has advanced.
 ///
 /// Worker `w`, counted from 0, advances the `w`-th run of `ceil(shards / workers)` neighboring
 /// shards, and calls `gate` before and after. A worker without shards does not call it. If no
@@ -56,7 +56,8 @@ pub fn bring_up<R: Threads + Sync, G: Gate + Sync, P: Placing + Send + Sync>(
         .count()
 }
 
-// Advances shards one after another. `bring_up` counts those that do not reach the end.
+// Advances each of `shards` to the end of `entries`, one after another. A shard for which memory
+// runs out stops earlier.
 fn catch_up_each<P: Placing>(alloc: Global, shards: &mut [Shard<P>], entries: &[Entry])
     requires consecutive { AreConsecutive entries.now }
     requires end { end_of entries.now ≤ greatest_length }
@@ -88,7 +89,7 @@ fn catch_up<P: Placing>(
     Ok(())
 }
 
-// Returns the part of `entries` that the shard has not applied.
+// Returns the entries of `entries` that `shard` has not applied.
 fn lacking<'entries, P: Placing>(shard: &Shard<P>, entries: &'entries [Entry]) -> &'entries [Entry]
     requires { IsWithin entries.now shard.now }
     ensures { result.now ≡ drop (shard.now.place - first_of entries.now) entries.now }

@@ -11,7 +11,8 @@ use Rattle.bx_entry.specs.Sessions.{Session, Publication, Pending, Filed, answer
 use Rattle.bx_theory.specs.Laws.{Each, InStep, PlacesFrom}
 use Rattle.bx_theory.proofs.{Counts.stays_in_step, Counts.step_by_in, Counts.unopened_in_step, Moves.each_map, Moves.each_append, Places.is_connecting}
 
--- The answer is not to the connect at `place`; it is to an earlier one, or has no events.
+-- The answer is not to the connect or rider at `place`. It is to one at an earlier place, or has no
+-- events.
 abbrev pub Before : ℕ → Filed → Type 0
 Before place f = (f.connect ≢ place) × ((f.connect < place) ⊎ (f.publications ≡ []))
 

@@ -29,41 +29,45 @@ pub record IsTicket (setup : Setup) (list : List Listed) (here : ℕ) (t : Ticke
   pub place : t.place ≡ here
   pub shard : t.shard ≡ setup.placing session setup.shards
 
--- The slot is right for the message at `place`: it has the reply, which is given at once and
--- without events, or the ticket for the answer.
+-- The slot is right for the message at `place`. If the slot has a reply, the definition `answer`
+-- gives this reply, at once and without events. Otherwise the slot has the ticket of the message.
 abbrev pub IsSlot : Setup → List Listed → ℕ → Slot → Type 0
 IsSlot setup list place (answers.Ready reply) = answer setup.config list place ≡ Some (record { place = place; events = []; reply = reply })
 IsSlot setup list place (answers.Waiting ticket) = IsTicket setup list place ticket
 
--- The slots are those of the messages at `place` and the places after it, in order.
+-- Each slot of a list is right for its message, as `IsSlot` defines. The first message is at
+-- `place`, and the others follow in order.
 abbrev pub EachSlot : Setup → List Listed → ℕ → List Slot → Type 0
 EachSlot setup list place [] = ⊤
 EachSlot setup list place (slot ∷ slots) = IsSlot setup list place slot × EachSlot setup list (place + 1) slots
 
--- The number of messages in an input, which is 0 for a tick.
+-- The number of messages in an input. It is 0 for a tick, and for a request that cannot be read.
 abbrev pub asked_by : ReadInput → ℕ
 asked_by (Request moment nonce messages) = length messages
 asked_by _ = 0
 
--- The messages of the admitted `input` are in `list` from place `first` on, and `slots` has the
--- slot of each, in order.
+-- The messages or the tick of the admitted `input` are in `list` from place `first` on. `slots` has
+-- the right slot for each message, in order.
 pub record IsAdmitted (setup : Setup) (list : List Listed) (input : ReadInput) (first : ℕ) (slots : List Slot) : Type 0 where
   pub listed : take (length (added_by input)) (drop first list) ≡ added_by input
   pub many : length slots ≡ asked_by input
   pub each : EachSlot setup list first slots
 
--- If the output is an admission, the input is in the list, and its messages have their slots.
+-- If the output is an admission, the input is in the list, and the output has the right slot for
+-- each of the input's messages.
 abbrev pub RepliedBy : Setup → List Listed → Input → StepOut → Type 0
 RepliedBy setup list input (Admitted first slots) = IsAdmitted setup list (read_input input) first slots
 RepliedBy setup list input _ = ⊤
 
--- If the step admits an input, the input is in the list, and its messages have their slots.
+-- If the step is an admission that succeeds, its input is in the list, and the output has the right
+-- slot for each of the input's messages.
 abbrev pub Replied : Setup → List Listed → Step → StepOut → Type 0
 Replied setup list (Admit input) out = RepliedBy setup list input out
 Replied setup list (Apply shard) out = ⊤
 Replied setup list (Take ticket) out = ⊤
 
--- For each admission in the schedule, the input is in the list, and its messages have their slots.
+-- For each admission of a schedule that succeeds, the input is in the list, and the output has the
+-- right slot for each of the input's messages.
 abbrev pub EachReplied : Setup → List Listed → List Step → List StepOut → Type 0
 EachReplied setup list [] outs = ⊤
 EachReplied setup list (step ∷ steps) [] = ⊤
@@ -114,8 +118,8 @@ pub record AsksAgain (config : Config) (list : List Listed) (number place : ℕ)
   pub repeats : Repeats (session_before config list number place).num acked
 
 -- `filed` is the answer that formed the batch which is outstanding before `place`. It is the last
--- answer of session `number` after the entry at `forming`, which raised the batch number to that
--- batch's.
+-- answer of session `number` after the entry at `forming`. That entry raised the session's batch
+-- number by one, and the number is still the same before `place`.
 pub record FormedBy (config : Config) (list : List Listed) (number place : ℕ) (filed : Filed) : Type 0 where
   pub forming : ℕ
   pub earlier : forming < place
@@ -161,8 +165,8 @@ abbrev pub done_at : Config → List Listed → ℕ → ℕ → ℕ
 done_at config list number n =
     if (session_before config list number (n + 1)).ack then (session_before config list number (n + 1)).done else (session_before config list number n).done
 
--- `a` is the answer that session `number` filed for the connect at `connect`. Each event of `a` was
--- published after every event that was already acknowledged or, if the session does not
+-- `a` is the answer that session `number` filed for the connect or rider at `connect`. Each event
+-- of `a` was published after every event that was already acknowledged or, if the session does not
 -- acknowledge, sent.
 pub record GivenLater (config : Config) (list : List Listed) (number connect : ℕ) (a : Answer) : Type 0 where
   pub filed : Filed
@@ -177,8 +181,8 @@ NoneGivenAgain = (setup : Setup) (first : WorldState) (steps : List Step) (outs 
     Runs setup first steps outs last → (number place : ℕ) (a : Answer) → slot_at setup.config last.list place ≡ Some (Waiting number) → Gave steps outs place a →
     GivenLater setup.config last.list number place a
 
--- `a` and `b` are the answers that session `number` filed for the connects at `connect` and
--- `later`. All events of `a` were published before those of `b`.
+-- `a` and `b` are the answers that session `number` filed for the connects or riders at `connect`
+-- and `later`. All events of `a` were published before those of `b`.
 pub record GivenApart (config : Config) (list : List Listed) (number : ℕ) (connect later : ℕ) (a b : Answer) : Type 0 where
   pub filed : Filed
   pub next : Filed

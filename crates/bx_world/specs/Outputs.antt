@@ -6,13 +6,13 @@ use Rattle.bx_world.specs.declared.step.{Applied.Applied, StepOut.StepOut}
 use Rattle.bx_world.specs.declared.step.Applied.TheVariants as applications
 use Rattle.bx_world.specs.declared.step.StepOut.TheVariants as outs
 
--- The output of a step that admits an input.
+-- The output of a step that admits an input, from the result of the admission.
 abbrev pub admission : Result Admitted AdmitFault → StepOut
 admission (Ok a) = outs.Admitted a.first a.slots
 admission (Err (Refused refusal)) = outs.NotAdmitted refusal
 admission (Err Memory) = outs.OutOfMemory
 
--- The output of a step that applies an entry.
+-- The output of a step that applies an entry, from the result of the application.
 abbrev pub application : Applied → StepOut
 application applications.Done = outs.Applied
 application applications.Level = outs.Level

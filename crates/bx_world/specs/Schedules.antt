@@ -97,7 +97,8 @@ abbrev pub EachNew : List ℕ → List ℕ → Type 0
 EachNew seen [] = ⊤
 EachNew seen (p ∷ ps) = (is_taken seen p ≡ false) × EachNew (seen ++ p ∷ []) ps
 
--- No answer is taken twice, or again after it was taken before the schedule.
+-- Under every schedule, no answer is taken twice. An answer that was taken before the schedule is
+-- not taken again.
 abbrev pub NoneTakenTwice : Type 0
 NoneTakenTwice = (setup : Setup) (first : WorldState) (steps : List Step) (outs : List StepOut) (last : WorldState) → Runs setup first steps outs last →
     EachNew first.taken (taken_places steps outs)

@@ -57,13 +57,14 @@ after w step out = w
 abbrev pub next_entry : Setup → WorldState → ℕ → Option Entry
 next_entry setup w shard = slice_get (entries setup.config w.list) (slice_index w.applied shard)
 
--- Whether applying an entry may allocate. A disconnect, a rejected message, a tick, and an
--- unsubscription that is not a rider do not.
+-- Whether applying an entry, if there is one, may allocate. A disconnect, a rejected message, a
+-- tick, and an unsubscription that is not a rider do not.
 abbrev pub may_take_memory : Option Entry → Bool
 may_take_memory None = false
 may_take_memory (Some e) = not (takes_no_memory e)
 
--- Whether memory may run out for a step: an admission, or an entry that may allocate.
+-- Whether memory may run out for a step: an admission, or the application of an entry that may
+-- allocate.
 abbrev pub may_refuse : Setup → WorldState → Step → Bool
 may_refuse setup w (Admit input) = true
 may_refuse setup w (Apply shard) = not (is_level w shard) && may_take_memory (next_entry setup w shard)

@@ -86,6 +86,8 @@ impl Intake {
 
     /// Appends a tick to the list, and returns its place.
     ///
+    /// `moment`: milliseconds since the server started.
+    ///
     /// # Errors
     ///
     /// `Refused` if the moment is too large or the list would become too long; `Memory` if memory
@@ -148,8 +150,8 @@ impl Intake {
     /// Advances every shard to the end of the list, and returns how many shards still lack entries.
     ///
     /// A shard still lacks entries only if memory runs out. `workers`: the number of workers that
-    /// share the shards. Each calls `gate` before and after its work, as in
-    /// [`bring_up`](bx_workers::bring_up) of `bx_workers`.
+    /// share the shards. Each worker with shards calls `gate` before and after its work, as
+    /// [`bring_up`](bx_workers::bring_up) of `bx_workers` describes.
     pub(crate) fn bring_up<R: Threads + Sync, G: Gate + Sync, P: Placing + Send + Sync>(
         &mut self,
         rt: &R,

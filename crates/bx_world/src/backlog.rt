@@ -16,7 +16,8 @@ use std::thread::Threads;
 
 /// The entries of the list from place `first` on, which some shard has yet to apply.
 ///
-/// Model: all entries of the list, the place of the first kept one, and how many more fit.
+/// Model: all entries of the list, the place of the first kept one, and for how many more entries
+/// there is room.
 #[derive(Drop)]
 pub(crate) struct Backlog {
     first: u64,
@@ -115,8 +116,8 @@ impl Backlog {
     /// Advances every shard to the end of the list, and returns how many shards still lack entries.
     ///
     /// A shard still lacks entries only if memory runs out. `workers`: the number of workers that
-    /// share the shards. Each calls `gate` before and after its work, as in
-    /// [`bring_up`](bx_workers::bring_up) of `bx_workers`.
+    /// share the shards. Each worker with shards calls `gate` before and after its work, as
+    /// [`bring_up`](bx_workers::bring_up) of `bx_workers` describes.
     pub(crate) fn bring_up<R: Threads + Sync, G: Gate + Sync, P: Placing + Send + Sync>(
         &mut self,
         rt: &R,

@@ -57,6 +57,8 @@ pub fn plain_events_given_once()
 {}
 
 /// Proves that a connect that acknowledges nothing new gets the outstanding batch again.
+///
+/// This holds for a session that has not overflowed.
 pub fn batches_repeat()
     ensures { BatchesRepeat }
 {}
@@ -68,7 +70,8 @@ pub fn batches_repeat()
 /// - Each immediate reply and each taken answer is that of a server that handles one message at a
 ///   time.
 /// - No answer is taken twice.
-/// - A connect that acknowledges nothing new while a batch is outstanding gets that batch again.
+/// - A connect that acknowledges nothing new while a batch is outstanding gets that batch again,
+///   unless the session has overflowed.
 /// - An acknowledged event is never sent again.
 /// - No event is in two answers of a session that does not acknowledge.
 pub fn headline()

@@ -10,15 +10,15 @@ use bx_message::{Answer, Sequence};
 /// Any list of steps is a schedule.
 #[derive(Drop)]
 pub enum Step {
-    /// Appends a request or a tick to the list.
+    /// The step that appends a request or a tick to the list.
     Admit(Input),
-    /// Applies the next entry to the shard with this index.
+    /// The step that applies the next entry to the shard with this index, counted from 0.
     Apply(usize),
-    /// Takes the answer filed under this ticket.
+    /// The step that takes the answer filed under this ticket.
     Take(Ticket),
 }
 
-/// The output of a step.
+/// The output of a [`Step`].
 #[derive(Drop)]
 pub enum StepOut {
     /// The request or tick was admitted, and its entries are in the list.
@@ -28,26 +28,26 @@ pub enum StepOut {
         /// How each message is answered, in order. Empty for a tick.
         slots: Sequence<Slot>,
     },
-    /// The request or tick was rejected; nothing has changed.
+    /// The request or tick was rejected, for this reason; nothing has changed.
     NotAdmitted(Refusal),
     /// The shard applied its next entry.
     Applied,
     /// The shard does not exist, or has applied the whole list.
     Level,
-    /// The answer, if one was filed.
+    /// The step took this answer, or `None` if no answer is filed under its ticket.
     Taken(Option<Answer>),
-    /// Memory ran out; nothing has changed.
+    /// Memory ran out for the step; nothing has changed.
     OutOfMemory,
 }
 
 /// The result of applying a shard's next entry.
 #[derive(Clone, Copy, Debug, PartialEq, Eq)]
 pub enum Applied {
-    /// The shard applied the entry.
+    /// The shard applied its next entry.
     Done,
     /// The shard does not exist, or has applied the whole list.
     Level,
-    /// Memory ran out; the shard is unchanged.
+    /// Memory ran out for the shard's next entry; the shard is unchanged.
     Memory,
 }
 

@@ -60,6 +60,8 @@ impl<P: Placing> World<P> {
 
     /// Creates a world with an empty list and `config.shards` shards.
     ///
+    /// `placing` chooses the shard of each session.
+    ///
     /// # Errors
     ///
     /// `AllocError` if memory runs out.
@@ -148,8 +150,8 @@ impl<P: Placing> World<P> {
     /// Advances every shard to the end of the list, and returns how many shards still lack entries.
     ///
     /// A shard still lacks entries only if memory runs out. `workers`: the number of workers that
-    /// share the shards. Each calls `gate` before and after its work, as in
-    /// [`bring_up`](bx_workers::bring_up) of `bx_workers`.
+    /// share the shards. Each worker with shards calls `gate` before and after its work, as
+    /// [`bring_up`](bx_workers::bring_up) of `bx_workers` describes.
     pub fn bring_up<R: Threads + Sync, G: Gate + Sync>(
         &mut self,
         rt: &R,
@@ -350,8 +352,8 @@ impl<P: Placing> World<P> {
     }
 }
 
-// Applies the next entry to `shard`. The entries from its place on must be kept. A world registers
-// no wakers, so the list of wakers stays empty.
+// Applies the next entry of the list to `shard`. `admission` must have kept the entries from the
+// shard's place on. A world registers no wakers, so the list of wakers stays empty.
 fn apply_next<P: Placing>(alloc: Global, shard: &mut Shard<P>, admission: &Intake) -> Applied
     requires kept { admission.now.first ≤ shard.old.place }
     requires end { length admission.now.list ≤ greatest_length }
@@ -368,7 +370,8 @@ fn apply_next<P: Placing>(alloc: Global, shard: &mut Shard<P>, admission: &Intak
 }
 
 // Drops the entries that all of `shards` have applied. `place`: the place of a shard before it
-// advanced. If it is after the first kept entry, another shard still needs that entry.
+// advanced. If `place` is after the first kept entry, another shard still needs that entry, so no
+// entry is dropped.
 fn forget_applied<P: Placing>(admission: &mut Intake, shards: &[Shard<P>], place: u64)
     requires first { StandFrom admission.old.first shards.now }
     requires end { StandWithin (length admission.old.list) shards.now }

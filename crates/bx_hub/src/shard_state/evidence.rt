@@ -19,7 +19,7 @@ use futures::task::Waker;
 use std::marker::{Model, PhantomData};
 use std::snapshot::Snapshot;
 
-/// Evidence of a shard's position.
+/// Evidence of a shard's position: the number of entries that it had applied.
 ///
 /// Ghost: the shard's index, and the front that its reader has seen.
 #[derive(Drop)]
@@ -53,9 +53,9 @@ impl<L: LogId> ShardPosition<L> {
 
 /// The result of advancing a shard to a front of the list, `prefix`.
 ///
-/// The shard has learned `prefix`. It has reached the end of `prefix`, or `stays` is the fault that
-/// stopped it. With `WrongShard`, the shard was not found and nothing was done. Ghost: the wakers
-/// added to the caller's list.
+/// The shard has learned `prefix`. It has reached the end of `prefix`, or the fault `stays` stopped
+/// it. With `WrongShard`, the shard was not found and nothing was done. Ghost: the wakers added to
+/// the caller's list.
 #[derive(Drop)]
 pub(crate) struct ShardAdvance<L: LogId> {
     index: Snapshot<usize>,
@@ -66,6 +66,9 @@ pub(crate) struct ShardAdvance<L: LogId> {
 
 impl<L: LogId> ShardAdvance<L> {
     /// Creates the result for `shard_state`, which has learned `prefix`.
+    ///
+    /// `stays`: the fault, if one stopped the shard before the end of `prefix`. `woken`: the wakers
+    /// that were added to the caller's list.
     pub(super) fn of<P: Placing>(
         shard_state: &ShardState<L, P>,
         prefix: &Front<L>,
@@ -113,7 +116,7 @@ impl<L: LogId> ShardAdvance<L> {
         }
     }
 
-    /// Returns the fault if the shard stopped before the end of `prefix` or was not found.
+    /// Returns the fault if the shard stopped before the end of the front or was not found.
     pub(crate) fn stays(&self) -> Option<HubFault>
         ensures { result ≡ self.now.stays }
     {
@@ -123,8 +126,8 @@ impl<L: LogId> ShardAdvance<L> {
 
 /// Evidence of why there is no answer under a ticket.
 ///
-/// The ticket's shard has filed no answer, and the fault stopped it. With `WrongShard`, the shard
-/// was not found, and may have filed one.
+/// The fault stopped the ticket's shard, which has filed no answer under the ticket. With
+/// `WrongShard`, the shard was not found, and may have filed one.
 #[derive(Drop)]
 pub struct NoAnswer<L: LogId> {
     ticket: Snapshot<Ticket>,
@@ -137,7 +140,10 @@ impl<L: LogId> NoAnswer<L> {
     ghost use Rattle.bx_shard.specs.Seen.{state};
     ghost use Rattle.bx_shard.specs.States.{connect_in};
 
-    /// Creates evidence that `fault` stopped `shard_state`, which has filed no answer.
+    /// Creates evidence that `fault` stopped `shard_state` and that no answer is filed under
+    /// `ticket`.
+    ///
+    /// `shard_state`: the ticket's shard.
     pub(super) fn of<P: Placing>(
         shard_state: &ShardState<L, P>,
         ticket: &Ticket,
@@ -188,7 +194,7 @@ impl<L: LogId> NoAnswer<L> {
 /// The ticket's shard had applied all of the longest front that it had learned. The answer is not
 /// due yet, was taken or swept, or the ticket is not that of a connect or rider of the shard.
 ///
-/// Ghost: that front.
+/// Ghost: the ticket and that front.
 #[derive(Drop)]
 pub struct Unfiled<L: LogId> {
     ticket: Snapshot<Ticket>,
@@ -200,8 +206,10 @@ impl<L: LogId> Unfiled<L> {
     ghost use Rattle.bx_shard.specs.Seen.{state};
     ghost use Rattle.bx_shard.specs.States.{connect_in};
 
-    /// Creates evidence that `shard_state`, which is at the end of the front that it has learned,
-    /// has filed no answer under `ticket`.
+    /// Creates evidence that no answer is filed under `ticket`.
+    ///
+    /// `shard_state`: the ticket's shard, which must be at the end of the longest front that it has
+    /// learned.
     pub(super) fn of<P: Placing>(shard_state: &ShardState<L, P>, ticket: &Ticket) -> Unfiled<L>
         requires own { ticket.now.shard ≡ shard_state.now.shard.index }
         requires level { shard_state.now.shard.place ≡ length (list_of shard_state.now.prefix) }
@@ -217,8 +225,8 @@ impl<L: LogId> Unfiled<L> {
 
 /// Evidence of the result of registering a waker under a ticket.
 ///
-/// The waker is registered, an answer is filed, no connect is known, or the shard is closed. If the
-/// shard was not found, the result is `Unknown`.
+/// One of these holds: the waker is registered, an answer is filed, no connect is known under the
+/// ticket, or the shard is closed. If the shard was not found, the result is `Unknown`.
 #[derive(Drop)]
 pub struct WatchEvidence<L: LogId> {
     ticket: Snapshot<Ticket>,
@@ -233,7 +241,7 @@ impl<L: LogId> WatchEvidence<L> {
     ghost use Rattle.bx_shard.specs.Seen.{state};
     ghost use Rattle.bx_shard.specs.States.{connect_in};
 
-    // Creates evidence that `said` is the result for `waker`.
+    // Creates evidence that `said` is the result of registering `waker` under `ticket`.
     fn new(ticket: &Ticket, waker: Snapshot<Waker>, said: &Watch) -> WatchEvidence<L>
         ensures { (result.ticket.value ≡ ticket.now) × (result.waker.value ≡ waker.value)
             × (result.said.value ≡ said.now) }
@@ -246,7 +254,9 @@ impl<L: LogId> WatchEvidence<L> {
         }
     }
 
-    /// Creates evidence that `shard_state` returned `said` for `waker`.
+    /// Creates evidence that `said` is the result of registering `waker` under `ticket`.
+    ///
+    /// `shard_state`: the ticket's shard after the call.
     pub(super) fn of<P: Placing>(
         shard_state: &ShardState<L, P>,
         ticket: &Ticket,
@@ -263,9 +273,9 @@ impl<L: LogId> WatchEvidence<L> {
         WatchEvidence::new(ticket, waker, said)
     }
 
-    /// Returns evidence that the shard is closed and has filed no answer.
+    /// Returns evidence that the ticket's shard is closed and has filed no answer under `ticket`.
     ///
-    /// `self` must be the result `Shut` for `ticket`.
+    /// `self` must be evidence of the result `Shut` for `ticket`.
     pub fn no_answer(&self, ticket: &Ticket) -> NoAnswer<L>
         requires ticket { self.now.ticket.value ≡ ticket.now }
         requires shut { IsShut self.now.said.value }
@@ -301,13 +311,13 @@ impl<L: LogId> WatchEvidence<L> {
 /// A change to a shard, other than by entries, polls and wakers.
 #[derive(Clone, Copy)]
 pub enum ShardChange {
-    /// The shard applies nothing until it is resumed.
+    /// A pause: an active shard applies nothing until it is resumed.
     Pause,
-    /// The shard continues after a pause.
+    /// The end of a pause: a paused shard can advance again.
     Resume,
-    /// The shard is closed permanently.
+    /// The end of a shard: it is closed permanently, and the tasks of its held connects are woken.
     Shut,
-    /// Answers filed by entries before place `before` and never taken are dropped.
+    /// A sweep: answers filed by entries before place `before` and never taken are dropped.
     Sweep { before: u64 },
 }
 
@@ -344,9 +354,9 @@ impl<L: LogId> ChangeEvidence<L> {
         }
     }
 
-    /// Creates evidence that shard `index` was not found, and nothing was changed.
+    /// Creates evidence that `change` was not applied to shard `index`, which was not found.
     ///
-    /// `shard_state`: the other shard that the lock guards.
+    /// `shard_state`: the other shard, which the lock at `index` guards.
     pub(crate) fn misplaced<P: Placing>(
         shard_state: &ShardState<L, P>,
         index: &usize,

@@ -107,7 +107,7 @@ impl Write for Failing {
     }
 }
 
-// An `WriterEnd` that can be compared.
+// Why writing ended, as a value that can be compared with `==`.
 #[derive(Clone, Copy, Debug, PartialEq, Eq)]
 enum Ending {
     Told,

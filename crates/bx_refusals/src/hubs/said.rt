@@ -47,7 +47,7 @@ impl Said {
     }
 
     // Returns `true` if a call did not advance a shard to the end because memory ran out. Fails if
-    // another reason kept a shard from the end, or if it is the second shard in the run: only one
+    // another reason kept a shard from the end. Fails also at a second such shard, because only one
     // allocation fails in a run.
     fn is_behind(&mut self, behind: Lagging) -> Result<bool, Unlike> {
         let memory = behind.memory;

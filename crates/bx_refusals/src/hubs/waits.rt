@@ -93,7 +93,7 @@ fn polled<L: LogId, H: Wait + Drop, R: Wait>(
     }
 }
 
-// What a poll returns: `Pending`, `Refused` if memory ran out, or `Other` for all else.
+// What the first poll returns: `Pending`, `Refused` if memory ran out, or `Other` in other cases.
 #[derive(Clone, Copy, Debug, PartialEq, Eq)]
 enum First {
     Pending,

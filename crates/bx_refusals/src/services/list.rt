@@ -68,12 +68,12 @@ impl<C: Count + Drop> List<C> {
         }
     }
 
-    /// Returns how many sessions were opened.
+    /// Returns how many sessions were opened by the entries that are counted so far.
     pub fn sessions(&self) -> u64 {
         self.sessions
     }
 
-    /// Adds what a request added to the expected numbers.
+    /// Adds what a request added to the list to the expected numbers of entries and sessions.
     pub fn add(&mut self, adds: Adds) {
         if adds != Adds::Nothing {
             self.entries = self.entries.saturating_add(1);
