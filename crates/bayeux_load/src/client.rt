@@ -30,7 +30,8 @@ pub struct Client {
     role: Role,
     id: String,
     state: Awaited,
-    // When it last sent a request or became ready, in nanoseconds since the load started; 0 before.
+    // When the client last sent a request or became ready, or 0 before. In nanoseconds since the
+    // load started.
     asked: u64,
 }
 

@@ -9,7 +9,7 @@ use std::time::{Clock, Instant};
 /// The state that all threads of a load share.
 #[derive(Drop)]
 pub struct Context {
-    /// The allocator.
+    /// The allocator, which all threads of the load use.
     pub alloc: Global,
     /// How to load the server.
     pub settings: LoadSettings,

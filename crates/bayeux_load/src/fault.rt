@@ -5,21 +5,21 @@ use std::io;
 /// Why a load fails.
 #[derive(Clone, Copy)]
 pub enum Fault {
-    /// Memory ran out.
+    /// The load failed, because memory ran out.
     Memory,
-    /// The host has no address, or cannot be reached.
+    /// The load failed, because the host has no address or cannot be reached.
     Unreachable,
-    /// The server closed a connection.
+    /// The load failed, because the server closed a connection.
     Ended,
-    /// A system call failed for another reason.
+    /// The load failed, because a system call failed for a reason that is not among the others.
     System,
-    /// A response was not an array of replies and events with status 200.
+    /// The load failed, because a response was not an array of replies and events with status 200.
     BadResponse,
-    /// The server rejected a message.
+    /// The load failed, because the server rejected a message.
     Refused,
-    /// The load made no progress for 30 seconds.
+    /// The load failed, because it made no progress for 30 seconds.
     Silent,
-    /// Another thread failed.
+    /// The part of this thread ended, because another thread of the load failed.
     Other,
 }
 

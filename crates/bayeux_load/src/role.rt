@@ -14,7 +14,7 @@ pub enum Role {
 /// The role of a session that receives the events of one channel.
 #[derive(Drop)]
 pub struct Subscriber {
-    /// The number of its channel, counted from 0.
+    /// The number of the session's channel, counted from 0.
     pub channel: u32,
     /// The number of the batch that the session's next connect acknowledges, if any.
     pub acknowledged: Option<u64>,
@@ -84,7 +84,7 @@ impl Subscriber {
 #[derive(Drop)]
 pub struct Publisher {
     number: u64,
-    /// The number of its channel, counted from 0.
+    /// The number of the publisher's channel, counted from 0.
     pub channel: u32,
     // Number of events that the publisher has sent.
     sent: u64,

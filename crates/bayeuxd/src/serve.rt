@@ -36,7 +36,9 @@ use tokio::runtime::Runtime;
 /// The settings with which the server runs.
 #[derive(Clone, Copy)]
 pub struct ServeSettings {
-    /// The number of shards, the times in milliseconds, the limits and the options.
+    /// The configuration of the server.
+    ///
+    /// It has the number of shards, the times in milliseconds, the limits and the options.
     pub config: Config,
     /// The size limit of bodies and queries.
     pub body: BodyLimit,

@@ -27,9 +27,9 @@ reconnect_of UnknownClient = Some Handshake
 reconnect_of QueueOverflow = Some Handshake
 reconnect_of _ = None
 
--- The advice for an outcome, if any. It is `Retry` after a handshake or a connect that succeeded,
--- and `Never` after a disconnect ended a held connect. After an error, it is what `reconnect_of`
--- gives, if anything. Other outcomes have none.
+-- The advice for an outcome, if any. After a handshake or a connect that succeeded, it is to
+-- connect again. For a held connect that a disconnect ended, it is `Never`. After an error, it is
+-- what `reconnect_of` gives, if anything. Other outcomes have none.
 abbrev pub advice_of : Config → Outcome → Option Advice
 advice_of c Opened = Some (retry c)
 advice_of c Connected = Some (retry c)

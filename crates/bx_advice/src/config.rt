@@ -146,9 +146,10 @@ impl Config {
     ghost use Rattle.std.specs.Prelude.{◌≡◌, ◌≤◌, ◌↔◌, IsSome, IfSome, false};
     ghost use Rattle.bx_advice.specs.Limits.{IsStandard};
 
-    /// Creates a configuration with the limits [`STANDARD_LIMITS`], and without `ride` and `anonymous`.
+    /// Creates a configuration with the limits [`STANDARD_LIMITS`] and without options.
     ///
-    /// The times are in milliseconds. Returns `None` if `shards` is not from 1 to [`MAX_SHARDS`].
+    /// The options are `ride` and `anonymous`. The times are in milliseconds. Returns `None` if
+    /// `shards` is not from 1 to [`MAX_SHARDS`].
     ///
     /// # Examples
     ///

@@ -43,7 +43,7 @@ impl WaitingAnswerLines {
         }
     }
 
-    /// Appends `line`, unless the log has ended.
+    /// Appends `line` to the log of answers, unless the log has ended.
     ///
     /// The log ends without `line` if more than 64 MiB would wait, or if memory runs out.
     ///
@@ -54,7 +54,7 @@ impl WaitingAnswerLines {
         self.lines.lock(rt).add(line);
     }
 
-    /// Ends the log because of `fault`, unless it has ended.
+    /// Ends the log of answers because of `fault`, unless the log has ended.
     ///
     /// # Blocking
     ///
@@ -63,7 +63,9 @@ impl WaitingAnswerLines {
         self.lines.lock(rt).end(fault);
     }
 
-    /// Ends the log without a fault, and drops the waiting lines and a fault that is not reported.
+    /// Ends the log of answers without a fault.
+    ///
+    /// Drops the waiting lines, and a fault that is not reported yet.
     ///
     /// # Blocking
     ///
@@ -72,7 +74,8 @@ impl WaitingAnswerLines {
         self.lines.lock(rt).stop(alloc);
     }
 
-    /// Takes all waiting lines, and the fault that ended the log, if it is not reported yet.
+    /// Takes all waiting lines, and the fault that ended the log of answers, if it is not reported
+    /// yet.
     ///
     /// The empty buffer `empty` replaces the lines. A request is in the list before its line is
     /// added. To let each line follow its request, take the lines before the hub's record, and

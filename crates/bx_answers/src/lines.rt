@@ -49,14 +49,14 @@ impl AnswerLines {
         }
     }
 
-    /// Returns `true` if the log accepts lines.
+    /// Returns `true` if the log of answers accepts lines.
     pub(crate) fn is_open(&self) -> bool
         ensures { IsTrue result ↔ (self.now.noting ≡ Open) }
     {
         self.noting == Noting::Open
     }
 
-    /// Appends `line`, unless the log has ended.
+    /// Appends `line` to the log of answers, unless the log has ended.
     ///
     /// If more than 64 MiB would wait, or memory runs out, the log ends without `line`.
     pub(crate) fn add(&mut self, line: &[u8])
@@ -70,7 +70,7 @@ impl AnswerLines {
         }
     }
 
-    /// Ends the log because of `fault`, unless it has ended.
+    /// Ends the log of answers because of `fault`, unless the log has ended.
     pub(crate) fn end(&mut self, fault: RecordFault)
         ensures lines { self.new.waiting ≡ self.old.waiting }
         ensures noting { self.new.noting ≡ ended_by fault self.old.noting }
@@ -80,7 +80,9 @@ impl AnswerLines {
         }
     }
 
-    /// Ends the log without a fault, and drops the waiting lines and a fault that is not reported.
+    /// Ends the log of answers without a fault.
+    ///
+    /// Drops the waiting lines, and a fault that is not reported yet.
     pub(crate) fn stop(&mut self, alloc: Global)
         ensures lines { self.new.waiting ≡ [] }
         ensures noting { self.new.noting ≡ Over }
@@ -89,7 +91,8 @@ impl AnswerLines {
         self.noting = Noting::Over;
     }
 
-    /// Takes all waiting lines, and the fault that ended the log, if it is not reported yet.
+    /// Takes all waiting lines, and the fault that ended the log of answers, if it is not reported
+    /// yet.
     ///
     /// The empty buffer `empty` replaces the lines. Does not allocate or copy.
     pub(crate) fn take(&mut self, empty: Vec<u8>) -> TakenAnswerLines

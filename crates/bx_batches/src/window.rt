@@ -20,8 +20,8 @@ use std::marker::Model;
 ///
 /// The outstanding batch was sent and is not acknowledged yet.
 ///
-/// Model: the events with the places of their publishes, the outstanding batch, and for how many
-/// more events there is room.
+/// Model: the events with the places of their publishes, how many are outstanding, and the number
+/// of the last batch. Also for how many more events there is room.
 ///
 /// CometD's acknowledgement extension.
 #[derive(Drop)]
@@ -33,7 +33,7 @@ pub struct Window {
     out: usize,
     // Number of the last batch, or 0 before the first.
     number: u64,
-    // Length of the events' JSON texts, in bytes.
+    // Total length of the JSON texts of the events, in bytes.
     bytes: usize,
 }
 
@@ -80,6 +80,8 @@ impl Window {
     }
 
     /// Returns `true` if appending `event` would exceed `events` events or `bytes` bytes.
+    ///
+    /// The bytes are those of the JSON texts of all events.
     #[tactic(auto, using(crate::proofs::Parts::bytes_in), unfolding(bx_entry::specs::Windows::has_room))]
     pub fn is_full(&self, events: usize, bytes: usize, event: &SharedEvent) -> bool
         ensures full { result ≡ not (has_room events bytes event.now self.now.contents) }
@@ -196,7 +198,7 @@ impl Window {
         }
     }
 
-    /// Returns all events, oldest first.
+    /// Returns all events, outstanding and waiting, oldest first.
     pub fn events(&self) -> Iter<'_, SharedEvent>
         ensures { deque_iter_rest result ≡ events_of self.now.contents.queue }
     {
@@ -236,7 +238,7 @@ impl Window {
         into
     }
 
-    /// Drops all events, and keeps the number of the last batch.
+    /// Drops all events, outstanding and waiting, but keeps the number of the last batch.
     pub fn clear(&mut self)
         ensures contents { self.new.contents ≡ emptied self.old.contents }
         ensures spare { self.old.spare ≤ self.new.spare }

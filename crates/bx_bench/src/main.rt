@@ -1,4 +1,4 @@
-//! A program that runs a workload of the core or the hub, for timing.
+//! A program that runs a workload of one part of the server, for timing.
 //!
 //! Without an argument, it prints a list of the workloads.
 #![tactic(auto)]

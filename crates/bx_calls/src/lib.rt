@@ -70,11 +70,11 @@ pub const RIDDEN: &str =
 /// What a poll finds for a ticket.
 #[derive(Clone, Copy, Debug, PartialEq, Eq)]
 pub enum Found {
-    /// No answer is filed.
+    /// The poll found no filed answer.
     Nothing,
-    /// An answer with the expected text was taken.
+    /// The poll took an answer with the expected text.
     Wanted,
-    /// An answer with another text was taken.
+    /// The poll took an answer with another text than expected.
     Other,
     /// The poll failed, with this fault of the hub.
     Stopped(HubFault),

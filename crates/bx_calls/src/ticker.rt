@@ -14,14 +14,14 @@ use std::sync::Wait;
 // the batch are each below this number.
 const MOST: u64 = 1_000_000;
 
-/// The result of publishing a batch.
+/// The result of publishing a batch to the window.
 #[derive(Clone, Copy, Debug, PartialEq, Eq)]
 pub enum Taken {
     /// The batch was published.
     Published,
     /// The batch was not published, and was returned.
     Refused {
-        /// The reason.
+        /// Why the window did not accept the batch.
         why: PublishFault,
         /// The first place of the returned batch.
         first: u64,

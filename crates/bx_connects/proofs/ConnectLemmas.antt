@@ -1,4 +1,4 @@
--- Connects after `retain`, which changes and keeps each.
+-- What is found in a map after `retain` with a function that keeps each value and changes it.
 use Rattle.std.proofs.Common.{◌≡◌, ℕ, nat_eq, Bool, true, option_map, List, [], ◌∷◌, ap}
 use Rattle.std.specs.{Map.lookup, Map.Calls.RetainsPairs}
 use Rattle.std.proofs.lemmas.Grind.{common_steps}

@@ -124,7 +124,7 @@ abbrev pub with_waker : Bool → Waker → Option ConnectState → Option Connec
 with_waker false waker (Some (Held session deadline older)) = Some (Held session deadline (Some waker))
 with_waker _ waker state = state
 
--- The connect without its waker.
+-- A held connect without its waker. An answered connect has none, and is unchanged.
 abbrev pub unwatched : ConnectState → ConnectState
 unwatched (Held session deadline waker) = Held session deadline None
 unwatched (Filed session place answer) = Filed session place answer

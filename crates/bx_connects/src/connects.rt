@@ -23,19 +23,20 @@ use std::marker::Model;
 /// Only a held connect has a waker.
 #[derive(Drop)]
 pub enum ConnectState {
-    /// Held until it is answered, at the latest by a tick at or after the deadline.
+    /// A connect that is held until it is answered, at the latest by a tick at or after the
+    /// deadline.
     Held {
-        /// The number of the session that holds the connect.
+        /// The number of the session of the held connect.
         session: u64,
-        /// The deadline, in milliseconds since the server started, or `None` if no tick can be that
-        /// late.
+        /// The deadline of the hold, or `None` if no tick can be that late. In milliseconds since
+        /// the server started.
         deadline: Option<u64>,
         /// The waker of the task that waits for the answer, if any. Dropping it wakes the task.
         waker: Option<Waker>,
     },
-    /// Answered; the answer is not taken yet.
+    /// An answered connect or rider; the answer is not taken yet.
     Filed {
-        /// The number of the session that gave the answer.
+        /// The number of the session of the answered connect or rider.
         session: u64,
         /// The place of the entry that gave the answer.
         place: u64,
@@ -47,7 +48,7 @@ pub enum ConnectState {
 /// A filed answer, with its session and the place of the entry that gave it.
 #[derive(Drop)]
 pub struct FiledAnswer {
-    /// The number of the session that gave the answer.
+    /// The number of the session of the answered connect or rider.
     pub session: u64,
     /// The place of the entry that gave the answer.
     pub place: u64,
@@ -115,9 +116,10 @@ impl Connects {
         self.held.hold(place, session, deadline)
     }
 
-    /// Removes the connect at `place`, held or answered, if it is known.
+    /// Removes the connect or rider at `place`, held or answered, if it is known.
     ///
-    /// Appends its waker, if any, to `wakers`.
+    /// Appends the waker of a held connect, if any, to `wakers`. Drops the answer of an answered
+    /// one.
     pub fn forget(&mut self, place: u64, wakers: &mut Wakers)
         ensures forgotten { (p : ℕ) → connect_at self.new p ≡ (if nat_eq place p then None else connect_at self.old p) }
         ensures woken { wakers.new ≡ wakers.old ++ option_to_list (waker_of (connect_at self.old place)) }
@@ -163,9 +165,9 @@ impl Connects {
         }
     }
 
-    /// Files `answer`, which `session` gives to the rider at `place`.
+    /// Files `answer` for the rider at `place`, a message of `session`.
     ///
-    /// The entry at `place` gives the answer. No connect or answer may be known at `place`.
+    /// The entry of the rider gave the answer. No connect or answer may be known at `place`.
     ///
     /// # Errors
     ///
@@ -260,7 +262,7 @@ impl Connects {
         self.held.watch(place, waker, is_closed_to_wakers)
     }
 
-    /// Drops the answers given by entries before place `before`, and returns their number.
+    /// Drops the filed answers that entries before place `before` gave, and returns their number.
     ///
     /// The cost depends on how many answers are filed, not on how many connects are held.
     pub fn sweep(&mut self, before: u64) -> usize

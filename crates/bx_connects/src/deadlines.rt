@@ -5,7 +5,9 @@ ghost use Rattle.bx_connects.specs.Deadlines.{is_noted, same_hold};
 use std::alloc::{AllocError, Global};
 use std::collections::BTreeSet;
 
-/// A hold: its deadline in milliseconds, the place of its connect and its session's number.
+/// A hold: its deadline, the place of its connect, and the number of its session.
+///
+/// The deadline is in milliseconds since the server started.
 pub(crate) type Hold = (u64, u64, u64);
 
 /// The holds of a shard, ordered by deadline.
@@ -26,7 +28,7 @@ impl Deadlines {
         }
     }
 
-    /// Adds `hold`.
+    /// Adds `hold` to the set, unless it is already there.
     ///
     /// # Errors
     ///

@@ -14,7 +14,8 @@ use std::marker::Model;
 
 /// A connect held by `session`, and the waker of the task that waits for its answer, if any.
 ///
-/// A tick at or after `deadline` ends the hold. Dropping `waker` wakes the task.
+/// A tick at or after `deadline` ends the hold. Without a deadline, no tick does. Dropping `waker`
+/// wakes the task.
 #[derive(Drop)]
 pub(crate) struct HeldConnect {
     pub(crate) session: u64,
@@ -77,6 +78,8 @@ impl HeldConnects {
     }
 
     /// Holds the connect at `place`, which must not be held, for `session` until `deadline`.
+    ///
+    /// `deadline`: milliseconds since the server started. Without one, no tick ends the hold.
     ///
     /// # Errors
     ///

@@ -93,8 +93,8 @@ split_text u v z e n h = grind (arith, common_steps)
 
 -- ---- parts between two brackets
 
--- A kind of parts separated by commas, elements of an array or members of an object: how they are
--- split, what they read as, and the bracket that ends them.
+-- A kind of parts separated by commas: elements of an array, or members of an object. It has how
+-- they are split, what they read as, and the bracket that ends them.
 pub record Between : Type 1 where
   pub Thing : Type 0
   pub Said : Type 0

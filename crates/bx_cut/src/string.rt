@@ -13,7 +13,7 @@ ghost use Rattle.bx_cut.specs.Strings.{spelled, quoted, IsPart, Unescapes};
 use crate::scan::{after_first, begins_with, plain_len};
 use std::alloc::{AllocError, Global};
 
-// The start of the rest of a JSON string: its closing quote, an escape, or neither (`Fault`).
+// How the rest of a JSON string begins: with the closing quote, a valid escape, or neither.
 enum Part<'a> {
     End,
     // The rest begins with an escape: its decoded character, and the text after the escape.

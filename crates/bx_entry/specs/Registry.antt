@@ -36,8 +36,8 @@ pub data PlaceSlot : Type 0 where
   Waiting : (session : ℕ) → PlaceSlot
   NoSlot : PlaceSlot
 
--- The result of judging one element: its entry, the session of an accepted message (`sender`), how
--- long it may be held in milliseconds, and its slot.
+-- The result of judging one element: its entry and its slot. `sender`: the session of an accepted
+-- message, if any. `hold`: how long the message may be held, in milliseconds.
 pub record Judged : Type 0 where
   pub entry : Entry
   pub sender : Option ℕ
@@ -424,7 +424,8 @@ found_at place moment v = record { entry = record { place = place; moment = mome
 abbrev pub noted : Registry → ℕ → Verdict → Registry
 noted r moment v = record { clock = moment; sessions = v.state.sessions; senders = v.state.senders; judged = r.judged ++ found_at (length r.judged) moment v ∷ [] }
 
--- What the rules read of the registry.
+-- All of the registry that the rules read: its sessions, their number, and the senders of the
+-- current request so far.
 abbrev pub state_of : Registry → State
 state_of r = record { sessions = r.sessions; opened = length r.sessions; senders = r.senders }
 

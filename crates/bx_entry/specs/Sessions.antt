@@ -17,7 +17,7 @@ pub use Rattle.bx_entry.specs.Windows.{Publication}
 
 -- ---- State
 
--- A connect that is not answered yet.
+-- A connect that is not answered yet, with the moment of its entry and how long it may be held.
 pub record Pending : Type 0 where
   pub place : ℕ
   pub client : List ℕ
@@ -118,7 +118,7 @@ filing config p place given outcome s = record { connect = p.place; place = plac
 abbrev pub answered : Config → Pending → ℕ → List Publication → Outcome → Session → Session
 answered config p place given outcome s = record s { answers = s.answers ++ filing config p place given outcome s ∷ [] }
 
--- The session without a held connect.
+-- The session `s` without its held connect, if any.
 abbrev pub unheld : Session → Session
 unheld s = record s { held = None }
 
@@ -262,11 +262,11 @@ published config e s = if is_hit s e.event then received config e s else s
 
 -- ---- Ends
 
--- The moment at which a hold ends.
+-- The moment at which the hold of a connect ends.
 abbrev pub deadline : Pending → ℕ
 deadline p = p.moment + p.hold
 
--- Whether a hold has ended by `moment`.
+-- Whether the hold of a connect has ended by `moment`: its deadline is not later.
 abbrev pub ends_by : ℕ → Pending → Bool
 ends_by moment p = nat_le (deadline p) moment
 
@@ -288,7 +288,7 @@ stage_after Unopened = Unopened
 stage_after Live = Closed
 stage_after Closed = Closed
 
--- The session after it ends: closed if it was live, and otherwise unchanged.
+-- The session `s` after it ends: closed if it was live, and otherwise unchanged.
 abbrev pub ended : Session → Session
 ended s = record s { stage = stage_after s.stage }
 

@@ -24,7 +24,8 @@ unfoldable pub bytes_of : List Publication → ℕ
 bytes_of [] = 0
 bytes_of (p ∷ ps) = event_size p.event + bytes_of ps
 
--- Whether the queue has room for one more event, if it may have `events` events and `bytes` bytes.
+-- Whether the queue has room for event `e`, if it may have at most `events` events and `bytes`
+-- bytes.
 unfoldable pub has_room : ℕ → ℕ → Event → Window → Bool
 has_room events bytes e w = nat_lt (length w.queue) events && nat_le (bytes_of w.queue + event_size e) bytes
 

@@ -24,8 +24,8 @@ IsGiven setup ticket front (Ok (Some a)) = answer_over setup.config front ticket
 IsGiven setup ticket front (Ok None) = Unit {0}
 IsGiven setup ticket front (Err fault) = IsStopped fault ticket.shard front
 
--- If no output was returned before (`is_done`), `output` agrees with some front that extends
--- `seen`.
+-- If `is_done` is `true`, nothing is claimed, because an output was returned before. Otherwise,
+-- `IsGiven` allows `output` for a front that extends `seen`.
 abbrev pub MayGive : Setup → Ticket → List LogStep → Bool → Result (Option Answer) HubFault → Type 0
 MayGive setup ticket seen is_done output =
     is_done ≡ false → (front : List LogStep) × IsPrefix seen front × IsGiven setup ticket front output

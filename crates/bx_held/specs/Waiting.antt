@@ -21,12 +21,13 @@ module _ {L : Type 0} where
     pub older : Option Waker
     pub lies : IsSaid ticket waker (Stored older) evidence
 
-  -- A waker of the polling task was registered under the ticket, or the task is polled again in any
-  -- case.
+  -- A waker of the polling task was registered under the ticket, as `evidence` states, or the task
+  -- is polled again in any case. `old` and `new`: the context of the poll, before and after.
   abbrev pub IsWaitedFor : Ticket → Option (WatchEvidence L) → Context → Context → Type 0
   IsWaitedFor ticket evidence old new = IsPolledAgain new ⊎ IsSomeAnd evidence (IsLeftBy old ticket)
 
-  -- `ticket` names none of `shards` shards, or its shard knew no connect and returned `waker`.
+  -- `ticket` names none of `shards` shards, or `evidence` states that no connect is known under
+  -- `ticket`. `waker`: the waker that was returned.
   pub record IsUnknown (shards : ℕ) (ticket : Ticket) (evidence : Option (WatchEvidence L)) : Type 0 where
     pub waker : Waker
     pub told : IsToldOf shards ticket waker (Unknown waker) evidence

@@ -31,7 +31,7 @@ pub struct PendingAnswer<L: LogId> {
     source: Source,
     // A waker that is not registered. It is kept because dropping a waker wakes its task.
     own: Option<Waker>,
-    // Whether the output was returned.
+    // Whether a poll has returned an answer, a fault or `None`. Later polls return `None`.
     is_done: bool,
     ghost reached: { ticket.place < length (list_of pass) },
 }
@@ -53,8 +53,8 @@ impl<L: LogId> PendingAnswer<L> {
         }
     }
 
-    // Polls the hub, and returns an answer or a fault and sets `is_done`. Returns `None` if there
-    // is no answer yet.
+    // Polls the hub once. Returns the answer or a fault, and then sets `is_done`. Returns `None` if
+    // there is no answer yet.
     fn ask<P: Placing, G: Gate + Drop, H: Wait + Drop, R: Wait>(
         &mut self,
         rt: &R,
@@ -81,14 +81,15 @@ impl<L: LogId> PendingAnswer<L> {
         }
     }
 
-    /// Polls for the answer.
+    /// Polls for the answer to the connect or rider.
     ///
     /// The output is `None` if no connect is known under the ticket, or if the output was returned
     /// before. While pending, a waker of the polling task is registered with the connect, or the
     /// task is polled again in any case.
     ///
     /// The second value is evidence that the waker is registered, or that no connect is known. It
-    /// is `None` in other cases, and if the ticket names no shard.
+    /// is `None` with an answer or a fault, and after the output was returned before. It is also
+    /// `None` if the task is polled again in any case, or if the ticket names no shard.
     ///
     /// # Errors
     ///

@@ -30,7 +30,8 @@ fn nothing(alloc: Global) -> Result<Arrival, AllocError> {
     })
 }
 
-// Returns the number of entries in the hub's list, by a request without messages.
+// Returns the number of entries in the hub's list. To learn it, posts a request without messages,
+// which adds no entry.
 fn entries<L: LogId, H: Wait + Drop, R: Wait>(
     rt: &R,
     alloc: Global,

@@ -7,24 +7,27 @@ use Rattle.bx_hub.specs.declared.{activity.Activity.Activity, shard_state.eviden
 use Rattle.bx_hub.specs.declared.activity.Activity.TheVariants.{Active, Paused, Closed}
 use Rattle.bx_hub.specs.declared.shard_state.evidence.ShardChange.TheVariants.{Pause, Resume, Shut, Sweep}
 
--- The activity of a shard after a change, from its activity before the change.
+-- The activity of a shard after a change, from its activity before the change. `Pause` pauses only
+-- an active shard, and `Resume` activates only a paused one. `Shut` closes the shard. `Sweep`
+-- leaves the activity unchanged.
 abbrev pub activity_after : ShardChange → Activity → Activity
 activity_after Pause activity = paused activity
 activity_after Resume activity = resumed activity
 activity_after Shut activity = Closed
 activity_after (Sweep before) activity = activity
 
--- The change turns the old state of a shard into the new one. A pause and a resume leave it
--- unchanged.
+-- The change turns the old state of a shard into the new one. A pause and a resume leave the state
+-- unchanged. `Shut` removes the wakers of held connects, as `WasShut` states. A sweep drops
+-- answers, as `Swept` states.
 abbrev pub MakesOf : ShardChange → State → State → Type 0
 MakesOf Pause old new = new ≡ old
 MakesOf Resume old new = new ≡ old
 MakesOf Shut old new = WasShut old new
 MakesOf (Sweep before) old new = Swept before old new
 
--- The shard has the activity and the state `s` after the change: `Pause` leaves it not active,
--- `Resume` not paused, and `Shut` closed. After `Sweep`, no answer is left that an entry before
--- `before` filed.
+-- The shard has the activity and the state `s` after the change. `Pause` leaves the shard not
+-- active, and `Resume` not paused. `Shut` leaves it closed, also to wakers. After `Sweep`, no
+-- answer is left that an entry before `before` filed.
 abbrev pub IsAfter : ShardChange → Activity → State → Type 0
 IsAfter Pause activity s = activity ≢ Active
 IsAfter Resume activity s = activity ≢ Paused

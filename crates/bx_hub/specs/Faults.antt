@@ -9,7 +9,7 @@ use Rattle.bx_hub.specs.declared.activity.Activity.TheVariants.{Active, Paused, 
 use Rattle.bx_hub.specs.declared.fault.HubFault.TheVariants as stops
 use Rattle.bx_hub.specs.declared.fault.PostFault.TheVariants.{Refused, Memory}
 
--- The `AdmitFault`, as a `PostFault`.
+-- The fault of a post or tick for a fault of planning its entries: the same refusal, or `Memory`.
 abbrev pub of_admission : AdmitFault → PostFault
 of_admission (admissions.Refused refusal) = Refused refusal
 of_admission admissions.Memory = Memory

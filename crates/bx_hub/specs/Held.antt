@@ -29,7 +29,8 @@ pub record Stands (setup : Setup) (h : Held) : Type 0 where
   pub within : h.state.place ≤ length (list_of h.told)
   pub holds : Refines setup (list_of h.seen) h.taken h.state.index h.state.place h.state
 
--- The shard state, as a `Held`.
+-- What a shard's lock guards. These are the log that the shard's reader has seen, the front that
+-- the shard has learned, the places of taken answers, and the shard.
 abbrev pub held_of : {L P : Type 0} {g : LogId.Ghosts L} {h : Placing.Ghosts P} → ShardState L P g h → Held
 held_of {L} {P} {g} {h} d = record { seen = d.reader; told = d.prefix; taken = d.taken; state = state h.place_of d.shard }
 
@@ -45,7 +46,8 @@ abbrev pub answer_over : Config → List LogStep → ℕ → Option Answer
 answer_over config log place = option_map given_of (answer config (list_of log) place)
 
 module _ {L : Type 0} where
-  -- `evidence` is of `ticket`, whose shard had applied all entries of `front`.
+  -- `evidence` is for `ticket`. The ticket's shard had applied all entries of `front`, and had no
+  -- answer filed under the ticket.
   pub record IsUnfiledAt (ticket : Ticket) (front : List LogStep) (evidence : Unfiled L) : Type 0 where
     pub ticket_is : evidence.ticket.value ≡ ticket
     pub front_is : evidence.front.value ≡ front

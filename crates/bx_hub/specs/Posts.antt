@@ -26,7 +26,8 @@ pub record IsAdmittedAt (input : ReadInput) (first : ℕ) (old new : List LogSte
 abbrev pub AreSlotsAt : Setup → ReadInput → ℕ → List LogStep → List Slot → Type 0
 AreSlotsAt setup input first front slots = slots ≡ admitted_slots setup (take first (list_of front)) (added_by input)
 
--- The window of `front` has `MAX_BATCHES` batches, and the oldest begins at `first`.
+-- The window of `front` has `MAX_BATCHES` batches, and the oldest begins at `first`. The list of
+-- `front` has at least `MAX_BATCHES` entries from `first` on.
 abbrev pub IsFull : ℕ → List LogStep → Type 0
 IsFull first front = (length (firsts_of front) ≡ MAX_BATCHES) × (begin_of front ≡ first) × (first + MAX_BATCHES ≤ length (list_of front))
 

@@ -30,7 +30,7 @@ use bx_window::{Front, LogId, LogWriter, PublishFault, UnpublishedBatch};
 use std::alloc::{AllocError, Global};
 use std::sync::Wait;
 
-/// The rest of a record that has ended, and why it ended.
+/// The unwritten rest of a record that a fault ended, and that fault.
 #[derive(Drop)]
 struct RecordEnd<L: LogId> {
     recording: Recording<L>,

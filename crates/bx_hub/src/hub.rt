@@ -38,7 +38,7 @@ const TRIM_EVERY: u64 = 64;
 /// The part of a hub's list that a caller has seen.
 ///
 /// It never shrinks. Each call that takes the pass can extend it, also by entries of other callers.
-/// [`Front::longer`] joins the passes of two callers.
+/// [`Front::longer`] returns the longer of two passes.
 pub type Pass<L> = Front<L>;
 
 /// The server for any number of threads.
@@ -518,8 +518,9 @@ impl<L: LogId, P: Placing, G: Gate + Drop, R: Wait + Drop> Hub<L, P, G, R> {
     /// Registers `waker` with a held connect, and returns the waker that it replaces.
     ///
     /// Returns `waker` itself if an answer is filed (`Ready`), no connect is held under `ticket`
-    /// (`Unknown`), or the hub is closed (`Shut`). The second value is evidence of the result, or
-    /// `None` if `ticket` names no shard.
+    /// (`Unknown`), or the hub is closed (`Shut`). If `ticket` names no shard, the result is
+    /// `Unknown`, and the second value is `None`. Otherwise, the second value is evidence of the
+    /// result.
     ///
     /// # Blocking
     ///

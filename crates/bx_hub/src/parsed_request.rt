@@ -31,8 +31,8 @@ impl ParsedRequest {
     ///
     /// # Errors
     ///
-    /// `arrival`, with the reason: its documents are not messages, its listener forbids the
-    /// messages, or memory ran out.
+    /// `arrival`, with the reason: its documents are not messages or have more than 256, its
+    /// listener forbids the messages, or memory ran out.
     pub(crate) fn of<L: LogId>(
         alloc: Global,
         arrival: Arrival,
@@ -47,21 +47,21 @@ impl ParsedRequest {
         }
     }
 
-    /// Returns the request.
+    /// Returns the request as it arrived.
     pub(crate) fn arrival(&self) -> &Arrival
         ensures { result.now ≡ self.now.arrival }
     {
         &self.arrival
     }
 
-    /// Returns the messages, in order.
+    /// Returns the messages that were read from the request, in order.
     pub(crate) fn messages(&self) -> &[Message]
         ensures { result.now ≡ self.now.messages.items }
     {
         self.messages.as_slice()
     }
 
-    /// Converts `self` back to the request.
+    /// Converts `self` back to the request as it arrived.
     pub(crate) fn into_arrival(self) -> Arrival
         ensures { result ≡ self.arrival }
     {

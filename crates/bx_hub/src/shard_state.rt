@@ -39,8 +39,8 @@ use std::sync::Arc;
 /// A shard, its reader of the window, and the longest front of the list that it has learned.
 ///
 /// When the shard learns a front from a caller, its reader has then seen that front too. The
-/// longest front is kept in `prefix`, and the shard never advances past its end. The shard's state
-/// is what the definitions give for the entries that it has applied.
+/// longest front is kept in `prefix`, and the shard never advances past the end of `prefix`. The
+/// shard's state is what the definitions give for the entries that it has applied.
 #[derive(Drop)]
 pub(crate) struct ShardState<L: LogId, P: Placing> {
     shard: Shard<P>,
@@ -278,7 +278,7 @@ impl<L: LogId, P: Placing> ShardState<L, P> {
         }
     }
 
-    // Applies the entries of `batch` that the shard lacks, up to place `end`, the end of the
+    // Applies the entries of `batch` that the shard lacks, up to place `end`. `end`: the end of the
     // longest front learned. Adds the wakers of answered connects to `wakers`. Fails if memory runs
     // out; the shard then stops at the entry that failed.
     fn apply_batch(

@@ -11,8 +11,8 @@ use futures::task::Source;
 #[derive(Drop)]
 pub struct Tick {
     moment: u64,
-    // Takes no bytes. No contract states the name of a new tick, so contracts distinguish this tick
-    // from another one of the same moment.
+    // The name of the tick, which takes no bytes. No contract states a new tick's name, so
+    // contracts distinguish the tick from others of the same moment.
     name: Source,
 }
 

@@ -63,7 +63,8 @@ impl<L: LogId> LowestPosition<L> {
 
 /// The result of advancing all shards to a front of the list, `prefix`.
 ///
-/// The first shard to advance is `first`. After the last shard, shard 0 follows.
+/// It counts the shards that did not reach the end of `prefix`. The first shard to advance is
+/// `first`. After the last shard, shard 0 follows.
 #[derive(Drop)]
 pub struct AdvanceReport<L: LogId> {
     prefix: Snapshot<Front<L>>,
@@ -94,7 +95,8 @@ impl<L: LogId> AdvanceReport<L> {
         }
     }
 
-    /// Returns the index of the shard to advance at `step`, counted from 0.
+    /// Returns the index of the shard to advance at `step`, counted from 0. `step` must be less
+    /// than the number of shards.
     pub(crate) fn index_at(&self, step: usize) -> usize
         requires { step < self.now.shards }
         ensures { (result ≡ walked_at self.now.first self.now.shards step) × (result < self.now.shards) }

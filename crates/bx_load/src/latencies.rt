@@ -20,7 +20,7 @@ const COUNTS: usize = 131_072;
 pub struct Latencies {
     /// The counts, from the shortest latency to the longest.
     pub counts: Vec<u64>,
-    /// The sum of the counts.
+    /// The number of latencies that were counted: the sum of the counts.
     pub total: u64,
     ghost places: { vec_len counts ≡ 131072 },
     ghost counted: { sum_by (λ n. n) counts.items ≡ total },

@@ -7,11 +7,11 @@ const MAX_HEAD: usize = 16_384;
 /// The status of a complete response, and the position of its body in the input.
 #[derive(Clone, Copy)]
 pub struct Response {
-    /// The HTTP status, such as 200.
+    /// The HTTP status of the response, such as 200.
     pub status: u16,
-    /// The index of the first byte of the body.
+    /// The index in the input of the first byte of the response's body.
     pub start: usize,
-    /// The index after the last byte of the body.
+    /// The index in the input after the last byte of the response's body.
     pub end: usize,
 }
 

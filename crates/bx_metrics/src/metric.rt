@@ -46,7 +46,7 @@ impl Reason {
     }
 }
 
-/// A metric of the server.
+/// A metric of the server: a number that the page of metrics shows.
 ///
 /// Policy of this server.
 #[derive(Clone, Copy, Debug, PartialEq, Eq)]

@@ -7,7 +7,7 @@ use crate::page::page_text;
 use itoa::Buffer;
 use std::alloc::{AllocError, Global};
 
-/// What a request asks for.
+/// What a request to the metrics listener asks for.
 #[derive(Clone, Copy, Debug, PartialEq, Eq)]
 pub enum MetricsRequest {
     /// A request for the page of metrics: `GET /metrics`.

@@ -4,14 +4,14 @@ use Rattle.futures.specs.Runs.{Runs}
 use Rattle.http_body.specs.declared.frame.Frame.{Frame}
 use Rattle.http_body.specs.Frame.{data_frame}
 
--- The frame's data are made from the first piece of `text`, which is not empty, and `rest` holds for
--- the text after it.
+-- The data of `frame` are made from the first piece of `text`. This piece is not empty, and `rest`
+-- holds for the text after it.
 abbrev pub Leads : {D : Type 0} → (List ℕ → D → Type 0) → List ℕ → Frame D → (List ℕ → Type 0) → Type 0
 Leads {D} made text frame rest =
     (piece : List ℕ) × ((left : List ℕ) × ((it : D) × ((0 < length piece) × (frame ≡ data_frame it) × made piece it × (text ≡ piece ++ left) × rest left)))
 
--- The frames are the pieces of a text, in order. The end comes after the last piece, or after an
--- error, which comes only before the last piece. No frame follows an error.
+-- The frames are the pieces of a text, in order, and the end comes after the last piece. An error
+-- comes only while text remains. After an error comes the end, without further frames.
 abbrev pub InPieces : {D E : Type 0} → (List ℕ → D → Type 0) → List ℕ → Runs (Result (Frame D) E)
 InPieces made text [] None = text ≡ []
 InPieces made text [] (Some (Ok frame)) = Leads made text frame (λ left. Unit {0})

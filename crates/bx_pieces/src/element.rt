@@ -11,9 +11,9 @@ use std::alloc::{AllocError, Global};
 /// It takes far less memory than an [`Item`], since a response can have many elements.
 #[derive(Drop)]
 pub(crate) enum Element {
-    /// An event, shared with its other receivers.
+    /// An element that is an event, shared with the event's other receivers.
     Shared(SharedEvent),
-    /// The JSON text of a reply.
+    /// An element that is a reply, as its JSON text.
     Written(Vec<u8>),
 }
 

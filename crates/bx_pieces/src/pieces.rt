@@ -87,7 +87,7 @@ impl<D> Pieces<D> {
         Pieces::begun(alloc, callback, items)
     }
 
-    // Creates the body of a response, and writes all of it.
+    // Creates the body of a response, and writes all of it, as one piece.
     fn at_once(
         alloc: Global,
         callback: Option<&str>,
@@ -116,6 +116,7 @@ impl<D> Pieces<D> {
     }
 
     // Creates the body of a response, and writes only its beginning, through the first element.
+    // Without elements, writes all of it.
     fn begun(alloc: Global, callback: Option<&str>, items: &[Item]) -> Result<Pieces<D>, AllocError>
         ensures { IfOk result (λ pieces. pieces ≡ answer_text (option_map (λ name. name.now) callback.entry) items.now) }
     {
@@ -180,7 +181,8 @@ fn is_call(callback: Option<&str>) -> bool
     callback.is_some()
 }
 
-// Writes the first piece, through the first element. Returns it with the length of the whole body.
+// Writes the first piece of a response, through the first of `elements`, which must not be empty.
+// Returns the piece and the length of the whole body in bytes.
 fn first_piece(
     alloc: Global,
     callback: Option<&str>,

@@ -36,7 +36,8 @@ pub(crate) fn are_short(items: &[Item]) -> bool {
     room <= PIECE || room <= items.len().saturating_mul(size_of::<Element>())
 }
 
-// Returns how many of `elements` the next piece takes: those that fit, but at least the first.
+// Returns how many of `elements` the next piece takes. It takes those that fit, but at least the
+// first, if there is one.
 pub(crate) fn fitting(elements: &[Element]) -> usize
     ensures within { result ≤ length elements.now }
     ensures some { 0 < length elements.now → 0 < result }
@@ -144,7 +145,7 @@ fn ended(alloc: Global, is_script: bool, array: Vec<u8>) -> Result<Vec<u8>, Allo
 
 // Returns the length of the rest of a response, in bytes.
 //
-// `elements`: its elements that are not written yet, which may be none.
+// `elements`: the elements that are not written yet. The list can be empty.
 pub(crate) fn rest_size(
     alloc: Global,
     elements: &[Element],

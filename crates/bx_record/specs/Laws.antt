@@ -75,8 +75,8 @@ pub record SaysAnswer (text rest : List ℕ) : Type 0 where
 abbrev pub AnswersAreSkipped : Type 0
 AnswersAreSkipped = (place : ℕ) (digest rest : List ℕ) → place < 2 ^ 64 → IsSha256 digest → SaysAnswer (answer_text place digest ++ rest) rest
 
--- A record can have the part: an input that a record can have, or the line of an answer with a
--- place below 2^64 and a digest of 32 bytes.
+-- A record can have the part: an input that a record can have, or the line of an answer. The line
+-- must have a place below 2^64 and a digest of 32 bytes.
 abbrev pub CanStand : Part → Type 0
 CanStand (Taken input) = CanRecord input
 CanStand (Given place digest) = (place < 2 ^ 64) × IsSha256 digest

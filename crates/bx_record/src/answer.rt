@@ -5,8 +5,8 @@ ghost use Rattle.bx_record.specs.Answers.{answer_text};
 use itoa::Buffer;
 use std::alloc::{AllocError, Global};
 
-// The most bytes in the line of an answer: a letter, a place of up to 20 digits, 64 digits of the
-// digest, two spaces and a newline.
+// The most bytes in the line of an answer. The line has a letter, a place of up to 20 digits, 64
+// digits of the digest, two spaces and a newline.
 const ANSWER_LENGTH: usize = 1 + 20 + 64 + 2 + 1;
 
 /// Formats the line that records the answer to a request.

@@ -10,7 +10,7 @@ use bx_cut::Bodies;
 use form_urlencoded::byte_serialize;
 use std::alloc::AllocError;
 
-// Length of `&message=`, in bytes.
+// The length of `&message=` in bytes.
 const LEAD: usize = 9;
 
 /// Returns the length of the form that carries `bodies`, or `None` if it exceeds `BODY_LIMIT`.

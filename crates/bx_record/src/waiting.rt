@@ -15,11 +15,12 @@ pub const MAX_WAITING_BYTES: usize = 64 << 20;
 /// Why a record ended, or why it has no further lines for answers.
 #[derive(Clone, Copy, Debug, PartialEq, Eq)]
 pub enum RecordFault {
-    /// More than 64 MiB would wait to be written.
+    /// More than 64 MiB of the record would wait to be written.
     Full,
-    /// No line can express a request, since its documents need a body that is too large.
+    /// No line of a record can express a request, since its documents need a body that is too
+    /// large.
     Unrecordable,
-    /// Memory ran out.
+    /// Memory ran out for a line of the record.
     Memory,
 }
 

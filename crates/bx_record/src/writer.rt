@@ -10,7 +10,7 @@ use std::sync::atomic::{AtomicBool, Ordering};
 use std::time::{Clock, Duration};
 use std::{io, thread};
 
-// Milliseconds between two checks of how many bytes wait. Policy of this server.
+// Milliseconds between two checks of how many bytes of text wait. Policy of this server.
 const REST: u64 = 10;
 
 // After this many checks, all waiting bytes are written, however few. Policy of this server.

@@ -1,4 +1,4 @@
--- The messages of a request, one after another.
+-- Judging the messages of a request in order, and committing the plan.
 use Rattle.std.proofs.Common.{◌≡◌, ℕ, ◌+◌, ◌≤◌, Bool, true, false, List, [], ◌∷◌, ◌++◌, length, fold, refl, sym, ap, subst, ◌∙◌, arith, append_assoc, append-nil}
 use Rattle.std.specs.Prelude.{Ok, ◌&&◌, ◌||◌, ◌==◌, max, Option}
 use Rattle.std.proofs.lemmas.Grind.{common_steps}

@@ -1,4 +1,4 @@
--- The planned slots of a request are those of its places.
+-- The slots planned for a request are those that the definitions give at its places.
 use Rattle.std.proofs.Common.{◌≡◌, ℕ, List, [], ◌∷◌, ◌++◌, length, map, drop, refl, sym, ap, ◌∙◌, subst}
 use Rattle.std.proofs.Math.Seq.{drop-append_seam}
 use Rattle.std.proofs.lemmas.List.{length-map, map-append}

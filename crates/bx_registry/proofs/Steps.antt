@@ -1,4 +1,4 @@
--- A registry and its roll judge alike.
+-- A registry and its roll, the part of it that the program stores, judge elements alike.
 use Rattle.std.proofs.Common.{◌≡◌, ℕ, ◌+◌, Bool, true, false, List, [], ◌∷◌, ◌++◌, length, map, refl, sym, ap, ◌∙◌, fold, append_assoc, append-nil, length-append}
 use Rattle.std.specs.Prelude.{max, Option, Some, None}
 use Rattle.std.proofs.lemmas.{List.length-map, List.Elements.filter-append}

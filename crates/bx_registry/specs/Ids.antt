@@ -1,7 +1,7 @@
 -- The number at the end of a client id.
 use Rattle.std.specs.Prelude.{ℕ, ◌+◌, ◌-◌, ◌*◌, ◌%◌, ◌^◌, List, drop, fold, nat_lt, if◌then◌else◌}
 
--- The value of a lower-case hexadecimal digit.
+-- The value of a lower-case hexadecimal digit. For other bytes, the result has no meaning.
 abbrev pub digit_value : ℕ → ℕ
 digit_value byte = if nat_lt byte 58 then byte - 48 else byte - 87
 
@@ -13,6 +13,6 @@ with_digit number byte = (number * 16 % 2 ^ 64 + digit_value byte) % 2 ^ 64
 abbrev pub hex_value : List ℕ → ℕ
 hex_value digits = fold with_digit 0 digits
 
--- The session's number in a client id: the value of the digits after the nonce.
+-- The session's number in a client id: the value of the digits after the first 32, modulo 2^64.
 abbrev pub number_in : List ℕ → ℕ
 number_in client = hex_value (drop 32 client)

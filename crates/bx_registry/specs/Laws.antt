@@ -1,4 +1,4 @@
--- A registry and its roll judge alike.
+-- A registry and its roll, the part of it that the program stores, judge elements alike.
 use Rattle.std.specs.Prelude.{◌≡◌, List, [], ◌∷◌, ◌++◌, fold}
 use Rattle.bx_advice.specs.declared.config.Config.{Config}
 use Rattle.bx_entry.specs.Words.{Listed, Registry, judge}

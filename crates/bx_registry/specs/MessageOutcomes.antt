@@ -21,13 +21,15 @@ abbrev pub edit_for : MessageKind → ℕ → ℕ → Edit
 edit_for message_kinds.Disconnect number due = Close number
 edit_for _ number due = Extend number due
 
--- Whether a message other than a handshake needs a session.
+-- Whether a message of this kind, other than a handshake, must name a live session. Only a publish
+-- without a client id need not, if `--anonymous` is set.
 abbrev pub is_needed : Config → MessageKind → TextMember → Bool
 is_needed config message_kinds.Publish client = needs_session config client
 is_needed config _ client = true
 
 -- The outcome `j` has the senders, entry kind, rider and slot of the verdict `o` on a message at
--- `place`. Its edit changes the sessions `ms` as the verdict does.
+-- `place`. Its edit, if any, can be made to the sessions `ms`, and changes them as the verdict
+-- does.
 pub record IsVerdict (setup : Setup) (ms : Members) (place : ℕ) (o : Verdict) (j : MessageOutcome) : Type 0 where
   pub members : fold edited ms (option_to_list j.edit) ≡ members_after ms o
   pub can : CanEditEach ms (option_to_list j.edit)
@@ -47,6 +49,7 @@ abbrev pub has_fault : List (List ℕ) → Bool
 has_fault texts = list_any (λ text. is_some (pattern_fault text)) texts
 
 -- The patterns of a subscription or an unsubscription, and the channel of a publish, are valid.
+-- Nothing is claimed of other messages.
 abbrev pub AreReadable : MessageKind → Message → Type 0
 AreReadable message_kinds.Subscribe message = has_fault message.texts ≡ false
 AreReadable message_kinds.Unsubscribe message = has_fault message.texts ≡ false

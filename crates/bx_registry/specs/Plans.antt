@@ -11,11 +11,12 @@ use Rattle.bx_entry.specs.declared.input.AdmitFault.TheVariants.{Refused}
 abbrev pub entries_in : List Judged → List Entry
 entries_in found = map (λ (j : Judged). j.entry) found
 
--- The slots of judged messages, in order.
+-- How the judged messages are answered, in order: by replies or under tickets. A tick is not
+-- answered.
 abbrev pub slots_in : Setup → List Judged → List Slot
 slots_in setup found = flat_map (λ (j : Judged). given_by setup j.entry.place j.slot) found
 
--- The error for a refusal, if there is one.
+-- The error for a refusal, or `Ok` if there is none.
 abbrev pub checked : Option Refusal → Result (Unit {0}) AdmitFault
 checked None = Ok tt
 checked (Some refusal) = Err (Refused refusal)

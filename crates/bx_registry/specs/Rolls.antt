@@ -1,5 +1,5 @@
--- A roll: a registry reduced to its live sessions and the list's length. It judges elements as the
--- registry does.
+-- A roll: the part of a registry that the program stores, with its live sessions and the list's
+-- length. It judges elements as the registry does.
 use Rattle.std.specs.Prelude.{ℕ, ◌+◌, max, List, [], ◌∷◌, length, fold}
 use Rattle.bx_advice.specs.declared.config.Config.{Config}
 use Rattle.bx_entry.specs.declared.senders.Senders.{Senders}
@@ -7,8 +7,8 @@ use Rattle.bx_entry.specs.Words.{Listed, Post, Registry, State, Verdict, Judged,
 use Rattle.bx_entry.specs.Listing as messages
 use Rattle.bx_roster.specs.Live.{Members, live_in}
 
--- The configuration, the sessions, the greatest moment so far, the list's length, and the senders
--- of the current request so far.
+-- The part of a registry that the program stores. It has the configuration, the live sessions, the
+-- greatest moment so far, the list's length, and the senders of the current request so far.
 pub record Roll : Type 0 where
   pub config : Config
   pub members : Members
@@ -16,7 +16,8 @@ pub record Roll : Type 0 where
   pub length : ℕ
   pub senders : Senders
 
--- The roll of a registry.
+-- The part of the registry `r` that the program stores: its live sessions, its clock, its senders,
+-- and how many elements and sessions it has.
 abbrev pub roll_of : Config → Registry → Roll
 roll_of config r = record {
   config = config;
@@ -26,11 +27,13 @@ roll_of config r = record {
   senders = r.senders;
 }
 
--- The state that rules read: the sessions, and the senders so far.
+-- The state that the rules for messages read: the sessions `ms`, and the senders of the request so
+-- far.
 abbrev pub state_of : Members → Senders → State
 state_of ms senders = record { sessions = ms.live; opened = ms.opened; senders = senders }
 
--- The live sessions after the verdict `v`, with the limit of `ms`.
+-- The sessions after the verdict `v`: the live ones, how many were ever opened, and the limit of
+-- `ms`.
 abbrev pub members_after : Members → Verdict → Members
 members_after ms v = record { limit = ms.limit; opened = v.state.opened; live = live_in v.state.sessions }
 

@@ -12,7 +12,7 @@ given_by setup place (Ready reply) = answers.Ready reply ∷ []
 given_by setup place (Waiting session) = answers.Waiting (record { place = place; shard = setup.placing session setup.shards }) ∷ []
 given_by setup place NoSlot = []
 
--- What the slots from `place` on give their senders.
+-- What the slots of the elements from `place` on give their senders, in order: replies and tickets.
 abbrev pub given_from : Setup → ℕ → List PlaceSlot → List Slot
 given_from setup place [] = []
 given_from setup place (slot ∷ slots) = given_by setup place slot ++ given_from setup (place + 1) slots
@@ -21,6 +21,6 @@ given_from setup place (slot ∷ slots) = given_by setup place slot ++ given_fro
 abbrev pub slots_of : Registry → List PlaceSlot
 slots_of r = map (λ (j : Judged). j.slot) r.judged
 
--- What the slots of a request's messages `added` give, if they are appended to `list`.
+-- The replies and tickets for a request's messages `added`, if these are appended to `list`.
 abbrev pub admitted_slots : Setup → List Listed → List Listed → List Slot
 admitted_slots setup list added = given_from setup (length list) (drop (length list) (slots_of (registry setup.config (list ++ added))))

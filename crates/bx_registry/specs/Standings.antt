@@ -15,7 +15,7 @@ pub record Standing : Type 0 where
   pub list : List Listed
   pub ready : Bool
 
--- The roll at the end of `list`.
+-- The roll after the elements of `list`: the part of the registry that the program stores.
 abbrev pub roll_at : Config → List Listed → Roll
 roll_at config list = roll_of config (registry config list)
 

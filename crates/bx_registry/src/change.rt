@@ -2,7 +2,7 @@
 use bx_roster::Edits;
 use std::marker::Model;
 
-/// The change that a plan makes to its registry.
+/// The change to the registry that a planned request or tick makes.
 ///
 /// Model: the edits of the sessions, and the clock and the list's length after them.
 #[derive(Drop)]

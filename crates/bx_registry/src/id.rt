@@ -7,10 +7,10 @@ ghost use Rattle.bx_registry.specs.Ids.{digit_value, hex_value, number_in, with_
 use bx_message::Text;
 use std::alloc::{AllocError, Global};
 
-// Number of digits of the nonce.
+// Number of hexadecimal digits of the nonce in a client id.
 const NONCE_DIGITS: usize = 32;
 
-// Number of digits of the session's number.
+// Number of hexadecimal digits of the session's number in a client id.
 const NUMBER_DIGITS: usize = 16;
 
 /// Creates a client id: 32 lower-case digits of `nonce`, then 16 of `number`.
@@ -27,7 +27,9 @@ pub(crate) fn client_id(alloc: Global, nonce: u128, number: u64) -> Result<Text,
     Text::from_string(id)
 }
 
-// Appends the last `width` hexadecimal digits of `number`.
+// Appends the last `width` hexadecimal digits of `number`, in lower case.
+//
+// On error, some of them may have been appended.
 fn push_hex(text: &mut String, number: u128, width: usize) -> Result<(), AllocError>
     ensures { OnOk result (string_bytes text.new ≡ string_bytes text.old ++ hex_digits width number) }
 {
@@ -38,7 +40,7 @@ fn push_hex(text: &mut String, number: u128, width: usize) -> Result<(), AllocEr
     text.push(hex_digit((number % 16) as u8))
 }
 
-// Returns the hexadecimal digit for `number`, which is below 16.
+// Returns the lower-case hexadecimal digit for `number`, which is below 16.
 fn hex_digit(number: u8) -> char
     requires { number < 16 }
     ensures { result ≡ digit_char number }

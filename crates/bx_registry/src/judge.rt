@@ -38,18 +38,20 @@ use bx_names::{ChannelName, NameError, Pattern, is_service};
 use bx_roster::{Edit, LiveSession};
 use std::alloc::{AllocError, AllocFailed, Global};
 
-/// The result of judging a message.
+/// The result of judging a message: what it changes, its entry, and how it is answered.
 #[derive(Drop)]
 pub(crate) struct MessageOutcome {
-    /// The change to the sessions, if any.
+    /// The change that the judged message makes to the sessions, if any.
     pub(crate) edit: Option<Edit>,
-    /// The kind of the message's entry.
+    /// The kind of the judged message's entry.
     pub(crate) kind: EntryKind,
-    /// The rider, if the message is one.
+    /// The judged message as a rider, with its reply, if it is one.
     pub(crate) rides: Option<Rider>,
-    /// The reply, or the ticket for the answer.
+    /// How the judged message is answered: by a reply at once, or later under a ticket.
     pub(crate) slot: Slot,
-    /// The senders for judging the next message.
+    /// Who sent the messages of the request so far, for judging the next message.
+    ///
+    /// After the last message of a request, there are none.
     pub(crate) senders: Senders,
 }
 
@@ -95,7 +97,9 @@ pub(crate) fn judge<P: Placing>(
     }
 }
 
-// Rejects a message with `error`. No session changes.
+// Rejects a message with `error`, and replies at once.
+//
+// No session changes. The request can then have no rider.
 fn refuse(
     config: &Config,
     posted: Posted<'_>,
@@ -129,7 +133,9 @@ fn refuse(
     })
 }
 
-// Accepts a publish without a session. It changes no session and succeeds at once.
+// Accepts a publish without a session, which succeeds at once.
+//
+// No session changes. The request can then have no rider.
 fn accept_sessionless(
     alloc: Global,
     config: &Config,
@@ -162,7 +168,9 @@ fn accept_sessionless(
     })
 }
 
-// Returns the kind of entry for a message without a session.
+// Returns the kind of entry for an accepted message without a session, always a publish.
+//
+// Other kinds of messages do not occur here.
 fn sessionless_kind(
     alloc: Global,
     message_kind: MessageKind,
@@ -177,7 +185,10 @@ fn sessionless_kind(
     })
 }
 
-// Accepts a message of a live session. A connect or a rider waits; any other succeeds at once.
+// Accepts a message of a live session, and sets the due moment of the session.
+//
+// A disconnect closes the session instead. A connect or a rider waits; any other message succeeds
+// at once.
 fn serve<P: Placing>(
     alloc: Global,
     setup: &Setup<'_, P>,
@@ -233,7 +244,7 @@ fn senders_after(posted: Posted<'_>, senders: Senders) -> Senders
 //
 // `config.ride` must be set, and the session must not acknowledge. The message must be a
 // subscription, an unsubscription or a publish, and the last one of its request. All messages of
-// the request must be accepted and come from the session.
+// the request must be accepted and come from the session, and none may be a handshake.
 fn is_rider(config: &Config, senders: Senders, posted: Posted<'_>, sender: &Sender<'_>) -> bool
     ensures { result ≡ is_rider config.now senders posted.entry.message_kind (posted_of posted.entry) (named sender.now) }
 {
@@ -244,7 +255,7 @@ fn is_rider(config: &Config, senders: Senders, posted: Posted<'_>, sender: &Send
         && may_ride(posted.message_kind)
 }
 
-// Returns `true` if a reply to `message_kind` may carry waiting events.
+// Returns `true` for a subscription, an unsubscription or a publish, which may be a rider.
 fn may_ride(message_kind: MessageKind) -> bool
     ensures { result ≡ may_ride message_kind }
 {
@@ -254,8 +265,11 @@ fn may_ride(message_kind: MessageKind) -> bool
     )
 }
 
-// Moves the reply of a rider from its slot into the rider. The slot then waits for the answer. The
-// slot of any other message is returned as it is.
+// Returns the rider, if the message at `place` is one, and the slot of the message.
+//
+// A rider takes the reply out of `slot`, and gets a ticket for the answer of `session` instead. If
+// `is_rider` is `false`, or `slot` has no reply, there is no rider, and `slot` is returned as it
+// is.
 fn ridden<P: Placing>(
     setup: &Setup<'_, P>,
     is_rider: bool,
@@ -275,8 +289,10 @@ fn ridden<P: Placing>(
     }
 }
 
-// Returns the kind of entry for an accepted message of a live session. Handshakes and unknown meta
-// channels do not occur here.
+// Returns the kind of entry for an accepted message of a live session.
+//
+// `hold`: how long a connect may be held, in milliseconds. Handshakes and unknown meta channels do
+// not occur here.
 fn kind_for(
     alloc: Global,
     message_kind: MessageKind,
@@ -312,6 +328,8 @@ fn kind_for(
 }
 
 // Returns how an accepted message of a live session is answered, unless it is a rider.
+//
+// A connect gets a ticket. Any other message gets a reply, and succeeds at once.
 fn slot_for<P: Placing>(
     setup: &Setup<'_, P>,
     message_kind: MessageKind,
@@ -349,7 +367,10 @@ fn acked_by(ack: AckMember) -> Option<u64>
     }
 }
 
-// Accepts a handshake, which opens session `number`.
+// Accepts a handshake, which opens session `number` and succeeds at once.
+//
+// The due moment of the session is `config.max_interval` after `moment`. The request can then have
+// no rider.
 fn open(
     alloc: Global,
     config: &Config,
@@ -389,7 +410,9 @@ fn open(
     })
 }
 
-// Creates the reply to a handshake that opens a session.
+// Creates the reply to a handshake that opens a session with client id `client`.
+//
+// The reply confirms acknowledgement if the handshake turns it on.
 fn opened_reply(config: &Config, message: &Message, client: &Text) -> Result<Reply, AllocError>
     ensures { IfOk result (λ reply. reply ≡ reply_to config.now message_kinds.Handshake message.now
         (Some client.now) advice.Opened (if is_ack message.now.ack then replies.AckTrue else replies.NoAck)) }
@@ -409,7 +432,7 @@ fn opened_reply(config: &Config, message: &Message, client: &Text) -> Result<Rep
     )
 }
 
-// Returns `true` if a handshake turns acknowledgement on.
+// Returns `true` if a handshake with this `ack` opens an acknowledging session.
 fn is_ack(ack: AckMember) -> bool
     ensures { result ≡ is_ack ack }
 {
@@ -419,10 +442,12 @@ fn is_ack(ack: AckMember) -> bool
     }
 }
 
-// Returns how long a message may be held, in milliseconds. Only a connect that is its request's
-// only message may be held.
+// Returns how long a message may be held, in milliseconds.
 //
-// Bayeux 1.0, connect request. Holding only such a message is a policy of this server.
+// A connect that is its request's only message may be held for `config.timeout` or, if smaller, for
+// the timeout in the message. Other messages are not held.
+//
+// Bayeux 1.0, connect request. Holding no other connects is a policy of this server.
 fn hold_of(config: &Config, posted: Posted<'_>) -> u64
     ensures hold { result ≡ hold_of config.now (posted_of posted.entry) }
     ensures small { result < 2 ^ 32 }
@@ -436,7 +461,9 @@ fn hold_of(config: &Config, posted: Posted<'_>) -> u64
     }
 }
 
-// Returns the due moment after a message at `moment` that may be held for `hold` milliseconds.
+// Returns the due moment that a message at `moment` sets, if it may be held for `hold`.
+//
+// All times are in milliseconds.
 fn due_after(config: &Config, moment: u64, hold: u64) -> u64
     requires moment { moment ≤ greatest_moment }
     requires hold { hold < 2 ^ 32 }

@@ -6,12 +6,12 @@ use bx_message::Sequence;
 /// The entries, the slots and the change that a request or a tick results in.
 #[derive(Drop)]
 pub struct Plan {
-    /// An entry for each message, or the tick's entry, which names the sessions that it closes.
+    /// The planned entries: one for each message, or one for the tick, with the sessions it closes.
     pub batch: Batch,
-    /// How each message is answered, in order. Empty for a tick.
+    /// How each message of the planned request is answered, in order. Empty for a tick.
     pub slots: Sequence<Slot>,
-    /// Ghost: the messages or the tick.
+    /// Ghost: the messages of the planned request, or the planned tick.
     pub elements: Listing,
-    /// The change to the registry, for [`Registry::commit`](crate::Registry::commit).
+    /// The planned change to the registry, for [`Registry::commit`](crate::Registry::commit).
     pub change: Change,
 }

@@ -20,23 +20,23 @@ use bx_entry::{Entry, Placing, Senders, Slot};
 use bx_message::{Message, MessageKind, Sequence};
 use std::alloc::{AllocError, AllocFailed, Global};
 
-/// The result of judging a request's messages.
+/// The entries and slots of a request's messages, and the clock after them.
 #[derive(Drop)]
 pub(crate) struct Planning {
     pub(crate) entries: Sequence<Entry>,
     pub(crate) slots: Sequence<Slot>,
-    /// The clock after the messages, in milliseconds.
+    /// The clock after a request's messages, in milliseconds since the server started.
     pub(crate) clock: u64,
 }
 
-/// A request's moment and nonce, and the list's length and the clock before it.
+/// A request's moment and nonce, and the list's length and the clock before the request.
 #[derive(Clone, Copy)]
 pub(crate) struct Start {
     pub(crate) moment: u64,
     pub(crate) nonce: u128,
     /// The place of the request's first entry.
     pub(crate) place: u64,
-    /// The greatest moment before the request, in milliseconds.
+    /// The greatest moment before the request, in milliseconds since the server started.
     pub(crate) clock: u64,
 }
 
@@ -113,8 +113,10 @@ fn posted_at(start: Start, message: &Message, sole: bool, last: bool, seen: bool
     }
 }
 
-// Judges the message at `place`, and appends its edit to `overlay`. `senders`: who sent the earlier
-// messages.
+// Judges the message at `place`, and returns its entry, its slot and the senders after it.
+//
+// Appends its edit, if any, to `overlay`. `senders`: who sent the earlier messages of the request.
+// On error, `overlay` is unchanged.
 fn plan_next<P: Placing>(
     alloc: Global,
     setup: &Setup<'_, P>,

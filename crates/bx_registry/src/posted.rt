@@ -11,14 +11,14 @@ pub(crate) struct Posted<'a> {
     pub(crate) message: &'a Message,
     /// The message's kind, by its channel.
     pub(crate) message_kind: MessageKind,
-    /// The request's moment: milliseconds since the server started.
+    /// The moment of the message's request: milliseconds since the server started.
     pub(crate) moment: u64,
     pub(crate) nonce: u128,
-    /// Whether this is its request's only message.
+    /// Whether the message is its request's only one.
     pub(crate) sole: bool,
-    /// Whether this is its request's last message.
+    /// Whether the message is its request's last one.
     pub(crate) last: bool,
-    /// Whether this is a handshake after another one in its request.
+    /// Whether the message is a handshake after another handshake in its request.
     pub(crate) second: bool,
     pub(crate) ghost by_channel: { message_kind ≡ message_kind_of message.now.channel },
 }

@@ -88,7 +88,7 @@ fn is_version(version: &TextMember) -> bool
 
 // Returns `true` if a handshake offers a supported connection type.
 //
-// Bayeux 1.0, connection types.
+// Those are `long-polling` and `callback-polling`. Bayeux 1.0, connection types.
 fn has_polling(message: &Message) -> bool
     ensures { result ≡ list_any is_polling message.now.supported }
 {
@@ -114,7 +114,9 @@ fn is_text(member: &TextMember) -> bool
     }
 }
 
-// Returns `true` if a connection type is supported or absent.
+// Returns `true` if a connect's connection type is supported or absent.
+//
+// Supported are `long-polling` and `callback-polling`.
 fn is_connection(member: &TextMember) -> bool
     ensures { result ≡ is_connection member.now }
 {
@@ -125,7 +127,7 @@ fn is_connection(member: &TextMember) -> bool
     }
 }
 
-// Returns `true` if the channel is a valid name.
+// Returns `true` if the channel of `message` is a valid channel name.
 fn is_name(message: &Message) -> bool
     ensures { result ≡ not (is_some (name_fault message.now.channel)) }
 {

@@ -30,7 +30,7 @@ use std::marker::Model;
 /// unchanged. Then it is committed, which neither allocates nor fails.
 ///
 /// Model: the configuration, the number of shards, the list of all admitted messages and ticks, and
-/// whether a record is reserved. The program does not store the list.
+/// whether a record is reserved for the next session. The program does not store the list.
 #[derive(Drop)]
 pub struct Registry {
     config: Config,

@@ -16,13 +16,14 @@ use std::marker::Model;
 pub(crate) struct Sender<'m> {
     pub(crate) number: u64,
     pub(crate) client: &'m Text,
-    /// Whether the session acknowledges batches.
+    /// Whether the session that a message names acknowledges batches.
     pub(crate) ack: bool,
 }
 
-/// The sessions after the messages judged so far.
+/// The sessions after the messages of a request that are judged so far.
 ///
-/// The table is unchanged until the edits are committed.
+/// They are stored as the table before the request, and the edits so far. The table is unchanged
+/// until these are committed.
 #[derive(Drop)]
 pub(crate) struct SessionOverlay<'a> {
     table: &'a Table,
@@ -42,7 +43,7 @@ impl<'a> Model for SessionOverlay<'a> {
 }
 
 impl<'a> SessionOverlay<'a> {
-    /// Creates an overlay without edits.
+    /// Creates an overlay of the sessions in `table`, without edits.
     pub(crate) fn new(alloc: Global, table: &'a Table) -> SessionOverlay<'a>
         ensures { result ≡ record { base = table.now.members; edits = [] } }
     {
@@ -55,7 +56,7 @@ impl<'a> SessionOverlay<'a> {
         }
     }
 
-    /// Returns how many sessions are live, and how many were ever opened.
+    /// Returns how many sessions are live after the edits, and how many were ever opened.
     #[tactic(auto, using(crate::proofs::Overlays::counting))]
     pub(crate) fn counts(&self) -> (usize, u64)
         ensures live { result.0 ≡ count_live (members_of self.now).live }
@@ -83,8 +84,9 @@ impl<'a> SessionOverlay<'a> {
         }
     }
 
-    // Returns the live session with client id `client`, if any. The last digits are the number of
-    // the only candidate.
+    // Returns the live session with client id `client`, if any.
+    //
+    // The last digits are the number of the only candidate.
     fn live_with_id<'m>(&self, client: &'m Text) -> Option<Sender<'m>>
         ensures { MatchOption result (live_with_id (members_of self.now).live client.now ≡ None)
             (λ s. IsSender (live_with_id (members_of self.now).live client.now) s.number s.client.now s.ack) }
@@ -104,7 +106,7 @@ impl<'a> SessionOverlay<'a> {
         }
     }
 
-    // Returns the client id and `ack` of session `number`, if it is live.
+    // Returns the client id and `ack` of session `number`, if it is live after the edits.
     #[tactic(auto, using(crate::proofs::Overlays::knowing))]
     fn client_and_ack_of(&self, number: u64) -> Option<ClientAndAck<'_>>
         ensures { option_map (λ k. (k.client.now, k.ack)) result ≡ client_and_ack_of number (members_of self.now).live }

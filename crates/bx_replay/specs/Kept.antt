@@ -20,7 +20,7 @@ pub record IsKept (numbered : List Numbered) (i : ℕ) (a : PendingLine) : Type 
 abbrev pub AreKept : List Numbered → (ℕ → Option PendingLine) → Type 0
 AreKept numbered kept = (i : ℕ) (a : PendingLine) → kept i ≡ Some a → IsKept numbered i a
 
--- The text of the outs `os` was appended, from `before` to `after`. What is then kept, `new`,
+-- The output `after` is `before` followed by the text of the outs `os`. What is then kept, `new`,
 -- belongs to inputs of `numbered`.
 pub record PrintsOuts (numbered : List Numbered) (os : List Out) (before after : Option (List ℕ)) (new : ℕ → Option PendingLine) : Type 0 where
   pub kept : AreKept numbered new

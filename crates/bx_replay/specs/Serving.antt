@@ -13,15 +13,17 @@ use Rattle.bx_theory.specs.Lines.{inputs_in, outs_text, printed_so_far}
 use Rattle.bx_script.specs.declared.line.Line as script
 use Rattle.bx_script.specs.declared.line.Line.TheVariants.{Bad, Rejected, Accepted, Resharded}
 
--- The processed lines, in the definitions' form.
+-- The lines that a replay's server has processed, in the form that the definitions use.
 abbrev pub read_lines : List script.Line → List Line
 read_lines ls = map meaning_of ls
 
--- The processed lines in the definitions' form, each request with its nonce.
+-- The lines that a replay's server has processed, in the form that the definitions use. Each
+-- request has its nonce.
 abbrev pub seen_lines : List script.Line → List Line
 seen_lines ls = with_nonces 0 (read_lines ls)
 
--- The line `l` after the lines `ls`, with its nonce.
+-- The line `l`, which follows the lines `ls`, in the form that the definitions use. A request has
+-- its nonce.
 abbrev pub seen_after : List script.Line → script.Line → Line
 seen_after ls l = line_with (nonce_at (read_lines ls)) (meaning_of l)
 
@@ -30,15 +32,15 @@ abbrev pub shards_after : script.Line → ℕ → ℕ
 shards_after (Resharded shards) before = shards
 shards_after _ before = before
 
--- From `before` to `after`, `text` was appended. `text` is what the lines of `new` after those of
--- `old` print.
+-- The output `after` is `before` followed by `text`, which is what the lines of `new` after those
+-- of `old` print.
 pub record Prints (config : Config) (old new : List script.Line) (before after : Option (List ℕ)) : Type 0 where
   pub text : List ℕ
   pub appends : Appends before after text
   pub is : printed_so_far config (seen_lines new) ≡ printed_so_far config (seen_lines old) ++ text
 
--- Printing failed: from `before` to `after`, only a prefix of `text` was appended. `text` is what
--- the lines of `new` after those of `old` print.
+-- Printing failed: the output `after` is `before` followed by only a prefix of `text`. `text` is
+-- what the lines of `new` after those of `old` print.
 pub record PrintsFront (config : Config) (old new : List script.Line) (before after : Option (List ℕ)) : Type 0 where
   pub text : List ℕ
   pub front : AppendsFront before after text
@@ -69,8 +71,9 @@ pub record Served (config : Config) (ls : List Line) (inputs : List ReadInput) (
   pub number_is : number ≡ length ls
 
 module _ {P : Type 0} {g : Ghosts P} where
-  -- The round `new` is `old` after one more input, `one`. The outs that this added were printed,
-  -- from `before` to `after`. `keeps` has what is still kept, which includes each held input.
+  -- The round `new` is `old` after one more input, `one`. The outs that this added were printed:
+  -- the output was `before`, and is `after`. `keeps` has what is still kept, which includes each
+  -- held input.
   pub record Hands (old : Round P g) (one : Numbered) (new : Round P g) (before after : Option (List ℕ)) (kept keeps : ℕ → Option PendingLine) : Type 0 where
     pub more : List Out
     pub inputs : inputs_of new ≡ inputs_of old ++ one.input ∷ []
@@ -81,8 +84,8 @@ module _ {P : Type 0} {g : Ghosts P} where
     pub held_are : AllKept keeps (held (setup_in new).config (inputs_of new))
     pub prints : (numbered : List Numbered) → length numbered ≡ length (inputs_of old) → AreKept numbered kept → PrintsOuts (numbered ++ one ∷ []) more before after keeps
 
-  -- Printing failed: from `before` to `after`, only a prefix of the text of some outs was appended.
-  -- They are those that one more input, `one`, adds to the round `old`.
+  -- Printing failed after one more input, `one`, of the round `old`. The output `after` is `before`
+  -- followed by only a prefix of the text of the outs that `one` adds.
   pub record HandsFront (old : Round P g) (one : Numbered) (before after : Option (List ℕ)) (kept : ℕ → Option PendingLine) : Type 0 where
     pub more : List Out
     pub adds : outs (setup_in old).config (inputs_of old ++ one.input ∷ []) ≡ outs (setup_in old).config (inputs_of old) ++ more

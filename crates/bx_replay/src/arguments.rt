@@ -13,7 +13,9 @@ use bx_workers::WorkerCount;
 /// The configuration of a replay and its number of workers.
 #[derive(Clone, Copy)]
 pub struct Arguments {
-    /// The number of shards, the times in milliseconds, the limits and the options.
+    /// The configuration of the replay.
+    ///
+    /// It has the number of shards, the times in milliseconds, the limits and the options.
     pub config: Config,
     /// The number of workers, from 1 to 16.
     pub workers: WorkerCount,

@@ -88,6 +88,8 @@ fn print_out<W: Write>(
 ///
 /// - `Memory`: memory ran out.
 /// - `Write`: a write failed.
+///
+/// On error, a prefix of the output may be written.
 pub fn print_held<W: Write>(
     kept: &BTreeMap<usize, PendingLine>,
     numbers: &[usize],

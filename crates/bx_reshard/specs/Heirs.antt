@@ -10,8 +10,9 @@ use Rattle.bx_connects.specs.Connects.{AreApart, connect_at, filed_as, filing_at
 use Rattle.bx_shard.specs.declared.sessions.Sessions.{Sessions}
 use Rattle.bx_shard.specs.Sessions.{patterns_in, kept_in}
 
--- The connect that shard `k` of `count` reserves for a known connect, given by its session and
--- deadline: held, without a waker. `None` if the session is placed in another shard.
+-- The connect that shard `k` of `count` reserves for a connect of an old shard, which is given by
+-- its session and deadline. The reserved connect is held, without a waker. The result is `None` if
+-- the session is placed in another shard.
 abbrev pub lent_as : (ℕ → ℕ → ℕ) → ℕ → ℕ → Option (ℕ × Option ℕ) → Option ConnectState
 lent_as placing count k None = None
 lent_as placing count k (Some known) = if nat_eq (placing known.0 count) k then held_by known.0 known.1 else None
@@ -26,7 +27,8 @@ abbrev pub patterns_there : Option Sessions → ℕ → List Glob
 patterns_there None n = []
 patterns_there (Some s) n = patterns_in s n
 
--- The connect at `p` in a shard, or `None` if the shard does not exist or does not know it.
+-- The connect at place `p` in a shard, or `None` if the shard does not exist or has no connect
+-- there.
 abbrev pub connect_there : Option Sessions → ℕ → Option ConnectState
 connect_there None p = None
 connect_there (Some s) p = connect_at s.connects p
@@ -39,7 +41,7 @@ kept_of heirs k n = kept_there (slice_get heirs k) n
 abbrev pub patterns_at : List Sessions → ℕ → ℕ → List Glob
 patterns_at heirs k n = patterns_there (slice_get heirs k) n
 
--- The connect at `p` in shard `k`, if it is known there.
+-- The connect at place `p` in shard `k`, if the shard has it.
 abbrev pub connect_of : List Sessions → ℕ → ℕ → Option ConnectState
 connect_of heirs k p = connect_there (slice_get heirs k) p
 
@@ -85,8 +87,8 @@ abbrev pub patterns_among : List Sessions → ℕ → List Glob
 patterns_among [] n = []
 patterns_among (s ∷ ss) n = if is_some (kept_in s n) then patterns_in s n else patterns_among ss n
 
--- The connect that new shard `k` of `count` reserves at place `p`: the one for the first old shard
--- that knows the connect there, for a session that is placed in shard `k`.
+-- The connect that new shard `k` of `count` reserves at place `p`, or `None`. It is that of the
+-- first old shard with a connect there for a session placed in shard `k`.
 abbrev pub lent_among : (ℕ → ℕ → ℕ) → ℕ → ℕ → List Sessions → ℕ → Option ConnectState
 lent_among placing count k [] p = None
 lent_among placing count k (s ∷ ss) p = option_or (lent_as placing count k (known_as (connect_at s.connects p))) (lent_among placing count k ss p)

@@ -17,7 +17,7 @@ among f (s ∷ ss) = option_or (f s) (among f ss)
 abbrev pub session_among : List State → ℕ → Option Kept
 session_among shards n = among (λ s. session_in s n) shards
 
--- The state of the connect at `p`, from the first shard that knows it.
+-- The state of the connect at place `p`, from the first shard that has it.
 abbrev pub connect_among : List State → ℕ → Option ConnectState
 connect_among shards p = among (λ s. connect_in s p) shards
 

@@ -3,7 +3,7 @@ ghost use Rattle.bx_reshard.specs.Redistribution.{HoldersAreApart, RefinesRedist
 
 /// Proves that shards that agree with their definition `shard_at` share no session or connect.
 ///
-/// It also proves that they have the same configuration and the same place.
+/// Also proves that these shards have the same configuration and the same place.
 pub fn shards_are_disjoint()
     ensures { HoldersAreApart }
 {}

@@ -12,7 +12,7 @@ use Rattle.bx_roster.specs.declared.due_queue.Due.{Due}
 use Rattle.bx_roster.proofs.Live.{live_in-overdue_closed}
 use Rattle.bx_roster.proofs.Tables.{IsTable-absent, map-absent, live_in-all, changed-due, changed-number, closing-due, closing-number}
 
--- ---- Tests
+-- ---- Comparisons of moments
 
 not-less : (a b : ℕ) → b ≤ a → nat_lt a b ≡ false
 not-less a b le = grind (arith, nat_tests)

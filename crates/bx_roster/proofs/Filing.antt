@@ -1,4 +1,4 @@
--- A walk over the map adds an entry for each session.
+-- A walk over the map of records adds an entry to the queue for each session.
 use Rattle.std.proofs.Common.{◌≡◌, ℕ, zero, suc, ◌+◌, ◌≤◌, true, List, [], ◌∷◌, ◌++◌, length, Option, Some, None, is_some, refl, sym, ap, arith, true≢false}
 use Rattle.std.proofs.lemmas.Grind.{common_steps}
 use Rattle.std.specs.{List.list_any, Map.values_of}

@@ -1,4 +1,4 @@
--- The live sessions after a change of sessions.
+-- Closing or extending sessions commutes with taking only the live ones.
 use Rattle.std.proofs.Common.{◌≡◌, ℕ, Bool, false, List, arith}
 use Rattle.std.specs.Prelude.{max, if◌then◌else◌}
 use Rattle.std.proofs.lemmas.Grind.{common_steps}

@@ -18,7 +18,8 @@ abbrev pub edited_by : Members → Edits → Members
 edited_by ms (Each edits) = fold edited ms edits
 edited_by ms (Expire moment) = with_live ms (live_in (overdue_closed moment ms.live))
 
--- The session can be opened: it has the next number, and there is room for it.
+-- The session `s`, marked as live, can be opened: there is room for it, and it has the next number.
+-- The number fits in 64 bits, and the client id ends in its digits.
 pub record IsNext (ms : Members) (s : Registered) : Type 0 where
   pub room : length ms.live < ms.limit
   pub number : s.number ≡ ms.opened + 1
@@ -26,7 +27,8 @@ pub record IsNext (ms : Members) (s : Registered) : Type 0 where
   pub named : IsNamed s
   pub live : s.live ≡ true
 
--- The edit can be made: what it opens is the next session, and what it closes is live.
+-- The edit can be made: a session that it opens is the next one, and a session that it closes is
+-- live. Extending is always possible.
 abbrev pub CanEdit : Members → Edit → Type 0
 CanEdit ms (Open s) = IsNext ms s
 CanEdit ms (Extend number due) = Unit {0}
@@ -37,7 +39,7 @@ abbrev pub CanEditEach : Members → List Edit → Type 0
 CanEditEach ms [] = Unit {0}
 CanEditEach ms (e ∷ es) = CanEdit ms e × CanEditEach (edited ms e) es
 
--- All edits of a change can be made, one after another.
+-- All edits of a change can be made, one after another. An expiry is always possible.
 abbrev pub CanEditBy : Members → Edits → Type 0
 CanEditBy ms (Each edits) = CanEditEach ms edits
 CanEditBy ms (Expire moment) = Unit {0}

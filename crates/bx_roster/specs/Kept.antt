@@ -12,7 +12,7 @@ abbrev pub session_of : Option (Option Registered) → Option Registered
 session_of None = None
 session_of (Some record_there) = record_there
 
--- The sessions `rs`, followed by the optional one.
+-- The sessions `rs`, followed by one more session, if there is one.
 abbrev pub with_one : List Registered → Option Registered → List Registered
 with_one rs None = rs
 with_one rs (Some r) = rs ++ r ∷ []
@@ -22,7 +22,8 @@ unfoldable pub sessions_to : (ℕ → Record) → ℕ → List Registered
 sessions_to at zero = []
 sessions_to at (suc n) = with_one (sessions_to at n) (session_of (at (suc n)))
 
--- Session `r`, which is stored under number `n`, is live. Its number is `n`, also in its client id.
+-- Session `r`, which is stored under number `n`, is live. Its number is `n`, also in its client id,
+-- and is at least 1.
 pub record Stands (n : ℕ) (r : Registered) : Type 0 where
   pub number : r.number ≡ n
   pub above : 0 < n
@@ -38,8 +39,8 @@ abbrev pub vacant_count : Record → ℕ
 vacant_count o = if is_some o then 1 else 0
 
 -- The map `at` has a record for each of the `count` live sessions, which are at most `limit`. It
--- may have one other record, a vacant one, under the number `opened + 1`. `records`: how many
--- records the map has.
+-- may have one other record, a vacant one, under the number `opened + 1`. The live sessions have
+-- numbers from 1 to `opened`, under which they are stored. `records`: how many records the map has.
 pub record IsKept (at : ℕ → Record) (records limit count opened : ℕ) : Type 0 where
   pub fits : count ≤ limit
   pub small : limit < 2 ^ 64

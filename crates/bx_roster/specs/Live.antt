@@ -1,4 +1,4 @@
--- The live sessions.
+-- The live sessions, with their limit and the number of all that were opened.
 use Rattle.std.specs.Prelude.{ℕ, Bool, List, filter}
 use Rattle.bx_entry.specs.Registry.{Registered}
 
@@ -8,11 +8,11 @@ pub record Members : Type 0 where
   pub opened : ℕ
   pub live : List Registered
 
--- The live sessions of a list.
+-- The sessions of a list that are live, in the same order.
 abbrev pub live_in : List Registered → List Registered
 live_in sessions = filter (λ (r : Registered). r.live) sessions
 
--- The members with these live sessions.
+-- `ms` with these live sessions, and with the same limit and number of opened sessions.
 abbrev pub with_live : Members → List Registered → Members
 with_live ms live = record ms { live = live }
 

@@ -14,7 +14,7 @@ pub record Queue : Type 0 where
   pub late : List Due
   pub waiting : List Due
 
--- All entries of a queue.
+-- All entries of a queue, the late ones first.
 abbrev pub entries : Queue → List Due
 entries q = q.late ++ q.waiting
 
@@ -40,20 +40,23 @@ abbrev pub AllFiled : List Due → List Registered → Type 0
 AllFiled dues [] = Unit {0}
 AllFiled dues (r ∷ rs) = (list_any (files r) dues ≡ true) × AllFiled dues rs
 
--- The waiting entries form a heap. Heap and list each have memory for `room` entries, and there are
--- at most `room` entries in all.
+-- The waiting entries form a heap. The heap and the list of late entries each have memory for
+-- `room` entries, and there are at most `room` entries in all.
 pub record IsQueue (waiting late : List Due) (waiting_room late_room room : ℕ) : Type 0 where
   pub heap : IsHeap due_order waiting
   pub fits : length late + length waiting ≤ room
   pub waiting_fits : room ≤ waiting_room
   pub late_fits : room ≤ late_room
 
--- The sessions are live and in ascending order of number.
+-- The sessions are live, in ascending order of number, with numbers from 1 to `opened`. Each client
+-- id ends in the digits of its session's number.
 pub record IsRoster (ms : Members) : Type 0 where
   pub table : IsTable 0 ms.opened ms.live
   pub all : AllLive ms.live
 
--- Each session of a roster is in the queue, which has room for all that may be live.
+-- `IsRoster` holds for the sessions `ms`: they are live and in ascending order. Each has an entry
+-- in the queue at its due moment or before. The queue has room for the greatest number of live
+-- sessions.
 pub record IsQueued (ms : Members) (q : Queue) : Type 0 where
   pub roster : IsRoster ms
   pub filed : AllFiled (entries q) ms.live

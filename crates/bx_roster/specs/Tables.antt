@@ -6,17 +6,18 @@ use Rattle.bx_entry.specs.Registry.{Registered, hex_digits}
 abbrev pub IsNamed : Registered → Type 0
 IsNamed r = drop 32 r.client ≡ hex_digits 16 r.number
 
--- The numbers ascend, are above `low` and at most `high`, and the client ids end in their digits.
+-- The sessions are in ascending order of number, with numbers above `low` and at most `high`. Each
+-- client id ends in the digits of its session's number.
 abbrev pub IsTable : ℕ → ℕ → List Registered → Type 0
 IsTable low high [] = low ≤ high
 IsTable low high (r ∷ rs) = (low < r.number) × IsNamed r × IsTable r.number high rs
 
--- No session has this number.
+-- No session of the list has this number.
 abbrev pub IsAbsent : ℕ → List Registered → Type 0
 IsAbsent number [] = Unit {0}
 IsAbsent number (r ∷ rs) = (r.number ≢ number) × IsAbsent number rs
 
--- Each session is live.
+-- Each session of the list is live.
 abbrev pub AllLive : List Registered → Type 0
 AllLive [] = Unit {0}
 AllLive (r ∷ rs) = (r.live ≡ true) × AllLive rs

@@ -13,16 +13,16 @@ use std::marker::Model;
 /// The earliest entry compares as the greatest, so that the heap returns it first.
 #[derive(Clone, Copy, PartialEq, Eq, PartialOrd, Ord)]
 pub(crate) struct Due {
-    /// The moment, in milliseconds since the server started.
+    /// The moment after which a tick looks at the entry: milliseconds since the server started.
     pub(crate) moment: Reverse<u64>,
     pub(crate) number: u64,
 }
 
-/// A queue of entries: a heap of the waiting ones, and a list of the late ones.
+/// A queue of sessions by due moment: a heap of waiting entries, and a list of late ones.
 ///
 /// [`expire`](Self::expire) makes waiting entries late. All memory is allocated at creation.
 ///
-/// Model: the room, the late entries and the waiting ones.
+/// Model: for how many entries there is room, the late entries and the waiting ones.
 #[derive(Drop)]
 pub(crate) struct DueQueue {
     waiting: BinaryHeap<Due>,
@@ -65,7 +65,7 @@ impl DueQueue {
         self.late.len() + self.waiting.len() < self.room
     }
 
-    /// Adds an entry for session `number` at `moment`, in milliseconds.
+    /// Adds a waiting entry for session `number` at `moment`, in milliseconds.
     ///
     /// There must be room. Takes logarithmic time.
     pub(crate) fn file(&mut self, moment: u64, number: u64)
@@ -78,7 +78,7 @@ impl DueQueue {
         let _ = self.waiting.push(Due { moment, number });
     }
 
-    /// Removes all entries.
+    /// Removes all entries, waiting and late. The room stays.
     pub(crate) fn clear(&mut self)
         ensures { self.new ≡ record { room = self.old.room; late = []; waiting = [] } }
     {
@@ -98,14 +98,14 @@ impl DueQueue {
         move_before(&mut self.waiting, &mut self.late, moment);
     }
 
-    /// Returns the late entries.
+    /// Returns the late entries, in the order in which they became late.
     pub(crate) fn late(&self) -> &[Due]
         ensures { result.now ≡ self.now.late }
     {
         self.late.as_slice()
     }
 
-    /// Removes and returns one of the late entries, if any.
+    /// Removes and returns the late entry that became late last, if any.
     pub(crate) fn take_late(&mut self) -> Option<Due>
         ensures waiting { self.new.waiting ≡ self.old.waiting }
         ensures room { self.new.room ≡ self.old.room }
@@ -118,6 +118,8 @@ impl DueQueue {
 }
 
 // Moves the entries before `moment` from the heap to the end of `late`.
+//
+// The list must have room for all entries of the heap.
 fn move_before(waiting: &mut BinaryHeap<Due>, late: &mut Vec<Due>, moment: u64)
     requires heap { IsHeap due_order (heap_items waiting.old) }
     requires room { vec_len late.old + heap_len waiting.old ≤ vec_capacity late.old }
@@ -133,7 +135,7 @@ fn move_before(waiting: &mut BinaryHeap<Due>, late: &mut Vec<Due>, moment: u64)
     }
 }
 
-// Removes and returns the earliest entry, if it is before `moment`.
+// Removes and returns the earliest entry of the heap, if it is before `moment`.
 fn pop_before(waiting: &mut BinaryHeap<Due>, moment: u64) -> Option<Due>
     requires { IsHeap due_order (heap_items waiting.old) }
     ensures heap { IsHeap due_order (heap_items waiting.new) }

@@ -5,7 +5,7 @@ use bx_message::Sequence;
 /// One change to the live sessions.
 #[derive(Drop)]
 pub enum Edit {
-    /// Opens the session, which must have the next number.
+    /// Opens this session, which must have the next number.
     Open(LiveSession),
     /// Moves the due moment of session `number` to `due`, in milliseconds, but never back.
     Extend { number: u64, due: u64 },

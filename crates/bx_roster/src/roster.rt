@@ -16,7 +16,7 @@ use std::marker::Model;
 
 /// The live sessions by number, and possibly a vacant record for the next one.
 ///
-/// The map has no other records.
+/// There are no other records.
 ///
 /// Model: the live sessions in ascending order of number, and whether there is a vacant record.
 #[derive(Drop)]
@@ -166,6 +166,8 @@ impl Roster {
 }
 
 // Adds an entry to `queue` for each session in `records`.
+//
+// The queue must be empty and have room for all of them.
 fn file_each(queue: &mut DueQueue, records: &IndexMap<u64, Option<LiveSession>>)
     requires empty { entries queue.old ≡ [] }
     requires few { length (sessions_in (values records.now)) ≤ queue.old.room }

@@ -44,7 +44,9 @@ pub struct ClientAndAck<'a> {
 }
 
 impl LiveSession {
-    /// Returns the data that is needed to judge the session's messages.
+    /// Returns the session's client id, and whether it acknowledges batches.
+    ///
+    /// This is needed to judge the messages of the session.
     pub fn known(&self) -> ClientAndAck<'_>
         ensures { (result.client.now, result.ack) ≡ known_of self.now }
     {

@@ -18,8 +18,8 @@ use std::marker::Model;
 /// The live sessions, with a queue of their due moments.
 ///
 /// Each live session has an entry in the queue, at its due moment or before. Extending a session
-/// does not move its entry. The first tick after the entry closes the session if it is overdue, and
-/// otherwise moves the entry to the due moment.
+/// does not move its entry. The first tick after the moment of an entry closes the session if it is
+/// overdue. Otherwise the tick moves the entry to the due moment.
 ///
 /// So a tick looks only at the entries before its moment. It takes logarithmic time for each
 /// session that it closes, and for each entry of a session that was closed or extended in the
@@ -28,8 +28,8 @@ use std::marker::Model;
 /// If the queue is full when a session is opened, its entries are replaced by one for each live
 /// session. This takes logarithmic time for each opening, on average.
 ///
-/// Model: the live sessions in ascending order of number, and whether one more can be opened
-/// without allocating.
+/// Model: the limit of live sessions, the number of sessions ever opened, and the live ones in
+/// ascending order of number. Also whether one more can be opened without allocating.
 #[derive(Drop)]
 pub struct Table {
     roster: Roster,
@@ -74,7 +74,7 @@ impl Table {
         self.roster.counts()
     }
 
-    /// Returns the client id of session `number`, and whether it acknowledges, if it is live.
+    /// Returns the client id of session `number`, if it is live, and whether it acknowledges.
     pub fn client_and_ack_of(&self, number: u64) -> Option<ClientAndAck<'_>>
         ensures { option_map (λ k. (k.client.now, k.ack)) result ≡ client_and_ack_of number self.now.members.live }
     {
@@ -117,7 +117,9 @@ impl Table {
         self.roster.open(session);
     }
 
-    // Moves a session's due moment to `due`, but never back.
+    // Moves the due moment of session `number` to `due`, in milliseconds, but never back.
+    //
+    // Does nothing if the session is not live.
     fn extend(&mut self, number: u64, due: u64)
         ensures { self.new ≡ record self.old {
           members = with_live self.old.members (live_in (extended number due self.old.members.live));
@@ -136,8 +138,8 @@ impl Table {
 
     /// Applies `edits`. Does not allocate.
     ///
-    /// They may open one session, for which [`prepare`](Self::prepare) must have reserved a record.
-    /// A session that they close must be live.
+    /// They may open one session, which must have the next number. [`prepare`](Self::prepare) must
+    /// have reserved its record. A session that they close must be live.
     pub fn apply(&mut self, edits: Edits)
         requires can { CanEditBy self.old.members edits }
         requires room { opens edits ≤ room_of self.old.ready }
@@ -149,7 +151,7 @@ impl Table {
         }
     }
 
-    // Applies `edits` in order.
+    // Applies `edits` in order, under the conditions of [`apply`](Self::apply).
     fn edit(&mut self, edits: Sequence<Edit>)
         requires can { CanEditEach self.old.members edits }
         requires room { opened_by_each edits ≤ room_of self.old.ready }
@@ -209,7 +211,7 @@ fn opens_one(edits: &[Edit]) -> bool
     edits.iter().any(|edit| matches!(edit, Edit::Open(_)))
 }
 
-// Returns the numbers in `late` of the live sessions due before `moment`.
+// Returns the numbers in `late` of the live sessions due before `moment`, with repetitions.
 fn past_numbers(
     alloc: Global,
     roster: &Roster,
@@ -236,8 +238,9 @@ fn is_past(due: Option<u64>, moment: u64) -> bool
     }
 }
 
-// Removes the late entries. Closes their sessions that are due before `moment`, and adds new
-// entries for the other live ones.
+// Removes the late entries of `queue`, and closes their sessions that are due before `moment`.
+//
+// Their other live sessions get new entries, at their due moments.
 fn settle_late(roster: &mut Roster, queue: &mut DueQueue, moment: u64)
     requires roster { IsRoster roster.old.members }
     requires filed { AllFiled (entries queue.old) roster.old.members.live }
@@ -252,8 +255,9 @@ fn settle_late(roster: &mut Roster, queue: &mut DueQueue, moment: u64)
     }
 }
 
-// Closes the session of the removed entry `due`, if it is due before `moment`. If it is due at
-// `moment` or later, adds a new entry for it.
+// Closes the session of the removed entry `due`, if the session is due before `moment`.
+//
+// If the session is live and due at `moment` or later, it gets a new entry, at its due moment.
 fn settle(roster: &mut Roster, queue: &mut DueQueue, due: Due, moment: u64)
     requires roster { IsRoster roster.old.members }
     requires filed { AllFiled (due ∷ entries queue.old) roster.old.members.live }
@@ -272,8 +276,9 @@ fn settle(roster: &mut Roster, queue: &mut DueQueue, due: Due, moment: u64)
     }
 }
 
-// Makes room in a full queue: removes all entries, and adds one for each live session. The queue is
-// then at most half full, so this is rare.
+// Replaces the entries of a full `queue` by one for each live session.
+//
+// The queue is then at most half full, so this is rare. Does nothing if there is room.
 fn make_room(queue: &mut DueQueue, roster: &Roster)
     requires filed { AllFiled (entries queue.old) roster.now.members.live }
     requires few { length roster.now.members.live < queue.old.room }

@@ -7,7 +7,7 @@ use Rattle.bx_script.specs.declared.error.ScriptFault.TheVariants.{Memory, Read,
 abbrev pub written : {W : Type 0} → (W → Option (List ℕ)) → Output W → Option (List ℕ)
 written contents output = contents output.writer
 
--- How many more interruptions are allowed.
+-- How many more interrupted writes `output` allows.
 abbrev pub interruptions_left : {W : Type 0} → Output W → ℕ
 interruptions_left output = output.interruptions_left
 

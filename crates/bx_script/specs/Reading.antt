@@ -14,8 +14,8 @@ first_of script = before_first is_newline script
 abbrev pub rest_of : List ℕ → List ℕ
 rest_of script = after_first is_newline script
 
--- What one read with this outcome changes: the bytes that are left, from `before` to `after`, and
--- the bytes that are kept of the line, from `kept` to `now`.
+-- What one read with this outcome changes. The bytes that are left change from `before` to `after`.
+-- The bytes that are kept of the line change from `kept` to `now`.
 abbrev pub PartRead : ReadOutcome → List ℕ → List ℕ → List ℕ → List ℕ → Type 0
 PartRead Again before after kept now = (after ≡ before) × (now ≡ kept)
 PartRead More before after kept now = (before ≢ []) × (kept_with now (first_of after) ≡ kept_with kept (first_of before)) × (rest_of after ≡ rest_of before)

@@ -39,8 +39,8 @@ pub data Dialect : Type 0 where
   Script : Dialect
   Recorded : Dialect
 
--- What a body or a query is read as: an error with its status, or documents, with the name of the
--- callback if it is a query.
+-- What a body or a query is read as: an error with its status, or documents. The documents of a
+-- query come with the name of its callback.
 pub data Taken : Type 0 where
   Refused : (status : ℕ) → Taken
   Documents : (callback : Option (List ℕ)) → (documents : List (List ℕ)) → Taken
@@ -71,8 +71,9 @@ query_by (Err error) = not_taken error
 abbrev pub query_taken : List ℕ → Taken
 query_taken query = query_by (get_taken query)
 
--- The meaning of a line: malformed, a body or query that is rejected, an input with the name of its
--- callback, a number of shards, the nonce of the next request, or the note of an answer.
+-- The meaning of a line: malformed, a body or query that is rejected, an input, a number of shards,
+-- a nonce, or a note. An input comes with the name of its callback, if it is a GET. A nonce is that
+-- of the next request. A note is that of an answer.
 pub data Line : Type 0 where
   Bad : Line
   Rejected : (status : ℕ) → Line
@@ -119,8 +120,9 @@ recorded_command Recorded moment rest =
     if starts_with nat_eq rest (codes "F ") then handed_by moment (form_taken (drop 2 rest))
     else (if starts_with nat_eq rest (codes "N ") then announced_by (drop 2 rest) else Bad)
 
--- What a line means with the command `rest` after its moment: a tick, a body, a query, a number of
--- shards or, in a record, a form or a nonce. Any other line is bad.
+-- What a line means with the command `rest` after its moment. The command is a tick, a body, a
+-- query or a number of shards. In a record, it can also be a form or a nonce. Any other line is
+-- bad.
 abbrev pub command : Dialect → ℕ → List ℕ → Line
 command dialect moment rest =
     if bytes_eq rest (codes "T") then Accepted None (Tick moment)
@@ -143,8 +145,9 @@ timed_line dialect text = line_by dialect (number_of (before_first is_space text
 abbrev pub is_digest : List ℕ → Bool
 is_digest digits = length digits == 64 && list_all is_ascii_hexdigit digits
 
--- What the text after `A` and a space means: the note of an answer, if it is a place that fits in
--- 64 bits, a space and a digest. Any other text, and one of more than `BODY_LIMIT` bytes, is bad.
+-- What the text after `A` and a space means. The text is the note of an answer if it is a place
+-- that fits in 64 bits, a space and a digest. Any other text, and one of more than `BODY_LIMIT`
+-- bytes, is bad.
 abbrev pub noted_by : List ℕ → Line
 noted_by note =
     if nat_lt BODY_LIMIT (length note) then Bad
@@ -161,19 +164,19 @@ lines_in dialect text = map (line_of dialect) (lines_of text)
 
 -- ---- Nonces
 
--- The input with this nonce, if it is a request.
+-- The input with `nonce`, if it is a request that can be read. Any other input is unchanged.
 abbrev pub with_nonce : ℕ → ReadInput → ReadInput
 with_nonce nonce (Request moment other messages) = Request moment nonce messages
 with_nonce nonce (Unread fault) = Unread fault
 with_nonce nonce (Tick moment) = Tick moment
 
--- The line with this nonce, if it is a request.
+-- The line with `nonce` in its request. A line without a request is unchanged.
 abbrev pub line_with : ℕ → Line → Line
 line_with nonce (Accepted callback input) = Accepted callback (with_nonce nonce input)
 line_with nonce line = line
 
--- The nonce for the next request, after an input: 0 after a request, even one that is rejected for
--- its documents, and `nonce` as before after a tick.
+-- The nonce for the next request, after an input. After a request, even one that is rejected for
+-- its documents, the nonce is 0. After a tick, it is `nonce` as before.
 abbrev pub nonce_left : ℕ → ReadInput → ℕ
 nonce_left nonce (Request moment other messages) = 0
 nonce_left nonce (Unread fault) = 0
@@ -220,8 +223,8 @@ abbrev pub response_text : Option (List ℕ) → List Item → List ℕ
 response_text None items = body_text items
 response_text (Some name) items = callback_text name items
 
--- What is printed for an input once all its messages are answered: the status of a rejected input,
--- nothing for a tick, or 200 and the response.
+-- What is printed for an input once all its messages are answered. If the input is rejected, it is
+-- the status. Otherwise it is nothing for a tick, and 200 and the response for a request.
 abbrev pub result_text : Numbered → ReadInput → Result (List Item) Refusal → List ℕ
 result_text n input (Err refusal) = line_text n.line (decimal (code_of (refusal_status refusal)))
 result_text n (Tick moment) (Ok items) = []
@@ -237,8 +240,9 @@ out_by o (Some n) = result_text n n.input o.result
 abbrev pub outs_at : List Whole → List Numbered → ℕ → List ℕ
 outs_at ws numbered index = flat_map (λ (o : Out). out_by o (slice_get numbered o.input)) (whole_at index ws)
 
--- What the lines print. `number`: the number of the first line. `index`: how many inputs come
--- before that line.
+-- What the lines print in order: `bad`, a status, or the results of the inputs that an input
+-- completes. Other lines print no text. `number`: the number of the first line. `index`: how many
+-- inputs come before that line.
 abbrev pub printed_from : List Whole → List Numbered → ℕ → ℕ → List Line → List ℕ
 printed_from ws numbered number index [] = []
 printed_from ws numbered number index (Bad ∷ ls) = line_text number (codes "bad") ++ printed_from ws numbered (number + 1) index ls

@@ -11,11 +11,11 @@ use std::{fmt, io};
 /// Why a script cannot be read, or its results cannot be written.
 #[derive(Clone, Copy, Debug, PartialEq, Eq)]
 pub enum ScriptFault {
-    /// Memory ran out.
+    /// Memory ran out while a script was read or its results were written.
     Memory,
-    /// A read failed, or there were [`MAX_READS`](crate::MAX_READS) reads.
+    /// A read of the script failed, or there were [`MAX_READS`](crate::MAX_READS) reads.
     Read,
-    /// A write failed, wrote nothing, or was interrupted too often.
+    /// A write of results failed, wrote nothing, or was interrupted too often.
     ///
     /// [`MAX_INTERRUPTIONS`](crate::MAX_INTERRUPTIONS) interruptions are allowed.
     Write,

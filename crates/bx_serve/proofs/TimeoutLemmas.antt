@@ -1,4 +1,5 @@
--- A body under a time limit yields the same frames; a call under one fails as it did, or is late.
+-- A body under a time limit yields the same frames. A call under a time limit has the same result,
+-- or is late.
 use Rattle.std.proofs.Common.{◌≡◌, List, [], ◌∷◌, Option, Some, None, Result, Ok, Err, subst, sym, map, inl, inr}
 use Rattle.std.specs.declared.io.Error.{Error}
 use Rattle.futures.specs.Runs.{Runs, After}

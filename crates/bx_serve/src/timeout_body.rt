@@ -79,9 +79,9 @@ impl<B: Body, T: Timer> Body for TimeoutBody<B, T> {
 /// A service that calls another, with time limits on each request's body.
 #[derive(Drop)]
 pub struct TimeoutService<S, T> {
-    /// The inner service.
+    /// The service that is called with each request, with time limits on its body.
     pub service: S,
-    /// The timer for bodies.
+    /// The timer for the limits on bodies.
     pub timer: T,
     /// The longest wait for the next frame of a request's body.
     pub limit: Duration,

@@ -1,4 +1,4 @@
--- The first state of an exchange.
+-- The first state of a request's exchange, which the request's head and the size limit determine.
 use Rattle.std.specs.Prelude.{◌≡◌, ℕ, nat_lt, Bool, true, false, List, [], codes, length, Option, option_map, option_and_then, unwrap_or}
 use Rattle.std.specs.Option.{option_map_or}
 use Rattle.http.specs.declared.request.Parts.{Parts}
@@ -37,7 +37,7 @@ module _ {I B : Type 0} where
   IsCollecting limit content_type body (Held callback items) = ⊥
   IsCollecting limit content_type body (Refused status) = ⊥
 
-  -- `state` rejects the request as too large if the flag is `true`. Otherwise it is one of
+  -- If the flag is `true`, `state` rejects the request as too large. If not, `state` is one of
   -- `states`.
   abbrev pub OrTooLarge : Bool → (State I B → Type 0) → State I B → Type 0
   OrTooLarge true states state = state ≡ Refused (transport_status TooLarge)
@@ -55,7 +55,8 @@ module _ {I B : Type 0} where
       OrTooLarge (says_more limit (length_of fields)) (IsCollecting limit (get fields (codes "content-type")) body) state
 
   -- A request with this route begins in `state`: as a POST, as a GET, or rejected with a status. A
-  -- POST or GET is also rejected if its body or query exceeds `limit` bytes.
+  -- GET is also rejected if its query exceeds `limit` bytes, and a POST if its `content-length`
+  -- does.
   abbrev pub BeginsAs : Route → ℕ → Parts → B → State I B → Type 0
   BeginsAs routes.Post limit head body state = IsPosted limit head.headers body state
   BeginsAs routes.Get limit head body state = IsAsking limit head.uri state

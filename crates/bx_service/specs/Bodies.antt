@@ -29,16 +29,17 @@ module _ {D : Type 0} (unread : D → List ℕ) where
   joined_bytes frames = flat_map data_bytes frames
 
   module _ {E : Type 0} (source : Runs (Result (Frame D) E)) (limit : ℕ) (held : List ℕ) where
-    -- `bytes` are `held` followed by the data of the whole body, and are at most `limit` in number.
+    -- `bytes` are those collected so far, `held`, followed by the data of the rest of the body.
+    -- They are at most `limit` in number.
     abbrev pub IsWhole : List ℕ → Type 0
     IsWhole bytes = (frames : List (Frame D)) × source (map Ok frames) None × (bytes ≡ held ++ joined_bytes frames) × (length bytes ≤ limit)
 
-    -- `held`, followed by the data of one or more first frames of the body, has more than `limit`
-    -- bytes.
+    -- The bytes collected so far, `held`, together with the data of one or more next frames of the
+    -- body, are more than `limit`.
     abbrev pub Passes : Type 0
     Passes = (frames : List (Frame D)) × ((frame : Frame D) × source (map Ok frames) (Some (Ok frame)) × (limit < length (held ++ joined_bytes frames ++ data_bytes frame)))
 
-    -- The body may yield an error, after any number of frames.
+    -- The rest of the body may yield an error, after any number of frames.
     abbrev pub Fails : Type 0
     Fails = (frames : List (Frame D)) × ((e : E) × source (map Ok frames) (Some (Err e)))
 
@@ -49,8 +50,8 @@ module _ {D : Type 0} (unread : D → List ℕ) where
     Faults Failed = Fails
     Faults Memory = ⊤
 
-    -- Collecting the body may return the result: `held` and all its data within `limit`, or an
-    -- error.
+    -- Collecting the body may return the result: all bytes, within `limit`, or an error. The bytes
+    -- are those collected so far, `held`, and the data of the rest of the body.
     abbrev pub Gives : Result (Vec ℕ Global) CollectError → Type 0
     Gives (Ok all) = IsWhole all.items
     Gives (Err fault) = Faults fault

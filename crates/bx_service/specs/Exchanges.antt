@@ -40,8 +40,8 @@ module _ {I : Type 0} (gives : I → Gathered → Type 0) where
   abbrev pub ForFuture : Option (List ℕ) → I → Sent → Type 0
   ForFuture callback items sent = (gathered : Gathered) × (gives items gathered × ForItems callback gathered sent)
 
-  -- `sent` is the response for the backend's result: for its future, or with the status of its
-  -- fault.
+  -- `sent` is the response for the backend's result: the response for its future, or one with the
+  -- status of its fault.
   abbrev pub ForOutcome : Option (List ℕ) → Result I Declined → Sent → Type 0
   ForOutcome callback (Ok items) sent = ForFuture callback items sent
   ForOutcome callback (Err declined) sent = IsRefusal (post_status declined.fault) sent
@@ -52,14 +52,14 @@ module _ {I : Type 0} (gives : I → Gathered → Type 0) where
     ForDocuments callback documents sent =
         (bodies : Bodies) × ((texts_of bodies ≡ documents) × ((outcome : Result I Declined) × (admits bodies outcome × ForOutcome callback outcome sent)))
 
-    -- `sent` is the response to a POST after its body was read: for the documents, or with the
-    -- status of the error.
+    -- `sent` is the response to a POST after its body was read: for the JSON documents in it, or
+    -- with the status of the error.
     abbrev pub ForBody : Result (List (List ℕ)) TransportError → Sent → Type 0
     ForBody (Ok documents) sent = ForDocuments None documents sent
     ForBody (Err error) sent = IsRefusal (transport_status error) sent
 
-    -- `sent` is the response to a GET after its query was read: a script that calls the callback,
-    -- or the status of the error.
+    -- `sent` is the response to a GET after its query was read. It is for the callback and JSON
+    -- documents of the query, or has the status of the error.
     abbrev pub ForQuery : Result (List ℕ × List (List ℕ)) TransportError → Sent → Type 0
     ForQuery (Ok taken) sent = ForDocuments (Some taken.0) taken.1 sent
     ForQuery (Err error) sent = IsRefusal (transport_status error) sent

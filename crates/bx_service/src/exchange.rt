@@ -296,8 +296,8 @@ where
         }
     }
 
-    // Polls for the response of a request that is `Held` or `Refused`. In other states, returns
-    // `ServiceFault::Memory`.
+    // Polls for the response of a request that is `Held` or `Refused`. In other states, reports
+    // that memory ran out for the response, and returns `ServiceFault::Memory`.
     fn poll_answered(
         &mut self,
         cx: &mut Context<'_>,
@@ -343,7 +343,8 @@ where
         (λ backend. MayAnswer I.gives (S.admits (arc_value backend)) D.unread B.yields e.state sent)) };
 
     // Polls for the response, and drops the backend when it is ready. A later poll posts no
-    // messages and returns `ServiceFault::Memory`.
+    // messages. It reports that memory ran out for the response, and returns
+    // `ServiceFault::Memory`.
     fn poll(&mut self, cx: &mut Context<'_>) -> Poll<Self::Output>
         requires { CanPoll I.can_poll B.can_poll self.old.state }
         ensures value { IfReady result (λ given. IfOk given (λ sent. MatchOption self.old.backend ⊥

@@ -14,7 +14,7 @@ pub record WithRoom : Type 0 where
   pub kept : Kept
   pub spare : ℕ
 
--- The number of batches is at most the greatest length of the list.
+-- The number of batches so far is at most the greatest length of the list.
 abbrev pub Countable : Kept → Type 0
 Countable k = k.num ≤ greatest_length
 
@@ -22,13 +22,14 @@ Countable k = k.num ≤ greatest_length
 abbrev pub wants_two : Kept → Bool
 wants_two k = k.ack && is_some k.held
 
--- For how many events a rider's answer needs room; the rider itself may publish one.
+-- For how many events a rider's answer needs room: those in the queue and one that the rider may
+-- publish, up to one batch. In an acknowledging session, it needs none.
 abbrev pub ride_most : Config → Kept → ℕ
 ride_most config k = if k.ack then 0 else min config.limits.batch (length k.queue + 1)
 
 -- ---- Connects
 
--- A connect that is not answered yet.
+-- The unanswered connect at `place`, with this client id, message id, moment and hold.
 abbrev pub pending : ℕ → List ℕ → Option (List ℕ) → ℕ → ℕ → Pending
 pending place client id moment hold = record { place = place; client = client; id = id; moment = moment; hold = hold }
 
@@ -54,7 +55,7 @@ answered_of f = answered f.connect (events_of f.publications) f.reply
 abbrev pub connection_answers : ConnectResult → List Answered
 connection_answers c = option_to_list c.superseded ++ option_to_list c.answered
 
--- The answers that a delivery causes.
+-- The answer that a delivery gives to the held connect, if any.
 abbrev pub delivery_answers : Delivery → List Answered
 delivery_answers Waits = []
 delivery_answers (Given a) = a ∷ []

@@ -4,28 +4,28 @@ use bx_message::Answer;
 /// The answer to a connect or a rider.
 #[derive(Drop)]
 pub struct Answered {
-    /// The place of the connect or rider.
+    /// The place of the answered connect or rider.
     pub place: u64,
-    /// The events, oldest first, and the reply.
+    /// The answer to the connect or rider: the events, oldest first, and the reply.
     pub answer: Answer,
 }
 
-/// The result of [`Session::connect`](crate::Session::connect).
+/// The result of [`Session::connect`](crate::Session::connect): up to two answers.
 #[derive(Drop)]
 pub struct ConnectResult {
-    /// The answer to the connect that was held, if any.
+    /// The answer to the connect that was held before the new one, if any.
     pub superseded: Option<Answered>,
     /// The answer to the new connect, or `None` if it is held.
     pub answered: Option<Answered>,
 }
 
-/// The result of [`Session::deliver`](crate::Session::deliver).
+/// The result of [`Session::deliver`](crate::Session::deliver): what became of the event.
 #[derive(Drop)]
 pub enum Delivery {
-    /// The event waits for a connect.
+    /// The delivered event waits for a connect.
     Waits,
-    /// The held connect is answered with the event.
+    /// The held connect is answered with the delivered event.
     Given(Answered),
-    /// The session overflowed. The caller must remove its patterns.
+    /// The session overflowed, and dropped the event. The caller must remove its patterns.
     Overflowed,
 }

@@ -94,7 +94,9 @@ impl PendingConnect {
         self.moment.checked_add(self.hold)
     }
 
-    /// Returns `true` if the hold has ended by `moment`.
+    /// Returns `true` if the hold has ended by `moment`, in milliseconds.
+    ///
+    /// Returns `false` if the end of the hold does not fit in 64 bits.
     pub(crate) fn is_due(&self, moment: u64) -> bool
         ensures { result ≡ ends_by moment self.now }
     {
@@ -104,7 +106,7 @@ impl PendingConnect {
         }
     }
 
-    /// Answers the connect without events.
+    /// Answers the connect without events, and with a reply for `outcome` and `ack`.
     pub(crate) fn answer_empty(self, config: &Config, outcome: Outcome, ack: AckReply) -> Answered
         ensures { result ≡ answer_to config.now self [] outcome ack }
     {
@@ -164,7 +166,7 @@ impl PendingConnect {
     }
 }
 
-// Creates an answer from its parts.
+// Creates the answer to the connect at `place` from its events and its reply.
 fn answer_of(place: u64, events: Vec<SharedEvent>, reply: Reply) -> Answered
     ensures { result ≡ answered place events.items reply }
 {

@@ -26,7 +26,7 @@ impl Model for RideRoom {
 }
 
 impl RideRoom {
-    /// Creates room for `count` events.
+    /// Creates room for at least `count` events.
     ///
     /// # Errors
     ///

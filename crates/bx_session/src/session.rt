@@ -137,8 +137,9 @@ impl Session {
 
     /// Adds `patterns` and returns `true` if the session overflows.
     ///
-    /// It overflows if it would have more than `config.limits.patterns` active patterns. If it has
-    /// overflowed before, changes nothing and returns `false`.
+    /// It overflows if it would have more than `config.limits.patterns` active patterns. All its
+    /// patterns and events are then dropped. If it has overflowed before, changes nothing and
+    /// returns `false`.
     ///
     /// `fresh`: by how many `patterns` would increase the number of active patterns.
     pub fn subscribe(&mut self, config: &Config, patterns: &[Pattern], fresh: usize) -> bool
@@ -195,6 +196,7 @@ impl Session {
     // Returns the acknowledgement for the reply to a connect with `outcome`.
     //
     // It is the number of the last batch, if the connect succeeds and the session acknowledges.
+    // Otherwise there is none.
     fn ack_for(&self, outcome: Outcome) -> AckReply
         ensures { result ≡ ack_given self.now.kept.ack self.now.kept.num outcome }
     {
@@ -207,6 +209,8 @@ impl Session {
     }
 
     // Answers the held connect, if any, without events and with `outcome`.
+    //
+    // No connect is held afterwards.
     fn release(&mut self, config: &Config, outcome: Outcome) -> Option<Answered>
         ensures answer { (place : ℕ) → option_to_list result ≡ map answered_of (answers_of (released config.now place outcome) self.old.kept) }
         ensures kept { self.new.kept ≡ after unheld self.old.kept }
@@ -230,7 +234,7 @@ impl Session {
         (done, self.window.portion(done, config.limits.batch))
     }
 
-    // Clones the events that a connect gets.
+    // Clones the events that a connect gets if it acknowledges batch `acked`, if any.
     fn events_for(
         &self,
         alloc: Global,
@@ -247,7 +251,7 @@ impl Session {
         clone_part(alloc, self.window.events(), done, count)
     }
 
-    // Drops the events that a connect acknowledges.
+    // Drops the outstanding batch if `acked` is at least its number, and the session acknowledges.
     fn acknowledge(&mut self, acked: Option<u64>)
         ensures { self.new.kept ≡ after (acknowledged acked) self.old.kept }
     {
@@ -257,7 +261,9 @@ impl Session {
         }
     }
 
-    // Answers `connect` with `events`. If there are none and it may be held, holds it instead.
+    // Answers `connect` with `events`, or holds it if there are none and it may be held.
+    //
+    // If there are none and it may not be held, answers it without events.
     fn settle(
         &mut self,
         config: &Config,
@@ -284,9 +290,9 @@ impl Session {
         None
     }
 
-    // Marks the `count` events just sent as outstanding.
+    // Marks the `count` events just sent as the outstanding batch, if none is outstanding yet.
     //
-    // If the session does not acknowledge, drops them instead.
+    // If the session does not acknowledge, drops these events instead.
     fn give(&mut self, config: &Config, count: usize)
         requires given { count ≡ length (given config.now (resumed self.old.kept)) }
         requires countable { Countable self.old.kept }
@@ -339,9 +345,9 @@ impl Session {
         })
     }
 
-    // Acknowledges `acked`, and answers or holds `connect`. After an overflow, fails it instead.
+    // Acknowledges `acked`, and answers or holds `connect`, which gets `events`, if any.
     //
-    // No other connect may be held.
+    // After an overflow, answers it with an error instead. No other connect may be held.
     fn admit(
         &mut self,
         config: &Config,

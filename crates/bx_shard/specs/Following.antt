@@ -45,7 +45,7 @@ completed_by config (Some k) state = completed (events_of (take (ride_portion co
 
 -- `new` is the sessions and connects of a shard after entry `e` is applied to `old`. `stands`:
 -- whether a session that `e` opens is placed in the shard. In `new`, the tree has exactly the
--- patterns of the sessions, and a connect is held if and only if its session holds it.
+-- patterns of the sessions, which are live. A connect is held if and only if its session holds it.
 pub record Followed (stands : Bool) (e : Entry) (old new : Sessions) : Type 0 where
   pub config : new.config ≡ old.config
   pub sessions : (n : ℕ) → kept_in new n ≡ session_after old.config stands e n (kept_in old n)

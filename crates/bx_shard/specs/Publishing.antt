@@ -29,8 +29,9 @@ pub record IsPacked (s : Sessions) (x : Parcel) : Type 0 where
   pub room : HasRoom s x.number
   pub further : IfSome (kept_in s x.number) (λ (k : Kept). wants_two k ≡ true → x.further ≡ Some x.event)
 
--- The session of parcel `x`, if it is in the shard, can receive the parcel: it has not overflowed,
--- can count another batch, and has room for the event.
+-- The session of parcel `x`, if it is in the shard, can receive the parcel. The session has not
+-- overflowed, can count another batch, and has room for the event. If the session will both send
+-- and keep the event, the parcel has a clone.
 pub record IsReady (s : Sessions) (x : Parcel) : Type 0 where
   pub here : IfSome (kept_in s x.number) (λ (k : Kept). (k.overflow ≡ false) × Countable k)
   pub packed : IsPacked s x

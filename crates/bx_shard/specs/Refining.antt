@@ -38,11 +38,11 @@ pub record IsOwn (setup : Setup) (list : List Listed) (shard place session : ℕ
   pub stands : is_placed_in setup shard session ≡ true
 
 -- The program's shard `s`, with the index `shard` and the setup `setup`, agrees with its definition
--- `shard_at` after `n` entries of `list`. It has the same sessions and filed answers. Its tree and
--- its held connects agree with its sessions. The answers to the messages at the places in `taken`
--- were taken or dropped. All these places are in the list. If one of them is the place of a connect
--- of the shard, it is below `n`, and the connect is no longer known. Each known connect has a
--- session that is placed in the shard.
+-- `shard_at` after `n` entries of `list`. It has the same sessions and filed answers. Its tree of
+-- patterns and its held connects agree with its sessions. The answers to the messages at the places
+-- in `taken` were taken or dropped. All these places are in the list. If one of them is the place
+-- of a connect or rider of the shard, it is below `n`. That connect or rider is no longer held or
+-- answered. Each connect that is held or answered has a session that is placed in the shard.
 pub record Refines (setup : Setup) (list : List Listed) (taken : List ℕ) (shard n : ℕ) (s : State) : Type 0 where
   pub setup_is : s.setup ≡ setup
   pub index_is : s.index ≡ shard
@@ -128,8 +128,8 @@ RefinesBesideSwept = (setup : Setup) (list : List Listed) (taken : List ℕ) (sh
 
 -- ---- Answers
 
--- The answer that a shard has filed for a message is the one that the definition `answer` gives for
--- that message, over the entries that the shard has applied.
+-- The answer that a shard has filed for a message is that of the definition `answer`, over the
+-- entries that the shard has applied.
 abbrev pub FiledIsGiven : Type 0
 FiledIsGiven = (setup : Setup) (list : List Listed) (taken : List ℕ) (shard n place : ℕ) (s : State) (a : Answer) → Refines setup list taken shard n s →
     filed_answer (connect_in s place) ≡ Some a → option_map given_of (answer setup.config (take n list) place) ≡ Some a

@@ -61,11 +61,12 @@ abbrev pub holds_until : Option Kept → ℕ → Option (Option ℕ)
 holds_until None place = None
 holds_until (Some k) place = ends_for k.held place
 
--- The tree has no patterns for a session that is not in the shard.
+-- The shard's tree of patterns has no patterns for a session that is not in the shard.
 abbrev pub AreClean : Sessions → Type 0
 AreClean s = (n : ℕ) → kept_in s n ≡ None → patterns_in s n ≡ []
 
--- Each session in the shard is live, and the tree has exactly the patterns of the sessions.
+-- Each session in the shard is live, and the shard's tree of patterns has exactly the patterns of
+-- the sessions.
 abbrev pub AreCounted : Sessions → Type 0
 AreCounted s = (n : ℕ) → IsCounted n (kept_in s n) (patterns_in s n)
 
@@ -73,8 +74,8 @@ AreCounted s = (n : ℕ) → IsCounted n (kept_in s n) (patterns_in s n)
 abbrev pub AreHeld : Sessions → Type 0
 AreHeld s = (place n : ℕ) → held_until (connect_at s.connects place) n ≡ holds_until (kept_in s n) place
 
--- In the shard's sessions `s`, the tree has exactly the patterns of the sessions. A connect is held
--- if and only if its session holds it.
+-- Each of the shard's sessions `s` is live, and the tree of patterns has exactly their patterns. A
+-- connect is held if and only if its session holds it.
 pub record AreTied (s : Sessions) : Type 0 where
   pub patterns : AreCounted s
   pub holds : AreHeld s
@@ -84,9 +85,9 @@ abbrev pub has_formed_at_most : ℕ → Option Kept → Bool
 has_formed_at_most count None = true
 has_formed_at_most count (Some k) = nat_le k.num count
 
--- The sessions `s` fit a shard that has applied `place` entries. The tree and the held connects
--- agree with the sessions. No session has formed more than `place` batches, and no connect at
--- `place` or later is known.
+-- The sessions `s` fit a shard that has applied `place` entries. The tree of patterns and the held
+-- connects agree with the sessions. No session has formed more than `place` batches. At `place` and
+-- later, no connect is held and no answer is filed.
 pub record Fits (place : ℕ) (s : Sessions) : Type 0 where
   pub counted : AreCounted s
   pub held : AreHeld s

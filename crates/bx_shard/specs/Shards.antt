@@ -10,8 +10,8 @@ is_placed_in setup shard number = setup.placing number setup.shards == shard
 
 -- ---- Contents of a shard
 
--- What a shard must contain: the number of applied entries (`place`), its live sessions in order of
--- number, and its filed answers that are not taken yet.
+-- What a shard must contain after `place` entries: its live sessions in order of number, and its
+-- filed answers that are not taken yet.
 pub record Shard : Type 0 where
   pub place : ℕ
   pub sessions : List Kept

@@ -26,7 +26,7 @@ pub record State : Type 0 where
   pub shut : Bool
   pub sessions : Sessions
 
--- The state of the connect at `place`, if the shard knows it.
+-- The state of the connect or rider at `place`, if it is held or its answer is filed.
 abbrev pub connect_in : State → ℕ → Option ConnectState
 connect_in s place = connect_at s.sessions.connects place
 
@@ -42,7 +42,7 @@ abbrev pub opening : Bool → EntryKind → ℕ → Option Kept
 opening stands (Opened m ack) n = if (m == n) && stands then Some (kept (unopened m)) else None
 opening stands _ n = None
 
--- A session, if it is live; otherwise `None`.
+-- A session if it is live, and otherwise `None`.
 abbrev pub if_live : Kept → Option Kept
 if_live k = if is_live k.stage then Some k else None
 
@@ -54,7 +54,7 @@ session_after config stands e n o = option_and_then (λ k. if_live (kept_step co
 
 -- ---- Connects
 
--- A connect after the sessions in `numbers` are closed: unknown if one of them holds it, otherwise
+-- A connect after the sessions in `numbers` are closed: `None` if one of them holds it, otherwise
 -- unchanged.
 abbrev pub dropped_by : List ℕ → Option ConnectState → Option ConnectState
 dropped_by numbers None = None
@@ -97,8 +97,8 @@ pub record Connects (sessions : ℕ → Option Kept) (e : Entry) (p m : ℕ) : T
   pub session : (connecting e.kind ≡ Some m) ⊎ (riding (rider_of e.kind e.rides) ≡ Some m)
   pub here : is_some (sessions m) ≡ true
 
--- Each connect known in `new` has the session that it has in `old`, or is the connect or rider of
--- entry `e`.
+-- Each connect that is held or answered in `new` has the same session as in `old`, or is the
+-- connect or rider of entry `e`.
 abbrev pub KeepsSessions : (ℕ → Option Kept) → Entry → (ℕ → Option ConnectState) → (ℕ → Option ConnectState) → Type 0
 KeepsSessions sessions e old new = (p m : ℕ) → session_at (new p) ≡ Some m → (session_at (old p) ≡ Some m) ⊎ Connects sessions e p m
 
@@ -131,8 +131,8 @@ pub record IsAsBefore (old new : State) : Type 0 where
 
 -- ---- Invariants
 
--- In shard `s`, the tree and the held connects agree with the sessions, and no connect at `s.place`
--- or later is known.
+-- In shard `s`, the tree of patterns and the held connects agree with the sessions. At `s.place`
+-- and later, no connect is held and no answer is filed.
 pub record IsSound (s : State) : Type 0 where
   pub tied : AreTied s.sessions
   pub fresh : (p : ℕ) → s.place ≤ p → connect_in s p ≡ None

@@ -19,7 +19,8 @@ use bx_message::SharedEvent;
 use bx_names::is_broadcast;
 use std::alloc::{AllocError, Global};
 
-/// An event for one session, with a clone if the session will both send and keep it.
+/// An event for session `number`, with a clone of it if the session will both send and keep the
+/// event.
 #[derive(Drop)]
 pub(crate) struct Parcel {
     pub(crate) number: u64,

@@ -100,7 +100,7 @@ fn rider_of(entry: &Entry) -> Option<&Rider>
     }
 }
 
-// Returns a clone of `reply`, which shares its texts.
+// Returns a clone that shares the texts of `reply`.
 fn copy_of(reply: &Reply) -> Result<Reply, AllocError>
     ensures { IfOk result (λ copy. copy ≡ reply.now) }
 {

@@ -1,4 +1,4 @@
--- The number of events that are never sent again does not fall.
+-- The number of a session's events that are never sent again does not fall.
 use Rattle.std.proofs.Common.{◌≤◌, ℕ, List, [], ◌∷◌, fold, arith, subst, sym}
 use Rattle.std.proofs.lemmas.{List.Sums.fold-append, Grind.common_steps}
 use Rattle.bx_advice.specs.declared.config.Config.{Config}

@@ -1,4 +1,5 @@
--- A pattern is active exactly if a subscription mentioned it last, without an overflow.
+-- A pattern is active exactly if a subscription mentioned it last, and the session has not
+-- overflowed.
 use Rattle.std.proofs.Common.{◌≡◌, ℕ, Bool, true, false, not, ◌&&◌, ◌||◌, Option, Some, None, List, [], ◌∷◌, fold, filter_map, refl, sym, ap, ◌∙◌, arith}
 use Rattle.std.proofs.lemmas.{Bool.cond-true, Bool.cond-false, Bool.false_from_ne_true, Bool.both_ways, Grind.common_steps}
 use Rattle.std.specs.List.{cons_option}

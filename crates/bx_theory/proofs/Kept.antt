@@ -1,4 +1,4 @@
--- What is kept of a session, entry by entry, and its bounds.
+-- A session without its history, entry by entry, and the limits of its queue and batch.
 use Rattle.std.proofs.Common.{◌≡◌, List, [], ◌∷◌, drop, fold, refl, ap, ◌∙◌}
 use Rattle.std.proofs.lemmas.{Bool.cond_both, List.drop_all}
 use Rattle.bx_advice.specs.declared.config.Config.{Config}

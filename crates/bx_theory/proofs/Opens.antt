@@ -1,4 +1,4 @@
--- One more input completes some inputs with unanswered messages, and no others.
+-- Which inputs one more input completes, and which still have an unanswered message.
 use Rattle.std.proofs.Common.{◌≡◌, ℕ, zero, suc, ◌+◌, ◌<◌, ◌≤◌, ⊎_elim, Bool, true, false, cond, not, ◌&&◌, is_some, is_none, Option, Some, None, List, [], ◌∷◌, ◌++◌, length, map, filter, flat_map, fold, nat_lt, refl, sym, ap, ◌∙◌, subst, arith, append-nil, length-append, ne_eqb, eq-eqb, lt-ltb}
 use Rattle.std.proofs.lemmas.{Bool.cond-true, Bool.cases_lt, List.map-append, List.Elements.filter-append, List.Sums.fold-append, Grind.common_steps, Grind.flat_map-append}
 use Rattle.std.specs.List.{position, position_or_len}

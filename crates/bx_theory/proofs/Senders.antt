@@ -1,4 +1,4 @@
--- The session of an accepted message is live.
+-- The session of an accepted message is live, unless the message opens it.
 use Rattle.std.proofs.Common.{length, ◌≡◌, ℕ, Bool, true, false, ◌&&◌, Some, slice_get, take, List, ◌∷◌, map, ◌==◌, sym, ap, ◌∙◌, subst, eq-eqb}
 use Rattle.std.proofs.lemmas.Bool.{and_parts, both_ways}
 use Rattle.std.proofs.Math.Seq.{take-append_seam}

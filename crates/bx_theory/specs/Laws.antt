@@ -91,8 +91,9 @@ pub record GivesLater (s u t : Session) : Type 0 where
   pub answers : t.answers ≡ s.answers ++ filed
   pub apart : Each (λ f. AllBelow (take (if u.ack then u.done else s.done) t.events) f.publications) filed
 
--- The events in an answer have later places than all events that were done before it. An event is
--- done once it is acknowledged or, if the session does not acknowledge, once it is sent.
+-- If entries are at consecutive places, the events in an answer have later places than all events
+-- that were done before it. An event is done once it is acknowledged or, if the session does not
+-- acknowledge, once it is sent.
 abbrev pub NoEventTwice : Type 0
 NoEventTwice = (config : Config) (number : ℕ) (xs : List Entry) (e : Entry) (ys : List Entry) → 0 < config.limits.batch → PlacesFrom 0 (xs ++ e ∷ ys) →
     GivesLater (session config number xs) (step config (session config number xs) e) (fold (step config) (step config (session config number xs) e) ys)
@@ -101,7 +102,7 @@ NoEventTwice = (config : Config) (number : ℕ) (xs : List Entry) (e : Entry) (y
 abbrev pub EntriesInOrder : Type 0
 EntriesInOrder = (config : Config) (list : List Listed) → PlacesFrom 0 (entries config list)
 
--- The events of the answers, in order.
+-- The events of the answers with their places, answer by answer.
 abbrev pub given_in : List Filed → List Publication
 given_in answers = flat_map (λ (f : Filed). f.publications) answers
 
@@ -117,7 +118,7 @@ GivenOnce = (config : Config) (number : ℕ) (es : List Entry) → 0 < config.li
 abbrev pub NoRidersUnasked : Type 0
 NoRidersUnasked = (config : Config) (list : List Listed) → config.ride ≡ false → AllByRecursion (λ (e : Entry). e.rides ≡ None) (entries config list)
 
--- The session of a rider, if there is one, does not acknowledge.
+-- The session of a rider, if there is a rider, does not acknowledge after the entries `es`.
 abbrev pub RidesPlain : Config → List Entry → Option Rider → Type 0
 RidesPlain config es None = ⊤
 RidesPlain config es (Some rider) = (session config rider.session es).ack ≡ false

@@ -71,9 +71,9 @@ InForceReading = (config : Config) (number : ℕ) (es : List Entry) (p : Glob) �
 
 -- ---- Held: until an entry ends the hold
 
--- Whether an entry of this kind, at `moment`, ends the hold of the connect `p`: an event that
--- session `s` gets, a newer connect or a disconnect of the session, or a tick at or after its
--- deadline.
+-- Whether an entry of this kind, at `moment`, ends the hold of the connect `p`. An event that
+-- session `s` gets ends it, and so does a newer connect or a disconnect of the session. A tick ends
+-- it at or after its deadline.
 abbrev pub ends_by : Config → Session → Pending → ℕ → EntryKind → Bool
 ends_by config s p moment (Connect n client id acked hold) = n == s.number
 ends_by config s p moment (Publish e) = is_hit s e && has_room config e s
@@ -104,8 +104,9 @@ ending_outcome (Disconnect n) = Disconnected
 ending_outcome _ = Connected
 
 -- Entry `e` turns session `s` into `t`. The first answer that the entry gives is to the held
--- connect `p`. It has the events and the outcome for an entry of this kind. If the session
--- acknowledges and the connect succeeds, the reply has the number of the last batch.
+-- connect `p`. It has the event that the entry publishes, if any, and the outcome for an entry of
+-- its kind. If the session acknowledges and the connect succeeds, the reply has the number of the
+-- last batch.
 pub record AnsweredAt (config : Config) (p : Pending) (e : Entry) (s t : Session) : Type 0 where
   pub answer : Filed
   pub others : List Filed
@@ -126,21 +127,23 @@ EndingReading = (config : Config) (s : Session) (p : Pending) (es : List Entry) 
 
 -- ---- Overflow: an earlier entry exceeded a limit
 
--- Whether an entry of this kind exceeds a limit of session `s`: a publish that it gets but its
--- queue has no room for, or a subscription to too many patterns.
+-- Whether an entry of this kind exceeds a limit of session `s`. It is a publish that a pattern of
+-- the session matches, but that its queue has no room for. Or it is a subscription that results in
+-- too many patterns.
 abbrev pub overfills_by : Config → Session → EntryKind → Bool
 overfills_by config s (Subscribe n ps) = (n == s.number) && nat_lt config.limits.patterns (length (fold with_pattern s.patterns ps))
 overfills_by config s (Publish e) = is_hit s e && not (has_room config e s)
 overfills_by config s _ = false
 
--- Whether one of the entries, applied in order to session `s`, exceeds a limit: a publish that it
--- gets but its queue has no room for, or a subscription to too many patterns.
+-- Whether one of the entries, applied in order to session `s`, exceeds a limit of the session. It
+-- is a publish that a pattern of the session matches, but that its queue has no room for. Or it is
+-- a subscription that results in too many patterns.
 abbrev pub some_overfills : Config → Session → List Entry → Bool
 some_overfills config s [] = false
 some_overfills config s (e ∷ es) = overfills_by config s e.kind || some_overfills config (step config s e) es
 
--- After more entries, a session has overflowed exactly if it had overflowed before them, or one of
--- them exceeds its limit of events, bytes or patterns.
+-- After more entries, a session has overflowed exactly if it had overflowed before, or one of them
+-- exceeds its limit of events, bytes or patterns.
 abbrev pub OverflowReading : Type 0
 OverflowReading = (config : Config) (s : Session) (es : List Entry) → (fold (step config) s es).overflow ≡ (s.overflow || some_overfills config s es)
 
@@ -170,8 +173,9 @@ abbrev pub EachSession : (Registered → Type 0) → List Registered → Type 0
 EachSession P [] = ⊤
 EachSession P (r ∷ rs) = P r × EachSession P rs
 
--- The due moment of a session is the greatest that its accepted messages set. Each sets the
--- greatest moment up to it, plus the time that it may be held, plus `config.max_interval`.
+-- The due moment of a session is the greatest that its accepted messages set. Each message sets the
+-- greatest moment in the list so far, plus the time that it may be held, plus
+-- `config.max_interval`.
 abbrev pub DueReading : Type 0
 DueReading = (config : Config) (list : List Listed) → EachSession (λ r. r.due ≡ fold max 0 (given_moments config r.number (registry config list).judged)) (registry config list).sessions
 
@@ -218,7 +222,7 @@ abbrev pub ClosedIsOver : Type 0
 ClosedIsOver = (config : Config) (list more : List Listed) (number : ℕ) → (session config number (entries config list)).stage ≡ Closed →
     NothingMore (session config number (entries config list)) (session config number (entries config (list ++ more)))
 
--- The moment of an element.
+-- The moment of an element of the list: of the request of a message, or of a tick.
 abbrev pub moment_of : Listed → ℕ
 moment_of (messages.Post p) = p.moment
 moment_of (messages.Tick moment) = moment

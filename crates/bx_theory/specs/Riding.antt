@@ -11,7 +11,7 @@ use Rattle.bx_theory.specs.Readings.{is_from, opens_by}
 
 -- ---- Which messages are riders
 
--- The results for the elements `these` of a longer list, which has `before` before them and
+-- The results of judging the elements `these` of a longer list, which has `before` before them and
 -- `behind` after them.
 abbrev pub found_after : Config → List Listed → List Listed → List Listed → List Judged
 found_after config before these behind = take (length these) (drop (length before) (registry config (before ++ (these ++ behind))).judged)

@@ -20,7 +20,7 @@ pub enum TransportError {
     BadName,
     /// The form or the query has no parameter `message`.
     NoMessage,
-    /// Memory ran out.
+    /// Memory ran out while the body or the query was read.
     Memory,
 }
 

@@ -48,9 +48,9 @@ fn semicolon_in(content_type: &[u8]) -> Option<usize>
 // The parameters that the server knows, from a form or a query.
 #[derive(Drop)]
 pub(crate) struct Parameters {
-    // The values of all parameters `message`, in order.
+    // The values of all parameters `message` of a form or a query, in order.
     pub(crate) documents: Vec<String>,
-    // The value of the last parameter `jsonp`, if any.
+    // The value of the last parameter `jsonp` of a form or a query, if any.
     pub(crate) callback: Option<String>,
 }
 

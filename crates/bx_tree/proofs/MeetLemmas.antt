@@ -1,4 +1,4 @@
--- A search along a name finds a number exactly if one of its patterns matches the name.
+-- A search along a name finds a session exactly if one of its patterns matches the name.
 use Rattle.std.proofs.Common.{◌≡◌, ℕ, ◌<◌, true, ◌&&◌, ◌||◌, List, [], ◌∷◌, ◌++◌, length, take, drop, refl, sym, ap, subst, ◌∙◌, arith, append-nil, append_assoc, length-append, inl, inr, take-append-drop}
 use Rattle.std.specs.Bool.{one_answer}
 use Rattle.std.proofs.lemmas.Bool.{or_cases, or_left, or_right, and_parts}
@@ -12,7 +12,8 @@ use Rattle.std.proofs.lemmas.Grind.{common_steps}
 
 -- ---- the rest of a name after the segments of a pattern
 
--- A pattern with this tail matches if `n` segments of the name are left after its own segments.
+-- A pattern with this tail can match a name with `n` segments left after the path of the pattern.
+-- That is none, one for `*`, or at least one for `**`.
 abbrev pub Leaves : Tail → ℕ → Type 0
 Leaves Exact n = n ≡ 0
 Leaves One n = n ≡ 1

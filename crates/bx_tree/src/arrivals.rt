@@ -93,7 +93,8 @@ impl Arrivals {
 
     /// Removes `pattern`, if the session has it.
     ///
-    /// If `stamp` is the stamp of `pattern`, this needs no search.
+    /// If `stamp` is the stamp of `pattern`, this needs no search. Otherwise it compares all
+    /// patterns.
     pub(crate) fn remove(&mut self, pattern: &Pattern, stamp: u64)
         ensures { self.new ≡ without_pattern self.old pattern.now }
     {

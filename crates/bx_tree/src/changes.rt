@@ -9,7 +9,9 @@ use crate::nodes::Nodes;
 use bx_names::Pattern;
 use std::alloc::{AllocError, Global};
 
-/// Adds `pattern` for session `number`, unless it is active. On error, nothing has changed.
+/// Adds `pattern` for session `number` to `nodes` and `arrivals`, unless it is active.
+///
+/// On error, nothing has changed.
 fn put(
     alloc: Global,
     nodes: &mut Nodes,
@@ -34,7 +36,9 @@ fn put(
     Ok(())
 }
 
-/// Adds `patterns` for session `number`, in order. On error, the first few may have been added.
+/// Adds `patterns` for session `number` to `nodes` and `arrivals`, in order.
+///
+/// On error, the first few of them may have been added.
 fn put_each(
     alloc: Global,
     nodes: &mut Nodes,
@@ -54,7 +58,8 @@ fn put_each(
     Ok(())
 }
 
-/// Removes the patterns of session `number` after its first `len`.
+/// Removes the patterns of session `number` after its first `len`, from both `nodes` and
+/// `arrivals`.
 pub(crate) fn shorten(nodes: &mut Nodes, arrivals: &mut Arrivals, len: usize, number: u64)
     requires { IsIndexAt nodes.old number arrivals.old }
     ensures index { IsIndexAt nodes.new number arrivals.new }
@@ -69,7 +74,9 @@ pub(crate) fn shorten(nodes: &mut Nodes, arrivals: &mut Arrivals, len: usize, nu
     }
 }
 
-/// Adds `patterns` for session `number`, in order. On error, nothing has changed.
+/// Adds `patterns` for session `number` to `nodes` and `arrivals`, in order.
+///
+/// On error, nothing has changed.
 pub(crate) fn add_all(
     alloc: Global,
     nodes: &mut Nodes,

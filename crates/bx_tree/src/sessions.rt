@@ -1,4 +1,4 @@
-//! The patterns of each session.
+//! The patterns of each session, in a map from its number.
 ghost use Rattle.std.specs.Prelude.{◌≡◌, ◌≢◌, ℕ, [], fold, length, OnOk, OnErr, IfOk};
 ghost use Rattle.std.specs.Option.{unwrap_or};
 ghost use Rattle.bx_names.specs.InForce.{with_pattern, without_pattern};

@@ -69,8 +69,9 @@ impl EmptyWindow {
     }
 }
 
-// Adds a cell to the book in which the crate `logbook` keeps the log, and returns the pen of the
-// cell. Only the holder of this pen can append the step that names the cell.
+// Adds a cell to the `logbook` book of the log, and returns the pen of the cell. A pen is the right
+// to write its cell. Each step of the log names a cell, and only the holder of that cell's pen can
+// append the next step.
 fn spare(head: &Word<LoggedStep, u64, LogRule>, seen: &Seen<LoggedStep, u64, LogRule>) -> Pen
     requires { head.now ≡ head_of seen.now.book }
     ensures book { result.book ≡ seen.now.book }
@@ -86,7 +87,7 @@ fn spare(head: &Word<LoggedStep, u64, LogRule>, seen: &Seen<LoggedStep, u64, Log
 
 /// The writer's end of a window's log of publishes and trims.
 ///
-/// Only its holder can append a step to the log, so its front is the whole log.
+/// Only the holder of a `Book` can append a step to the log, so its front is the whole log.
 ///
 /// Model: the steps of the log.
 #[derive(Drop)]
@@ -116,7 +117,7 @@ impl<L: LogId> Model for Book<L> {
 }
 
 impl<L: LogId> Book<L> {
-    // Returns the front that is the whole log.
+    // Returns the front with all steps so far.
     pub(crate) fn front(&self) -> Front<L>
         ensures { result ≡ self.now }
     {
@@ -129,8 +130,8 @@ impl<L: LogId> Book<L> {
         }
     }
 
-    // Returns the front that is the whole log. `other` is a prefix of it, because only `self` can
-    // append steps.
+    // Returns the front with all steps so far. `other` is a prefix of that front, because only
+    // `self` can append steps.
     pub(crate) fn beyond(&mut self, other: &Front<L>) -> Front<L>
         ensures same { self.new ≡ self.old }
         ensures whole { result ≡ self.old }
@@ -150,8 +151,8 @@ impl<L: LogId> Book<L> {
 
     // Appends a step that adds `elements` to the list and drops the `dropped` oldest batches.
     //
-    // `inputs`: the requests and ticks that `elements` are from. After the step, the list has `len`
-    // elements, and the window begins at `begin`.
+    // `inputs`: the requests and ticks that `elements` result from. After the step, the list has
+    // `len` elements, and the window begins at `begin`. The log must have fewer than 2^62 steps.
     fn step(
         &mut self,
         elements: &Listing,
@@ -190,8 +191,8 @@ impl<L: LogId> Book<L> {
         self.seen = seen;
     }
 
-    // Appends the step that adds `elements` to the list. `count`: their number. They result from
-    // `inputs`.
+    // Appends the step that adds `elements` to the list. `count`: how many elements. `inputs`: the
+    // requests and ticks that they result from. The log must have fewer than 2^62 steps.
     pub(crate) fn add(&mut self, elements: &Listing, inputs: &History<Input>, count: u64)
         requires room { length self.old < 2 ^ 62 }
         requires count { length elements.now ≡ count }
@@ -202,7 +203,8 @@ impl<L: LogId> Book<L> {
         self.step(elements, inputs, 0, front.len() + count, front.begin());
     }
 
-    // Appends the step that drops the `count` oldest batches. The window then begins at `begin`.
+    // Appends the step that drops the `count` oldest batches. `begin`: where the window then
+    // begins. The log must have fewer than 2^62 steps.
     pub(crate) fn trim(&mut self, count: u64, begin: u64)
         requires room { length self.old < 2 ^ 62 }
         requires begin { begin ≡ begin_of (self.old ++ trimming count ∷ []) }
@@ -260,7 +262,8 @@ impl<L: LogId> Front<L> {
         self.begin
     }
 
-    /// Returns the number of steps in this front. Each step is a publish or a trim.
+    /// Returns the number of steps in this front. Each step publishes one batch or trims the
+    /// window.
     pub fn steps(&self) -> u64
         ensures { result ≡ length self.now }
     {

@@ -6,11 +6,11 @@ use std::marker::Brand;
 
 /// Ghost: a step, which appends elements to the list or drops the window's oldest batches.
 pub struct LogStep {
-    /// The elements to append, in order.
+    /// The elements that the step appends to the list, in order.
     pub elements: Listing,
-    /// The requests and ticks that `elements` result from, in order.
+    /// The requests and ticks that the elements of the step result from, in order.
     pub inputs: History<Input>,
-    /// How many of the window's oldest batches are dropped.
+    /// How many of the window's oldest batches the step drops.
     pub dropped: u64,
 }
 
@@ -18,9 +18,9 @@ pub struct LogStep {
 pub struct LoggedStep {
     /// The recorded step. In the first record of the log, it only opens the log.
     pub step: LogStep,
-    /// The key of the cell of the `logbook` book that the next step spends.
+    /// The key of a cell in the `logbook` book of the log. The next step spends this cell.
     ///
-    /// Only the holder of the cell's pen can append that step.
+    /// Only the holder of the cell's pen, the right to write the cell, can append that step.
     pub next: u64,
 }
 
@@ -61,7 +61,9 @@ impl Gain<LoggedStep, u64> for NoGain {
     ghost after = { λ names about answer. ftrue };
 }
 
-/// Ghost: the move that adds a cell to the log's book. The pen of the cell can append a later step.
+/// Ghost: the `logbook` move that adds a cell to the log's book.
+///
+/// The pen of the cell is the right to write it. With the pen, a later step can be appended.
 pub struct Spare;
 
 impl Play<LoggedStep, u64> for Spare {
@@ -70,7 +72,7 @@ impl Play<LoggedStep, u64> for Spare {
     ghost then = { Spares };
 }
 
-/// Ghost: the move that appends the first record of the log.
+/// Ghost: the `logbook` move that appends the first record of the log.
 pub struct Open;
 
 impl Play<LoggedStep, u64> for Open {
@@ -79,7 +81,7 @@ impl Play<LoggedStep, u64> for Open {
     ghost then = { Opens };
 }
 
-/// Ghost: the move that appends a step.
+/// Ghost: the `logbook` move that appends a step to the log.
 pub struct Add;
 
 impl Play<LoggedStep, u64> for Add {
@@ -88,7 +90,8 @@ impl Play<LoggedStep, u64> for Add {
     ghost then = { Adds };
 }
 
-/// Ghost: the move that proves that a caller has seen at most the expected number of records.
+/// Ghost: the `logbook` move that proves that a caller has seen at most the expected number of
+/// records.
 ///
 /// The move changes nothing.
 pub struct Whole;
@@ -102,13 +105,13 @@ impl Play<LoggedStep, u64> for Whole {
 /// A step to append, with the pen for the step after it.
 #[derive(Drop)]
 pub struct StepRequest<'a> {
-    /// The elements to append to the list, in order.
+    /// The elements that the requested step appends to the list, in order.
     pub elements: &'a Listing,
-    /// The requests and ticks that `elements` result from, in order.
+    /// The requests and ticks that the elements of the requested step result from, in order.
     pub inputs: &'a History<Input>,
-    /// How many of the window's oldest batches to drop.
+    /// How many of the window's oldest batches the requested step drops.
     pub dropped: u64,
-    /// The pen that can append the step after this one.
+    /// The pen that can append the step after the requested one.
     pub next: &'a Pen,
 }
 

@@ -63,7 +63,8 @@ pub(crate) fn catch_up<L: LogId, R: Wait + Drop>(
 /// Makes room in the log of the crate `left_right`, so that showing a change never allocates.
 ///
 /// `left_right` has two copies of the ring. Its log has at most two changes: the next one, and the
-/// last one, which is still to be applied to the other copy.
+/// last one, which is still to be applied to the other copy. `front`: the empty front, for two
+/// changes that have no effect.
 ///
 /// # Errors
 ///

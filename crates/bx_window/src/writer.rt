@@ -42,17 +42,17 @@ const MAX_STEPS: u64 = 1 << 62;
 /// The reason why a batch was not published.
 #[derive(Clone, Copy, Debug, PartialEq, Eq)]
 pub enum PublishFault {
-    /// The window has had 2^62 publishes and trims.
+    /// The batch was not published: the window has had 2^62 publishes and trims.
     Ended,
-    /// The window has [`MAX_BATCHES`] batches.
+    /// The batch was not published: the window has [`MAX_BATCHES`] batches.
     Full,
-    /// Memory ran out, or an earlier change still cannot be shown to readers.
+    /// The batch was not published: memory ran out, or an earlier change still cannot be shown.
     Memory,
 }
 
-/// The writer of a published value `T` that shows the steps of a log.
+/// The writer of a log of steps, and of a value `T` that shows the steps to readers.
 ///
-/// Readers see all steps, except for at most one change that is late.
+/// Readers see all steps, except for at most one change that is late: it could not be shown yet.
 ///
 /// Model: the steps of the log.
 #[derive(Drop)]
@@ -78,7 +78,7 @@ impl<L: LogId, R: Wait + Drop, T: Absorb<O, State = [LogStep; 0]> + Drop, O: Dro
     ghost invariant = { λ w. (w.firsts.items ≡ firsts_of w.book) × (w.firsts.capacity ≡ 4096) × (pending w.handle ≡ []) × IsShown T.applied w.book w.late (T.state (published w.handle)) };
 }
 
-/// The only writer of a window.
+/// The writer of a window, which shows its batches to readers as a ring. A window has only one.
 pub type LogWriter<L, R> = Writer<L, R, Ring<L>, RingChange<L>>;
 
 /// Creates the writer and `readers` readers of an opened window.
@@ -135,7 +135,7 @@ fn empty_ring<L: LogId>(alloc: Global, front: &Front<L>) -> Result<Ring<L>, Allo
 }
 
 impl<L: LogId, R: Wait + Drop> Writer<L, R, Ring<L>, RingChange<L>> {
-    /// Returns the front of all that was published, for readers to learn.
+    /// Returns the front with all steps so far, for readers to learn.
     ///
     /// Does not allocate.
     pub fn tell(&self) -> Front<L>
@@ -144,9 +144,10 @@ impl<L: LogId, R: Wait + Drop> Writer<L, R, Ring<L>, RingChange<L>> {
         self.book.front()
     }
 
-    /// Returns the front of all that was published, which covers `front`.
+    /// Returns the front with all steps so far, which covers `front`.
     ///
-    /// It covers every front, because only the writer appends to the list. Does not allocate.
+    /// The returned front covers every front, because only the writer appends steps. Does not
+    /// allocate.
     pub fn tell_beyond(&mut self, front: &Front<L>) -> Front<L>
         ensures same { self.new ≡ self.old }
         ensures whole { result ≡ self.old }
@@ -165,15 +166,15 @@ impl<L: LogId, R: Wait + Drop> Writer<L, R, Ring<L>, RingChange<L>> {
     /// Publishes a batch, for readers to find at its places.
     ///
     /// The batch must begin at the end of the list and have entries, which must be those that
-    /// `bundle.elements` adds. If the change cannot be shown, it is late: readers see it after a
-    /// later call has shown it.
+    /// `bundle.elements` adds. The list must not get longer than its greatest length. If the change
+    /// cannot be shown, it is late: readers see it after a later call has shown it.
     ///
     /// # Errors
     ///
     /// `bundle`, with the first of these that applies; nothing is published:
     ///
     /// - `Ended`: the window has had 2^62 publishes and trims.
-    /// - `Full`: it has [`MAX_BATCHES`] batches.
+    /// - `Full`: the window has [`MAX_BATCHES`] batches.
     /// - `Memory`: an earlier change still cannot be shown, or memory ran out.
     ///
     /// # Blocking
@@ -279,7 +280,8 @@ fn shared(
     }
 }
 
-// Returns where batch `index` begins, or `end` after the last one.
+// Returns the place where batch `index` begins, or `end` if there are not more than `index`
+// batches.
 #[tactic(auto, using(crate::proofs::Firsts::found_or))]
 fn first_at(firsts: &HeapCircularBuffer<u64>, index: usize, end: u64) -> u64
     ensures { result ≡ slice_index_or firsts.now.items index end }
@@ -287,7 +289,7 @@ fn first_at(firsts: &HeapCircularBuffer<u64>, index: usize, end: u64) -> u64
     firsts.get(index).copied().unwrap_or(end)
 }
 
-// Returns how many batches have only places below `n`. The last batch ends at `end`.
+// Returns how many of the oldest batches have only places below `n`. The last batch ends at `end`.
 #[tactic(auto, using(crate::proofs::Firsts::below_on, crate::proofs::Firsts::below_off, crate::proofs::Firsts::below_none))]
 fn count_below(firsts: &HeapCircularBuffer<u64>, n: u64, end: u64) -> usize
     ensures { result ≡ below n end firsts.now.items }

@@ -39,7 +39,7 @@ is_behind (e ∷ es) s = nat_lt s.place (end_of (e ∷ es))
 -- `new` is the shard `old` after it advanced, at most to the end of the entries `es`. If `old`
 -- agrees with its definition `shard_at` for a list that has the entries, `new` does too. `new` is
 -- at the end, or the next entry is one that may allocate. Its setup and index are those of `old`,
--- and it is shut only if `old` is.
+-- and it is shut if and only if `old` is.
 pub record WentOn {P : Type 0} (place_of : P → ℕ → ℕ → ℕ) (es : List Entry) (old new : Shard P) : Type 0 where
   pub onward : old.place ≤ new.place
   pub within : IsWithin es old → IsWithin es new

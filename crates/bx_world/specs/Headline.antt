@@ -59,15 +59,15 @@ abbrev pub RepliedBy : Setup → List Listed → Input → StepOut → Type 0
 RepliedBy setup list input (Admitted first slots) = IsAdmitted setup list (read_input input) first slots
 RepliedBy setup list input _ = ⊤
 
--- If the step is an admission that succeeds, its input is in the list, and the output has the right
--- slot for each of the input's messages.
+-- If the step is an admission that succeeds, its input is in the list. The output then has the
+-- right slot for each message of the input.
 abbrev pub Replied : Setup → List Listed → Step → StepOut → Type 0
 Replied setup list (Admit input) out = RepliedBy setup list input out
 Replied setup list (Apply shard) out = ⊤
 Replied setup list (Take ticket) out = ⊤
 
--- For each admission of a schedule that succeeds, the input is in the list, and the output has the
--- right slot for each of the input's messages.
+-- For each admission of a schedule that succeeds, the input is in the list. The output of the
+-- admission has the right slot for each message of the input.
 abbrev pub EachReplied : Setup → List Listed → List Step → List StepOut → Type 0
 EachReplied setup list [] outs = ⊤
 EachReplied setup list (step ∷ steps) [] = ⊤

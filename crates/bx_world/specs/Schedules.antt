@@ -16,7 +16,7 @@ abbrev pub added_as : Input → StepOut → List Listed
 added_as input (Admitted first slots) = added_by (read_input input)
 added_as input _ = []
 
--- What a step adds to the list, given its output.
+-- What a step adds to the list, given its output. Only an admission that succeeds adds to the list.
 abbrev pub added_in : Step → StepOut → List Listed
 added_in (Admit input) out = added_as input out
 added_in _ out = []
@@ -34,8 +34,8 @@ ListIsAdmitted = (setup : Setup) (first : WorldState) (steps : List Step) (outs 
 
 -- ---- Taken answers
 
--- If the output is a taken answer, it is right for the message at the ticket's place: a server that
--- handles the messages of `list` one at a time gives the same answer.
+-- If the output is a taken answer, the answer is right for the message at the ticket's place. A
+-- server that handles the messages of `list` one at a time gives the same answer.
 abbrev pub TookBy : Config → List Listed → Ticket → StepOut → Type 0
 TookBy config list t (Taken (Some a)) = option_map given_of (answer config list t.place) ≡ Some a
 TookBy config list t _ = ⊤

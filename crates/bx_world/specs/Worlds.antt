@@ -10,7 +10,8 @@ use Rattle.bx_world.specs.declared.step.StepOut.TheVariants.{Admitted, NotAdmitt
 
 -- ---- The world
 
--- The list, how many entries each shard has applied, and the places of the taken answers.
+-- The state of a world: the list, how many entries each shard has applied, and the places of the
+-- taken answers.
 pub record WorldState : Type 0 where
   pub list : List Listed
   pub applied : List ℕ
@@ -26,7 +27,8 @@ new_world setup = record { list = []; applied = replicate setup.shards 0; taken 
 abbrev pub is_level : WorldState → ℕ → Bool
 is_level w shard = not (nat_lt shard (length w.applied)) || (slice_index w.applied shard == length w.list)
 
--- The answer filed under a ticket, if any.
+-- The answer filed under a ticket, if the ticket's shard exists and has such an answer that was not
+-- taken.
 abbrev pub filed_under : Setup → WorldState → Ticket → Option PlacedAnswer
 filed_under setup w t =
     if nat_lt t.shard (length w.applied)
@@ -46,14 +48,15 @@ output setup w (Take ticket) = Taken (option_map given_of (filed_under setup w t
 
 -- ---- Steps
 
--- The world after a step, given its output.
+-- The world after a step, given its output. An admission that succeeds makes the list longer, an
+-- application advances its shard, and a taken answer is recorded. Otherwise the world is unchanged.
 abbrev pub after : WorldState → Step → StepOut → WorldState
 after w (Admit input) (Admitted first slots) = record w { list = w.list ++ added_by (read_input input) }
 after w (Apply shard) Applied = record w { applied = slice_set w.applied shard (slice_index w.applied shard + 1) }
 after w (Take ticket) (Taken (Some answer)) = record w { taken = w.taken ++ ticket.place ∷ [] }
 after w step out = w
 
--- The entry that a shard applies next, if any.
+-- The entry that a shard applies next, or `None` if it has applied the whole list.
 abbrev pub next_entry : Setup → WorldState → ℕ → Option Entry
 next_entry setup w shard = slice_get (entries setup.config w.list) (slice_index w.applied shard)
 

@@ -25,7 +25,7 @@ pub enum StepOut {
     Admitted {
         /// The place of the first entry of the request or tick.
         first: u64,
-        /// How each message is answered, in order. Empty for a tick.
+        /// How each message of the request is answered, in order. Empty for a tick.
         slots: Sequence<Slot>,
     },
     /// The request or tick was rejected, for this reason; nothing has changed.

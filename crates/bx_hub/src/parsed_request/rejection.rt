@@ -14,9 +14,10 @@ use std::sync::Wait;
 
 /// Evidence of why a request or a tick was not admitted.
 ///
-/// It is created while admission is locked, or before, if the request cannot be read. It records
-/// whether the hub was closed. With `Behind` or `Overrun`, it also records the position of a shard
-/// that made the post or tick fail.
+/// It is created while admission is locked, and records whether the hub was closed. With `Behind`
+/// or `Overrun`, it also records the position of a shard that made the post or tick fail.
+///
+/// If the request cannot be read, it is created before, and only the fault has a meaning.
 #[derive(Drop)]
 pub struct Rejection<L: LogId> {
     fault: PostFault,
@@ -31,8 +32,9 @@ impl<L: LogId> Rejection<L> {
 
     /// Creates evidence that `admission` failed with `fault`.
     ///
-    /// `fault` must be `Closed` if and only if `admission` is closed. `lag`: with `Behind`, a shard
-    /// that had not applied the whole oldest batch; with `Overrun`, the overrun shard.
+    /// `fault` must be `Closed` if and only if `admission` is closed. `lag`: with `Behind`, the
+    /// position of a shard that had not applied the whole oldest batch; with `Overrun`, that of the
+    /// overrun shard.
     pub(crate) fn of<R: Wait + Drop>(
         admission: &Admission<L, R>,
         fault: PostFault,
@@ -51,6 +53,8 @@ impl<L: LogId> Rejection<L> {
     }
 
     /// Creates evidence that reading a request failed with `fault`.
+    ///
+    /// Whether the hub is closed is not examined.
     pub(super) fn unread(fault: AdmitFault) -> Rejection<L>
         ensures { (result.fault ≡ of_admission fault) × (result.lag ≡ None) × (result.closed.value ≡ false) }
     {

@@ -101,7 +101,8 @@ enum First {
     Other,
 }
 
-// Polls `held` once, and returns whether it is pending, memory ran out, or the result is another.
+// Polls `held` once. Returns `Pending`, `Refused` if memory ran out, or `Other` for any other
+// result.
 fn look<L: LogId, H: Wait + Drop, R: Wait>(
     rt: &R,
     alloc: Global,

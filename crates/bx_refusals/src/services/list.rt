@@ -42,11 +42,11 @@ impl<L: LogId, R: Wait + Drop> Count for HubList<L, R> {
 /// What a request adds to the list.
 #[derive(Clone, Copy, Debug, PartialEq, Eq)]
 pub enum Adds {
-    /// No entry: the request is rejected, or its entry is already counted.
+    /// The request adds no entry to the list: it is rejected, or its entry is already counted.
     Nothing,
-    /// One entry.
+    /// The request adds one entry to the list.
     Entry,
-    /// One entry, which opens a session.
+    /// The request adds one entry to the list, which opens a session.
     Session,
 }
 
@@ -59,7 +59,7 @@ pub struct List<C: Drop> {
 }
 
 impl<C: Count + Drop> List<C> {
-    /// Creates the expectation that `list` has no entries.
+    /// Creates a count for `list`, which is expected to have no entries yet.
     pub fn new(list: C) -> List<C> {
         List {
             list,

@@ -10,9 +10,9 @@ use std::alloc::AllocError;
 /// The sessions with a pattern that matches a channel name.
 #[derive(Debug, Drop)]
 pub struct Found {
-    /// The numbers of the sessions, in ascending order, each once.
+    /// The numbers of the found sessions, in ascending order, each once.
     pub numbers: Vec<u64>,
-    /// The number of lookups of lists: the number of the name's segments plus 2.
+    /// How many lists the search looked up: the number of the name's segments plus 2.
     pub visited: usize,
 }
 
