@@ -155,7 +155,8 @@ fn post<L: LogId, H: Wait + Drop, R: Wait>(
     let mut events = 0u64;
     for slot in posted.slots.into_vec() {
         if let Slot::Waiting(ticket) = slot {
-            let answer = hub.poll_answer(rt, alloc, pass, ticket).0.ok()??;
+            let (polled, _unfiled) = hub.poll_answer(rt, alloc, pass, ticket);
+            let answer = polled.ok()??;
             events = events.saturating_add(answer.events.len() as u64);
         }
     }

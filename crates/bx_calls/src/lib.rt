@@ -192,7 +192,8 @@ pub fn find<L: LogId, P: Placing, G: Gate + Drop, H: Wait + Drop, R: Wait>(
     ticket: Ticket,
     wanted: &str,
 ) -> Result<Found, Refused> {
-    match hub.poll_answer(rt, alloc, pass, ticket).0 {
+    let (polled, _unfiled) = hub.poll_answer(rt, alloc, pass, ticket);
+    match polled {
         Ok(Some(answer)) => Ok(found_in(alloc, answer, wanted)?),
         Ok(None) => Ok(Found::Nothing),
         Err(stopped) => Ok(Found::Stopped(stopped.fault())),
@@ -213,7 +214,8 @@ pub fn poll<L: LogId, P: Placing, G: Gate + Drop, H: Wait + Drop, R: Wait>(
     pass: &mut Pass<L>,
     ticket: Ticket,
 ) -> Result<usize, Refused> {
-    match hub.poll_answer(rt, alloc, pass, ticket).0 {
+    let (polled, _unfiled) = hub.poll_answer(rt, alloc, pass, ticket);
+    match polled {
         Ok(Some(answer)) => Ok(answer.events.len() + 1),
         Ok(None) => Ok(0),
         Err(_) => Err(Refused),

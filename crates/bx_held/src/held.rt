@@ -68,7 +68,8 @@ impl<L: LogId> PendingAnswer<L> {
         ensures done { IfSome result (λ o. (self.new.is_done ≡ true) × (o ≢ Ok None)) }
         ensures pending { IfNone result (self.new.is_done ≡ self.old.is_done) }
     {
-        match hub.poll_answer(rt, alloc, &mut self.pass, self.ticket).0 {
+        let (polled, _unfiled) = hub.poll_answer(rt, alloc, &mut self.pass, self.ticket);
+        match polled {
             Ok(None) => None,
             Ok(Some(answer)) => {
                 self.is_done = true;

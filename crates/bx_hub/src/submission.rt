@@ -79,7 +79,7 @@ impl Submission {
     {
         match self {
             Submission::Request(request) => Some(request.into_arrival()),
-            Submission::Tick(_) => None,
+            Submission::Tick(_tick) => None,
         }
     }
 
@@ -88,7 +88,7 @@ impl Submission {
         ensures { result ≡ tick_of self }
     {
         match self {
-            Submission::Request(_) => None,
+            Submission::Request(_request) => None,
             Submission::Tick(tick) => Some(tick),
         }
     }

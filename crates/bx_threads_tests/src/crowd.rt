@@ -93,7 +93,8 @@ fn asks<L: LogId, P: Placing, G: Gate + Drop, H: Wait + Drop, R: Wait>(
     given: &mut Vec<usize>,
 ) -> Option<()> {
     let (_, ticket) = post(rt, alloc, hub, pass, ASKS.get(session)?).ok()?;
-    let answer = hub.poll_answer(rt, alloc, pass, ticket?).0.ok()??;
+    let (polled, _unfiled) = hub.poll_answer(rt, alloc, pass, ticket?);
+    let answer = polled.ok()??;
     for event in answer.events.as_slice() {
         let number = event.event().payload.as_str().parse::<usize>().ok()?;
         given

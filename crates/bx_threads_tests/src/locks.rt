@@ -161,7 +161,8 @@ fn calls<L: LogId, P: Placing, G: Gate + Drop, H: Wait + Drop, C: Clock + Drop, 
         Call::Post => post(rt, alloc, hub, &mut pass, PING).is_ok(),
         Call::Question => {
             let ticket = Ticket { place: 0, shard: 1 };
-            hub.poll_answer(rt, alloc, &mut pass, ticket).0.is_ok()
+            let (polled, _unfiled) = hub.poll_answer(rt, alloc, &mut pass, ticket);
+            polled.is_ok()
         }
     }
 }

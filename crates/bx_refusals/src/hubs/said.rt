@@ -219,14 +219,16 @@ pub fn poll<L: LogId, H: Wait + Drop, R: Wait>(
     pass: &mut Pass<L>,
     ticket: Ticket,
 ) -> Result<Option<Answer>, Unlike> {
-    let stopped = match hub.poll_answer(rt, alloc, pass, ticket).0 {
+    let (polled, _unfiled) = hub.poll_answer(rt, alloc, pass, ticket);
+    let stopped = match polled {
         Ok(answer) => return Ok(answer),
         Err(stopped) => stopped,
     };
     if stopped.fault() != HubFault::Memory {
         return Err(Unlike::Wrong("no telling"));
     }
-    match hub.poll_answer(rt, alloc, pass, ticket).0 {
+    let (polled, _unfiled) = hub.poll_answer(rt, alloc, pass, ticket);
+    match polled {
         Ok(answer) => Ok(answer),
         Err(_) => Err(Unlike::Wrong("refused once more")),
     }
