@@ -33,14 +33,16 @@ pub struct Waiting {
     pub second: MockTask,
     /// Whether the first task was woken while a call held the lock of shard `home`.
     pub woken_under_lock: AtomicBool,
-    /// How often the gate was called before an advance.
+    /// How often the hub called the gate before it advanced a shard.
     pub before: AtomicU64,
-    /// How often the gate was called after an advance.
+    /// How often the hub called the gate after it advanced a shard.
     pub after: AtomicU64,
 }
 
 impl Waiting {
     /// Creates two tasks that are not woken, and counters at 0.
+    ///
+    /// `home`: the shard of the first session.
     ///
     /// # Errors
     ///
@@ -99,17 +101,17 @@ fn waker(task: &MockTask) -> Result<Waker, Fail> {
     Ok(slot.ok_or("no waker")?)
 }
 
-/// What the hub did with a waker.
+/// What the hub did with a waker that was to be registered for a connect.
 #[derive(Clone, Copy, Debug, PartialEq, Eq)]
 pub enum Watched {
     Unknown,
-    /// The waker was stored. The value is `true` if an older waker was returned.
+    /// The hub stored the waker. The value is `true` if it returned an older one.
     Stored(bool),
     Ready,
     Shut,
 }
 
-/// Returns the counts for `paused` paused shards, when all other shards have advanced.
+/// Creates the counts of lagging shards if `paused` are paused and all others have advanced.
 pub fn behind(paused: usize) -> Lagging {
     Lagging {
         paused,
@@ -124,7 +126,7 @@ pub struct Bench<L: LogId, H: Wait + Drop> {
     pub hub: Hub<L, ByTable, Looking, H>,
     pub pass: Pass<L>,
     pub waiting: Arc<Waiting, Global>,
-    /// The last request that was not admitted.
+    /// The last request that the hub did not admit, until a step posts it again.
     pub back: Option<Arrival>,
     /// The older waker that the last stored waker replaced, if any.
     pub older: Option<Waker>,
@@ -241,9 +243,9 @@ impl<L: LogId, H: Wait + Drop> Bench<L, H> {
         }
     }
 
-    /// Registers a waker of `task`, and returns the result.
+    /// Registers a waker of `task` for the connect with `ticket`, and returns the result.
     ///
-    /// Stores an older waker, if the hub returns one, in `older`.
+    /// If the hub stores the waker, `older` is afterwards the waker that this replaced, if any.
     ///
     /// # Errors
     ///
@@ -262,11 +264,12 @@ impl<L: LogId, H: Wait + Drop> Bench<L, H> {
         }
     }
 
-    /// Takes what waits of the record, and checks that it has `length` bytes and that `fault` ended
-    /// it.
+    /// Takes and returns what waits of the record, and checks its `length` in bytes and the
+    /// `fault`.
     ///
-    /// If `fault` is `None`, the record must not have ended, and the hub must first report that
-    /// `length` bytes wait. If a fault ended the record, it must report 0.
+    /// `fault`: what must have ended the record. `None`: the record must not have ended. Before the
+    /// bytes are taken, the hub must report that `length` bytes wait, or 0 if a fault ended the
+    /// record.
     ///
     /// # Errors
     ///

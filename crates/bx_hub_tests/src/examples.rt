@@ -1,6 +1,6 @@
-//! The examples of doc comments, run as tests.
+//! A test that runs the example in the doc comment of `Hub::post`.
 //!
-//! `tests/documents/run` checks that each example is here.
+//! `tests/documents/run` checks that a test has the lines of each example.
 ghost use Rattle.std.specs.Prelude.{◌≡◌};
 ghost use Rattle.bx_entry.specs.Placings.{by_remainder};
 
@@ -51,7 +51,7 @@ fn over_a_hub<L: LogId, R: Wait + Abort>(
     posts_and_polls(rt, alloc, &hub)
 }
 
-// Runs the example of `Hub::post`.
+// Runs the example of `Hub::post`: a poll finds no answer to a connect that was just posted.
 #[test]
 fn hub_post(rt: HostRuntime) -> Result<(), Fail> {
     let alloc = rt.alloc();

@@ -1,4 +1,4 @@
-//! Test that types can move to other threads.
+//! Test that types of entries and of the window can move to other threads.
 use bx_entry::{Batch, Entry};
 use bx_window::{
     EmptyWindow, Front, LogId, LogReader, LogWriter, Next, PublishedBatch, Ring, UnpublishedBatch,
@@ -25,7 +25,7 @@ fn values_move() {
     moves::<EmptyWindow>();
 }
 
-// Checks, by compiling, that the window's types are `Send`.
+// Checks, by compiling, that the types of entries and of the window are `Send`.
 #[test]
 fn types_move(rt: HostRuntime) {
     let _ = rt.alloc();

@@ -6,7 +6,7 @@ use std::test::*;
 
 const IS_PAUSED: Step = Step::Finds(2, ANSWER, Found::Stopped(HubFault::Paused));
 
-// The state of the hub after a connect and another session's publish.
+// The survey of the list after the steps `Hold` and `PublishApart`: three requests, then two.
 const PUBLISHED: Survey = Survey {
     entries: 5,
     live: 2,
@@ -45,7 +45,7 @@ const RUNS: [&[Step]; 2] = [
 
 const RUNS_ANYWHERE: [&[Step]; 3] = [
     // A connect held in a paused shard gets another caller's event only after the shard resumes.
-    // Resuming itself files no answer. The next call does.
+    // Resuming files no answer. A later poll does.
     &[
         Step::Hold,
         Step::Pause,
@@ -70,7 +70,8 @@ const RUNS_ANYWHERE: [&[Step]; 3] = [
         Step::Close,
         Step::Finds(2, ANSWER, Found::Stopped(HubFault::Closed)),
     ],
-    // An answer filed in a paused shard can be swept. A poll then finds no answer.
+    // An answer that was filed before its shard was paused can be swept. A poll for it then fails
+    // with `Paused`.
     &[
         Step::Hold,
         Step::Publish,

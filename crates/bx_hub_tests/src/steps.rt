@@ -31,8 +31,8 @@ pub enum Step {
     HoldTwo,
     /// Opens the second session and publishes an event that the first one gets.
     Publish,
-    /// Opens the second session, publishes with another pass, and then extends the caller's pass to
-    /// it.
+    /// Opens the second session and publishes its event, with another pass. Then extends the
+    /// caller's pass to the other one.
     PublishApart,
     /// Posts a request. Fields: its body, its first place (or the list's length if it has no
     /// messages), and how many shards, because they are paused, do not apply it.
@@ -51,11 +51,13 @@ pub enum Step {
     Tick(u64, Result<u64, PostFault>),
     /// Checks the caller's pass. Fields: where the window begins and where the list ends.
     Seen(u64, u64),
-    /// Checks the survey of the list.
+    /// Checks the hub's counts of the list, sessions and window.
     List(Survey),
-    /// Polls for an answer. Fields: its place, the text of the expected answer, and what is found.
+    /// Polls for an answer. Fields: the place of its connect or rider, the text of the expected
+    /// answer, and what is found.
     Finds(u64, &'static str, Found),
-    /// Polls and watches in vain at shard 2, which does not exist or has no session.
+    /// Checks that a poll for place 2 of shard 2 finds no answer, and that no waker is stored
+    /// there. Shard 2 does not exist, or has no session.
     Elsewhere,
     /// Pauses the first session's shard.
     Pause,
@@ -67,8 +69,8 @@ pub enum Step {
     ResumeShard(usize),
     /// Checks that no shard has this index.
     NoShard(usize),
-    /// Checks the first session's shard. Fields: its position, and the numbers of held connects and
-    /// filed answers.
+    /// Checks the first session's shard. Fields: the numbers of entries that it has applied, of
+    /// held connects, and of filed answers.
     Stands(u64, usize, usize),
     /// Sweeps the answers filed by entries before a place. Fields: the place, and how many are
     /// dropped.
@@ -84,10 +86,11 @@ pub enum Step {
     Stops,
     /// Checks how many bytes wait to be written to the record.
     Waits(usize),
-    /// Takes what waits of the record. Fields: its length in bytes, and the fault that ended the
-    /// record.
+    /// Takes what waits of the record, and checks it. Fields: its length in bytes, and the fault
+    /// that ended the record, if any.
     Takes(usize, Option<RecordFault>),
-    /// Takes what waits of the record. Fields: its lines, and the fault that ended the record.
+    /// Takes what waits of the record, and checks it. Fields: its lines, and the fault that ended
+    /// the record, if any.
     Lines(&'static [&'static str], Option<RecordFault>),
     /// Checks that there is no record.
     NoRecord,
@@ -205,7 +208,7 @@ fn look<L: LogId, H: Wait + Drop, R: Wait + Abort>(
     Ok(())
 }
 
-// Runs all steps, and checks that the gate is called as often after advances as before them.
+// Runs all steps, and checks that the gate was called, and as often after advances as before them.
 fn take_all<L: LogId, H: Wait + Drop, R: Wait + Abort>(
     rt: &R,
     bench: &mut Bench<L, H>,
@@ -273,7 +276,8 @@ fn check_run<R: Wait + Abort + AllocGlobal + RandomSource>(
     run_in_hub::<Brand, _>(rt, alloc, EmptyWindow::new(), config, placing, gates, steps)
 }
 
-/// Runs each of `runs` with a new hub, once for each of `homes`, the first session's shard.
+/// Runs each of `runs` with a new hub, once for each of `homes`, the first session's shard: 0, 1 or
+/// 4.
 ///
 /// `ride`: whether replies of riders carry waiting events.
 ///

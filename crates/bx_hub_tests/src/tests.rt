@@ -48,8 +48,8 @@ const RUNS: [&[Step]; 8] = [
         Step::Sweep(6, 2),
         Step::Sweep(6, 0),
     ],
-    // A tick trims the window up to the lowest position of a shard. The next call shows that to the
-    // caller.
+    // A tick trims the window up to the place that all shards have reached. The caller sees this
+    // after its next call.
     &[
         Step::Post(HANDSHAKE, 0, 0),
         Step::Post(HANDSHAKE, 1, 0),

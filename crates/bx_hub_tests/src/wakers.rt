@@ -61,8 +61,9 @@ const RUNS: [&[Step]; 4] = [
 ];
 
 const RUNS_ANYWHERE: [&[Step]; 2] = [
-    // A newer waker returns the older one. The publish that answers the connect wakes the task, and
-    // the answer is filed until it is taken. A ticket of a missing or another shard is unknown.
+    // If a newer waker is registered, the hub returns the older one. The publish that answers the
+    // connect wakes the task, and the answer is filed until it is taken. A ticket of a missing or
+    // another shard is unknown.
     &[
         Step::Hold,
         Step::Elsewhere,

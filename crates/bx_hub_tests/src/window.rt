@@ -13,8 +13,8 @@ use std::test::*;
 /// What a reader found at a place.
 #[derive(Clone, Copy, Debug, PartialEq, Eq)]
 enum Found {
-    /// A batch was found. Fields: its first place, its number of entries, and the place of the
-    /// entry that `entry_of` returns.
+    /// The reader found a batch. Fields: its first place, its number of entries, and the place of
+    /// the entry that `entry_of` returns.
     Batch(u64, usize, u64),
     Level,
     Overrun,
@@ -25,7 +25,7 @@ enum Found {
 // first reader, unless they name the other.
 #[derive(Clone, Copy, Debug)]
 enum Step {
-    // Publishes a batch of ticks. Fields: the number of ticks, and the result.
+    // Publishes a batch of ticks. Fields: the number of ticks, and the expected result.
     Publish(u64, Taken),
     // Publishes batches of one tick each. The field is the number of batches.
     Fill(usize),
@@ -33,8 +33,8 @@ enum Step {
     Trim(u64),
     // The first reader looks for an entry. Fields: its place, and what is found.
     Finds(u64, Found),
-    // The first reader finds a batch of one entry at each place from the first to before the
-    // second.
+    // The first reader finds a batch of one entry at each place in a range. Fields: the first
+    // place, and the place after the last.
     FindsEach(u64, u64),
     // The other reader looks for an entry. Fields: its place, and what is found.
     OtherFinds(u64, Found),
@@ -43,7 +43,7 @@ enum Step {
     // Checks the place at which the window begins for the writer.
     WriterBegin(u64),
     // The other reader, which has seen nothing, learns what the first reader has seen. The field is
-    // the number of entries that this has.
+    // the number of entries that the first reader has seen.
     Told(u64),
     // The other reader learns the writer's front. The field is the number of steps that it then has
     // seen.
@@ -95,7 +95,8 @@ const RUNS: [&[Step]; 6] = [
         Step::Publish(1, Taken::Published),
         Step::Finds(5, Found::Batch(5, 1, 5)),
     ],
-    // A window of 4,096 batches is full until one is dropped. It then has places 1 to 4,097.
+    // A window of 4,096 batches is full until one is dropped. A batch of two ticks then fits, and
+    // the window has places 1 to 4,097.
     &[
         Step::Fill(4_096),
         Step::Publish(2, FULL),

@@ -123,9 +123,9 @@ pub struct MetricValues {
 }
 
 impl MetricValues {
-    /// Creates a copy from `values`, in the order of the metrics page, and `lags`, by shard.
+    /// Creates a copy of all metrics from their `values`, in the order of the page, and `lags`.
     ///
-    /// `lags`: the number of entries that each shard lacks. A missing value counts as 0.
+    /// `lags`: the number of entries that each shard lacks, by shard. A missing value counts as 0.
     pub fn of(values: Vec<u64>, lags: Vec<u64>) -> MetricValues
         ensures { (result.values ≡ values) × (result.lags ≡ lags) }
     {

@@ -119,7 +119,8 @@ pub record ReadsUpTo (inputs : List Input) (front : List ℕ) : Type 0 where
   pub inputs_are : inputs_in (record_lines (ended_lines front)) ≡ map (λ input. as_recorded (read_input input)) (take count inputs)
   pub nothing_else : list_all is_of_record (record_lines (ended_lines front)) ≡ true
 
--- Wherever a record is truncated, its complete lines give the first of its inputs, in order.
+-- Wherever a record is truncated, its complete lines give a prefix of its inputs, and otherwise
+-- only nonces.
 abbrev pub RecordsBreakOff : Type 0
 RecordsBreakOff = (inputs : List Input) (front behind : List ℕ) → AllByRecursion CanRecord inputs → front ++ behind ≡ record_of inputs → ReadsUpTo inputs front
 
@@ -130,8 +131,8 @@ pub record ReadsWithUpTo (parts : List Part) (front : List ℕ) : Type 0 where
   pub inputs_are : inputs_in (record_lines (ended_lines front)) ≡ map (λ input. as_recorded (read_input input)) (taken_inputs (take count parts))
   pub nothing_else : list_all is_of_either (record_lines (ended_lines front)) ≡ true
 
--- Wherever a record with answers is truncated, its complete lines give the first of its inputs, in
--- order.
+-- Wherever a record with answers is truncated, its complete lines give a prefix of its inputs, and
+-- otherwise only nonces and answers.
 abbrev pub AnswersBreakOff : Type 0
 AnswersBreakOff = (parts : List Part) (front behind : List ℕ) → AllByRecursion CanStand parts → front ++ behind ≡ record_with parts → ReadsWithUpTo parts front
 

@@ -5,7 +5,7 @@ ghost use Rattle.std.specs.Prelude.{◌≡◌, ◌++◌, [], IsTrue};
 pub trait TextPosition: Drop {
     ghost use Rattle.std.specs.Prelude.{ℕ, List};
 
-    /// Ghost: the text up to the position.
+    /// Ghost: the text up to this position.
     ghost text: { Self → List ℕ };
 
     /// Ghost: whether the second position is a copy of the first.

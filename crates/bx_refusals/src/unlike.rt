@@ -1,4 +1,4 @@
-//! The error of a run.
+//! The error of a test run in which an allocation fails: why the run did not end as expected.
 use std::alloc::{AllocError, AllocFailed};
 
 /// Why a run does not end as expected.

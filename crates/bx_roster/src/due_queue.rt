@@ -65,9 +65,9 @@ impl DueQueue {
         self.late.len() + self.waiting.len() < self.room
     }
 
-    /// Adds a waiting entry for session `number` at `moment`, in milliseconds.
+    /// Adds session `number` to the queue, for ticks after `moment` to look at.
     ///
-    /// There must be room. Takes logarithmic time.
+    /// `moment`: in milliseconds. There must be room. Takes logarithmic time.
     pub(crate) fn file(&mut self, moment: u64, number: u64)
         requires { length (entries self.old) < self.old.room }
         ensures room { self.new.room ≡ self.old.room }

@@ -1,6 +1,6 @@
-//! The examples of doc comments, run as tests.
+//! Tests that run the examples in the doc comments of `World::run_schedule` and `Round::run`.
 //!
-//! `tests/documents/run` checks that each example is here.
+//! `tests/documents/run` checks that a test has the lines of each example.
 use bx_advice::Config;
 use bx_cut::Bodies;
 use bx_entry::{Access, Arrival, ByRemainder, Input};
@@ -10,7 +10,7 @@ use bx_world::{Step, StepOut, World};
 use std::sync::Arc;
 use std::test::*;
 
-// Runs the example of `World::run_schedule`.
+// Runs the example of `World::run_schedule`: shard 0 applies a tick, and then has no more to apply.
 #[test]
 fn world_run_schedule(rt: HostRuntime) -> Result<(), Fail> {
     let alloc = rt.alloc();
@@ -30,7 +30,7 @@ fn world_run_schedule(rt: HostRuntime) -> Result<(), Fail> {
     Ok(())
 }
 
-// Runs the example of `Round::run`.
+// Runs the example of `Round::run`: a ping and a tick, which both get an out.
 #[test]
 fn round_run(rt: HostRuntime) -> Result<(), Fail> {
     let alloc = rt.alloc();

@@ -17,19 +17,21 @@ use std::sync::atomic::{AtomicBool, AtomicU16, Ordering};
 use std::test::Fail;
 use std::thread::{Threads, yield_now};
 
-// Number of sessions opened before `INPUTS`, each by a request. They subscribe to nothing. With
-// fewer live sessions, one worker would apply a publish alone.
+// Number of sessions that tests open before `INPUTS`, each by a request. They subscribe to nothing.
+// With them, a round expects at least 1,024 deliveries for the publish of `INPUTS`, and so uses all
+// workers.
 const CROWD: usize = 1_024;
 
-// More inputs than any test has.
+// The limit of `run` on the inputs that a round has started, and on those of one run. No test
+// exceeds it.
 const MOST_INPUTS: usize = 10_000;
 
 const HANDSHAKE: &str =
     r#"{"channel":"/meta/handshake","version":"1.0","supportedConnectionTypes":["long-polling"]}"#;
 
-// Moments and bodies of the inputs after the first `CROWD` handshakes: two more handshakes, a
-// subscription and a connect of the first new session, and a publish of the second, which answers
-// the connect.
+// Moments and bodies of the inputs after the first `CROWD` handshakes. First come two more
+// handshakes, and a subscription and a connect of the first new session. Then a publish of the
+// second new session answers the connect.
 const INPUTS: [(u64, &str); 5] = [
     (
         0,
@@ -53,8 +55,8 @@ const INPUTS: [(u64, &str); 5] = [
     ),
 ];
 
-// The number and the response of each out that `INPUTS` give, in the order in which outs are
-// appended.
+// Outs for `INPUTS`, in the order in which a round appends them. Fields: the number of the input,
+// and its response. Inputs are numbered from 0, starting with the first `CROWD` handshakes.
 const OUTS: [(usize, &str); 5] = [
     (
         1_024,
@@ -75,9 +77,9 @@ const OUTS: [(usize, &str); 5] = [
     (1_028, r#"[{"channel":"/a/b","successful":true}]"#),
 ];
 
-// Moments and bodies of inputs after `INPUTS`, in a round with riders. The second session publishes
-// an event, which waits for the first session. Then the first session publishes, and gets its own
-// event too, before the reply.
+// Moments and bodies of two publishes after `INPUTS`, in a round that allows riders. The event of
+// the second new session waits for the first one. Then the first one publishes, and its reply
+// carries both events.
 const RIDING: [(u64, &str); 2] = [
     (
         30,
@@ -97,14 +99,16 @@ const RIDDEN: [(usize, &str); 2] = [
     ),
 ];
 
-// The moment and body of a connect after `RIDING`, which is held.
+// The moment and body of the first new session's connect after `RIDING`. It is held, because no
+// events wait.
 const ALONE: [(u64, &str); 1] = [(
     40,
     r#"{"channel":"/meta/connect","clientId":"000000000000000000000000000000000000000000000401","connectionType":"long-polling"}"#,
 )];
 
-// A run: its inputs, its outs, the number of inputs started by its end, and the numbers of those
-// then held.
+// A run of a round, and what it must result in. The first two fields: the moment and body of each
+// input, and the number and response of each out. The last two: how many inputs the round has
+// started after the run, and the numbers of those that it then holds.
 type HoldRun = (
     &'static [(u64, &'static str)],
     &'static [(usize, &'static str)],
@@ -121,7 +125,8 @@ const OPENED_FIRST: &str =
 const SUPERSEDED_FIRST: &str =
     r#"[{"channel":"/meta/connect","clientId":"000000000000000000000000000000000000000000000001","error":"408::Superseded connect","successful":false}]"#;
 
-// One run of three inputs: a session's connect is held until the session connects again.
+// One run of three inputs: a handshake and two connects of its session. The second connect answers
+// the first, and is held.
 const TOGETHER: [HoldRun; 1] = [(
     &[(0, HANDSHAKE), (1, CONNECT_FIRST), (2, CONNECT_FIRST)],
     &[(0, OPENED_FIRST), (1, SUPERSEDED_FIRST)],
@@ -129,15 +134,17 @@ const TOGETHER: [HoldRun; 1] = [(
     &[2],
 )];
 
-// Three runs of one input each: a session's connect is held until the session connects again.
+// Three runs of one input each: a handshake and two connects of its session. The second connect
+// answers the first, and is held.
 const APART: [HoldRun; 3] = [
     (&[(0, HANDSHAKE)], &[(0, OPENED_FIRST)], 1, &[]),
     (&[(1, CONNECT_FIRST)], &[], 2, &[1]),
     (&[(2, CONNECT_FIRST)], &[(1, SUPERSEDED_FIRST)], 3, &[2]),
 ];
 
-// Shards by session number, for placings (`ByTable`). If there are two shards, the second table
-// uses only the first shard, and the others use both.
+// Tables for `ByTable`, which places session `number` in shard `table[number % table.len()]`,
+// modulo the number of shards. With two shards, the empty table uses only the first shard, and the
+// others use both.
 const TABLES: [&[u8]; 3] = [&[0, 1, 2], &[], &[1, 2, 2]];
 
 // How often a waiting worker checks whether it may continue, before it gives up.
@@ -176,7 +183,7 @@ fn round(
     round_of(alloc, config, workers, table)
 }
 
-// Creates a round of four shards that allows riders.
+// Creates a round of four shards and `workers` workers that allows riders.
 fn riding_round(alloc: Global, workers: usize) -> Result<Round<ByTable>, Fail> {
     let config = Config::new(4, 30_000, 0, 10_000).ok_or("no configuration")?;
     let options = Options {
@@ -197,7 +204,8 @@ fn round_of(
     Ok(Round::new(alloc, config, placing, workers)?)
 }
 
-// Runs `inputs` in one run, and appends the outs to `outs`.
+// Runs `inputs` in one run, in which workers call `gate`, and appends the outs to `outs`. Fails
+// before the run if there are more than `MOST_INPUTS` inputs, and fails if memory runs out.
 fn run<R: Threads + Sync, G: Gate + Sync>(
     rt: &R,
     alloc: Global,
@@ -225,8 +233,9 @@ fn open_crowd<R: Threads + Sync>(
     run(rt, alloc, &OpenGate, round, &crowd(alloc)?, &mut outs)
 }
 
-// Checks that runs of at most `at_once` of `INPUTS` each append `OUTS`. `sizes`: the numbers of
-// shards and of workers of the round.
+// Checks that a new round, after the crowd's handshakes, appends `OUTS` for `INPUTS`. Each run has
+// at most `at_once` of the inputs. `sizes`: the numbers of shards and of workers. `table`: the
+// placing.
 fn check_round<R: Abort + Threads + Sync>(
     rt: &R,
     alloc: Global,
@@ -257,8 +266,9 @@ fn check_given<R: Abort + Threads + Sync>(
     check(rt, alloc, &outs, &OUTS)
 }
 
-// Checks that `INPUTS` give `OUTS`, with two gates. Runs with few deliveries call `few`: that up to
-// the connect, and a tick at the end. The run of the event calls `many`.
+// Checks that a new round appends `OUTS` for `INPUTS`. The run up to the held connect uses the gate
+// `few`, and the run of the publish uses `many`. A run of a tick follows, with `few`. `sizes`: the
+// numbers of shards and of workers. `table`: the placing.
 fn check_gated<R: Abort + Threads + Sync, F: Gate + Sync, G: Gate + Sync>(
     rt: &R,
     alloc: Global,
@@ -310,7 +320,8 @@ fn written(alloc: Global, out: &Out) -> Result<Vec<u8>, Fail> {
     }
 }
 
-// Checks that one run and several runs append the same outs.
+// Checks that one run and several runs append the same outs. The rounds have 1 or 16 workers, and
+// each of three placings.
 #[test]
 fn one_run_gives_what_several_give(rt: HostRuntime) -> Result<(), Fail> {
     let alloc = rt.alloc();
@@ -322,8 +333,9 @@ fn one_run_gives_what_several_give(rt: HostRuntime) -> Result<(), Fail> {
     Ok(())
 }
 
-// Checks the outs of `INPUTS`, and then those of `RIDING`, for which the workers in `team` work.
-// Then checks that a connect is held, for which worker 0 works alone.
+// Checks the outs of `INPUTS` and of `RIDING`, and then that the connect `ALONE` gets none. In the
+// run of `RIDING`, exactly the workers in `team` must take part, and in that of `ALONE` only worker
+// 0. Bit k of `team` is set for worker k.
 fn check_riding<R: Abort + Threads + Sync>(
     rt: &R,
     alloc: Global,
@@ -377,7 +389,7 @@ fn check_riding_by<R: Abort + Threads + Sync>(
     check_riding(rt, alloc, &mut round, team)
 }
 
-// Checks that riders get the right events from one worker and from four.
+// Checks that a rider's reply carries the waiting events, with one worker and with four.
 #[test]
 fn events_ride_by_one_worker_and_by_four(rt: HostRuntime) -> Result<(), Fail> {
     for (workers, team) in [(1, 0b1), (4, 0b1111)] {
@@ -386,7 +398,7 @@ fn events_ride_by_one_worker_and_by_four(rt: HostRuntime) -> Result<(), Fail> {
     Ok(())
 }
 
-// Checks that `round` has started `intake` inputs, and that those with the numbers `held` are held.
+// Checks that `round` has started `intake` inputs, and holds exactly those with the numbers `held`.
 fn check_held<R: Abort>(
     rt: &R,
     alloc: Global,
@@ -399,7 +411,8 @@ fn check_held<R: Abort>(
     Ok(())
 }
 
-// Checks the outs of each of `runs`, and after it which inputs are held.
+// Checks the outs of each of `runs` in the new round `round`. Also checks, after each run, how many
+// inputs are started, and which are held.
 fn check_holds<R: Abort + Threads + Sync>(
     rt: &R,
     alloc: Global,
@@ -490,7 +503,7 @@ fn workers_run_beside_one_another(rt: HostRuntime) -> Result<(), Fail> {
 }
 
 // Returns a round of 64 shards with a held connect. The round has 4 shards when the connect is
-// held, and its sessions are then redistributed.
+// held, and its sessions are then redistributed. Appends the outs so far to `outs`.
 fn redistributed<R: Threads + Sync, G: Gate + Sync>(
     rt: &R,
     alloc: Global,
@@ -545,8 +558,8 @@ fn answer_held<R: Abort + Threads + Sync, G: Gate + Sync>(
     check_held(rt, alloc, round, 1_029, &[])
 }
 
-// Checks that a publish answers a held connect after the sessions are redistributed. `before` and
-// `behind`: the gates of the runs before and after.
+// Checks that a publish answers a held connect after the sessions are redistributed. The runs until
+// then use the gate `before`, and the run of the publish uses `behind`.
 fn check_redistributed<R: Abort + Threads + Sync, G: Gate + Sync>(
     rt: &R,
     alloc: Global,
@@ -559,11 +572,11 @@ fn check_redistributed<R: Abort + Threads + Sync, G: Gate + Sync>(
     check(rt, alloc, &outs, &OUTS)
 }
 
-// A gate at which workers wait until all workers of `team` are there. If that takes too long, it
-// sets `gave_up`.
+// A gate at which workers wait until exactly the workers of `team` are there. If that takes too
+// long, it sets `gave_up`.
 #[derive(Drop)]
 struct Meeting {
-    // Bit k is set if worker k belongs to the team.
+    // The workers that must meet at the gate: bit k is set for worker k.
     team: u16,
     came: AtomicU16,
     went: AtomicU16,
@@ -609,8 +622,9 @@ fn check_met<R: Abort>(rt: &R, meeting: &Meeting) {
 }
 
 // Checks that each worker has its own thread, which no contract states. With fewer threads, workers
-// would give up. Every worker with a shard takes part in the run of the publish, since the publish
-// could reach the sessions of the crowd. The other inputs have too few deliveries for that.
+// would wait in vain for each other at the gate. Every worker with a shard takes part in the run of
+// the publish, since the publish could reach the sessions of the crowd. The other inputs have too
+// few deliveries for that.
 #[test]
 fn as_many_threads_run_as_workers(rt: HostRuntime) -> Result<(), Fail> {
     let alloc = rt.alloc();

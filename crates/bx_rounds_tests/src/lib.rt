@@ -1,4 +1,5 @@
-//! Tests of `bx_script`, `bx_world`, `bx_fanout` and `bx_replay`.
+//! Tests of `bx_script`, `bx_world`, `bx_fanout` and `bx_replay`: scripts, worlds, rounds and
+//! replays.
 //!
 //! They are a separate crate because `.ci/run` proves a crate with tests twice.
 #![tactic(auto)]

@@ -157,8 +157,8 @@ const WHOLE: [(&str, &str); 4] = [
     ),
 ];
 
-// Replays the script in `lines` to `output`, and returns the replay's result. It has two workers
-// and three shards.
+// Replays the script in `lines` to `output`, with two workers and three shards. Returns the
+// replay's result.
 fn replayed<T, P, R, W>(
     rt: &T,
     alloc: Global,
@@ -293,7 +293,8 @@ fn is_whole<R: Abort>(
 }
 
 // Replays a script from a reader that fails after `reads` reads. Returns `true` if the replay
-// succeeds and writes `right`, and `false` if it fails as a read and writes a prefix of `right`.
+// succeeds and writes `right`. Returns `false` if it ends with a read fault and writes a prefix of
+// `right`.
 fn check_read<R: Abort + Threads + Sync>(
     rt: &R,
     alloc: Global,
@@ -317,7 +318,8 @@ fn check_read<R: Abort + Threads + Sync>(
     Ok(is_whole(rt, ended, ScriptFault::Read, written.as_slice(), right))
 }
 
-// Checks a replay with a reader that fails after 0 reads, 1 read and so on, until one succeeds.
+// Checks a replay with a reader that fails after 0 reads, 1 read and so on, until a replay
+// succeeds. Fails if none of 100 replays succeeds.
 fn check_reads<R: Abort + Threads + Sync>(
     rt: &R,
     alloc: Global,
@@ -341,7 +343,7 @@ fn a_failed_read_leaves_a_front(rt: HostRuntime) -> Result<(), Fail> {
 }
 
 // Replays a script to `writer`, which may fail. Returns `true` if the replay succeeds and writes
-// `right`, and `false` if it fails as a write and writes a prefix of `right`.
+// `right`. Returns `false` if it ends with a write fault and writes a prefix of `right`.
 fn check_writer<R: Abort + Threads + Sync>(
     rt: &R,
     alloc: Global,
@@ -368,7 +370,8 @@ fn new_writer(alloc: Global, writes: usize, flushes: bool) -> Writer {
     }
 }
 
-// Checks a replay with a writer that fails after 0 writes, 1 write and so on, until one succeeds.
+// Checks a replay with a writer that fails after 0 writes, 1 write and so on, until a replay
+// succeeds. Fails if none of 100 replays succeeds.
 fn check_writes<R: Abort + Threads + Sync>(
     rt: &R,
     alloc: Global,

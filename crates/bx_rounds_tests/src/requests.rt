@@ -1,9 +1,11 @@
-//! The requests that the tests send.
+//! Creation of the requests that the tests of this crate send.
 use bx_cut::Bodies;
 use bx_entry::{Access, Arrival, Input};
 use std::alloc::{AllocError, Global};
 
-/// Creates a request with the JSON `body` at `moment`, from the publishers' listener.
+/// Creates a request with the JSON `body` at `moment`, in milliseconds.
+///
+/// The request has nonce 0, and its sender may read and publish.
 ///
 /// # Errors
 ///

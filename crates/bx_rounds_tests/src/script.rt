@@ -12,7 +12,8 @@ use std::io::{BufRead, BufReader, Read, Write};
 use std::process::Abort;
 use std::test::Fail;
 
-// Returns a description of `line`. It gives a document of more than 9 bytes by its length in bytes.
+// Returns a description of `line`: its kind, and its status, number or request. A document of more
+// than 9 bytes is given by its length in bytes.
 fn told(alloc: Global, line: &Line) -> Result<String, AllocError> {
     match line {
         Line::Bad => String::from_str(alloc, "bad"),
@@ -51,7 +52,8 @@ fn told_input(alloc: Global, name: &str, input: &Input) -> Result<String, AllocE
     Ok(text)
 }
 
-// Returns the descriptions of all lines that `reader` has, each followed by a semicolon.
+// Returns the descriptions of all lines that `reader` has, each followed by a semicolon. Fails with
+// `Read` if there are 100 lines or more.
 fn all_told<R: BufRead>(
     alloc: Global,
     dialect: Dialect,
@@ -71,7 +73,7 @@ fn all_told<R: BufRead>(
     Err(ScriptFault::Read)
 }
 
-// Lines of all kinds that a record may have.
+// Lines of all kinds that a record may have, and bad lines.
 const SCRIPT: &[u8] =
     b"0 P []\r\n0 T\r\n\0\n0 P \0\n\n000000000000000000000000000007 T\n100000000000000000000000000007 T\n T\n00 T\n1 G jsonp=cb&message=%5B%5D\n0 G \n0 S 0\n0 S 64\n0 S 65\n0 S 00000000000000000000000000001\n0 T\n2 F message=%5B%5D&jsonp=cb&message=+\n0 F \n0 F jsonp=cb\n0 F\n3 N 000000000000000000000000000000fF\n0 N 00000000000000000000000000000ff\n0 N 0000000000000000000000000000000ff\n0 N +00000000000000000000000000000ff\n0 N 000000000000000000000000000000fg\n0 N ffffffffffffffffffffffffffffffff\nA 7 4f53cda18c2baa0c0354bb5f9a3ecbe5ed12ab4d8e11ba873c2f11161202b945\nA 18446744073709551615 4F53CDA18C2BAA0C0354BB5F9A3ECBE5ED12AB4D8E11BA873C2F11161202B945\nA 007 4f53cda18c2baa0c0354bb5f9a3ecbe5ed12ab4d8e11ba873c2f11161202b945\nA 18446744073709551616 4f53cda18c2baa0c0354bb5f9a3ecbe5ed12ab4d8e11ba873c2f11161202b945\nA 7 4f53cda18c2baa0c0354bb5f9a3ecbe5ed12ab4d8e11ba873c2f11161202b94\nA 7 4f53cda18c2baa0c0354bb5f9a3ecbe5ed12ab4d8e11ba873c2f11161202b9450\nA 7 4f53cda18c2baa0c0354bb5f9a3ecbe5ed12ab4d8e11ba873c2f11161202b94g\nA 7\nA\nA  4f53cda18c2baa0c0354bb5f9a3ecbe5ed12ab4d8e11ba873c2f11161202b945\nA 4f53cda18c2baa0c0354bb5f9a3ecbe5ed12ab4d8e11ba873c2f11161202b945\nA 7  4f53cda18c2baa0c0354bb5f9a3ecbe5ed12ab4d8e11ba873c2f11161202b945\nA -7 4f53cda18c2baa0c0354bb5f9a3ecbe5ed12ab4d8e11ba873c2f11161202b945\n5 A 7 4f53cda18c2baa0c0354bb5f9a3ecbe5ed12ab4d8e11ba873c2f11161202b945\n0A 7 4f53cda18c2baa0c0354bb5f9a3ecbe5ed12ab4d8e11ba873c2f11161202b945";
 
@@ -79,7 +81,7 @@ const TOLD: &str =
     "post 0 - |[]\r|;bad;bad;post 0 - |\0|;bad;tick 7;bad;bad;tick 0;post 1 cb |[]|;turned 400;bad;shards 64;bad;shards 1;tick 0;post 2 - |[]| | |;turned 400;turned 400;bad;nonce 255;bad;bad;bad;bad;nonce 340282366920938463463374607431768211455;note;note;note;bad;bad;bad;bad;bad;bad;bad;bad;bad;bad;bad;bad;";
 
 // The descriptions of the lines of `SCRIPT`, read as a script. Lines that only a record may have
-// are bad there.
+// are bad in a script.
 const TOLD_AS_SCRIPT: &str =
     "post 0 - |[]\r|;bad;bad;post 0 - |\0|;bad;tick 7;bad;bad;tick 0;post 1 cb |[]|;turned 400;bad;shards 64;bad;shards 1;tick 0;bad;bad;bad;bad;bad;bad;bad;bad;bad;bad;bad;bad;bad;bad;bad;bad;bad;bad;bad;bad;bad;bad;bad;bad;bad;";
 
@@ -135,7 +137,8 @@ fn check_slowly(
     Ok(())
 }
 
-// Checks the descriptions of all lines, also with slow and failing readers.
+// Checks how the lines of `SCRIPT` are read, as a record and as a script. Slow and interrupted
+// readers give the same lines, and a failing reader is a read fault.
 #[test]
 fn lines_say_what_they_say(rt: HostRuntime) -> Result<(), Fail> {
     let alloc = rt.alloc();
@@ -183,7 +186,8 @@ fn a_script_has_thousands_of_lines(rt: HostRuntime) -> Result<(), Fail> {
     Ok(())
 }
 
-// Creates a script of two lines: `head`, `count` times `byte` and `end`, followed by a tick.
+// Creates a script of two lines. The first is `head`, then `byte` repeated `count` times, then
+// `end`. The second is a tick.
 fn long_script(
     alloc: Global,
     head: &str,
@@ -195,7 +199,7 @@ fn long_script(
     format!(in alloc; "{head}{bytes}{end}\n5 T\n")
 }
 
-// Checks that long lines are read, but documents only up to their limit.
+// Checks that long lines are read, but documents only up to their limit. Above it, a line gets 413.
 #[test]
 fn long_lines_say_what_they_say(rt: HostRuntime) -> Result<(), Fail> {
     let alloc = rt.alloc();
@@ -226,7 +230,8 @@ fn long_lines_say_what_they_say(rt: HostRuntime) -> Result<(), Fail> {
     Ok(())
 }
 
-// Writes the answers to eight lines of a script to `out`.
+// Writes the answers to eight lines of a script to `out`. The fifth line is an admitted tick, which
+// gets no answer.
 fn write_all(alloc: Global, out: &mut Output<&mut Vec<u8>>) -> Result<(), ScriptFault> {
     write_bad(out, 1)?;
     write_status(out, 2, Status::TooLarge)?;
@@ -263,7 +268,7 @@ fn what_is_printed(rt: HostRuntime) -> Result<(), Fail> {
     Ok(())
 }
 
-// A writer that fails once, after `writes` writes.
+// A writer that fails once, after `writes` writes, or never if `writes` is `None`.
 #[derive(Drop)]
 struct Broken {
     held: Vec<u8>,
@@ -289,7 +294,8 @@ impl Write for Broken {
     }
 }
 
-// Writes a response to line 12.
+// Writes the answer to line 12, a request without messages, with the callback `name` if there is
+// one.
 fn respond<W: Write>(
     alloc: Global,
     writer: &mut W,
@@ -456,7 +462,7 @@ fn digits_say_numbers(rt: HostRuntime) {
     }
 }
 
-// Checks the texts of the faults.
+// Checks the texts of the three faults of reading and answering a script.
 #[test]
 fn faults_have_texts(rt: HostRuntime) -> Result<(), Fail> {
     let alloc = rt.alloc();

@@ -9,14 +9,14 @@ use std::process::Abort;
 use std::sync::Arc;
 use std::test::Fail;
 
-// A step of a schedule.
+// A step of a world's schedule, as the tables of these tests write it.
 #[derive(Clone, Copy, Debug)]
 enum Deed {
-    // Admits a request with this moment and body.
+    // A step that admits a request. Fields: its moment and body.
     Post(u64, &'static str),
     Tick(u64),
     Apply(usize),
-    // Takes the answer under the ticket with this place and shard.
+    // A step that takes the answer under a ticket. Fields: the ticket's place and shard.
     Take(u64, usize),
 }
 
@@ -76,7 +76,8 @@ const EVENT: Line = (
     r#"from 4: {"channel":"/a/b","successful":true}"#,
 );
 
-// The output of a step that takes the answer to the connect of `CONNECT`.
+// The output of a step that takes the answer to the connect of `CONNECT`, with the event of
+// `EVENT`.
 const ANSWER: &str =
     r#"{"channel":"/a/b","data":7}{"advice":{"interval":0,"reconnect":"retry","timeout":30000},"channel":"/meta/connect","clientId":"000000000000000000000000000000000000000000000001","successful":true}"#;
 
@@ -101,7 +102,9 @@ const APPLICATIONS: [Line; 15] = [
     (Deed::Take(3, 1), "none"),
 ];
 
-// A connect that is held until a tick at its deadline. An earlier tick does not answer it.
+// A schedule for a new world. It begins with steps that leave the list empty: rejected inputs, and
+// a request without messages. Then a connect is held. A tick at its deadline answers it, and an
+// earlier tick does not.
 const HELD: [Line; 16] = [
     (Deed::Apply(1), "level"),
     (Deed::Tick(4_611_686_018_427_387_905), "refused: BadMoment"),
@@ -213,7 +216,7 @@ fn world<P: Placing + Drop>(alloc: Global, placing: &Arc<P>) -> Result<World<P>,
     Ok(World::new(alloc, config, placing.clone()?)?)
 }
 
-// Checks the outputs of the schedule `lines`, run by one call.
+// Checks the outputs of the schedule `lines` in `world`, run by one call.
 fn check_run<R: Abort, P: Placing>(
     rt: &R,
     alloc: Global,
@@ -230,7 +233,7 @@ fn check_run<R: Abort, P: Placing>(
     Ok(())
 }
 
-// Checks the outputs of the schedule `lines`, with a call for each step.
+// Checks the outputs of the schedule `lines` in `world`, with a call for each step.
 fn check_steps<R: Abort, P: Placing>(
     rt: &R,
     alloc: Global,
@@ -274,8 +277,8 @@ fn check_in<R: Abort, P: Placing + Drop>(
     }
 }
 
-// Creates a schedule of `OPENING`, `CONNECT` and `EVENT`, followed by the lines `behind`. `shard`:
-// that of the session that connects.
+// Creates a schedule of `OPENING`, a connect, `EVENT` and the lines `behind`. `shard`: the shard of
+// the session that connects, 0 or 1.
 fn schedule(alloc: Global, shard: usize, behind: &[Line]) -> Result<Vec<Line>, Fail> {
     let mut lines = Vec::from_slice(alloc, &OPENING)?;
     lines.push(*CONNECT.get(shard).ok_or("no shard")?)?;
@@ -284,7 +287,8 @@ fn schedule(alloc: Global, shard: usize, behind: &[Line]) -> Result<Vec<Line>, F
     Ok(lines)
 }
 
-// Checks the outputs of two schedules: shards that apply entries in turn, and a held connect.
+// Checks the outputs of two schedules, each run by one call and step by step. In one, two shards
+// apply entries in turn. In the other, a connect is held.
 #[test]
 fn each_step_gives_its_output(rt: HostRuntime) -> Result<(), Fail> {
     let alloc = rt.alloc();
@@ -293,10 +297,10 @@ fn each_step_gives_its_output(rt: HostRuntime) -> Result<(), Fail> {
     check(&rt, alloc, &placing, &HELD)
 }
 
-// Creates ten steps that apply an entry, five for each shard. Bit k of `order` is the shard of the
-// k-th of them, from 0. After each, a further step takes the answer to the connect, if it is filed.
-// The session that connects is in `shard`, which files the answer at the fifth entry that it
-// applies.
+// Creates ten steps that each apply an entry. Bit k of `order` is the shard of the k-th of them,
+// from 0. Five of its ten bits must be set. After each, a further step takes the answer to the
+// connect, if it is filed. The session that connects is in `shard`, which files the answer at the
+// fifth entry that it applies.
 fn applications(alloc: Global, order: u32, shard: usize) -> Result<Vec<Line>, AllocError> {
     let mut lines = Vec::new(alloc);
     let mut left = 5_u32;

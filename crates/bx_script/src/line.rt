@@ -149,8 +149,10 @@ fn read_command(
     }
 }
 
-// Parses the command `rest` as one that only a record can have: a form or a nonce. Any other text
-// is `Bad`.
+// Parses the command `rest` as one that only a record can have.
+//
+// It is a request with a form as its body (`F`), or the nonce of the next request (`N`). Any other
+// text is `Bad`.
 fn read_recorded(alloc: Global, moment: u64, rest: &[u8]) -> Result<Line, AllocError>
     ensures { IfOk result (λ line. meaning_of line ≡ recorded_command Recorded moment rest.now) }
 {

@@ -68,8 +68,8 @@ enum End {
     Open,
 }
 
-// Polls a body of `count` frames, one every `step` seconds, and returns how it ends. The limits are
-// 30 seconds for a frame and `whole` seconds in all.
+// Polls a body of `count` frames, one every `step` seconds, for at most 400 seconds. Returns how it
+// ended, or `Open`. The limits are 30 seconds for a frame and, if given, `whole` seconds in all.
 fn end_of<R: RandomSource + AllocGlobal>(
     rt: &R,
     step: u64,

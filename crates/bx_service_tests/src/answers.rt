@@ -11,8 +11,8 @@ use std::alloc::{AllocError, Global};
 use std::process::Abort;
 use std::test::*;
 
-// Characters in a large event's data. 64 KiB have room for one large event and a small one, but not
-// for two large ones.
+// Number of characters in a large event's data. 64 KiB have room for one large event and a small
+// one, but not for two large ones.
 const LARGE: usize = 40_000;
 
 // Number of frames of a response with the events of `items`.
@@ -29,7 +29,7 @@ fn data(alloc: Global, sign: &str, count: usize) -> Result<String, AllocError> {
     Ok(text)
 }
 
-// Creates an event with `count` times `sign` as its data.
+// Creates an event on `/a/b` with a JSON string of `count` times `sign` as its data.
 fn event(alloc: Global, sign: &str, count: usize) -> Result<Item, Fail> {
     let name = ChannelName::read(alloc, "/a/b")?;
     let payload = data(alloc, sign, count)?;
@@ -84,7 +84,8 @@ fn next_data(task: &MockTask, body: &mut Pieces<Bytes>) -> Result<Option<Bytes>,
 }
 
 // Checks that a response with `items` has three frames with the text `wanted`, at most 64 KiB each.
-// Also checks that its body always reports how many bytes are left.
+// Also checks that its body always reports how many bytes are left. `callback`: the function that a
+// script calls with the array. `None`: the response is the array.
 fn check_pieces<R: Abort>(
     rt: &R,
     alloc: Global,

@@ -31,7 +31,7 @@ impl Nonces for Zeros {
     }
 }
 
-/// Four services that post to one hub, and two tasks. Neither task is woken.
+/// Four services that post to one hub, a caller's pass, and two tasks that poll exchanges.
 #[derive(Drop)]
 pub struct Bench<L: LogId, S: Drop, H: Wait + Drop> {
     pub alloc: Global,
@@ -41,9 +41,9 @@ pub struct Bench<L: LogId, S: Drop, H: Wait + Drop> {
     pub service: BayeuxService<S>,
     /// The service at the read-only listener.
     pub readers: BayeuxService<S>,
-    /// The service with a clock at a moment that is too large.
+    /// The service with a clock fixed at a moment above the greatest that a request may have.
     pub too_late: BayeuxService<S>,
-    /// The service with a small limit on bodies and queries.
+    /// The service with a limit of 16 bytes on bodies and queries.
     pub small: BayeuxService<S>,
     pub first: MockTask,
     pub second: MockTask,

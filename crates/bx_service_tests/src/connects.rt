@@ -21,20 +21,21 @@ use std::test::*;
 // A step of a run, and what it checks.
 #[derive(Clone, Copy, Debug)]
 enum Step {
-    // In this task, a poll of the held connect is pending and does not wake the task.
+    // Checks that a poll of the held connect in this task is pending and does not wake the task.
     Waits(Task),
-    // In this task, a poll of the held connect returns `Want`, and two more polls return no answer.
+    // Checks that a poll of the held connect in this task returns `Want`, and that two more polls
+    // return no answer.
     Gives(Task, Want),
-    // In the first task, a poll of a new future of this ticket returns `Want`.
+    // Checks that a poll of a new future of this ticket, in the first task, returns `Want`.
     Other(Ticket, Want),
-    // The task has been woken exactly if the flag is `true`.
+    // Checks that this task was woken since its last poll if the flag is `true`, and not otherwise.
     Woken(Task, bool),
     Post(&'static str),
     Tick(u64),
     Close,
     // Pauses the shard of the held connect.
     Pause,
-    // A sweep drops exactly one answer.
+    // Sweeps the answers filed by entries before place 1,000, and checks that one was dropped.
     Sweep,
 }
 
@@ -42,10 +43,10 @@ const WAITS: Step = Step::Waits(Task::First);
 
 const IS_WOKEN: Step = Step::Woken(Task::First, true);
 
-// Opens the second session.
+// A step that opens the second session.
 const HANDSHAKE: Step = Step::Post(texts::HANDSHAKE);
 
-// The second session publishes an event, which the first one gets.
+// A step in which the second session publishes an event that the first one gets.
 const PUBLISH: Step = Step::Post(texts::PUBLISH);
 
 const EVENT: Want = Want::Answer(texts::CONNECTED_WITH_EVENT);

@@ -57,7 +57,7 @@ where
     Ok(())
 }
 
-// Checks that a POST of `text` gets 400 if its body fails, after each number of bytes.
+// Checks that a POST gets 400 if its body fails after a prefix of `text`, for each prefix.
 fn breaks<S, I, R>(
     rt: &R,
     alloc: Global,
@@ -158,8 +158,9 @@ where
     Ok(())
 }
 
-// Checks `exchange` at its first poll, after the steps `held.before`, and after the steps
-// `held.then`.
+// Polls `exchange`, and checks that it is pending, also after the steps `held.before`. Then takes
+// the steps `held.then`. If `held.gives` is given, checks whether those woke the first task, and
+// what the next poll returns.
 fn watch<F, L, S, I, H, R>(
     rt: &R,
     bench: &mut Bench<L, S, H>,
@@ -188,7 +189,8 @@ where
     Ok(())
 }
 
-// Creates the exchange of `held` and checks it at its first poll and after the steps of `held`.
+// Starts the exchange for a POST of `held.content`. Checks that it is pending until the steps
+// `held.then`, and its response after them, if `held.gives` has one.
 fn hold<L, S, I, H, R>(rt: &R, bench: &mut Bench<L, S, H>, held: &Held) -> Result<(), Fail>
 where
     L: LogId,
@@ -219,7 +221,8 @@ where
     take_all(rt, bench, run.last)
 }
 
-// Creates a backend with `access` and a clock fixed at `moment`, in milliseconds.
+// Creates a backend of `hub` with `access`. Its clock is fixed at `moment`, in milliseconds, and
+// its nonces are 0.
 fn backend_of<'a, L: LogId, R: Wait>(
     rt: &'a R,
     alloc: Global,
@@ -269,7 +272,7 @@ fn run_in_hub<L: LogId, R: Wait + Abort>(
     run(rt, &mut bench, number)
 }
 
-// Checks that exchanges get the responses that their runs expect.
+// Checks the responses of all runs in `RUNS`, each over a new hub of two shards.
 #[test]
 fn exchanges(rt: HostRuntime) -> Result<(), Fail> {
     let alloc = rt.alloc();

@@ -14,7 +14,7 @@ use std::sync::Arc;
 use std::sync::atomic::{AtomicU64, Ordering};
 use std::test::*;
 
-// The events seen, one hexadecimal digit each, oldest first.
+// An observer that appends a hexadecimal digit for each event, and keeps the last 16 digits.
 #[derive(Drop)]
 struct Digits(AtomicU64);
 

@@ -30,7 +30,7 @@ impl Pieces {
         })
     }
 
-    /// Creates a body of `text` that is pending at the first poll.
+    /// Creates a body of `text` that is pending at the first poll and ready at the second.
     ///
     /// # Errors
     ///

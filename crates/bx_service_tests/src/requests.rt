@@ -17,23 +17,23 @@ pub const SCRIPT: &str = "application/javascript;charset=UTF-8";
 
 pub const FORM: &str = "application/x-www-form-urlencoded";
 
-/// The output of an exchange.
+/// The output of an HTTP exchange: a response, or a fault of the service.
 pub type Given = Result<Response<bx_pieces::Pieces<Bytes>>, ServiceFault>;
 
-/// The body of a request.
+/// The body of a request that a test sends.
 #[derive(Clone, Copy, Debug)]
 pub enum Content {
-    /// This text, ready at the first poll.
+    /// A body of this text, ready at the first poll.
     Whole(&'static str),
-    /// This text, ready at the second poll. The first poll is pending.
+    /// A body of this text, ready at the second poll. The first poll is pending.
     Late(&'static str),
-    /// The first `usize` bytes of this text, followed by an error.
+    /// A body of the first bytes of this text, followed by an error. The number is how many bytes.
     Broken(&'static str, usize),
-    /// This text, padded with spaces to `usize` bytes.
+    /// A body of this text, padded with spaces to this number of bytes.
     Padded(&'static str, usize),
 }
 
-/// A request.
+/// A request to the service, as the tests describe it.
 #[derive(Clone, Copy, Debug)]
 pub struct Ask {
     pub method: &'static str,
@@ -41,7 +41,7 @@ pub struct Ask {
     pub kind: &'static str,
     /// The value of `Content-Length`, in bytes, if the request has one.
     pub said: Option<u64>,
-    /// The values of `Transfer-Encoding`, one for each line.
+    /// The values of `Transfer-Encoding` of a request, one for each header line.
     pub codings: &'static [&'static str],
     pub content: Content,
 }
@@ -78,7 +78,7 @@ impl Ask {
         }
     }
 
-    /// Creates the request.
+    /// Creates the HTTP request that `self` describes.
     ///
     /// # Errors
     ///
@@ -102,11 +102,11 @@ impl Ask {
 /// The response that a request must get.
 #[derive(Clone, Copy, Debug)]
 pub enum Want {
-    /// Status 200 with this JSON.
+    /// A response with status 200 and this JSON.
     Json(&'static str),
-    /// Status 200 with this script.
+    /// A response with status 200 and this script.
     Script(&'static str),
-    /// This status, which is not 200, with an empty body.
+    /// A response with this status, which is not 200, and an empty body.
     Status(u16),
 }
 
@@ -159,9 +159,11 @@ pub fn check_pending<F: Future<Output = Given>, R: Abort>(
 
 /// Checks that the next poll of `exchange` returns the response `want`.
 ///
+/// Aborts the test if the status, a header field or the body is another one.
+///
 /// # Errors
 ///
-/// If the poll is pending or memory runs out.
+/// If the poll is pending or fails, or memory runs out.
 pub fn check_given<F: Future<Output = Given>, R: Abort>(
     rt: &R,
     alloc: Global,

@@ -5,40 +5,40 @@ use crate::requests::{Ask, Content, FORM, JSON, POST, Want};
 use crate::texts;
 use bx_advice::BODY_LIMIT;
 
-/// A step of a run. The second task polls.
+/// A step of a run. If it sends a request, the second task polls the exchange.
 #[derive(Clone, Copy, Debug)]
 pub enum Step {
-    /// A POST of the first JSON gets the second.
+    /// Checks that a POST of the first JSON gets status 200 with the second.
     Post(&'static str, &'static str),
-    /// A POST of this media type and text gets `Want`.
+    /// Checks that a POST of this media type and text gets `Want`.
     Body(&'static str, &'static str, Want),
-    /// A request with this method and target, and an empty body, gets `Want`.
+    /// Checks that a request with this method and target, and an empty body, gets `Want`.
     Target(&'static str, &'static str, Want),
-    /// A POST of `[]` with these lines of `Transfer-Encoding` gets `Want`.
+    /// Checks that a POST of `[]` with these lines of `Transfer-Encoding` gets `Want`.
     Coded(&'static [&'static str], Want),
-    /// The request gets `Want` from the publishers' listener.
+    /// Checks that a request to the publishers' listener gets `Want`.
     Ask(Ask, Want),
-    /// A request to a service with a limit of [`SMALL`] bytes gets `Want`.
+    /// Checks that a request to a service with a limit of [`SMALL`] bytes gets `Want`.
     Small(Ask, Want),
-    /// A request to the read-only listener gets `Want`.
+    /// Checks that a request to the read-only listener gets `Want`.
     Read(Ask, Want),
-    /// A POST of this JSON to the read-only listener gets `Want`.
+    /// Checks that a POST of this JSON to the read-only listener gets `Want`.
     ReadText(&'static str, Want),
-    /// A POST of this JSON at a moment that is too large gets `Want`.
+    /// Checks that a POST of this JSON at a moment that is too large gets `Want`.
     TooLate(&'static str, Want),
-    /// The exchange for a POST of this JSON is pending at its first poll, and is then dropped.
+    /// Checks that the exchange for a POST of this JSON is pending at its first poll, and drops it.
     Wait(&'static str),
-    /// A POST of this JSON gets 400 if its body fails, after each number of bytes.
+    /// Checks that a POST gets 400 if its body fails after a prefix of this JSON, for each prefix.
     Break(&'static str),
     Tick(u64),
     Close,
     /// Pauses the first session's shard.
     Pause,
-    /// A sweep drops exactly this number of answers.
+    /// Sweeps the answers filed by entries before place 5, and checks how many were dropped.
     Sweep(usize),
 }
 
-/// An exchange that waits during other steps. The first task polls.
+/// An exchange for a POST that waits during other steps. The first task polls it.
 #[derive(Clone, Copy, Debug)]
 pub struct Held {
     pub content: Content,
@@ -52,13 +52,13 @@ pub struct Held {
     pub gives: Option<(bool, Want)>,
 }
 
-/// A run over its own hub.
+/// A run over its own hub: steps, then an exchange that waits, if there is one, then more steps.
 #[derive(Clone, Copy, Debug)]
 pub struct Run {
     pub first: &'static [Step],
     pub held: Option<Held>,
     pub last: &'static [Step],
-    /// Whether waiting events are sent with the reply to a rider.
+    /// Whether the hub of a run sends waiting events with the reply to a rider.
     pub ride: bool,
 }
 
@@ -421,7 +421,8 @@ const PAUSED: Run = Run {
     ride: false,
 };
 
-// Closing the hub also answers the second session's connect, in the other shard, with 503.
+// Closing the hub also answers the second session's connect, in another shard than the first
+// session, with 503.
 const FIRST_SHARD_SHUT: Run = Run {
     first: &OPENED,
     held: Some(Held {
@@ -463,8 +464,8 @@ const BROKEN_OFF: Run = Run {
     ride: false,
 };
 
-// An acknowledging session's held connect is dropped. Its next connect gets the event published
-// meanwhile. The answer that nobody took is swept, once.
+// The exchange of a held connect is dropped, in a session that acknowledges batches. The session's
+// next connect gets the event published meanwhile. The answer that nobody took is swept, once.
 const GIVEN_UP: Run = Run {
     first: &OPENED_WITH_ACK,
     held: Some(Held {
@@ -483,7 +484,8 @@ const GIVEN_UP: Run = Run {
     ride: false,
 };
 
-// A plain session's held connect is dropped. The event in its answer is lost.
+// The exchange of a held connect is dropped, in a session without acknowledgements. The event in
+// the connect's answer is lost.
 const LOST: Run = Run {
     first: &OPENED,
     held: Some(Held {
@@ -500,9 +502,9 @@ const LOST: Run = Run {
     ride: false,
 };
 
-// The reply to a session's publish, also by a query, carries its waiting events. With a held
-// connect, the connect gets the first event, and the rider the second. In a paused shard, a rider
-// gets 503.
+// The reply to a session's publish, also by a query, carries its waiting events. If the session
+// publishes two events during a held connect, the connect gets the first, and the rider the second.
+// In a paused shard, a rider gets 503.
 const RIDDEN: Run = Run {
     first: &[
         Step::Post(texts::HANDSHAKE, texts::HANDSHAKEN),
@@ -530,7 +532,7 @@ const RIDDEN: Run = Run {
     ride: true,
 };
 
-/// All runs.
+/// All runs of the exchange tests, each over its own hub.
 pub const RUNS: [Run; 20] = [
     ANSWERED,
     REFUSED,

@@ -1,6 +1,6 @@
 //! Texts of requests and of their responses.
 
-/// A handshake.
+/// The JSON of a request with one handshake, by long-polling.
 pub const HANDSHAKE: &str =
     r#"[{"channel":"/meta/handshake","version":"1.0","supportedConnectionTypes":["long-polling"]}]"#;
 
@@ -48,7 +48,8 @@ pub const PUBLISH_TWO: &str =
 pub const FORM_OF_TWO: &str =
     r#"message=[{"channel":"/meta/subscribe","clientId":"000000000000000000000000000000000000000000000001","subscription":"/a/*"}]&message=[{"channel":"/a/x","clientId":"000000000000000000000000000000000000000000000001","data":1}]"#;
 
-/// A query with the first session's publish of a text with a line separator.
+/// The target of a GET with the callback `cb.x`: the first session publishes a text with a line
+/// separator to `/a/b`.
 pub const QUERY_PUBLISH: &str =
     r#"/cometd?message=[{%22channel%22:%22/a/b%22,%22clientId%22:%22000000000000000000000000000000000000000000000001%22,%22data%22:%22x%E2%80%A8y%22}]&jsonp=cb.x"#;
 
@@ -64,7 +65,7 @@ pub const PUBLISH_AND_HANDSHAKE: &str =
 pub const FORM_HANDSHAKE_AND_PUBLISH: &str =
     r#"message=[{"channel":"/meta/handshake","version":"1.0","supportedConnectionTypes":["long-polling"]}]&message={"channel":"/a/b","data":7}"#;
 
-/// A query with a handshake, then a publish without a client id.
+/// The target of a GET with the callback `cb.x`: a handshake, then a publish without a client id.
 pub const QUERY_HANDSHAKE_AND_PUBLISH: &str =
     r#"/cometd?message=[{%22channel%22:%22/meta/handshake%22,%22version%22:%221.0%22,%22supportedConnectionTypes%22:[%22long-polling%22]},{%22channel%22:%22/a/b%22,%22data%22:7}]&jsonp=cb.x"#;
 
@@ -72,7 +73,7 @@ pub const QUERY_HANDSHAKE_AND_PUBLISH: &str =
 pub const PUBLISH_SERVICE: &str =
     r#"[{"channel":"/service/a","clientId":"000000000000000000000000000000000000000000000001","data":7}]"#;
 
-/// A query with the first session's connect, which is never held.
+/// The target of a GET with the callback `cb.x`: the first session's connect, which is never held.
 pub const QUERY_CONNECT: &str =
     r#"/cometd?jsonp=cb.x&message=[{%22channel%22:%22/meta/connect%22,%22clientId%22:%22000000000000000000000000000000000000000000000001%22,%22connectionType%22:%22long-polling%22,%22advice%22:{%22timeout%22:0}}]"#;
 
@@ -84,7 +85,7 @@ pub const HANDSHAKEN: &str =
 pub const SECOND_HANDSHAKEN: &str =
     r#"[{"advice":{"interval":0,"reconnect":"retry","timeout":30000},"channel":"/meta/handshake","clientId":"000000000000000000000000000000000000000000000002","successful":true,"supportedConnectionTypes":["long-polling","callback-polling"],"version":"1.0"}]"#;
 
-/// The reply to the first handshake, of an acknowledging session.
+/// The reply to the first handshake, if its session acknowledges batches.
 pub const ACK_HANDSHAKEN: &str =
     r#"[{"advice":{"interval":0,"reconnect":"retry","timeout":30000},"channel":"/meta/handshake","clientId":"000000000000000000000000000000000000000000000001","ext":{"ack":true},"successful":true,"supportedConnectionTypes":["long-polling","callback-polling"],"version":"1.0"}]"#;
 
@@ -127,7 +128,7 @@ pub const PUBLISHED: &str = r#"[{"channel":"/a/b","successful":true}]"#;
 /// The reply to a publish to the service channel `/service/a`.
 pub const PUBLISHED_SERVICE: &str = r#"[{"channel":"/service/a","successful":true}]"#;
 
-/// Two waiting events of the first session, then the reply to its publish.
+/// The events of `PUBLISH` and `PUBLISH_OWN`, then the reply to `PUBLISH_OWN`, a rider.
 pub const OWN_RIDDEN: &str =
     r#"[{"channel":"/a/b","data":7},{"channel":"/a/c","data":8},{"channel":"/a/c","successful":true}]"#;
 

@@ -1,4 +1,5 @@
--- Entries at the places from 0 on, and shards that have applied none.
+-- Lemmas about entries with their index as their place, and about shards that have applied no
+-- entries.
 use Rattle.std.proofs.Common.{zero, suc, ◌≡◌, List, [], ◌∷◌, ◌++◌, refl, ap, sym, subst, arith, ◌∙◌}
 use Rattle.std.proofs.lemmas.Option.{none-some, same_Some}
 use Rattle.bx_entry.specs.declared.entry.Entry.{Entry}

@@ -1,4 +1,5 @@
--- Entries at the places from 0 on, and shards that have applied none.
+-- Entries with their index in the list as their place. Shards at place 0, which have applied no
+-- entries.
 use Rattle.std.specs.Prelude.{ℕ, ◌≡◌, List, slice_get, Some}
 use Rattle.bx_entry.specs.declared.entry.Entry.{Entry}
 use Rattle.bx_shard.specs.declared.shard.Shard.{Shard}

@@ -23,9 +23,10 @@ pub enum Deed {
     Open(u64),
     Subscribe(u64, &'static str),
     Connect(u64),
-    /// A publish of 7 to the channel.
+    /// An entry of the list: a publish of 7 to the channel in the field.
     Publish(&'static str),
-    /// A publish of 7 to the channel, as a rider of the session.
+    /// An entry of the list: a publish of 7 to a channel, as a rider. The fields are the rider's
+    /// session and the channel.
     Ride(u64, &'static str),
 }
 
@@ -37,7 +38,7 @@ const HELD: [Deed; 4] = [
     Deed::Connect(1),
 ];
 
-// The answer to the connect of `HELD`, with the event published to `/a/b` at place 4.
+// The text of the answer to the connect of `HELD`, with the event published to `/a/b` at place 4.
 const ANSWER: &str =
     r#"{"channel":"/a/b","data":7}{"advice":{"interval":0,"reconnect":"retry","timeout":30000},"channel":"/meta/connect","clientId":"000000000000000000000000000000000000000000000001","successful":true}"#;
 
@@ -152,7 +153,7 @@ fn shard(alloc: Global, deeds: &[Deed]) -> Result<Shard<ByRemainder>, Fail> {
     Ok(shard)
 }
 
-// Returns the ticket of the connect at `place`.
+// Returns the ticket of the connect at `place` in shard 0.
 fn ticket(place: u64) -> Ticket {
     Ticket { place, shard: 0 }
 }
@@ -191,7 +192,8 @@ fn check_stored<R: Abort>(
     Ok(())
 }
 
-// Checks that dropping `wakers` wakes `tasks`, and that no task is woken before.
+// Checks that dropping `wakers` wakes `tasks`, and that no task is woken before. There must be one
+// waker for each task.
 fn check_woken<R: Abort>(rt: &R, wakers: Wakers, tasks: &[&MockTask]) {
     assert_eq!(rt; wakers.len(), tasks.len());
     for task in tasks {
@@ -244,8 +246,9 @@ fn check_answered<R: Abort>(
     Ok(())
 }
 
-// Entries that open and subscribe a session, publish an event that waits in it, and at place 3
-// publish another as its rider.
+// Entries that open and subscribe a session and publish two events, the second as its rider.
+//
+// The first event waits in the session's queue. The rider is at place 3.
 const RIDDEN: [Deed; 4] = [
     Deed::Open(1),
     Deed::Subscribe(1, "/a/*"),
@@ -253,11 +256,12 @@ const RIDDEN: [Deed; 4] = [
     Deed::Ride(1, "/a/c"),
 ];
 
-// The answer to the rider of `RIDDEN`.
+// The text of the answer to the rider of `RIDDEN`: both events, and then the rider's reply.
 const RIDE: &str =
     r#"{"channel":"/a/b","data":7}{"channel":"/a/c","data":7}{"channel":"/a/c","successful":true}"#;
 
-// Checks that a rider at place 3 gets the waiting event and its own, once.
+// Checks that the answer to a rider at place 3 has the waiting event and the rider's own event,
+// once.
 //
 // A connect at place 4 must then be held.
 fn check_ridden<R: Abort>(
@@ -387,9 +391,9 @@ fn check_sweeps<R: Abort>(rt: &R, shard: &mut Shard<ByRemainder>, sweeps: &[(u64
     }
 }
 
-// Checks that sweeps drop only answers that were given before their places.
+// Checks that a sweep drops only answers that were filed by entries before the sweep's place.
 //
-// The answer given at place 6 is dropped. The one given at place 7 stays until it is taken. The
+// The answer filed at place 6 is dropped. The answer filed at place 7 stays until it is taken. The
 // connect at place 8 stays held.
 fn check_kept<R: Abort>(
     rt: &R,

@@ -67,9 +67,10 @@ fn shards<P: Placing + Drop>(
     Ok(shards)
 }
 
-// Creates `count` shards, advances them over `entries`, and returns them.
+// Creates `count` shards, advances them over four entries with `workers` workers, and returns them.
 //
-// Also returns the number of shards that do not reach the end.
+// Also returns the number of shards that do not reach the last entry. The workers pass `gate`
+// before and after their work.
 fn brought_up_by<R: Threads + Sync, G: Gate + Sync, P: Placing + Drop + Send + Sync>(
     rt: &R,
     alloc: Global,
@@ -97,7 +98,8 @@ fn brought_up<R: Threads + Sync, G: Gate + Sync>(
     brought_up_by(rt, alloc, &placing, gate, workers, count)
 }
 
-// Checks that every shard reaches the end, for several numbers of workers and shards.
+// Checks that every shard applies all entries, for several numbers of workers and shards. The
+// answer to the connect must then be filed in its session's shard.
 #[test]
 fn all_are_brought_up(rt: HostRuntime) -> Result<(), Fail> {
     let alloc = rt.alloc();
@@ -118,8 +120,10 @@ fn all_are_brought_up(rt: HostRuntime) -> Result<(), Fail> {
     Ok(())
 }
 
-// A gate that stops worker `held` before its work until another worker has finished. `is_free`:
-// whether one has finished. `gave_up`: whether the stopped worker no longer waited.
+// A gate that stops worker `held` before its work until another worker has finished.
+//
+// `is_free`: whether another worker has finished. `gave_up`: whether worker `held` stopped waiting
+// without that.
 #[derive(Drop)]
 struct Holding {
     held: usize,

@@ -32,7 +32,7 @@ fn channels(alloc: Global, messages: &[Message]) -> Result<String, AllocError> {
 // What reading a request returns: the number of its messages, or the fault of its bodies.
 #[derive(Clone, Copy, Debug, PartialEq, Eq)]
 enum Found {
-    // The number of messages in the request.
+    // The request was read. The field is the number of its messages.
     Messages(usize),
     Fault(BodyError),
 }

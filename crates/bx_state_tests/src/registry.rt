@@ -68,8 +68,7 @@ pub fn config(sessions: usize) -> Config {
     }
 }
 
-// Returns the outcome in the reply to the first message, or `None` if that message has no reply
-// yet.
+// Returns the outcome in the reply to the first message, or `None` if there is no such reply yet.
 fn case_of(plan: &Plan) -> Option<Outcome> {
     match plan.slots.as_slice().first() {
         Some(Slot::Ready(reply)) => Some(reply.outcome),
@@ -77,7 +76,7 @@ fn case_of(plan: &Plan) -> Option<Outcome> {
     }
 }
 
-// Returns the text of the first message's reply, or an empty text if the message waits.
+// Returns the text of the first message's reply, or an empty text if there is no such reply yet.
 fn first_reply(alloc: Global, plan: &Plan) -> Result<Vec<u8>, AllocError> {
     match plan.slots.as_slice().first() {
         Some(Slot::Ready(reply)) => reply_text(alloc, reply),
@@ -238,14 +237,15 @@ fn a_session_is_opened_and_closed(rt: HostRuntime) -> Result<(), Fail> {
     check_closed(&rt, alloc, &mut Registry::new(alloc, config(2))?)
 }
 
-// Checks that moments after the greatest one are rejected.
+// Checks that requests and ticks with a moment greater than 2^62 are rejected.
 #[test]
 fn moments_have_an_end(rt: HostRuntime) -> Result<(), Fail> {
     let alloc = rt.alloc();
     check_moments(&rt, alloc, &mut Registry::new(alloc, config(1))?)
 }
 
-// Checks that the standard limit of sessions is exact.
+// Checks that the standard limit is 65,536 sessions: one more is rejected until sessions are
+// closed.
 #[test]
 fn there_is_room_for_the_standard_limit(rt: HostRuntime) -> Result<(), Fail> {
     let alloc = rt.alloc();

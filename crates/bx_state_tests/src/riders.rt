@@ -15,7 +15,7 @@ use std::test::Fail;
 enum Sent {
     // A handshake, which names no session.
     Hello,
-    // A sessionless publish.
+    // A publish without a client id, which names no session.
     Anonymous,
     Connect(u64),
     Subscribe(u64),
@@ -157,7 +157,7 @@ fn told(alloc: Global, plan: &Plan) -> Result<String, AllocError> {
     Ok(text)
 }
 
-// Plans a request of the messages `sent`, and returns the text of the plan.
+// Plans a request of the messages `sent` without committing it, and returns the text of the plan.
 fn told_of(alloc: Global, registry: &mut Registry, sent: &[Sent]) -> Result<String, Fail> {
     let messages = to_messages(alloc, sent)?;
     let plan = registry.plan(alloc, &ByRemainder, 0, 0, messages.as_slice())?;

@@ -17,10 +17,11 @@ const MANY: u64 = 1_000_000;
 
 #[derive(Clone, Copy, Debug)]
 enum Step {
-    // Publishes events with consecutive numbers as data, given by the first number and the count.
+    // A step of a test: publish events with consecutive numbers as data. The fields are the first
+    // number and the count.
     Publish(u64, u64),
-    // Connects, given by the number of the batch to acknowledge, the moment, and how long the
-    // connect may be held, in milliseconds.
+    // A step of a test: connect. The fields are the number of the batch to acknowledge, the moment,
+    // and how long the connect may be held, in milliseconds.
     Connect(Option<u64>, u64, u64),
     Tick(u64),
     Close,
@@ -63,7 +64,9 @@ fn numbers(alloc: Global, answered: &Answered) -> Result<Vec<u64>, Fail> {
     Ok(numbers)
 }
 
-// Appends an answer to `text`: its place, its outcome, its `ack` and its events.
+// Appends an answer to `text`: its connect's place, the outcome, `ack`, and its events.
+//
+// Of the events, it appends the count and the data of the first and the last.
 fn push_text(alloc: Global, answered: &Answered, text: &mut String) -> Result<(), Fail> {
     let outcome = match answered.answer.reply.outcome {
         Outcome::Connected => "ok",
@@ -87,6 +90,8 @@ fn push_ack(alloc: Global, ack: AckReply, text: &mut String) -> Result<(), Alloc
 }
 
 /// Appends to `text` the count of `numbers`, and the first and the last of them.
+///
+/// The form is `3: 7..9;`, or `1: 7;` for one number, or `0: none;` for no numbers.
 ///
 /// # Errors
 ///
@@ -400,8 +405,10 @@ fn pattern(alloc: Global, number: u64) -> Result<Pattern, Fail> {
     Ok(Pattern::read(alloc, text.as_str())?)
 }
 
-// Subscribes session 7 to `count` patterns, with numbers from `first` on. Returns `true` if the
-// session has overflowed. `tree` has its active patterns.
+// Subscribes session 7 to `count` patterns, with numbers from `first` on.
+//
+// `tree` has the session's active patterns. Returns `true` if the session overflows. If it has
+// overflowed before, returns `true` and changes nothing.
 fn subscribe(
     alloc: Global,
     session: &mut Session,
@@ -430,8 +437,8 @@ fn unsubscribe(session: &mut Session, tree: &mut Tree, patterns: &[Pattern])
     session.unsubscribe(patterns, gone);
 }
 
-// Subscribes to the greatest number of patterns, and replaces one of them. Checks that the session
-// has not overflowed.
+// Subscribes session 7 to 1,024 patterns, which is the limit, and replaces one of them. Checks that
+// the session has not overflowed.
 fn reach_the_limit(
     rt: &impl Abort,
     alloc: Global,
@@ -455,7 +462,8 @@ fn reach_the_limit(
     Ok(())
 }
 
-// Subscribes to one pattern more than is allowed, and checks that the session overflows.
+// Subscribes session 7 to one pattern more than the limit. Checks that the session overflows and
+// then has no patterns.
 fn pass_the_limit(
     rt: &impl Abort,
     alloc: Global,
@@ -557,8 +565,10 @@ impl Seen {
         }
     }
 
-    // Checks that an answer with a batch number has the first unacknowledged events, in order. An
-    // outstanding batch must be sent again.
+    // Checks that an answer with a batch number has the first unacknowledged events, in order.
+    //
+    // An outstanding batch must be sent again. Records the answer's batch as the last one. Ignores
+    // answers without a batch number.
     fn gets(&mut self, rt: &impl Abort, alloc: Global, answered: &Answered) -> Result<(), Fail> {
         if let AckReply::AckNumber(number) = answered.answer.reply.ack {
             let events = numbers(alloc, answered)?;
@@ -587,8 +597,10 @@ impl Seen {
 }
 
 // Returns the step that `random` chooses. While fewer than 900 events are unacknowledged, half of
-// the steps publish. A connect acknowledges no batch, the last batch, the batch before the last, or
-// the greatest number.
+// the steps publish.
+//
+// One step in 16 is a tick, one in 16 a disconnect, and all others are connects. A connect
+// acknowledges no batch, the last batch, the batch before the last, or the greatest number.
 fn step_of(random: u64, seen: &Seen, place: u64) -> Step {
     let acked = match random / 16 % 4 {
         0 => None,

@@ -278,7 +278,7 @@ fn plain_find(
     Ok(numbers)
 }
 
-// A tree and a plain list of the same patterns.
+// A pattern tree, and a plain list of sessions with the same patterns, to compare the tree with.
 #[derive(Drop)]
 struct Both {
     tree: Tree,
@@ -327,6 +327,9 @@ fn drawn_pattern(alloc: Global, state: &mut u64) -> Result<Pattern, Fail> {
 
 // Applies a change that `state` chooses to the tree and the list. Returns `true` if both agree on
 // its result.
+//
+// The change adds or removes a pattern of a session, or removes all of its patterns. The last has
+// no result, and returns `true`.
 fn change(alloc: Global, state: &mut u64, both: &mut Both) -> Result<bool, Fail> {
     let number = draw(state, SESSIONS);
     let pattern = drawn_pattern(alloc, state)?;

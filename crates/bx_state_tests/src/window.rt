@@ -11,7 +11,7 @@ use std::alloc::Global;
 use std::process::Abort;
 use std::test::Fail;
 
-// The limit of events in a window.
+// The limit of events in a window, which is the queue of a session.
 const LIMIT: usize = 1_024;
 
 // An upper bound on the number of batches that a test forms.
@@ -19,17 +19,23 @@ const MANY: u64 = 1_000_000;
 
 #[derive(Clone, Copy, Debug)]
 enum Move {
-    // Appends events with consecutive numbers as data, given by the first number and the count.
+    // A step of a test: append events with consecutive numbers as data. The fields are the first
+    // number and the count.
     Push(u64, u64),
-    // Checks that the window is full.
+    // A step of a test: check that the window has no room for another event, with a limit of
+    // `LIMIT`.
     Full,
-    // Forms the next batch, of at most the given number of events, unless a batch is outstanding.
+    // A step of a test: form the next batch, of at most the given number of events. This does
+    // nothing if a batch is outstanding or no events wait.
     Give(usize),
     Acknowledge(u64),
     Clear,
 }
 
 // Returns a text with the number of events, the last batch's number, and the outstanding events.
+//
+// Of the outstanding events, it has the count and the data of the first and the last, for example
+// `3, batch 1 of 2: 7..8;`.
 fn text_of(alloc: Global, window: &Window) -> Result<String, Fail> {
     let given = window.outstanding_batch();
     let mut numbers = Vec::new(alloc);
@@ -82,7 +88,7 @@ fn apply(rt: &impl Abort, alloc: Global, window: &mut Window, step: Move) -> Res
     Ok(())
 }
 
-// Makes each of `moves`, and checks that the text of the window is then as given.
+// Makes each of `moves` in turn, and checks that the text of the window is then the move's text.
 fn run(
     rt: &impl Abort,
     alloc: Global,
@@ -144,7 +150,7 @@ fn check_most(rt: &impl Abort, alloc: Global, window: &mut Window) -> Result<(),
     Ok(())
 }
 
-// Checks that the greatest limit of events is exact.
+// Checks that a window with the greatest limit of events is full at this limit, and not before.
 #[test]
 fn a_window_takes_as_many_events_as_its_limit(rt: HostRuntime) -> Result<(), Fail> {
     let alloc = rt.alloc();
@@ -178,7 +184,7 @@ fn check_forget(rt: &impl Abort, alloc: Global, window: &mut Window) -> Result<(
     Ok(())
 }
 
-// Checks that events sent without a batch are dropped.
+// Checks that `Window::forget` drops the given number of events, which no batch has.
 #[test]
 fn events_without_batches_are_forgotten(rt: HostRuntime) -> Result<(), Fail> {
     let alloc = rt.alloc();

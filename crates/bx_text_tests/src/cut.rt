@@ -63,7 +63,9 @@ fn documents_have_their_pieces(rt: HostRuntime) -> Result<(), Fail> {
 }
 
 // Checks that member `name` of the only message in `body` is `wanted`. `None` is for a missing
-// member. Looks it up in the message's piece and in its text.
+// member.
+//
+// Looks the member up in the message's piece and in the message's text.
 fn check_member(
     rt: &impl Abort,
     alloc: Global,
@@ -194,7 +196,8 @@ fn check_repeated(
     Ok(())
 }
 
-// Checks that the limits of messages and nesting are exact, and that digits have no limit.
+// Checks that the limits of messages and nesting are exact, and that a number may have 1,001
+// digits.
 #[test]
 fn limits_are_exact(rt: HostRuntime) -> Result<(), Fail> {
     same(&rt, MAX_MESSAGES, 256, "the limit");
@@ -220,8 +223,9 @@ fn limits_are_exact(rt: HostRuntime) -> Result<(), Fail> {
     Ok(())
 }
 
-// Returns the length in bytes of the value of member `a` of the only message, or 0 if it has no
-// `a`.
+// Returns the length in bytes of member `a` of the only message in `body`, or 0 without an `a`.
+//
+// Fails if `body` is not valid or does not have exactly one message.
 fn length_of_a(alloc: Global, body: &str) -> Result<usize, Fail> {
     let document = Document::read(alloc, body.as_bytes())?;
     match document.pieces() {
@@ -230,7 +234,7 @@ fn length_of_a(alloc: Global, body: &str) -> Result<usize, Fail> {
     }
 }
 
-// Checks that bodies are parsed up to their last byte.
+// Checks that a body is rejected for an error anywhere in it, up to its last byte.
 #[test]
 fn bodies_are_read_to_their_end(rt: HostRuntime) {
     let broken: [&str; 21] = [
@@ -431,7 +435,8 @@ fn nested_values_are_cut_too(rt: HostRuntime) {
     }
 }
 
-// Checks that lookups in malformed texts return without a failure.
+// Checks that lookups in malformed texts return, and that none of the texts is `é` as a JSON
+// string.
 #[test]
 fn no_text_is_too_odd_to_cut(rt: HostRuntime) {
     for odd in [
@@ -471,7 +476,7 @@ fn check_text(
     Ok(())
 }
 
-// Checks how strings are unescaped.
+// Checks how JSON strings are unescaped, and that other values have no text.
 #[test]
 fn strings_are_unescaped(rt: HostRuntime) -> Result<(), Fail> {
     let table: [(&str, &str); 7] = [
@@ -530,7 +535,7 @@ fn decoded(alloc: Global, texts: &[&str]) -> Result<Bodies, AllocError> {
     Ok(Bodies::Decoded(all))
 }
 
-// Checks the number of documents, and each document by its index.
+// Checks the number of documents in a request, and each document by its index from 0 on.
 #[test]
 fn bodies_are_counted_from_zero(rt: HostRuntime) -> Result<(), Fail> {
     let whole = Bodies::Whole(b"[]".to_vec(rt.alloc())?);

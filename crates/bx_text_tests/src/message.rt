@@ -233,7 +233,7 @@ fn check_body(rt: &impl Abort, alloc: Global, items: &[Item], wanted: &str) -> R
     Ok(())
 }
 
-// Creates items: an event twice, and the reply to a connect.
+// Creates the items of a response: an event twice, and the reply to a connect.
 fn items(alloc: Global) -> Result<Vec<Item>, Fail> {
     let mut items = Vec::new(alloc);
     add_events(alloc, &mut items)?;
@@ -266,7 +266,7 @@ fn connected(alloc: Global) -> Result<Item, Fail> {
     Ok(Item::ReplyItem(reply))
 }
 
-// Checks that a response is the array of its items.
+// Checks that the text of a response is the JSON array of its items.
 #[test]
 fn a_body_is_the_array_of_its_items(rt: HostRuntime) -> Result<(), Fail> {
     let alloc = rt.alloc();
@@ -333,7 +333,11 @@ fn add_ack(alloc: Global, out: &mut String, ack: AckMember) -> Result<(), AllocE
     }
 }
 
-// Appends all fields of `m` except the channel to `out`, in the order of their declaration.
+// Appends the fields of `m` to `out` in order of declaration, except the channel and absent
+// members.
+//
+// Each is a space, a name, `=` and a value, which is `?` for a member that should be a string and
+// is not. The field `listed` is only its name.
 fn add_fields(alloc: Global, out: &mut String, m: &Message) -> Result<(), AllocError> {
     add_json(out, "id", &m.id)?;
     add_text(out, "client", &m.client)?;

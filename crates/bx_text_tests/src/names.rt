@@ -1,4 +1,5 @@
-//! Tests of names and patterns at their limits, and of matching.
+//! Tests of channel names and patterns, also at their limits, and of which patterns match which
+//! names.
 use crate::same::same;
 use bx_names::{
     ChannelKind, ChannelName, MAX_NAME_BYTES, MAX_NAME_SEGMENTS, NameError, Pattern, Tail, kind_of,
@@ -17,13 +18,16 @@ fn repeated(alloc: Global, start: &str, part: &str, count: usize) -> Result<Stri
     Ok(text)
 }
 
-// Checks that `text` is not a name because of `fault`, or that it is a name if `fault` is `None`.
+// Checks that `text` is not a channel name because of `fault`, or that it is one if `fault` is
+// `None`.
 fn check_name(rt: &impl Abort, alloc: Global, text: &str, fault: Option<NameError>) {
     same(rt, name_fault(text), fault, text);
     same(rt, ChannelName::read(alloc, text).err(), fault, text);
 }
 
-// Checks that a text is not a name because of `fault`, or that it is a name if `fault` is `None`.
+// Checks that a text is not a channel name because of `fault`, or that it is one if `fault` is
+// `None`.
+//
 // The text is `start`, followed by `count` times `part`.
 fn check_repeated(
     rt: &impl Abort,
@@ -84,7 +88,7 @@ fn names(rt: HostRuntime) -> Result<(), Fail> {
     Ok(())
 }
 
-// Checks that `text` is a pattern with `own` segments and the wildcard `tail`.
+// Checks that `text` is a pattern with the ending `tail`, and `own` segments without the wildcard.
 fn check_pattern(
     rt: &impl Abort,
     alloc: Global,
@@ -105,7 +109,8 @@ fn check_refused(rt: &impl Abort, alloc: Global, text: &str, fault: NameError) {
     same(rt, Pattern::read(alloc, text).err(), Some(fault), text);
 }
 
-// Returns why 31 segments followed by `end` are not a pattern, or `None` if they are a pattern.
+// Returns why 31 segments `/a` followed by `end` are not a pattern, or `None` if they are a
+// pattern.
 fn fault_behind(alloc: Global, end: &str) -> Result<Option<NameError>, AllocError> {
     let mut text = repeated(alloc, "", "/a", 31)?;
     text.push_str(end)?;

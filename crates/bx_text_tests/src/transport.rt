@@ -63,7 +63,7 @@ fn check_fault(
     same(rt, taken.err(), fault, at);
 }
 
-// Checks which content types are forms.
+// Checks which content types make a POST's body a form.
 #[test]
 fn content_types_tell_forms(rt: HostRuntime) -> Result<(), Fail> {
     let alloc = rt.alloc();
@@ -176,7 +176,7 @@ fn check_length(
     Ok(())
 }
 
-// Checks that the limit of a callback's name is exact.
+// Checks that a callback's name may have 256 characters, and no more.
 #[test]
 fn names_have_256_characters_at_most(rt: HostRuntime) -> Result<(), Fail> {
     for (length, fault) in [(1, None), (256, None), (257, Some(TransportError::BadName))] {
@@ -185,10 +185,10 @@ fn names_have_256_characters_at_most(rt: HostRuntime) -> Result<(), Fail> {
     Ok(())
 }
 
-// Checks the errors of `size` spaces as JSON, as a form and as a query.
+// Checks the errors of `size` spaces as the body of a JSON POST, as a form and as a query.
 //
-// `plain` is the error as JSON, or `None` if there is none. `form` is the error as a form and as a
-// query.
+// `plain` is the error of the JSON POST, or `None` if there is none. `form` is the error of the
+// form and of the query.
 fn check_size(
     rt: &impl Abort,
     alloc: Global,
@@ -204,7 +204,7 @@ fn check_size(
     Ok(())
 }
 
-// Checks that the limit of a body's length is exact.
+// Checks that the limit of the length of a body and of a query is exact.
 #[test]
 fn sizes_are_limited(rt: HostRuntime) -> Result<(), Fail> {
     let none = TransportError::NoMessage;

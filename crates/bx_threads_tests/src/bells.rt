@@ -42,7 +42,8 @@ impl Counter {
         Some((Counter { fd }, owned))
     }
 
-    // Fills the counter, which must be at 1. Returns `true` if that succeeds.
+    // Fills the counter, which must be at 1, so that the next write blocks. Returns `true` if that
+    // succeeds.
     fn fill(&self) -> bool {
         libc::write(self.fd, &(u64::MAX - 2).to_ne_bytes()) == 8
     }
@@ -54,25 +55,28 @@ impl Counter {
     }
 }
 
-// The call that answers the connect and so wakes the task.
+// The call that answers the held connect and so wakes the task that waits for the answer.
 //
-// `Question` is a poll of a shard that was paused during the publish.
+// `Publish` publishes an event to the connect's session. `Question` polls the connect's shard,
+// which was paused while such an event was published.
 #[derive(Clone, Copy, Debug, PartialEq, Eq)]
 enum Waking {
     Publish,
     Question,
 }
 
-// Flags that the threads share.
+// Flags by which the threads of this test wait for one another.
 #[derive(Drop)]
 struct Flags {
-    // Set just before the waking call.
+    // A flag that is set just before the call that wakes the task.
     is_armed: AtomicBool,
-    // Set when the waking call has locked shard 1 and is about to advance it.
+    // A flag that is set when the call that wakes the task has locked shard 1, before the shard
+    // advances.
     stands: AtomicBool,
-    // Set after every shard was locked and unlocked once, during the waking call.
+    // A flag that is set when every shard was locked and unlocked once, during the call that wakes
+    // a task.
     swept: AtomicBool,
-    // Set after the waking call has ended.
+    // A flag that is set after the call that wakes the task has ended.
     ended: AtomicBool,
 }
 
@@ -87,7 +91,7 @@ impl Flags {
     }
 }
 
-// A gate that sets `Flags::stands` when the waking call has locked shard 1.
+// A gate that sets `Flags::stands` before an advance of shard 1, if `Flags::is_armed` is set.
 #[derive(Drop)]
 struct Telling {
     flags: Arc<Flags, Global>,
@@ -132,8 +136,10 @@ fn wakes<L: LogId, P: Placing, G: Gate + Drop, H: Wait + Drop, R: Wait>(
     answered
 }
 
-// Waits until the waking call has locked shard 1, then locks every shard once. Returns `true`
-// unless the wait took over `LOOKS` milliseconds.
+// Waits for `flags.stands`, then locks and unlocks every shard once, and sets `flags.swept`.
+//
+// Returns `true` if `flags.stands` was set before the wait ended, after `LOOKS` looks. The shards
+// are locked in any case.
 fn sweeps<L: LogId, P: Placing, G: Gate + Drop, H: Wait + Drop, R: Wait + Clock>(
     rt: &R,
     hub: &Hub<L, P, G, H>,
@@ -148,16 +154,18 @@ fn sweeps<L: LogId, P: Placing, G: Gate + Drop, H: Wait + Drop, R: Wait + Clock>
 // What a thread finds while the wake of a task is blocked.
 #[derive(Clone, Copy, Debug, PartialEq, Eq)]
 struct Told {
-    // Whether every shard could be locked while the wake was blocked.
+    // Whether every shard could be locked while the wake of a task was blocked.
     was_free: bool,
-    // Whether the waking call had ended, although its wake was blocked.
+    // Whether the call that wakes a task had ended, although the wake was blocked.
     had_ended: bool,
-    // Whether the counter could be read, so that the blocked wake continues.
+    // Whether the counter could be read, so that the blocked wake of a task continues.
     let_go: bool,
 }
 
-// Lets the blocked wake continue once every shard was locked, or after `LOOKS` milliseconds.
-// Returns what it found.
+// Waits for `flags.swept` for at most `LOOKS` milliseconds, and lets the blocked wake continue.
+//
+// Returns whether every shard was locked in time, whether the call that wakes had ended before, and
+// whether the counter was read.
 fn lets_go<R: Clock>(rt: &R, flags: &Flags, counter: &Counter) -> Told {
     let was_free = wait_for(rt, &flags.swept);
     thread::sleep(rt, Duration::from_millis(20));
@@ -212,7 +220,8 @@ fn beside<
     same(rt, told, wanted, waking);
 }
 
-// Registers a waker of `task`, makes its wake block, and runs the threads while the task sleeps.
+// Registers a waker of `task` with the connect under `ticket`, and makes a wake of `task` block.
+// Then runs the test's threads while the task sleeps, and checks what they find.
 fn rings<
     L: LogId + Send + Sync,
     P: Placing + Send + Sync,

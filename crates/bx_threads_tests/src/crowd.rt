@@ -1,4 +1,4 @@
-//! Test of eight threads over four shards.
+//! Test of eight threads that use one hub with four shards.
 ghost use Rattle.std.specs.Prelude.{◌≡◌};
 ghost use Rattle.bx_entry.specs.Placings.{by_remainder};
 
@@ -15,17 +15,19 @@ use std::sync::{Arc, Wait};
 use std::test::*;
 use std::thread::{Threads, join};
 
-// Number of ticks that each of two threads appends. With the other requests they exceed the
-// window's 4,096 batches.
+// The number of ticks that each of two threads appends, and of the sweeps of another thread.
+//
+// With the requests of all threads, the ticks exceed the window's 4,096 batches.
 const TICKS: usize = 2_000;
 
-// Number of events that each of three threads publishes, together fewer than a session may queue.
+// The number of events that each of three threads publishes. All three together publish fewer than
+// a session may queue.
 const EVENTS: usize = 250;
 
 // Number of events that all three threads publish.
 const ALL_EVENTS: usize = 3 * EVENTS;
 
-// Number of connects that each of two threads posts.
+// The number of connects that a thread posts for a session in one call of `receives`.
 const CONNECTS: usize = 100;
 
 const SUBSCRIPTIONS: [&str; 2] = [
@@ -33,19 +35,20 @@ const SUBSCRIPTIONS: [&str; 2] = [
     r#"[{"channel":"/meta/subscribe","clientId":"000000000000000000000000000000000000000000000002","subscription":"/a/*"}]"#,
 ];
 
-// A connect of each of two sessions, which is answered at once.
+// For each of two sessions, the body of a request with a connect that is answered at once.
 const ASKS: [&str; 2] = [
     r#"[{"channel":"/meta/connect","clientId":"000000000000000000000000000000000000000000000001","connectionType":"long-polling","advice":{"timeout":0}}]"#,
     r#"[{"channel":"/meta/connect","clientId":"000000000000000000000000000000000000000000000002","connectionType":"long-polling","advice":{"timeout":0}}]"#,
 ];
 
-// What a thread does.
+// What one of the eight threads does.
 #[derive(Clone, Copy, Debug)]
 enum Job {
-    // Publishes events. The field is the number of the first event.
+    // A thread's work: it publishes `EVENTS` events. The field is the number of the first event.
     Publish(usize),
     Tick,
-    // Receives events. The field is the index of the session, 0 or 1.
+    // A thread's work: it posts `CONNECTS` connects and collects the events. The field is the index
+    // of the session, 0 or 1.
     Receive(usize),
     Sweep,
 }
@@ -80,10 +83,11 @@ fn ticks<L: LogId, P: Placing, G: Gate + Drop, H: Wait + Drop, R: Wait>(
     Some(Vec::new(alloc))
 }
 
-// Appends the numbers of the events that one connect gets to `given`.
+// Posts a connect of a session, and appends the numbers of the events that it gets to `given`.
 //
-// Adds `ALL_EVENTS` to those of session 1, so that no two events have the same number. Returns
-// `None` if a call fails.
+// `session`: the session's index, 0 or 1. For session 1 each number is raised by `ALL_EVENTS`, so
+// that it differs from all numbers for session 0. Returns `None` if a call fails or the connect has
+// no answer.
 fn asks<L: LogId, P: Placing, G: Gate + Drop, H: Wait + Drop, R: Wait>(
     rt: &R,
     alloc: Global,
@@ -104,9 +108,10 @@ fn asks<L: LogId, P: Placing, G: Gate + Drop, H: Wait + Drop, R: Wait>(
     Some(())
 }
 
-// Returns the numbers of the events that `CONNECTS` connects of a session get.
+// Posts `CONNECTS` connects of a session, and returns the numbers of the events that they get.
 //
-// Those of session 1 are raised by `ALL_EVENTS`. Returns `None` if a call fails.
+// `session`: the session's index, 0 or 1. For session 1 each number is raised by `ALL_EVENTS`.
+// Returns `None` if a call fails or a connect has no answer.
 fn receives<L: LogId, P: Placing, G: Gate + Drop, H: Wait + Drop, R: Wait>(
     rt: &R,
     alloc: Global,
@@ -121,7 +126,8 @@ fn receives<L: LogId, P: Placing, G: Gate + Drop, H: Wait + Drop, R: Wait>(
     Some(given)
 }
 
-// Sweeps repeatedly. Returns an empty list, or `None` if a sweep drops an answer.
+// Sweeps all shards `TICKS` times, below place 0. Returns an empty list, or `None` if a sweep drops
+// an answer.
 fn sweeps<L: LogId, P: Placing, G: Gate + Drop, H: Wait + Drop, R: Wait>(
     rt: &R,
     alloc: Global,
@@ -193,7 +199,8 @@ fn four<
 }
 
 // Runs eight threads, and returns the numbers of the events that the two sessions get meanwhile.
-// Returns `None` if a call fails.
+//
+// For the second session each number is raised by `ALL_EVENTS`. Returns `None` if a call fails.
 fn eight<
     L: LogId + Send + Sync,
     P: Placing + Send + Sync,
@@ -221,7 +228,7 @@ fn eight<
     joined(a, b)
 }
 
-// Opens and subscribes two sessions. Returns `None` if a post fails.
+// Opens two sessions and subscribes both to `/a/*`. Returns `None` if a post fails.
 fn opens<L: LogId, P: Placing, G: Gate + Drop, H: Wait + Drop, R: Wait>(
     rt: &R,
     alloc: Global,
@@ -234,9 +241,11 @@ fn opens<L: LogId, P: Placing, G: Gate + Drop, H: Wait + Drop, R: Wait>(
     Some(())
 }
 
-// Returns the numbers of the events that both sessions get, in ascending order.
+// Runs eight threads on two new sessions, and returns the numbers of all events that these get.
 //
-// Connects after the threads end fetch the events that are left. Returns `None` if a call fails.
+// The numbers are in ascending order, with those for the second session raised by `ALL_EVENTS`.
+// After the threads end, more connects fetch the events that are left. Returns `None` if a call
+// fails.
 fn given<
     L: LogId + Send + Sync,
     P: Placing + Send + Sync,

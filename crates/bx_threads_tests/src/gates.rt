@@ -23,13 +23,14 @@ const LOOKS: u32 = 10_000_000;
 // Flags that the gate and the test share.
 #[derive(Drop)]
 struct Flags {
-    // Set when the gate is to stop callers in shard 0.
+    // A flag that is set when the gate must stop callers in shard 0.
     is_held: AtomicBool,
-    // Set when a caller has stopped in shard 0.
+    // A flag that is set when a caller has stopped in shard 0.
     stands: AtomicBool,
-    // Set when the stopped caller may continue.
+    // A flag that is set when the caller that is stopped in shard 0 may continue.
     is_free: AtomicBool,
-    // Set when the stopped caller gave up waiting for `is_free`.
+    // A flag that is set when the caller that is stopped in shard 0 has waited for `is_free` in
+    // vain.
     gave_up: AtomicBool,
 }
 
@@ -38,13 +39,15 @@ struct Flags {
 struct Told {
     // Whether a tick with a moment that is too large is rejected for that reason.
     is_bad_moment: bool,
-    // How many entries the second caller has seen after its tick.
+    // How many entries of the list a second caller has seen after its tick, while the first is
+    // stopped.
     seen: u64,
-    // What the second caller finds when it polls for the connect in shard 1.
+    // What a second caller finds when it polls for the answer to the connect in shard 1.
     found: Found,
 }
 
-// A gate that stops callers in shard 0, if `Flags::is_held` is set, until they may continue.
+// A gate that stops callers in shard 0 if `Flags::is_held` is set. They continue when
+// `Flags::is_free` is set, or after `LOOKS` looks.
 #[derive(Drop)]
 struct Holding {
     flags: Arc<Flags, Global>,
@@ -68,10 +71,10 @@ impl Gate for Holding {
     fn after(&self, _shard: usize) {}
 }
 
-// Ticks and polls while the publish is stopped in shard 0, and then lets it continue. Returns what
-// the calls find.
+// Waits until a publish is stopped in shard 0, ticks, and polls for the answer under `ticket`.
 //
-// Admission and shard 1 must be unlocked, and the list must have the publish.
+// Then lets the publish continue, and returns what the tick and the poll find. The tick's moment is
+// too large. Admission and shard 1 must be unlocked for both, and the list must have the publish.
 fn takes<L: LogId, P: Placing, H: Wait + Drop, R: Wait>(
     rt: &R,
     alloc: Global,
@@ -100,8 +103,8 @@ fn takes<L: LogId, P: Placing, H: Wait + Drop, R: Wait>(
     }
 }
 
-// Publishes an event, and returns `true` if it is admitted. The gate stops this call under the lock
-// of shard 0.
+// Publishes an event, and returns `true` if it is admitted. The gate stops the call while it has
+// locked shard 0.
 fn posts<L: LogId, P: Placing, H: Wait + Drop, R: Wait>(
     rt: &R,
     alloc: Global,
@@ -111,9 +114,10 @@ fn posts<L: LogId, P: Placing, H: Wait + Drop, R: Wait>(
     post(rt, alloc, hub, &mut pass, PUBLISH).is_ok()
 }
 
-// Runs both callers and checks what they find.
+// Runs a publish in one thread, and a tick and a poll in another, and checks what they find.
 //
-// If one lock guarded both shards, or admission and shard 0, the publish would wait in vain.
+// If one lock guarded both shards, or shard 0 and admission, the stopped publish would wait in
+// vain.
 fn beside<
     L: LogId + Send + Sync,
     P: Placing + Send + Sync,
@@ -156,7 +160,7 @@ fn beside<
     Ok(())
 }
 
-// Opens two sessions, and returns the ticket of the first one's held connect.
+// Opens two sessions, subscribes the first, and returns the ticket of its held connect.
 fn opens<L: LogId, P: Placing, G: Gate + Drop, H: Wait + Drop, R: Wait>(
     rt: &R,
     alloc: Global,

@@ -1,4 +1,4 @@
-//! Test of calls that wait for admission, and of gates.
+//! Test that calls unlock shards before they wait for admission, and that gates enclose advances.
 ghost use Rattle.std.specs.Prelude.{◌≡◌};
 ghost use Rattle.bx_entry.specs.Placings.{by_remainder, by_remainder-below};
 
@@ -21,11 +21,14 @@ use std::time::{Clock, Duration};
 // How often a thread looks at a flag before it gives up, one millisecond apart.
 const LOOKS: u32 = 10_000;
 
-// How often all shards are locked, one millisecond apart, while the post has locked admission. In
-// that time the stopped call continues to the point where it would wait for admission.
+// How often all shards are locked while a post has locked admission, one millisecond apart.
+//
+// Meanwhile a call in a third thread, which was stopped in a shard, continues until it waits for
+// admission.
 const SWEEPS: u32 = 200;
 
-// Number of pings before `Call::Post`, which then makes the list 64 long and trims the window.
+// The number of pings that are posted before the post of `Call::Post`. That post then makes the
+// list 64 entries long and trims the window.
 const AHEAD: u32 = 62;
 
 // The call that is stopped in shard 1.
@@ -36,27 +39,27 @@ enum Call {
     Question,
 }
 
-// Flags and counters that three threads share.
+// The clock, flags and counters that three threads share.
 #[derive(Drop)]
 struct Flags<C: Clock + Drop> {
     clock: C,
-    // Whether the call must stop in shard 1.
+    // Whether a call must stop in shard 1, after the shard has advanced.
     holds_call: AtomicBool,
-    // Whether the post must stop where it places a session.
+    // Whether a post must stop where it places a session, while admission is locked.
     holds_post: AtomicBool,
-    // Set when the call has stopped in shard 1.
+    // A flag that is set when a call has stopped in shard 1.
     call_stands: AtomicBool,
-    // Set when the post has stopped while admission is locked.
+    // A flag that is set when a post has stopped while admission is locked.
     post_stands: AtomicBool,
-    // Set when the post may continue.
+    // A flag that is set when the stopped post may continue.
     is_free: AtomicBool,
-    // Set when a thread gave up waiting.
+    // A flag that is set when a thread has waited for another flag in vain.
     gave_up: AtomicBool,
-    // How often the placing was used.
+    // How often the placing was called.
     asked: AtomicU64,
-    // The value of `asked` before the last advance.
+    // How often the placing was called before the last advance of a shard.
     before: AtomicU64,
-    // How many advances used the placing.
+    // The number of advances of a shard in which the placing was called.
     between: AtomicU64,
 }
 
@@ -76,7 +79,7 @@ impl<C: Clock + Drop> Flags<C> {
         }
     }
 
-    // Waits until `flag` is set. Gives up after `LOOKS` milliseconds, and records that.
+    // Waits until `flag` is set. Gives up after `LOOKS` milliseconds, and then sets `gave_up`.
     fn wait_for(&self, flag: &AtomicBool) {
         for _ in 0..LOOKS {
             if flag.load(Ordering::SeqCst) {
@@ -88,7 +91,8 @@ impl<C: Clock + Drop> Flags<C> {
     }
 }
 
-// A gate and placing that stop one thread each.
+// A gate that stops one call in shard 1, and a placing that stops one post during admission. Both
+// also count.
 #[derive(Drop)]
 struct Holding<C: Clock + Drop> {
     flags: Arc<Flags<C>, Global>,
@@ -102,10 +106,11 @@ impl<C: Clock + Drop> Holding<C> {
     }
 }
 
-// Stops the call after shard 1 has advanced, until the post has locked admission.
+// Stops one call after shard 1 has advanced, until a post in another thread has locked admission.
+// Counts the advances in which the placing was called.
 //
-// After that, a tick or post only reads the shards' positions and trims the window. A poll has
-// nothing left to do.
+// A tick or post that continues then only reads the shards' positions and trims the window. A poll
+// that continues has nothing left to do.
 impl<C: Clock + Drop> Gate for Holding<C> {
     fn before(&self, _shard: usize) {
         let asked = self.flags.asked.load(Ordering::SeqCst);
@@ -123,7 +128,8 @@ impl<C: Clock + Drop> Gate for Holding<C> {
     }
 }
 
-// Stops the post where it places its connect, while admission is locked.
+// Places sessions by remainder, and counts the calls. Stops one post where it places its connect,
+// while admission is locked.
 impl<C: Clock + Drop> Placing for Holding<C> {
     ghost place_of = { λ _ number shards. by_remainder number shards };
 
@@ -139,7 +145,9 @@ impl<C: Clock + Drop> Placing for Holding<C> {
     }
 }
 
-// Makes the call that is stopped in shard 1, and returns `true` if it succeeds.
+// Makes `call`, which the gate stops in shard 1, and returns `true` if it succeeds.
+//
+// Before a post, posts `AHEAD` pings, which are not stopped.
 fn calls<L: LogId, P: Placing, G: Gate + Drop, H: Wait + Drop, C: Clock + Drop, R: Wait>(
     rt: &R,
     alloc: Global,
@@ -167,7 +175,9 @@ fn calls<L: LogId, P: Placing, G: Gate + Drop, H: Wait + Drop, C: Clock + Drop, 
     }
 }
 
-// Posts a connect, which is stopped while admission is locked. Returns `true` if it is admitted.
+// Waits until a call is stopped in shard 1, and posts a connect. Returns `true` if it is admitted.
+//
+// The placing stops this post while admission is locked.
 fn posts<L: LogId, P: Placing, G: Gate + Drop, H: Wait + Drop, C: Clock + Drop, R: Wait>(
     rt: &R,
     alloc: Global,
@@ -179,8 +189,10 @@ fn posts<L: LogId, P: Placing, G: Gate + Drop, H: Wait + Drop, C: Clock + Drop, 
     post(rt, alloc, hub, &mut hub.pass(), CONNECT).is_ok()
 }
 
-// Locks every shard repeatedly, while the post has locked admission and the call can continue.
-// Returns how many answers were dropped.
+// Locks every shard `SWEEPS` times while a post has locked admission, and lets the post continue.
+//
+// The call that was stopped in shard 1 can continue meanwhile. Returns how many answers were
+// dropped.
 fn sweeps<L: LogId, P: Placing, G: Gate + Drop, H: Wait + Drop, C: Clock + Drop, R: Wait>(
     rt: &R,
     hub: &Hub<L, P, G, H>,
@@ -211,9 +223,10 @@ fn posts_and_sweeps<
     )
 }
 
-// Runs the three threads and checks that none waited in vain.
+// Runs `call`, a post and sweeps in three threads. Checks that all succeed and that none waited in
+// vain.
 //
-// If the call waited for admission with a shard locked, the sweeps would block, and the post would
+// If `call` waited for admission with a shard locked, the sweeps would block, and the post would
 // wait for them in vain.
 fn beside<
     L: LogId + Send + Sync,

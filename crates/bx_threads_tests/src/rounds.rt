@@ -1,4 +1,5 @@
-//! Test of a thread that sleeps in each round until its connect is answered.
+//! Test of wakers. In each round, one thread posts a connect and sleeps until another thread's
+//! event answers the connect.
 ghost use Rattle.std.specs.Prelude.{◌≡◌};
 ghost use Rattle.bx_entry.specs.Placings.{by_remainder};
 
@@ -19,28 +20,31 @@ use std::thread;
 use std::thread::{Threads, join};
 use std::time::{Clock, Duration, Instant};
 
-// Maximum number of rounds. Each adds the batches of a connect and a publish, so that all of them
-// overfill the window.
+// The maximum number of rounds of the test. Each round appends the batches of a connect and a
+// publish. All rounds together append more batches than a full window has.
 const ROUNDS: u64 = 10_000;
 
-// Seconds after which no more rounds begin, so that the test also ends on a busy machine.
+// The number of seconds after which no more rounds of the test begin. So the test also ends on a
+// busy machine.
 const SECONDS: u64 = 5;
 
-// How often the publishing thread looks for its turn.
+// How often the publishing thread looks whether it may publish, before it gives up.
 //
-// It looks again at once for the first `QUICK_LOOKS` times, and later after a millisecond.
+// It yields after each of the first `QUICK_LOOKS` looks, and sleeps for a millisecond after each
+// later one.
 const LOOKS: u32 = 11_000;
 
 const QUICK_LOOKS: u32 = 1_000;
 
-// A publish by the second session. The number of the round goes between the two texts.
+// The two parts of a request's body with a publish by the second session. The number of the round
+// is written between them, as the event's data.
 const PUBLISH: [&str; 2] = [
     r#"[{"channel":"/a/b","clientId":"000000000000000000000000000000000000000000000002","data":"#,
     "}]",
 ];
 
-// The response to the first session's connect in a round. The number of the round goes between the
-// two texts.
+// The two parts of the response to the first session's connect in a round. The number of the round
+// is written between them, as the event's data.
 const ANSWER: [&str; 2] = [
     r#"[{"channel":"/a/b","data":"#,
     r#"},{"advice":{"interval":0,"reconnect":"retry","timeout":30000},"channel":"/meta/connect","clientId":"000000000000000000000000000000000000000000000001","successful":true}]"#,
@@ -52,7 +56,8 @@ fn text_of(alloc: Global, around: [&str; 2], round: u64) -> Result<String, Alloc
     format!(in alloc; "{head}{round}{tail}")
 }
 
-// The waiting task, and the round for which the event may be published.
+// What both threads share: the sleeping thread's task, and the last round for which the other may
+// publish.
 #[derive(Drop)]
 struct Turns {
     task: Queue,
@@ -75,7 +80,10 @@ impl Turns {
         }
     }
 
-    // Waits for the turn of `round`, and returns what the publishing thread does next.
+    // Waits until the event of `round` may be published, and returns what the publisher does next.
+    //
+    // Returns `Next::Over` if no more rounds follow, and `Next::Late` after `LOOKS` looks.
+    // Otherwise returns `Next::Publish`.
     fn next<R: Clock>(&self, rt: &R, round: u64) -> Next {
         for look in 0..LOOKS {
             let told = self.round.load(Ordering::SeqCst);
@@ -103,11 +111,11 @@ const OVER: u64 = u64::MAX;
 enum Next {
     Publish,
     Over,
-    // The next round did not begin in time.
+    // The publishing thread gives up, because the next round did not begin in time.
     Late,
 }
 
-// Returns `true` if another round may begin.
+// Returns `true` if less than `SECONDS` seconds have passed since `start`, and the clock works.
 fn has_time<R: Clock>(rt: &R, start: Instant) -> bool {
     match start.elapsed(rt) {
         Ok(elapsed) => elapsed.as_secs() < SECONDS,
@@ -135,8 +143,11 @@ impl Told {
     }
 }
 
-// Registers a waker and sleeps until it is woken, unless the connect was answered meanwhile.
-// Returns `None` if the connect is unknown or the task was shut down.
+// Registers the waker in `slot` with a connect, and sleeps until the task is woken.
+//
+// If the connect was already answered, puts the waker back and does not sleep. Otherwise counts the
+// waker and the wake in `told`, and stores a new waker in `slot`. Returns `None` if `slot` is
+// empty, the hub does not store the waker or has another one, or the task was shut down.
 fn wait<L: LogId, P: Placing, G: Gate + Drop, H: Wait + Drop, R: Wait>(
     rt: &R,
     hub: &Hub<L, P, G, H>,
@@ -163,7 +174,9 @@ fn wait<L: LogId, P: Placing, G: Gate + Drop, H: Wait + Drop, R: Wait>(
     }
 }
 
-// Polls for the answer, at once and after `wait`. Returns `None` if it is not `wanted`.
+// Polls for the answer under `ticket`. If there is none yet, calls `wait` and polls once again.
+//
+// Returns `None` unless a poll finds an answer with the text `wanted`.
 fn answered<L: LogId, P: Placing, G: Gate + Drop, H: Wait + Drop, R: Wait>(
     rt: &R,
     alloc: Global,
@@ -187,8 +200,11 @@ fn answered<L: LogId, P: Placing, G: Gate + Drop, H: Wait + Drop, R: Wait>(
     }
 }
 
-// Posts a connect of the first session and returns its ticket, or `None` if the post fails. In even
-// rounds the event may be published before the connect.
+// Posts a connect of the first session, lets the event of `round` be published, and returns a
+// ticket.
+//
+// In even rounds the event may be published already before the connect. Returns `None` if the post
+// fails.
 fn connects<L: LogId, P: Placing, G: Gate + Drop, H: Wait + Drop, R: Wait>(
     rt: &R,
     alloc: Global,
@@ -205,7 +221,8 @@ fn connects<L: LogId, P: Placing, G: Gate + Drop, H: Wait + Drop, R: Wait>(
     ticket
 }
 
-// Plays a round. Returns `None` if its connect does not get its event.
+// Posts the connect of `round`, and waits for its answer if need be. Returns `None` unless the
+// answer is found with the event of `round`.
 fn plays<L: LogId, P: Placing, G: Gate + Drop, H: Wait + Drop, R: Wait>(
     rt: &R,
     alloc: Global,
@@ -222,7 +239,9 @@ fn plays<L: LogId, P: Placing, G: Gate + Drop, H: Wait + Drop, R: Wait>(
     answered(rt, alloc, hub, pass, ticket, wanted, turns, slot, told)
 }
 
-// Plays rounds until one fails or time is up, and returns the counts.
+// Plays at most `ROUNDS` rounds, until one fails or time is up, and returns the counts.
+//
+// Then sets `turns.round` to `OVER`, so that the publishing thread ends.
 fn waits<L: LogId, P: Placing, G: Gate + Drop, H: Wait + Drop, R: Wait + Clock>(
     rt: &R,
     alloc: Global,
@@ -330,7 +349,9 @@ fn rounds<
     Ok(())
 }
 
-// Checks that each round ended with its event, and that each waker woke the task once.
+// Checks that each round that began has ended, and that each registered waker woke the task once.
+//
+// At least one waker must have been registered, and one event published in each round.
 fn check<R: Abort>(rt: &R, told: Told, published: Option<u64>) {
     let wanted = Told {
         ended: told.begun,

@@ -15,11 +15,13 @@ use std::sync::{Arc, Wait};
 use std::test::*;
 use std::thread::{Threads, join};
 
-// Number of ticks, which exceeds the number of batches in a full window.
+// The number of ticks that one thread appends. They are more than the batches in a full window.
 const TICKS: usize = 5_000;
 
-// Ticks `TICKS` times and returns the pass, or `None` if a tick fails. Does not publish, so that
-// any event found later is the other thread's.
+// Appends `TICKS` ticks at moment 0, and returns `pass`, which has then seen them.
+//
+// Returns `None` if a tick fails. Publishes no event, so that an event found later was published by
+// another thread.
 fn ticks<L: LogId, P: Placing, G: Gate + Drop, H: Wait + Drop, R: Wait>(
     rt: &R,
     alloc: Global,
@@ -32,7 +34,9 @@ fn ticks<L: LogId, P: Placing, G: Gate + Drop, H: Wait + Drop, R: Wait>(
     Some(pass)
 }
 
-// Publishes an event, and returns the pass that has seen it, or `None` if the post fails.
+// Opens the second session and publishes an event. Returns `pass`, which has then seen both.
+//
+// Returns `None` if a post fails.
 fn tells<L: LogId, P: Placing, G: Gate + Drop, H: Wait + Drop, R: Wait>(
     rt: &R,
     alloc: Global,
@@ -43,9 +47,10 @@ fn tells<L: LogId, P: Placing, G: Gate + Drop, H: Wait + Drop, R: Wait>(
     Some(pass)
 }
 
-// Publishes in one thread and ticks in the other, then joins both passes.
+// Publishes in one thread, ticks in another, and then checks the answer under `ticket`.
 //
-// The held connect must then be answered once, with the event.
+// The check uses the longer of the two threads' passes. It must find the answer once, with the
+// event. Fails if a call of a thread fails.
 fn meet<
     L: LogId + Send + Sync,
     P: Placing + Send + Sync,
@@ -68,7 +73,8 @@ fn meet<
     }
 }
 
-// Checks that the connect is answered once, with the event and its reply.
+// Polls twice for the answer under `ticket`. Checks that only the first poll finds an answer, and
+// that its text is `ANSWER`.
 fn answered<L: LogId, P: Placing, G: Gate + Drop, H: Wait + Drop, R: Wait + Abort>(
     rt: &R,
     alloc: Global,
@@ -83,7 +89,8 @@ fn answered<L: LogId, P: Placing, G: Gate + Drop, H: Wait + Drop, R: Wait + Abor
     Ok(())
 }
 
-// Holds a connect, checks that it has no answer, and returns its ticket.
+// Opens and subscribes the first session, and posts a connect of it, which is held. Checks that the
+// connect has no answer yet, and returns its ticket.
 fn waits<L: LogId, P: Placing, G: Gate + Drop, H: Wait + Drop, R: Wait + Abort>(
     rt: &R,
     alloc: Global,
@@ -125,7 +132,7 @@ fn two<L: LogId + Send + Sync, R: Threads + Wait + Abort + Sync>(
     meet_once(rt, alloc, &hub)
 }
 
-// Checks that a pass extended by another thread's pass finds that thread's event, once.
+// Checks that a thread that takes over another thread's pass finds that thread's event, once.
 #[test]
 fn two_threads(rt: HostRuntime) -> Result<(), Fail> {
     let alloc = rt.alloc();

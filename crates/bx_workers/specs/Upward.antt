@@ -53,7 +53,8 @@ pub record WentOn {P : Type 0} (place_of : P → ℕ → ℕ → ℕ) (es : List
 
 -- ---- Many shards
 
--- Each shard's place is that of an entry or just after the last, if there are entries.
+-- Each shard's place is that of an entry or just after the last one. Without entries, it is any
+-- place.
 abbrev pub AreWithin : {P : Type 0} → List Entry → List (Shard P) → Type 0
 AreWithin {P} es shards = (k : ℕ) → (s : Shard P) → slice_get shards k ≡ Some s → IsWithin es s
 

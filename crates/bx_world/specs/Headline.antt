@@ -201,7 +201,7 @@ PlainGivenOnce = (setup : Setup) (first : WorldState) (steps : List Step) (outs 
 
 -- ---- The theorem
 
--- A schedule that runs from the world `first` to the world `last` gives what a server gives that
+-- A schedule that runs from the world `first` to the world `last` has the results of a server that
 -- handles one message at a time.
 pub record AsOneThread (setup : Setup) (first : WorldState) (steps : List Step) (outs : List StepOut) (last : WorldState) : Type 0 where
   -- The list grows by what was admitted, in order.

@@ -44,7 +44,7 @@ impl<L: LogId, R: Wait + Drop> Count for HubList<L, R> {
 pub enum Adds {
     /// The request adds no entry to the list: it is rejected, or its entry is already counted.
     Nothing,
-    /// The request adds one entry to the list.
+    /// The request adds one entry to the list, and opens no session.
     Entry,
     /// The request adds one entry to the list, which opens a session.
     Session,

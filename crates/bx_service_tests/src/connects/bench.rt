@@ -17,23 +17,24 @@ use std::test::*;
 /// The ticket of the connect that [`Bench::hold`] posts.
 pub const TICKET: Ticket = Ticket { place: 2, shard: 1 };
 
-/// One of the two tasks.
+/// One of the two tasks of a [`Bench`] that can poll a held connect.
 #[derive(Clone, Copy, Debug)]
 pub enum Task {
     First,
     Second,
 }
 
-/// What a poll must return.
+/// What a poll of a held connect must return.
 #[derive(Clone, Copy, Debug)]
 pub enum Want {
-    /// The poll is pending.
+    /// A poll must be pending: there is no answer yet.
     Pending,
-    /// The poll returns an answer. The text is the array of its events and its reply.
+    /// A poll must return an answer. The field is the JSON array of the answer's events, followed
+    /// by its reply.
     Answer(&'static str),
-    /// The poll returns that there is no answer, now or later.
+    /// A poll must return that there is no answer, now or later.
     None,
-    /// The poll returns this fault.
+    /// A poll must return this fault.
     Fault(HubFault),
 }
 
@@ -50,6 +51,8 @@ fn array_of(alloc: Global, answer: &Answer) -> Result<Vec<u8>, AllocError> {
 }
 
 /// Checks that `poll` is what `want` describes.
+///
+/// Aborts the test if the answer's text or the fault is another one.
 ///
 /// # Errors
 ///
@@ -78,7 +81,7 @@ pub fn check_poll<A: Abort>(
     }
 }
 
-/// A hub, a pass and two tasks. Neither task is woken.
+/// A hub, a caller's pass, and two tasks that can poll a held connect.
 #[derive(Drop)]
 pub struct Bench<L: LogId, H: Wait + Drop, R: Wait + Copy + Drop> {
     pub rt: R,
@@ -98,7 +101,7 @@ impl<L: LogId, H: Wait + Drop, R: Wait + Copy + Drop> Bench<L, H, R> {
         }
     }
 
-    /// Posts `body` at moment 0.
+    /// Posts a request with the JSON `body` at moment 0, from a client that may publish.
     ///
     /// # Errors
     ///
@@ -153,7 +156,7 @@ impl<L: LogId, H: Wait + Drop, R: Wait + Copy + Drop> Bench<L, H, R> {
         Ok(PendingAnswer::new(pass, ticket))
     }
 
-    /// Polls `held` once, in `task`, and returns the output.
+    /// Polls `held` once, in `task`, and returns the output, with only the fault of a failed poll.
     pub fn poll(
         &self,
         task: Task,
