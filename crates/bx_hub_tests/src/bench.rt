@@ -72,7 +72,8 @@ impl Waiting {
     }
 }
 
-/// A gate that counts its calls, and records whether the first task is woken under a lock.
+/// A gate that counts its calls, and records whether the first task is woken while its shard is
+/// locked.
 #[derive(Drop)]
 pub struct Looking {
     pub waiting: Arc<Waiting, Global>,

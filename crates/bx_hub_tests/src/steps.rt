@@ -29,23 +29,24 @@ pub enum Step {
     Hold,
     /// Opens three sessions. The first and third, in one shard, hold connects at places 5 and 6.
     HoldTwo,
-    /// Opens the second session and publishes an event that the first one gets.
+    /// Opens the second session, which then publishes an event for the first one.
     Publish,
     /// Opens the second session and publishes its event, with another pass. Then extends the
     /// caller's pass to the other one.
     PublishApart,
-    /// Posts a request. Fields: its body, its first place (or the list's length if it has no
-    /// messages), and how many shards, because they are paused, do not apply it.
+    /// Posts a request. Fields: its body, its first place, and how many shards do not apply it,
+    /// because they are paused. For a request without messages, the place is the list's length.
     Post(&'static str, u64, usize),
     /// Posts a connect or rider, and checks that its answer is pending. Fields: the body and place.
     Wait(&'static str, u64),
-    /// Posts pings. Fields: the first place, the place after the last ping, the least length of a
-    /// body in bytes, and how many shards, because they are paused, do not apply the pings.
+    /// Posts pings. Fields: the first place, the place after the last ping, and the least length of
+    /// a body in bytes. The last field: how many shards do not apply the pings, because they are
+    /// paused.
     Pings(u64, u64, usize, usize),
     /// Posts a request that is not admitted and comes back. Fields: its body and the fault.
     Refused(&'static str, PostFault),
-    /// Posts the request that came back last. Fields: its body, and its place or the fault. If it
-    /// is admitted, all shards apply it.
+    /// Posts the request that came back last. Fields: its body, and its place or the fault. If the
+    /// request is admitted, all shards must apply it.
     Again(&'static str, Result<u64, PostFault>),
     /// Posts a tick. Fields: its moment, and its place or the fault.
     Tick(u64, Result<u64, PostFault>),

@@ -87,7 +87,7 @@ const RUNS_ANYWHERE: [&[Step]; 2] = [
     ],
 ];
 
-// Checks which calls wake a task, and that its shard is not locked then.
+// Checks which calls wake a task, and that the first task is not woken while its shard is locked.
 #[test]
 fn a_task_is_woken(rt: HostRuntime) -> Result<(), Fail> {
     check_runs(&rt, &[0, 1], false, &RUNS)?;

@@ -48,8 +48,8 @@ const OPENING: [Line; 3] = [
     ),
 ];
 
-// The connect of the first session after `OPENING`: the first line if the session is in shard 0,
-// the second if it is in shard 1.
+// The connect of the first session after `OPENING`. The first line is for a session in shard 0, the
+// second for one in shard 1.
 const CONNECT: [Line; 2] = [
     (
         Deed::Post(

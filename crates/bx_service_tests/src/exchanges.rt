@@ -77,7 +77,9 @@ where
     Ok(())
 }
 
-// Returns the request and the expected response of a step, if it is a request to `Bench::service`.
+// Returns the request and the expected response of a step that sends one to `Bench::service`.
+// Returns `None` for a step of another kind, and for one with an exchange that waits or a body that
+// fails.
 fn asked(step: &Step) -> Option<(Ask, Want)> {
     match step {
         Step::Post(text, want) => Some((Ask::post(Content::Whole(*text)), Want::Json(*want))),

@@ -156,7 +156,8 @@ impl<L: LogId, H: Wait + Drop, R: Wait + Copy + Drop> Bench<L, H, R> {
         Ok(PendingAnswer::new(pass, ticket))
     }
 
-    /// Polls `held` once, in `task`, and returns the output, with only the fault of a failed poll.
+    /// Polls `held` once, in `task`, and returns the output: pending, an answer, no answer, or a
+    /// fault.
     pub fn poll(
         &self,
         task: Task,

@@ -144,7 +144,7 @@ pub const HEAR: Run = Run {
     ride: false,
 };
 
-/// Waiting events are not sent with the response to a rejected request.
+/// Waiting events are not sent with the response to a rejected request, but with the next rider's.
 pub const RIDE: Run = Run {
     first: &[
         Step::Post(texts::HANDSHAKE, texts::HANDSHAKEN),
