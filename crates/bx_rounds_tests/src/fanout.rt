@@ -439,7 +439,7 @@ fn check_holds_by<R: Abort + Threads + Sync>(
 
 // Checks that a round reports which connects it holds, after one run and after several.
 #[test]
-fn a_held_connect_is_told_beside_what_is_given(rt: HostRuntime) -> Result<(), Fail> {
+fn a_held_connect_is_reported_with_the_outs(rt: HostRuntime) -> Result<(), Fail> {
     for workers in [1, 2] {
         check_holds_by(&rt, rt.alloc(), workers, &TOGETHER)?;
         check_holds_by(&rt, rt.alloc(), workers, &APART)?;
@@ -488,7 +488,7 @@ impl Gate for Holding {
 // Checks that the workers of a run work concurrently, which no contract states. If one thread did
 // the work of both workers in turn, the held one would give up.
 #[test]
-fn workers_run_beside_one_another(rt: HostRuntime) -> Result<(), Fail> {
+fn workers_run_at_the_same_time(rt: HostRuntime) -> Result<(), Fail> {
     let alloc = rt.alloc();
     for held in [0, 1] {
         let gate = gate_for(held);

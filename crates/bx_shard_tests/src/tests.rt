@@ -42,7 +42,8 @@ const HELD: [Deed; 4] = [
 const ANSWER: &str =
     r#"{"channel":"/a/b","data":7}{"advice":{"interval":0,"reconnect":"retry","timeout":30000},"channel":"/meta/connect","clientId":"000000000000000000000000000000000000000000000001","successful":true}"#;
 
-// Entries that open two sessions, which subscribe and then connect, at places 4 and 5.
+// Entries that open two sessions and subscribe the first to `/a/*` and the second to `/b/*`. Then
+// both connect, at places 4 and 5.
 const BOTH_HELD: [Deed; 6] = [
     Deed::Open(1),
     Deed::Open(2),

@@ -122,8 +122,8 @@ fn all_are_brought_up(rt: HostRuntime) -> Result<(), Fail> {
 
 // A gate that stops worker `held` before its work until another worker has finished.
 //
-// `is_free`: whether another worker has finished. `gave_up`: whether worker `held` stopped waiting
-// without that.
+// `is_free`: whether another worker has finished. `gave_up`: whether worker `held` waited for that
+// in vain.
 #[derive(Drop)]
 struct Holding {
     held: usize,

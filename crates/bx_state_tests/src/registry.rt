@@ -49,6 +49,9 @@ const OPENED: &[u8] =
     br#"{"advice":{"interval":0,"reconnect":"retry","timeout":30000},"channel":"/meta/handshake","clientId":"000000000000000000000000000000000000000000000001","successful":true,"supportedConnectionTypes":["long-polling","callback-polling"],"version":"1.0"}"#;
 
 /// Returns a configuration for at most `sessions` sessions, in 64 shards.
+///
+/// A session may have 4 events and 4 patterns, and a batch 4 events. `ride` and `anonymous` are
+/// not set.
 pub fn config(sessions: usize) -> Config {
     Config {
         shards: 64,

@@ -278,7 +278,7 @@ fn plain_find(
     Ok(numbers)
 }
 
-// A pattern tree, and a plain list of sessions with the same patterns, to compare the tree with.
+// A pattern tree, and a list of the same pairs of session and pattern, to compare the tree with.
 #[derive(Drop)]
 struct Both {
     tree: Tree,
@@ -328,8 +328,8 @@ fn drawn_pattern(alloc: Global, state: &mut u64) -> Result<Pattern, Fail> {
 // Applies a change that `state` chooses to the tree and the list. Returns `true` if both agree on
 // its result.
 //
-// The change adds or removes a pattern of a session, or removes all of its patterns. The last has
-// no result, and returns `true`.
+// The change adds or removes a pattern of a session, or removes all of its patterns. Removing all
+// has no result to compare, so that the function returns `true`.
 fn change(alloc: Global, state: &mut u64, both: &mut Both) -> Result<bool, Fail> {
     let number = draw(state, SESSIONS);
     let pattern = drawn_pattern(alloc, state)?;

@@ -22,8 +22,7 @@ enum Move {
     // A step of a test: append events with consecutive numbers as data. The fields are the first
     // number and the count.
     Push(u64, u64),
-    // A step of a test: check that the window has no room for another event, with a limit of
-    // `LIMIT`.
+    // A step of a test: check that the window is full if its limit is `LIMIT` events.
     Full,
     // A step of a test: form the next batch, of at most the given number of events. This does
     // nothing if a batch is outstanding or no events wait.
@@ -184,7 +183,7 @@ fn check_forget(rt: &impl Abort, alloc: Global, window: &mut Window) -> Result<(
     Ok(())
 }
 
-// Checks that `Window::forget` drops the given number of events, which no batch has.
+// Checks that `Window::forget(1)` drops one of two events, if no batch was formed of them.
 #[test]
 fn events_without_batches_are_forgotten(rt: HostRuntime) -> Result<(), Fail> {
     let alloc = rt.alloc();

@@ -278,7 +278,7 @@ fn a_body_is_the_array_of_its_items(rt: HostRuntime) -> Result<(), Fail> {
 
 // Checks that the kind of a message depends on its whole channel.
 #[test]
-fn columns_go_by_the_whole_channel(rt: HostRuntime) {
+fn kinds_go_by_the_whole_channel(rt: HostRuntime) {
     for (channel, message_kind) in [
         ("/meta/handshake", MessageKind::Handshake),
         ("/meta/connect", MessageKind::Connect),

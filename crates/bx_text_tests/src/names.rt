@@ -1,5 +1,4 @@
-//! Tests of channel names and patterns, also at their limits, and of which patterns match which
-//! names.
+//! Tests of channel names, patterns and their limits, and of matching names against patterns.
 use crate::same::same;
 use bx_names::{
     ChannelKind, ChannelName, MAX_NAME_BYTES, MAX_NAME_SEGMENTS, NameError, Pattern, Tail, kind_of,

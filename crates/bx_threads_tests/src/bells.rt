@@ -65,18 +65,18 @@ enum Waking {
     Question,
 }
 
-// Flags by which the threads of this test wait for one another.
+// Flags with which the threads of this test wait for one another.
 #[derive(Drop)]
 struct Flags {
-    // A flag that is set just before the call that wakes the task.
+    // A flag that is set just before the call that wakes a task.
     is_armed: AtomicBool,
-    // A flag that is set when the call that wakes the task has locked shard 1, before the shard
+    // A flag that is set when the call that wakes a task has locked shard 1, before the shard
     // advances.
     stands: AtomicBool,
     // A flag that is set when every shard was locked and unlocked once, during the call that wakes
     // a task.
     swept: AtomicBool,
-    // A flag that is set after the call that wakes the task has ended.
+    // A flag that is set after the call that wakes a task has ended.
     ended: AtomicBool,
 }
 
@@ -138,8 +138,8 @@ fn wakes<L: LogId, P: Placing, G: Gate + Drop, H: Wait + Drop, R: Wait>(
 
 // Waits for `flags.stands`, then locks and unlocks every shard once, and sets `flags.swept`.
 //
-// Returns `true` if `flags.stands` was set before the wait ended, after `LOOKS` looks. The shards
-// are locked in any case.
+// The wait ends after `LOOKS` milliseconds at the latest. Returns `true` if `flags.stands` was set
+// in that time. The shards are locked in any case.
 fn sweeps<L: LogId, P: Placing, G: Gate + Drop, H: Wait + Drop, R: Wait + Clock>(
     rt: &R,
     hub: &Hub<L, P, G, H>,

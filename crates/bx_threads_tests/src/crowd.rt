@@ -15,7 +15,8 @@ use std::sync::{Arc, Wait};
 use std::test::*;
 use std::thread::{Threads, join};
 
-// The number of ticks that each of two threads appends, and of the sweeps of another thread.
+// The number of ticks that each of two threads appends, and of the sweeps that a third thread
+// makes.
 //
 // With the requests of all threads, the ticks exceed the window's 4,096 batches.
 const TICKS: usize = 2_000;

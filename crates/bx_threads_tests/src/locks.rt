@@ -31,7 +31,7 @@ const SWEEPS: u32 = 200;
 // list 64 entries long and trims the window.
 const AHEAD: u32 = 62;
 
-// The call that is stopped in shard 1.
+// The call that the gate stops in shard 1: a tick, a post, or a poll, which is `Question`.
 #[derive(Clone, Copy, Debug)]
 enum Call {
     Tick,

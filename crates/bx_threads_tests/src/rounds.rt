@@ -56,7 +56,7 @@ fn text_of(alloc: Global, around: [&str; 2], round: u64) -> Result<String, Alloc
     format!(in alloc; "{head}{round}{tail}")
 }
 
-// What both threads share: the sleeping thread's task, and the last round for which the other may
+// What two threads share: the task of the one that sleeps, and the round of the other's next
 // publish.
 #[derive(Drop)]
 struct Turns {
@@ -221,8 +221,8 @@ fn connects<L: LogId, P: Placing, G: Gate + Drop, H: Wait + Drop, R: Wait>(
     ticket
 }
 
-// Posts the connect of `round`, and waits for its answer if need be. Returns `None` unless the
-// answer is found with the event of `round`.
+// Posts the connect of `round`, and waits for its answer. Returns `None` unless the answer has the
+// event of `round`.
 fn plays<L: LogId, P: Placing, G: Gate + Drop, H: Wait + Drop, R: Wait>(
     rt: &R,
     alloc: Global,

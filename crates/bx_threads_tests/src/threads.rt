@@ -132,7 +132,7 @@ fn two<L: LogId + Send + Sync, R: Threads + Wait + Abort + Sync>(
     meet_once(rt, alloc, &hub)
 }
 
-// Checks that a thread that takes over another thread's pass finds that thread's event, once.
+// Checks that a poll with the longer of two threads' passes finds the event of one of them, once.
 #[test]
 fn two_threads(rt: HostRuntime) -> Result<(), Fail> {
     let alloc = rt.alloc();
