@@ -11,8 +11,8 @@ use Rattle.bx_shard.specs.declared.sessions.Sessions.{Sessions}
 use Rattle.bx_shard.specs.Sessions.{patterns_in, kept_in}
 
 -- The connect that shard `k` of `count` reserves for a connect of an old shard. The old connect is
--- given as its session and deadline, if any. The reserved connect is held, without a waker. The result is `None` if
--- the session is placed in another shard.
+-- given as its session and deadline, if any. The reserved connect is held, without a waker. The
+-- result is `None` if the session is placed in another shard.
 abbrev pub lent_as : (ℕ → ℕ → ℕ) → ℕ → ℕ → Option (ℕ × Option ℕ) → Option ConnectState
 lent_as placing count k None = None
 lent_as placing count k (Some known) = if nat_eq (placing known.0 count) k then held_by known.0 known.1 else None

@@ -155,7 +155,7 @@ impl Gate for Holding {
 // Checks that workers run concurrently, which no clause states. If the thread that calls `bring_up`
 // did all work in turn, worker 0 or worker 1 would give up.
 #[test]
-fn workers_run_beside_one_another(rt: HostRuntime) -> Result<(), Fail> {
+fn workers_run_at_the_same_time(rt: HostRuntime) -> Result<(), Fail> {
     let alloc = rt.alloc();
     for held in [0, 1] {
         let gate = Holding {
