@@ -11,7 +11,8 @@ use Rattle.bx_entry.specs.declared.entry.{Batch.Batch, Entry.Entry, Ticket.Ticke
 use Rattle.bx_connects.specs.Connects.{filed_answer}
 use Rattle.futures.specs.declared.task.waker.Waker.{Waker}
 use Rattle.bx_shard.specs.Words.{Refines, Took, given_of, swept_places, Setup, Applied, IsAsBefore, IsSound, State, Swept, Watched, WasShut, connect_in}
-use Rattle.bx_shard.proofs.{Holding.refines_unchanged, Holding.refines_longer_list, Placed.entry_placed, Onwards.refines_applied, Sweeping.refines_swept, Taking.refines_taken, Waking.refines_watched, Waking.refines_shut}
+use Rattle.bx_shard.proofs.{Holding.refines_unchanged, Holding.refines_longer_list, Onwards.refines_applied, Sweeping.refines_swept, Taking.refines_taken, Waking.refines_watched, Waking.refines_shut}
+use Rattle.bx_theory.proofs.Verdicts.{entry_placed}
 use Rattle.bx_window.specs.declared.law.LogStep.{LogStep}
 use Rattle.bx_window.specs.Steps.{list_of}
 use Rattle.bx_window.specs.Places.{IsOf, StandsIn}

@@ -1,8 +1,9 @@
 -- Requests through the read-only listener give no session an event.
-use Rattle.std.proofs.Common.{◌≡◌, ℕ, ◌+◌, ◌||◌, ◌==◌, Bool, true, false, cond, List, [], ◌∷◌, ◌++◌, length, map, Option, Some, None, Result, Ok, Err, refl, sym, ap, ◌∙◌, subst}
+use Rattle.std.proofs.Common.{◌≡◌, ℕ, ◌+◌, ◌<◌, ◌≤◌, inl, inr, ⊎_elim, arith, ◌||◌, ◌==◌, Bool, true, false, cond, List, [], ◌∷◌, ◌++◌, length, map, Option, Some, None, Result, Ok, Err, refl, sym, ap, subst}
 use Rattle.std.specs.Prelude.{fold}
 use Rattle.std.specs.List.{AllByRecursion}
-use Rattle.std.proofs.lemmas.Bool.{or_parts}
+use Rattle.std.proofs.ByRecursion.{All-weaker}
+use Rattle.std.proofs.lemmas.Bool.{cases_lt, or_parts}
 use Rattle.bx_names.specs.Words.{is_broadcast}
 use Rattle.bx_cut.specs.Bodies.{texts_of}
 use Rattle.bx_advice.specs.declared.config.Config.{Config}
@@ -17,7 +18,7 @@ use Rattle.bx_entry.specs.Words.{Listed, ReadInput, Taking, added_by, entries, h
 use Rattle.bx_theory.specs.Events.{GetsPublish}
 use Rattle.bx_theory.specs.Laws.{EachOf}
 use Rattle.bx_theory.proofs.Gained.{events_were_published}
-use Rattle.bx_laws.specs.Readers.{IsOfReaders, IsQuiet, ReadersPublishNothing}
+use Rattle.bx_laws.specs.Readers.{IsOfReaders, IsOutside, IsQuiet, ReadOnlyRequestPublishesNothing, ReadersPublishNothing}
 use Rattle.bx_laws.proofs.Given.{Source, source_of}
 
 -- ---- The list
@@ -63,7 +64,46 @@ all_quiet t (input ∷ inputs) h k =
     let read : ReadInput = read_input input in
     all_quiet (take_in t read) inputs (taken_quiet t read (refusal_of (length t.list) read) h (input_quiet input k.0)) k.1
 
--- ---- Events
+-- ---- Events of one request
+
+quiet_front : (added after xs : List Listed) (x : Listed) (ys : List Listed) → xs ++ x ∷ ys ≡ added ++ after → length xs < length added → AreQuiet added → IsQuiet x
+quiet_front [] after xs x ys e l h = absurd (omega (arith, l))
+quiet_front (z ∷ added) after [] x ys e l h = let same : z ≡ x = cc in subst IsQuiet same h.0
+quiet_front (z ∷ added) after (y ∷ xs) x ys e l h = let rest : xs ++ x ∷ ys ≡ added ++ after = cc in quiet_front added after xs x ys rest (omega (arith, l)) h.1
+
+quiet_between : (before added after xs : List Listed) (x : Listed) (ys : List Listed) → xs ++ x ∷ ys ≡ before ++ (added ++ after) → length before ≤ length xs → length xs < length before + length added →
+    AreQuiet added → IsQuiet x
+quiet_between [] added after xs x ys e l u h = quiet_front added after xs x ys e (omega (arith, u)) h
+quiet_between (b ∷ before) added after [] x ys e l u h = absurd (omega (arith, l))
+quiet_between (b ∷ before) added after (y ∷ xs) x ys e l u h =
+    let rest : xs ++ x ∷ ys ≡ before ++ (added ++ after) = cc in
+    quiet_between before added after xs x ys rest (omega (arith, l)) (omega (arith, u)) h
+
+outside : (before added after : List Listed) (p : Publication) → AreQuiet added → is_broadcast p.event.channel ≡ true → Source (before ++ (added ++ after)) p → IsOutside (length before) (length added) p.place
+outside before added after p h loud s =
+    ⊎_elim inl
+    (λ (above : length before ≤ p.place). ⊎_elim
+    (λ (below : p.place < length before + length added). absurd (
+    let quiet : is_broadcast s.post.message.message.channel ≡ false = subst IsQuiet s.post.posted
+    (quiet_between before added after s.before s.element s.behind s.whole (omega (arith, above, s.place)) (omega (arith, below, s.place)) h) in
+    let same : is_broadcast p.event.channel ≡ is_broadcast s.post.message.message.channel = ap (λ (e : Event). is_broadcast e.channel) s.post.event in
+    cc))
+    inr (cases_lt p.place (length before + length added)))
+    (cases_lt p.place (length before))
+
+pub read_only_request_publishes_nothing : ReadOnlyRequestPublishesNothing
+read_only_request_publishes_nothing config a before after h =
+    let added : List Listed = added_by (read_input (Post a)) in
+    let list : List Listed = before ++ (added ++ after) in
+    let quiet : AreQuiet added = input_quiet (Post a) h in
+    record {
+      quiet = quiet;
+      eventless = λ number. All-weaker (GetsPublish config number (entries config list)) (λ p. IsOutside (length before) (length added) p.place)
+          (λ p g. outside before added after p quiet g.gets.broadcast (source_of config list number p g))
+          (session config number (entries config list)).events (events_were_published config number (entries config list));
+    }
+
+-- ---- Events of a list
 
 no_source : (list : List Listed) (p : Publication) → AreQuiet list → is_broadcast p.event.channel ≡ true → Source list p → ⊥
 no_source list p h loud s =

@@ -7,6 +7,7 @@
 //! - A rider is the last message of a request, if its reply also carries the session's waiting
 //!   events.
 //! - An input is complete once all its messages are answered.
+//! - A front of a log is a prefix of it, and may be all of it.
 ghost use Rattle.bx_theory.specs.Laws.{DoneNeverFalls, CountsAgree, EntriesInOrder, AnswersStay, BatchRepeats, NeverGivenAgain, NoEventTwice, GivenOnce, NoRidersUnasked, RidersArePlain};
 ghost use Rattle.bx_theory.specs.Readings.{LiveReading, InForceReading, HeldReading, EndingReading, OverflowReading, QueueBounded, DueReading, ClockReading, SameLive, AcceptedWhileLive, PublishesOfNone, ClosedIsOver};
 ghost use Rattle.bx_theory.specs.Riding.{RiderReading, NothingRidesBeside, OthersNeverRide, RiderGiven};
@@ -16,7 +17,8 @@ ghost use Rattle.bx_theory.specs.Outs.{OutsGrow};
 ghost use Rattle.bx_theory.specs.Opens.{OpenIsHeld, OpensGoOn, OutsAdd};
 ghost use Rattle.bx_theory.specs.Sole.{OpenAreSole, OpensAscend};
 ghost use Rattle.bx_entry.specs.Keeping.{KeptSteps, KeptRuns, KeptInBounds};
-ghost use Rattle.bx_laws.specs.Readers.{ReadersPublishNothing};
+ghost use Rattle.bx_theory.specs.Fronts.{AcknowledgedEventsAreNotGivenAgain, AnswersShareNoEvent, RepeatedConnectGetsTheSameBatch};
+ghost use Rattle.bx_laws.specs.Readers.{ReadOnlyRequestPublishesNothing, ReadersPublishNothing};
 ghost use Rattle.bx_laws.specs.ReadBack.{RepliesReadBack, EventsReadBack, BodiesReadBack};
 
 /// Proves that the number of events that a session never sends again does not fall.
@@ -70,6 +72,29 @@ pub fn no_event_twice()
 /// The answers are those to connects and riders. Events that an overflow drops are not sent.
 pub fn given_once()
     ensures { GivenOnce }
+{}
+
+/// Proves that a repeated connect gets the outstanding batch again, over every front of a log.
+///
+/// The connect acknowledges nothing new, and its session has not overflowed. It gets the number and
+/// the events of the answer that formed the batch.
+pub fn repeated_connect_gets_the_same_batch()
+    ensures { RepeatedConnectGetsTheSameBatch }
+{}
+
+/// Proves that no event is in two answers of a session that does not acknowledge.
+///
+/// Each answer may be over its own front of a log.
+pub fn answers_share_no_event()
+    ensures { AnswersShareNoEvent }
+{}
+
+/// Proves that no answer has an event that was acknowledged at its place or before.
+///
+/// If the session does not acknowledge, the answer has no event that was sent before its place. The
+/// answer may be over any front of a log.
+pub fn acknowledged_events_are_not_given_again()
+    ensures { AcknowledgedEventsAreNotGivenAgain }
 {}
 
 /// Proves that without `--ride` no entry has a rider.
@@ -189,6 +214,13 @@ pub fn events_have_ascending_places()
 /// The publish reached the session of the connect or rider that is answered.
 pub fn given_was_published()
     ensures { GivenWasPublished }
+{}
+
+/// Proves that a request through the read-only listener publishes nothing, whatever else is listed.
+///
+/// It adds no message to a broadcast channel, and no event to a session.
+pub fn read_only_request_publishes_nothing()
+    ensures { ReadOnlyRequestPublishesNothing }
 {}
 
 /// Proves that no session has events if all requests come through the read-only listener.

@@ -7,12 +7,12 @@ mod laws;
 mod worked;
 
 pub use laws::{
-    accepted_while_live, answers_ignore_later_entries, batch_repeats, bodies_read_back,
-    clock_is_greatest_moment, closed_session_never_changes, connect_held_until_entry_ends_hold,
-    done_event_count_never_falls, due_is_greatest_set_by_messages, entries_in_order,
-    entry_effect_ignores_history, events_have_ascending_places, events_read_back,
-    events_were_published, given_once, given_was_published,
-    held_connect_answered_by_first_ending_entry, held_inputs_are_in_order,
+    accepted_while_live, acknowledged_events_are_not_given_again, answers_ignore_later_entries,
+    answers_share_no_event, batch_repeats, bodies_read_back, clock_is_greatest_moment,
+    closed_session_never_changes, connect_held_until_entry_ends_hold, done_event_count_never_falls,
+    due_is_greatest_set_by_messages, entries_in_order, entry_effect_ignores_history,
+    events_have_ascending_places, events_read_back, events_were_published, given_once,
+    given_was_published, held_connect_answered_by_first_ending_entry, held_inputs_are_in_order,
     incomplete_input_is_one_held_connect, incomplete_inputs_are_reported_held,
     input_appends_outs_it_completes, input_stays_incomplete_until_completed,
     kept_state_computed_without_history, line_gets_nonce_announced_before,
@@ -22,8 +22,10 @@ pub use laws::{
     only_subscriptions_and_publishes_ride, outs_grow, overflowed_if_entry_found_no_room,
     pattern_active_if_last_subscribed, publish_without_client_has_no_session, publishes_are_events,
     queue_and_batch_within_limits, queue_batch_and_counts_agree, queue_bounded,
-    readers_publish_nothing, registry_and_entries_agree_on_live, replay_prints_held_last,
-    replies_read_back, rider_given, rider_sessions_do_not_acknowledge, when_a_message_is_a_rider,
+    read_only_request_publishes_nothing, readers_publish_nothing,
+    registry_and_entries_agree_on_live, repeated_connect_gets_the_same_batch,
+    replay_prints_held_last, replies_read_back, rider_given, rider_sessions_do_not_acknowledge,
+    when_a_message_is_a_rider,
 };
 pub use worked::{
     acknowledgements, channels, deliveries, endings, handshakes, held_connects, overflows,

@@ -12,9 +12,9 @@ use Rattle.bx_connects.specs.Connects.{session_at}
 use Rattle.bx_reshard.specs.Redistribution.{AreAlike, AreApart, HoldersAreApart, RefinesRedistributed, IsRedistributed, among, connect_among, redistributed_connect, session_among}
 use Rattle.bx_shard.specs.Refining.{Refines, IsConnectOf, IsOwn, filed_with_place}
 use Rattle.bx_shard.specs.Words.{Setup, is_taken, live_among, sessions_in, shard_at, is_placed_in, State, connect_in, session_in}
-use Rattle.bx_shard.proofs.{Cases.by_option, Finding.find_kept, Taking.connect_of_filed, Taking.none_taken, Taking.waits_later, Waits.WaitsAt, Waits.waits_over}
+use Rattle.bx_shard.proofs.{Cases.by_option, Finding.find_kept, Taking.connect_of_filed, Taking.none_taken, Taking.waits_later}
 use Rattle.bx_shard.proofs.Untaken.{find_of, find_untaken, untaken}
-use Rattle.bx_theory.proofs.Closings.{run_number}
+use Rattle.bx_theory.proofs.{Closings.run_number, Waits.WaitsAt, Waits.waits_over}
 use Rattle.bx_reshard.proofs.Among.{nobody}
 
 -- ---- look-ups in several shards

@@ -8,10 +8,10 @@ use Rattle.bx_entry.specs.declared.entry.{Entry.Entry, EntryKind.EntryKind}
 use Rattle.bx_entry.specs.declared.entry.EntryKind.TheVariants.{Opened}
 use Rattle.bx_entry.specs.Placings.{Setup}
 use Rattle.bx_shard.specs.Shards.{is_placed_in, is_taken, shard_at, sessions_in}
-use Rattle.bx_theory.proofs.{Kept.entry_effect_ignores_history, Closings.idle_next}
+use Rattle.bx_theory.proofs.{Kept.entry_effect_ignores_history, Closings.idle_next, Waits.waits_over}
 use Rattle.std.specs.Option.{option_or}
 use Rattle.bx_shard.specs.Steps.{answers_by, ShardsFile}
-use Rattle.bx_shard.proofs.{Waits.waits_over, Untaken.FoundBy, Untaken.find_of, Untaken.find_untaken, Untaken.found_by}
+use Rattle.bx_shard.proofs.{Untaken.FoundBy, Untaken.find_of, Untaken.find_untaken, Untaken.found_by}
 use Rattle.bx_shard.proofs.Elements.{numbers, numbers_next, opened_numbers, entry_next, session_next, all_fresh, opens_above, Met, met}
 use Rattle.bx_shard.proofs.Stepping.{by_numbers, held_by, one_kept, held_cons, numbers_in, held_over, held_at}
 

@@ -1,24 +1,14 @@
 -- A filed answer is the one that the list gives.
-use Rattle.std.proofs.Common.{arith, ◌≡◌, ℕ, ◌<◌, Bool, Option, Some, None, List, take, find, option_map, slice_get, ◌==◌, sym, ap, ◌∙◌}
+use Rattle.std.proofs.Common.{arith, ◌≡◌, ℕ, ◌<◌, Bool, Option, Some, None, List, take, find, option_map, ◌==◌, sym, ap, ◌∙◌}
 use mathlib.Core.List.{IsPrefix}
 use Rattle.bx_advice.specs.declared.config.Config.{Config}
 use Rattle.bx_message.specs.declared.reply.Answer.{Answer}
-use Rattle.bx_entry.specs.Words.{Listed, Registry, Judged, Waiting, registry, entries_of, Filed, session, PlacedAnswer, answer_of, filed_for, answer_at, answer}
+use Rattle.bx_entry.specs.Words.{Listed, Filed, answer_of, answer}
 use Rattle.bx_connects.specs.Connects.{filed_answer, taken_from}
 use Rattle.bx_connects.specs.declared.connects.ConnectState.{ConnectState}
 use Rattle.bx_shard.specs.Words.{FiledIsGiven, Took, filed_with_place, given_of, Setup, shard_at, State, IsAsBefore, connect_in}
-use Rattle.bx_theory.proofs.Lists.{answer_more}
-use Rattle.bx_shard.proofs.{Waits.waits_over, Cases.by_option, Untaken.found_in}
-
-answer_waiting : (config : Config) (number place : ℕ) (a : PlacedAnswer) (r : Registry) (o : Option Judged) → option_map (λ (j : Judged). j.slot) o ≡ Some (Waiting number) →
-    filed_for place (session config number (entries_of r)).answers ≡ Some a → answer_at config (entries_of r) place o ≡ Some a
-answer_waiting config number place a r o w e = grind arith
-
-pub session_answer : (config : Config) (number place : ℕ) (xs : List Listed) (f : Filed) →
-    find (λ (g : Filed). g.connect == place) (session config number (entries_of (registry config xs))).answers ≡ Some f → answer config xs place ≡ Some (answer_of f)
-session_answer config number place xs f e =
-    let r : Registry = registry config xs in
-    answer_waiting config number place (answer_of f) r (slice_get r.judged place) (waits_over config number place xs f e) (ap (option_map answer_of) e)
+use Rattle.bx_theory.proofs.{Lists.answer_more, Waits.session_answer}
+use Rattle.bx_shard.proofs.{Cases.by_option, Untaken.found_in}
 
 pub found_answer : (setup : Setup) (list : List Listed) (taken : List ℕ) (k n place : ℕ) (f : Filed) →
     find (λ (g : Filed). g.connect == place) (shard_at setup list taken k n).filed ≡ Some f → answer setup.config (take n list) place ≡ Some (answer_of f)

@@ -15,7 +15,6 @@ pub mod Handing
 pub mod Holding
 pub mod Holdings
 pub mod Keeps
-pub mod Placed
 pub mod Counts
 pub mod Onwards
 pub mod Ready

@@ -7,7 +7,7 @@ use Rattle.bx_history.proofs.{Elements.or_none, Tests.either}
 use Rattle.bx_advice.specs.declared.config.Config.{Config}
 use Rattle.bx_entry.specs.declared.entry.{Entry.Entry, EntryKind.EntryKind, Rider.Rider}
 use Rattle.bx_entry.specs.Words.{answer_of, Listed, Kept, kept, kept_answers, kept_step, resumed, entries, registry, Filed, Live, Session, is_live, step, unopened}
-use Rattle.bx_theory.proofs.Stages.{step_number}
+use Rattle.bx_theory.proofs.{Stages.step_number, Verdicts.entry_placed, Waits.WaitsAt}
 use Rattle.bx_session.specs.declared.answered.Answered.{Answered}
 use Rattle.bx_session.specs.Views.{answered_of}
 use Rattle.bx_session.proofs.FilingLemmas.{answer_has_place_of_its_entry}
@@ -18,12 +18,12 @@ use Rattle.bx_shard.specs.Effects as effects
 use Rattle.bx_shard.specs.Words.{IsReached, Setup, is_taken, sessions_in, shard_at, is_placed_in, Applied, IsGiven, IsSound, State, begun, connect_in, if_live, dropped_by, opening, opens_in, session_after, session_in}
 use Rattle.bx_shard.specs.Refining.{Refines, RefinesOnwards, IsConnectOf, IsOwn, filed_with_place, placed}
 use Rattle.bx_shard.specs.Steps.{answers_by, opening_by, stepped}
-use Rattle.bx_shard.proofs.{Cases.by_option, Elements.Met, Elements.met, Filings.entry_determines_filed_answers, Placed.entry_placed, Singles.nowhere, Stepping.entry_determines_sessions, Untaken.find_of}
+use Rattle.bx_shard.proofs.{Cases.by_option, Elements.Met, Elements.met, Filings.entry_determines_filed_answers, Singles.nowhere, Stepping.entry_determines_sessions, Untaken.find_of}
 use Rattle.bx_shard.proofs.Finding.{Apart, GivenBy, apart, contains_found, each_none, find_kept, found_each, given_by, next, none_there, numbers_of, placed_found, steps, steps_found}
 use Rattle.bx_shard.proofs.Gives.{Unanswered, all_contains, given_unanswered}
 use Rattle.bx_shard.proofs.Holdings.{holds_reached, holds_stand, sessions_ascend}
 use Rattle.bx_shard.proofs.Taking.{connect_of_filed, none_taken}
-use Rattle.bx_shard.proofs.Waits.{WaitsAt, connect_waits, rider_waits}
+use Rattle.bx_shard.proofs.Waits.{connect_waits, rider_waits}
 
 abbrev entry : ℕ → ℕ → Option Rider → EntryKind → Entry
 entry place moment rides kind = record { place = place; moment = moment; kind = kind; rides = rides }

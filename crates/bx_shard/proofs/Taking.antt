@@ -5,12 +5,12 @@ use Rattle.std.specs.Option.{IsSome}
 use Rattle.bx_history.proofs.Tests.{either}
 use Rattle.bx_advice.specs.declared.config.Config.{Config}
 use Rattle.bx_entry.specs.Words.{Listed, answer_of, Judged, PlaceSlot, Waiting, registry, Filed, Session}
-use Rattle.bx_theory.proofs.Lists.{judged_more}
+use Rattle.bx_theory.proofs.{Lists.judged_more, Waits.WaitsAt, Waits.waits_over}
 use Rattle.bx_connects.specs.declared.connects.ConnectState.{ConnectState}
 use Rattle.bx_connects.specs.Connects.{filed_answer, session_at, taken_from}
 use Rattle.bx_shard.specs.Words.{Setup, is_taken, sessions_in, shard_at, IsSound, State, connect_in, session_in}
 use Rattle.bx_shard.specs.Refining.{Refines, RefinesBeside, RefinesTaken, IsConnectOf, IsOwn, filed_with_place}
-use Rattle.bx_shard.proofs.{Cases.by_option, Waits.WaitsAt, Waits.waits_over}
+use Rattle.bx_shard.proofs.Cases.{by_option}
 use Rattle.bx_shard.proofs.Untaken.{find_of, find_untaken, found_in, found_kept, untaken}
 
 -- ---- taken answers

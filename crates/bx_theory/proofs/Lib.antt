@@ -28,3 +28,6 @@ pub mod Ascending
 pub mod Riders
 pub mod Riding
 pub mod Verdicts
+pub mod InTurn
+pub mod Waits
+pub mod Fronts

@@ -1,6 +1,6 @@
 -- The registry grows with the list, and answers stay.
 use Rattle.std.proofs.Common.{◌≡◌, ℕ, zero, suc, ◌+◌, ◌<◌, ◌≤◌, ⊎_elim, Bool, true, Option, Some, None, List, [], ◌∷◌, ◌++◌, length, take, drop, map, find, fold, option_map, slice_get, ◌==◌, refl, sym, ap, ◌∙◌, subst, arith, eqb-true, length-take, take-append-drop, take_all}
-use Rattle.std.proofs.lemmas.{Bool.cases_lt, List.length-map, List.length_push, List.Sums.fold-append, List.Folds.find-append, Grind.common_steps}
+use Rattle.std.proofs.lemmas.{Bool.cases_lt, List.length-map, List.length_push, List.Sums.fold-append, List.Folds.find-append, Option.slice_get_within, Grind.common_steps}
 use Rattle.std.proofs.Math.Seq.{take-append_seam}
 use Rattle.std.specs.Option.{option_or}
 use Rattle.bx_advice.specs.declared.config.Config.{Config}
@@ -85,6 +85,9 @@ places_above first n (e ∷ es) h d = (omega (arith, d.0), places_above first (n
 
 pub entries_length : (config : Config) (xs : List Listed) → length (entries_of (registry config xs)) ≡ length xs
 entries_length config xs = length-map (registry config xs).judged entry_of ∙ judged_length config xs
+
+pub place_within : (config : Config) (list : List Listed) (n : ℕ) (e : Entry) → slice_get (entries_of (registry config list)) n ≡ Some e → n < length list
+place_within config list n e h = let l : n < length (entries_of (registry config list)) = slice_get_within (entries_of (registry config list)) n e h in omega (arith, l, entries_length config list)
 
 pub entries_within : (config : Config) (list : List Listed) (n : ℕ) → n ≤ length list → entries_of (registry config (take n list)) ≡ take n (entries_of (registry config list))
 entries_within config list n h =

@@ -8,7 +8,7 @@ use Rattle.bx_history.proofs.Elements.{mapped}
 use Rattle.bx_advice.specs.declared.{config.Config.Config, error.Error.Error}
 use Rattle.bx_message.specs.declared.message_kind.MessageKind.{MessageKind}
 use Rattle.bx_message.specs.MessageKinds.{message_kind_of, is_handshake}
-use Rattle.bx_entry.specs.Words.{Listed, Post, Posted, Judged, NoSlot, PlaceSlot, Registered, Registry, State, Verdict, empty_registry, entries_of, found_at, hold_of, judge, judged_by, named_by, noted, opened, refusal, refused, registry, rider_by, served, slot_for, slot_with, sessionless, state_of, tick_verdict, unnamed, verdict}
+use Rattle.bx_entry.specs.Words.{Listed, Post, Posted, Judged, NoSlot, PlaceSlot, Registered, Registry, State, Verdict, empty_registry, entries, entries_of, found_at, hold_of, judge, judged_by, named_by, noted, opened, refusal, refused, registry, rider_by, served, slot_for, slot_with, sessionless, state_of, tick_verdict, unnamed, verdict}
 use Rattle.bx_entry.specs.Listing as messages
 use Rattle.bx_entry.specs.declared.entry.{Entry.Entry, Rider.Rider}
 use Rattle.bx_theory.specs.Readings.{moment_of}
@@ -163,6 +163,12 @@ pub entry_of_place : (config : Config) (list : List Listed) (place : ℕ) (e : E
 entry_of_place config list place e there =
     let m = mapped (λ (j : Judged). j.entry) (registry config list).judged place e there in
     record { judged = m.one; is = m.is; found = found_of_place config list place m.one m.there }
+
+-- Each entry of a list is at its own place.
+pub entry_placed : (config : Config) (list : List Listed) (n : ℕ) (e : Entry) → slice_get (entries config list) n ≡ Some e → e.place ≡ n
+entry_placed config list n e h =
+    let w = entry_of_place config list n e h in
+    sym (ap (λ (j : Judged). j.entry.place) w.found.found ∙ ap (λ (x : Entry). x.place) w.is) ∙ judged_length config w.found.before ∙ w.found.many
 
 pub judged_before : (config : Config) (list : List Listed) (place : ℕ) (j : Judged) (f : FoundOf config list place j) → (registry config f.before).judged ≡ take place (registry config list).judged
 judged_before config list place j f =

@@ -1,6 +1,7 @@
 pub mod Laws
 pub mod Readings
 pub mod Events
+pub mod Fronts
 pub mod Outs
 pub mod Lines
 pub mod Opens

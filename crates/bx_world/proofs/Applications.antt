@@ -1,14 +1,14 @@
 -- What an application gives, and what the shards hold after it.
 use Rattle.std.proofs.Common.{◌≡◌, ℕ, ◌+◌, ◌<◌, ◌≤◌, ◌&&◌, Bool, true, false, not, Option, Some, None, option_map, List, [], ◌∷◌, length, map, slice_get, slice_set, get_or, refl, sym, ap, ◌∙◌, subst, arith, inl, inr, ⊎_elim}
 use Rattle.std.specs.Prelude.{slice_index, ◌⊎◌, IfNone}
-use Rattle.std.proofs.lemmas.{Bool.cases_lt, Bool.cond-true, Bool.cond-false, List.map-set, Option.slice_get_within, Option.slice_get-get_or, Option.none-some}
+use Rattle.std.proofs.lemmas.{Bool.cases_lt, Bool.cond-true, Bool.cond-false, List.map-set, Option.slice_get-get_or, Option.none-some}
 use Rattle.bx_advice.specs.declared.config.Config.{Config}
 use Rattle.bx_entry.specs.Words.{Listed, entries}
 use Rattle.bx_entry.specs.declared.{entry.Entry.Entry, Placing.Ghosts}
-use Rattle.bx_theory.proofs.Lists.{entries_length}
+use Rattle.bx_theory.proofs.{Lists.entries_length, Lists.place_within, Verdicts.entry_placed}
 use Rattle.bx_shard.specs.Words.{Refines, state, Setup}
 use Rattle.bx_shard.specs.declared.shard.Shard.{Shard}
-use Rattle.bx_shard.proofs.{Holding.refines_unchanged, Placed.entry_placed, Onwards.refines_applied}
+use Rattle.bx_shard.proofs.{Holding.refines_unchanged, Onwards.refines_applied}
 use Rattle.bx_world.specs.Words.{Admitting, setup_of, world_of, StandFrom, EachRefines, HasApplied, HasStayed, RefinesFrom, IsApplication, application, WorldState, IsOutput, after, is_level, may_take_memory, next_entry}
 use Rattle.bx_world.specs.declared.world.World.{World}
 use Rattle.bx_entry.specs.Placings.{placed_by}
@@ -19,9 +19,6 @@ use Rattle.bx_world.specs.declared.step.StepOut.TheVariants as outs
 use Rattle.bx_world.proofs.Standing.{each_with, holds_there, in_range, place_there, same_places}
 
 -- ---- places of the list
-
-pub place_within : (config : Config) (list : List Listed) (n : ℕ) (e : Entry) → slice_get (entries config list) n ≡ Some e → n < length list
-place_within config list n e h = let l : n < length (entries config list) = slice_get_within (entries config list) n e h in omega (arith, l, entries_length config list)
 
 past_end : (es : List Entry) (n m : ℕ) → length es ≡ m → slice_get es n ≡ None → m ≤ n
 past_end [] n m l h = omega (arith, l)

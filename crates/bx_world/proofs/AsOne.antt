@@ -4,8 +4,9 @@ use Rattle.std.proofs.Math.Seq.{take-add}
 use Rattle.bx_advice.specs.declared.config.Config.{Config}
 use Rattle.bx_entry.specs.Words.{Listed, entries, session}
 use Rattle.bx_entry.specs.declared.entry.Entry.{Entry}
+use Rattle.bx_theory.specs.Fronts.{session_before}
 use Rattle.bx_theory.proofs.Done.{done_event_count_never_falls}
-use Rattle.bx_world.specs.Headline.{Headline, session_before}
+use Rattle.bx_world.specs.Headline.{Headline}
 use Rattle.bx_world.proofs.{Takes.list_grows_as_admitted, Takes.taken_answers_match_one_thread, Files.no_answer_taken_twice, Replies.replies_match_one_thread, Giving.no_event_given_again, Repeats.batches_repeat, Apart.plain_events_given_once}
 
 done_rises : (config : Config) (list : List Listed) (number m n : ℕ) → m ≤ n → (session_before config list number m).done ≤ (session_before config list number n).done

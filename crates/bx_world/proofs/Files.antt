@@ -7,7 +7,7 @@ use Rattle.bx_message.specs.declared.{reply.Answer.Answer, message_kind.MessageK
 use Rattle.bx_entry.specs.Words.{Listed, Posted, due_of, Registry, Registered, Judged, PlaceSlot, Waiting, slot_for, slot_with, rider_for, is_rider, left_by, extended, overdue_closed, hold_of, registry, entries_of, Session, Filed, session, PlacedAnswer, answer_of, answer_by, answer_at}
 use Rattle.bx_message.specs.MessageKinds.{message_kind_of}
 use Rattle.bx_entry.specs.declared.{input.Input.Input, entry.Ticket.Ticket}
-use Rattle.bx_theory.proofs.{Verdicts.each_judge, Verdicts.each_registry, Lists.judged_more, Lists.answer_within}
+use Rattle.bx_theory.proofs.{Verdicts.each_judge, Verdicts.each_registry, Lists.judged_more, Lists.answer_within, Waits.WaitsAt, Waits.waits_over}
 use Rattle.bx_theory.specs.Readings.{EachSession}
 use Rattle.bx_shard.specs.Words.{Setup, shard_at, sessions_in, is_placed_in, is_taken, given_of}
 use Rattle.bx_world.specs.Words.{WorldState, IsOutput, Runs, after, filed_under, AnswersAreFiled, AnswersCanBeTaken, NoneTakenTwice, SchedulesCompose, EachNew, taken_by, taken_places}
@@ -15,7 +15,7 @@ use Rattle.bx_world.specs.declared.step.{Step.Step, StepOut.StepOut}
 use Rattle.bx_world.specs.declared.step.Step.TheVariants.{Admit, Apply, Take}
 use Rattle.bx_world.specs.declared.step.StepOut.TheVariants.{Taken}
 use Rattle.bx_theory.proofs.Dues.{EachJudged, Mapped, each_judged_push, each_judged_map, each_session_map, named_session, served_sessions, overdue_closed_sessions}
-use Rattle.bx_shard.proofs.{Elements.numbers, Elements.same_numbers, Waits.WaitsAt, Waits.waits_over, Untaken.found_kept, Untaken.find_untaken}
+use Rattle.bx_shard.proofs.{Elements.numbers, Elements.same_numbers, Untaken.found_kept, Untaken.find_untaken}
 
 or_true : (a b : Bool) → b ≡ true → (a || b) ≡ true
 or_true a b e = grind arith

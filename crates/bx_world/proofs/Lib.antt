@@ -2,7 +2,6 @@ pub mod Takes
 pub mod Files
 pub mod Replies
 pub mod Giving
-pub mod InTurn
 pub mod Repeats
 pub mod Apart
 pub mod AsOne

@@ -1,13 +1,13 @@
 -- What a world guarantees for every schedule, first state, number of shards and placing.
-use Rattle.std.specs.Prelude.{if◌then◌else◌, ℕ, ◌+◌, ◌≡◌, ◌<◌, ◌≤◌, ◌⊎◌, ◌==◌, false, List, [], ◌∷◌, ◌++◌, length, take, drop, find, Option, Some, option_map, slice_get, ⊤}
+use Rattle.std.specs.Prelude.{ℕ, ◌+◌, ◌≡◌, ◌<◌, ◌≤◌, ◌⊎◌, ◌==◌, false, List, [], ◌∷◌, ◌++◌, length, take, drop, find, Some, ⊤}
 use Rattle.bx_advice.specs.declared.config.Config.{Config}
 use Rattle.bx_message.specs.declared.reply.Answer.{Answer}
 use Rattle.bx_message.specs.declared.reply.AckReply.TheVariants.{AckNumber}
-use Rattle.bx_entry.specs.Words.{Listed, ReadInput, Request, added_by, read_input, PlaceSlot, Waiting, Judged, registry, entries, Session, Filed, batch, session, PlacedAnswer, answer, answer_of, events_of}
-use Rattle.bx_entry.specs.declared.{entry.Entry.Entry, entry.Slot.Slot, entry.Ticket.Ticket, input.Input.Input}
-use Rattle.bx_entry.specs.declared.entry.EntryKind.TheVariants.{Connect}
+use Rattle.bx_entry.specs.Words.{Listed, ReadInput, Request, added_by, read_input, Waiting, entries, Filed, batch, session, PlacedAnswer, answer, answer_of, events_of}
+use Rattle.bx_entry.specs.declared.{entry.Slot.Slot, entry.Ticket.Ticket, input.Input.Input}
 use Rattle.bx_entry.specs.declared.entry.Slot.TheVariants as answers
-use Rattle.bx_theory.specs.Laws.{Repeats, LastAnswer, AllBelow}
+use Rattle.bx_theory.specs.Fronts.{AsksAgain, FormedBy, done_at, session_before, slot_at}
+use Rattle.bx_theory.specs.Laws.{AllBelow}
 use Rattle.bx_entry.specs.Placings.{Setup}
 use Rattle.bx_world.specs.Worlds.{WorldState, Runs}
 use Rattle.bx_world.specs.Schedules.{admitted_in, EachTook, EachNew, taken_places}
@@ -16,10 +16,6 @@ use Rattle.bx_world.specs.declared.step.Step.TheVariants.{Admit, Apply, Take}
 use Rattle.bx_world.specs.declared.step.StepOut.TheVariants.{Admitted, Taken}
 
 -- ---- Immediate replies
-
--- How the message at `place` is answered, if the list has it.
-abbrev pub slot_at : Config → List Listed → ℕ → Option PlaceSlot
-slot_at config list place = option_map (λ (j : Judged). j.slot) (slice_get (registry config list).judged place)
 
 -- `t` is the ticket for the connect or rider at `here`: it has the place `here` and the shard of
 -- the session.
@@ -97,35 +93,7 @@ Gave [] outs place answer = ⊥
 Gave (step ∷ steps) [] place answer = ⊥
 Gave (step ∷ steps) (out ∷ outs) place answer = GaveBy place answer step out ⊎ Gave steps outs place answer
 
--- Session `number` after the first `n` entries of the list.
-abbrev pub session_before : Config → List Listed → ℕ → ℕ → Session
-session_before config list number n = session config number (take n (entries config list))
-
 -- ---- Repeated acknowledgements
-
--- The entry at `place` is an accepted connect of session `number`. It acknowledges nothing new
--- while a batch is outstanding, and the session has not overflowed.
-pub record AsksAgain (config : Config) (list : List Listed) (number place : ℕ) : Type 0 where
-  pub entry : Entry
-  pub client : List ℕ
-  pub id : Option (List ℕ)
-  pub acked : Option ℕ
-  pub hold : ℕ
-  pub here : slice_get (entries config list) place ≡ Some entry
-  pub connect : entry.kind ≡ Connect number client id acked hold
-  pub outstanding : 0 < (session_before config list number place).out
-  pub overflow : (session_before config list number place).overflow ≡ false
-  pub repeats : Repeats (session_before config list number place).num acked
-
--- `filed` is the answer that formed the batch which is outstanding before `place`. It is the last
--- answer of session `number` after the entry at `forming`. That entry raised the session's batch
--- number by one, and the number is still the same before `place`.
-pub record FormedBy (config : Config) (list : List Listed) (number place : ℕ) (filed : Filed) : Type 0 where
-  pub forming : ℕ
-  pub earlier : forming < place
-  pub grew : (session_before config list number (forming + 1)).num ≡ (session_before config list number forming).num + 1
-  pub current : (session_before config list number (forming + 1)).num ≡ (session_before config list number place).num
-  pub last : LastAnswer (session_before config list number (forming + 1)) filed
 
 -- The connect at `place` is answered at once, with the outstanding batch and its number. The
 -- session's connect at `former`, an earlier place, got the answer that formed the batch, with the
@@ -157,13 +125,6 @@ BatchesRepeat = (setup : Setup) (first : WorldState) (steps : List Step) (outs :
     Runs setup first steps outs last → (number place : ℕ) → AsksAgain setup.config last.list number place → GivenAgain setup.config last.list steps outs number place
 
 -- ---- No event again
-
--- How many events of session `number` are never sent again, as of the entry at place `n`. Events
--- that this entry acknowledges count. If the session does not acknowledge, the events that it sends
--- at this entry do not count yet.
-abbrev pub done_at : Config → List Listed → ℕ → ℕ → ℕ
-done_at config list number n =
-    if (session_before config list number (n + 1)).ack then (session_before config list number (n + 1)).done else (session_before config list number n).done
 
 -- `a` is the answer that session `number` filed for the connect or rider at `connect`. Each event
 -- of `a` was published after every event that was already acknowledged or, if the session does not

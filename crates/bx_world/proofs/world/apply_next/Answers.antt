@@ -2,9 +2,9 @@ use Rattle.std.proofs.Common.{◌≡◌, ℕ, ◌<◌, true, false, Some, slice_
 use Rattle.bx_history.proofs.Tests.{either}
 use Rattle.bx_advice.specs.Limits.{greatest_length}
 use Rattle.bx_entry.specs.Registry.{entries}
-use Rattle.bx_shard.proofs.Placed.{entry_placed}
+use Rattle.bx_theory.proofs.{Lists.place_within, Verdicts.entry_placed}
 use Rattle.bx_shard.specs.States.{takes_no_memory}
-use Rattle.bx_world.proofs.Applications.{place_before, place_within}
+use Rattle.bx_world.proofs.Applications.{place_before}
 use Rattle.bx_world.proofs.world.apply_next.Goals as goal
 
 pub apply-requires-clause-next : goal.apply-requires-clause-next
