@@ -1,9 +1,10 @@
 //! Positional arguments of `bayeuxd`.
-ghost use Rattle.std.specs.Prelude.{◌≡◌, IfSome, map, string_bytes};
-ghost use Rattle.bx_settings.specs.Saying.{IsConfigOf, IsSaidBy};
+ghost use Rattle.std.specs.Prelude.{◌≡◌, IfNone, IfSome, map, option_map, string_bytes};
+ghost use Rattle.bx_settings.specs.Settings.{config_in, Give, optional_in, plain, plain_config, PlainSettings, settings_in};
 
 use crate::seed::read_digits;
 use crate::settings::{Seed, Settings};
+use crate::time::time_in;
 use bx_advice::{BODY_LIMIT, Config, Options};
 use bx_message::number_of;
 use std::net::SocketAddr;
@@ -19,8 +20,22 @@ use std::net::SocketAddr;
 /// - the number of connections after which the server ends: 0 for any number
 /// - optionally the options: `r` for `ride`, `a` for `anonymous`, `ra` for both, `-` for neither
 /// - optionally the number of events that may wait for a session: 1 to 65,536, by default 1,024
+///
+/// Numbers are decimal digits only. Other settings have their default values.
 pub fn parse_args(args: &[String]) -> Option<Settings<'_>>
-    ensures { IfSome result (IsSaidBy (map string_bytes args.now)) }
+    ensures some { IfSome result (λ s. Give (map string_bytes args.now) (plain s)) }
+    ensures none { IfNone result ((s : PlainSettings) → ¬ (Give (map string_bytes args.now) s)) }
+{
+    let settings = settings_in(args)?;
+    match settings.listen.parse::<SocketAddr>() {
+        Ok(_) => Some(settings),
+        Err(_) => None,
+    }
+}
+
+// Parses all arguments except the address, which can be any text.
+fn settings_in(args: &[String]) -> Option<Settings<'_>>
+    ensures { option_map plain result ≡ settings_in (map string_bytes args.now) }
 {
     let [
         listen,
@@ -35,17 +50,19 @@ pub fn parse_args(args: &[String]) -> Option<Settings<'_>>
     else {
         return None;
     };
-    let _ = listen.as_str().parse::<SocketAddr>().ok()?;
-    let config = config_of(
+    let (options, limit) = optional_in(more)?;
+    let config = config_in(
         shards.as_bytes(),
         timeout.as_bytes(),
         interval.as_bytes(),
         max_interval.as_bytes(),
+        options,
+        limit,
     )?;
     Some(Settings {
         listen: listen.as_str(),
         read_only_listen: None,
-        config: with_more(config, more)?,
+        config,
         body: BODY_LIMIT,
         seed: Seed::FromArguments(read_digits(seed.as_bytes())?),
         connections: number_of(connections.as_bytes())?,
@@ -56,33 +73,40 @@ pub fn parse_args(args: &[String]) -> Option<Settings<'_>>
     })
 }
 
-fn config_of(shards: &[u8], timeout: &[u8], interval: &[u8], max_interval: &[u8]) -> Option<Config>
-    ensures { IfSome result (IsConfigOf shards.now timeout.now interval.now max_interval.now) }
-{
-    Config::new(
-        usize::try_from(number_of(shards)?).ok()?,
-        u32::try_from(number_of(timeout)?).ok()?,
-        u32::try_from(number_of(interval)?).ok()?,
-        u32::try_from(number_of(max_interval)?).ok()?,
-    )
-}
-
-// Applies the optional arguments `args` to `config`, or returns `None` if they are wrong.
+// Returns the options and the limit of events in the optional arguments `args`, or their defaults.
 //
-// They are the options and the maximum number of a session's events.
-fn with_more(config: Config, args: &[String]) -> Option<Config>
-    ensures shards { IfSome result (λ c. c.shards ≡ config.shards) }
-    ensures times { IfSome result (λ c. (c.timeout ≡ config.timeout) × (c.interval ≡ config.interval) × (c.max_interval ≡ config.max_interval)) }
+// Returns `None` if there are more than two arguments.
+fn optional_in(args: &[String]) -> Option<(&[u8], &[u8])>
+    ensures { option_map (λ o. (o.0.now, o.1.now)) result
+        ≡ optional_in (map string_bytes args.now) }
 {
     match args {
-        [] => Some(config),
-        [options] => Some(config.with(Options::read(options.as_bytes())?)),
-        [options, limit] => {
-            let limit = u32::try_from(number_of(limit.as_bytes())?).ok()?;
-            config
-                .with(Options::read(options.as_bytes())?)
-                .with_limit(limit)
-        }
+        [] => Some((b"-", b"1024")),
+        [options] => Some((options.as_bytes(), b"1024")),
+        [options, limit] => Some((options.as_bytes(), limit.as_bytes())),
         _ => None,
     }
+}
+
+// Creates the configuration that the arguments give. Returns `None` if one of them is wrong.
+fn config_in(
+    shards: &[u8],
+    timeout: &[u8],
+    interval: &[u8],
+    max_interval: &[u8],
+    options: &[u8],
+    limit: &[u8],
+) -> Option<Config>
+    ensures { option_map plain_config result
+        ≡ config_in shards.now timeout.now interval.now max_interval.now options.now limit.now }
+{
+    let config = Config::new(
+        usize::try_from(number_of(shards)?).ok()?,
+        time_in(timeout)?,
+        time_in(interval)?,
+        time_in(max_interval)?,
+    )?;
+    config
+        .with(Options::read(options)?)
+        .with_limit(time_in(limit)?)
 }

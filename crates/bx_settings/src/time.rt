@@ -1,4 +1,8 @@
-//! Times as flags give them, such as `30s`.
+//! Numbers in arguments, and times such as `30s`.
+ghost use Rattle.std.specs.Prelude.{◌≡◌};
+ghost use Rattle.bx_settings.specs.Settings.{time_in};
+
+use bx_message::number_of;
 
 /// Converts a text such as `30s`, `500ms` or `500` to milliseconds.
 ///
@@ -6,14 +10,16 @@
 pub(crate) fn milliseconds(text: &str) -> Option<u32> {
     match text.strip_suffix("s") {
         Some(front) => match front.strip_suffix("m") {
-            Some(digits) => number(digits),
-            None => number(front)?.checked_mul(1000),
+            Some(digits) => time_in(digits.as_bytes()),
+            None => time_in(front.as_bytes())?.checked_mul(1000),
         },
-        None => number(text),
+        None => time_in(text.as_bytes()),
     }
 }
 
-// Parses a number of up to 32 bits.
-fn number(digits: &str) -> Option<u32> {
-    u32::try_from(bx_message::number_of(digits.as_bytes())?).ok()
+/// Parses a number. Returns `None` if `digits` are not a number below 2^32.
+pub(crate) fn time_in(digits: &[u8]) -> Option<u32>
+    ensures { result ≡ time_in digits.now }
+{
+    u32::try_from(number_of(digits)?).ok()
 }

@@ -1,0 +1,125 @@
+-- The settings that positional arguments of the daemon give.
+use Rattle.std.specs.Prelude.{◌≡◌, ℕ, ◌^◌, ◌&&◌, nat_le, nat_lt, if◌then◌else◌, Bool, false, List, [], ◌∷◌, codes, Option, Some, None, option_and_then, option_map}
+use Rattle.std.specs.Net.Grammar.{IsSocketText}
+use Rattle.std.specs.declared.net.socket_addr.SocketAddr.{SocketAddr}
+use Rattle.bx_advice.specs.Options.{options_in}
+use Rattle.bx_advice.specs.declared.config.Config.{Config}
+use Rattle.bx_advice.specs.declared.config.TheConstants.{BODY_LIMIT, STANDARD_BATCH, STANDARD_BYTES, STANDARD_PATTERNS, STANDARD_SESSIONS, STANDARD_TEXTS}
+use Rattle.bx_message.specs.Fields.{number_of}
+use Rattle.bx_settings.specs.Seed.{◌>>=◌, seed_in}
+use Rattle.bx_settings.specs.declared.settings.{Seed.Seed, Settings.Settings}
+use Rattle.bx_settings.specs.declared.settings.Seed.TheVariants.{FromArguments}
+
+-- A configuration, with times in milliseconds. `events` and `bytes` limit a session's waiting
+-- events, `patterns` its active patterns, `batch` the events of an answer, `sessions` the live
+-- sessions, and `texts` the strings in a `subscription`.
+pub record PlainConfig : Type 0 where
+  pub shards : ℕ
+  pub timeout : ℕ
+  pub interval : ℕ
+  pub max_interval : ℕ
+  pub ride : Bool
+  pub anonymous : Bool
+  pub events : ℕ
+  pub bytes : ℕ
+  pub patterns : ℕ
+  pub batch : ℕ
+  pub sessions : ℕ
+  pub texts : ℕ
+
+-- Settings of the daemon, with addresses and names of files as bytes.
+pub record PlainSettings : Type 0 where
+  pub listen : List ℕ
+  pub read_only_listen : Option (List ℕ)
+  pub config : PlainConfig
+  pub body : ℕ
+  pub seed : Seed
+  pub connections : ℕ
+  pub metrics : Option (List ℕ)
+  pub record_file : Option (List ℕ)
+  pub record_answers : Bool
+  pub until_eof : Bool
+
+-- ---- Values as plain data
+
+-- The configuration as plain data.
+abbrev pub plain_config : Config → PlainConfig
+plain_config config = record {
+  shards = config.shards;
+  timeout = config.timeout;
+  interval = config.interval;
+  max_interval = config.max_interval;
+  ride = config.ride;
+  anonymous = config.anonymous;
+  events = config.limits.events;
+  bytes = config.limits.bytes;
+  patterns = config.limits.patterns;
+  batch = config.limits.batch;
+  sessions = config.limits.sessions;
+  texts = config.limits.texts;
+}
+
+-- The settings as plain data.
+abbrev pub plain : Settings → PlainSettings
+plain settings = record {
+  listen = settings.listen.now;
+  read_only_listen = option_map (λ address. address.now) settings.read_only_listen;
+  config = plain_config settings.config;
+  body = settings.body;
+  seed = settings.seed;
+  connections = settings.connections;
+  metrics = option_map (λ address. address.now) settings.metrics;
+  record_file = option_map (λ name. name.now) settings.record_file;
+  record_answers = settings.record_answers;
+  until_eof = settings.until_eof;
+}
+
+-- ---- Arguments
+
+-- The number that digits give, if it is from 1 to a limit.
+abbrev pub count_in : ℕ → List ℕ → Option ℕ
+count_in limit digits = option_and_then (λ n. if nat_le 1 n && nat_le n limit then Some n else None) (number_of digits)
+
+-- The number that digits give, if it has at most 32 bits.
+abbrev pub time_in : List ℕ → Option ℕ
+time_in digits = option_and_then (λ n. if nat_lt n (2 ^ 32) then Some n else None) (number_of digits)
+
+-- The configuration that these arguments give, if all of them are valid. All limits except the one
+-- of waiting events are the standard ones.
+abbrev pub config_in : List ℕ → List ℕ → List ℕ → List ℕ → List ℕ → List ℕ → Option PlainConfig
+config_in shards timeout interval max_interval options limit = do
+  s ← count_in 64 shards
+  t ← time_in timeout
+  i ← time_in interval
+  m ← time_in max_interval
+  o ← options_in options
+  l ← count_in 65536 limit
+  Some (record { shards = s; timeout = t; interval = i; max_interval = m; ride = o.ride; anonymous = o.anonymous; events = l; bytes = STANDARD_BYTES; patterns = STANDARD_PATTERNS; batch = STANDARD_BATCH; sessions = STANDARD_SESSIONS; texts = STANDARD_TEXTS })
+
+-- The options and the limit of waiting events among the optional arguments. The options default to
+-- `-`, and the limit to 1024.
+abbrev pub optional_in : List (List ℕ) → Option (List ℕ × List ℕ)
+optional_in [] = Some (codes "-", codes "1024")
+optional_in (options ∷ []) = Some (options, codes "1024")
+optional_in (options ∷ limit ∷ []) = Some (options, limit)
+optional_in args = None
+
+-- The settings that seven to nine positional arguments give, if all of them except the address are
+-- valid. The address can be any text here; `Give` states whether it is valid.
+abbrev pub settings_in : List (List ℕ) → Option PlainSettings
+settings_in (listen ∷ shards ∷ timeout ∷ interval ∷ max_interval ∷ seed ∷ connections ∷ more) = do
+  o ← optional_in more
+  c ← config_in shards timeout interval max_interval o.0 o.1
+  bytes ← seed_in seed
+  n ← number_of connections
+  Some (record { listen = listen; read_only_listen = None; config = c; body = BODY_LIMIT; seed = FromArguments bytes; connections = n; metrics = None; record_file = None; record_answers = false; until_eof = false })
+settings_in args = None
+
+-- A text is an IP address and a port, such as `127.0.0.1:8087` or `[::1]:8087`.
+abbrev pub IsAddress : List ℕ → Type 0
+IsAddress text = (address : SocketAddr) × IsSocketText text address
+
+-- The positional arguments give these settings: all of the arguments are valid.
+pub record Give (args : List (List ℕ)) (settings : PlainSettings) : Type 0 where
+  pub address : IsAddress settings.listen
+  pub settings_are : settings_in args ≡ Some settings
