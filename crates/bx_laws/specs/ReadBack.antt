@@ -20,14 +20,15 @@ use Rattle.bx_message.specs.Texts.{reconnect_text, reply_text, event_text, item_
 abbrev pub read_within : ℕ → List ℕ → Option Data
 read_within levels text = option_and_then of_json (option_and_then (λ p. json.if_last p.0 p.1) (json.value levels (tokens text)))
 
--- The text reads as the value, or both are missing.
+-- The text is a JSON text with this value, by `read_within`, or both are missing.
 abbrev pub ReadsAs : ℕ → Option (List ℕ) → Option Data → Type 0
 ReadsAs levels None None = ⊤
 ReadsAs levels None (Some d) = ⊥
 ReadsAs levels (Some text) None = ⊥
 ReadsAs levels (Some text) (Some d) = read_within levels text ≡ Some d
 
--- Each text reads as the item at its position, and there is an item for each text.
+-- Each text is a JSON text, by `read_within`, and its value is the item at its position. There is
+-- an item for each text, and a text for each item.
 abbrev pub AllReadAs : ℕ → List (List ℕ) → Items → Type 0
 AllReadAs levels [] no_items = ⊤
 AllReadAs levels [] (item d ds) = ⊥
@@ -113,9 +114,9 @@ for_handshake _ d = None
 abbrev pub connection_types : Data
 connection_types = array (item (string (codes "long-polling")) (item (string (codes "callback-polling")) no_items))
 
--- The members of the reply `r`, if the texts of its id and its subscription read as `id` and
--- `subscription`. Bayeux 1.0, the responses of the meta messages and of publish; CometD's
--- acknowledgement extension.
+-- The members of the reply `r`. `id` and `subscription`: the values of the reply's id and
+-- subscription, which are JSON texts. Bayeux 1.0, the responses of the meta messages and of
+-- publish; CometD's acknowledgement extension.
 abbrev pub reply_rows : Reply → Option Data → Option Data → List Row
 reply_rows r id subscription =
     (codes "advice", option_map (λ a. object (members_in (advice_rows a))) r.advice)
@@ -140,29 +141,33 @@ AckFits NoAck = ⊤
 AckFits AckTrue = ⊤
 AckFits (AckNumber n) = n < 2 ^ 64
 
--- The id and the subscription of `r`, which are texts of a client, read as `id` and `subscription`.
--- The numbers in `r` fit in 64 bits.
+-- The id and the subscription of `r`, if present, are JSON texts with the values `id` and
+-- `subscription`. If one of them is missing, its value is `None`. The numbers in `r` fit in 64
+-- bits.
 pub record ReplyParts (levels : ℕ) (r : Reply) (id subscription : Option Data) : Type 0 where
   pub id_reads : ReadsAs levels r.id id
   pub subscription_reads : ReadsAs levels r.subscription subscription
   pub advice_fits : IfSome r.advice AdviceFits
   pub ack_fits : AckFits r.ack
 
--- The text of a reply is a JSON object with exactly the members that `reply_rows` has.
+-- The text of a reply is a JSON object with exactly the members that `reply_rows` has. The id and
+-- the subscription in the reply must be JSON texts, and its numbers must fit in 64 bits.
 abbrev pub RepliesReadBack : Type 0
 RepliesReadBack = (levels : ℕ) (r : Reply) (id subscription : Option Data) → 1 ≤ levels → ReplyParts levels r id subscription → IsObjectOf (suc levels) (reply_text r) (reply_rows r id subscription)
 
 -- ---- Events and responses
 
--- The members of the event `e`, if the texts of its data and its id read as `payload` and `id`.
--- Bayeux 1.0, event messages.
+-- The members of the event `e`. `payload` and `id`: the values of the event's data and id, which
+-- are JSON texts. Bayeux 1.0, event messages.
 abbrev pub event_rows : Event → Data → Option Data → List Row
 event_rows e payload id = (codes "channel", Some (string e.channel)) ∷ (codes "data", Some payload) ∷ (codes "id", id) ∷ []
 
--- The text of an event is a JSON object with its channel, its data and, if it has one, its id.
+-- The text of an event is a JSON object with its channel, its data and, if it has one, its id. The
+-- data and the id must be JSON texts.
 abbrev pub EventsReadBack : Type 0
 EventsReadBack = (levels : ℕ) (e : Event) (payload : Data) (id : Option Data) → read_within levels e.payload ≡ Some payload → ReadsAs levels e.id id → IsObjectOf (suc levels) (event_text e) (event_rows e payload id)
 
--- The text of a response is a JSON array of the values that the texts of its items read as.
+-- The text of a response is a JSON array of the values of its items, if the texts of the items are
+-- JSON texts.
 abbrev pub BodiesReadBack : Type 0
 BodiesReadBack = (levels : ℕ) (items : List Item) (ds : Items) → AllReadAs levels (map item_text items) ds → read_within (suc levels) (body_text items) ≡ Some (array ds)

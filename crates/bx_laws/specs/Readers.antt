@@ -46,7 +46,7 @@ pub record IsSilent (config : Config) (list : List Listed) : Type 0 where
   pub quiet : AllByRecursion IsQuiet list
   pub eventless : (number : ℕ) → (session config number (entries config list)).events ≡ []
 
--- If all requests come through the read-only listener, the list has no message to a broadcast
--- channel, and no session has an event.
+-- If all requests of a run come through the read-only listener, its list has no message to a
+-- broadcast channel, and no session has an event.
 abbrev pub ReadersPublishNothing : Type 0
 ReadersPublishNothing = (config : Config) (inputs : List Input) → AllByRecursion IsOfReaders inputs → IsSilent config (taken_in (map read_input inputs)).list

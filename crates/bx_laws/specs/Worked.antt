@@ -22,8 +22,8 @@ use Rattle.bx_script.specs.Replay.{lines_of, line_of, Bad, Recorded, Rejected, A
 
 -- ---- Names and patterns
 
--- The texts `/a/b` and `/meta` are names. Seven other texts are not, each for the fault at its
--- position in the second list.
+-- The texts `/a/b` and `/meta` are names. Seven other texts are not: they lack the slash at the
+-- start, or have an empty segment, a space or a wildcard.
 abbrev pub NamesRead : Type 0
 NamesRead =
     name_fault (codes "/a/b") ∷ name_fault (codes "/meta") ∷ name_fault [] ∷ name_fault (codes "a") ∷ name_fault (codes "/") ∷ name_fault (codes "/a//b") ∷ name_fault (codes "/a/") ∷ name_fault (codes "/a b") ∷ name_fault (codes "/a/*") ∷ []
@@ -263,7 +263,7 @@ EventIsBatch =
     ∷ out 3 (event (codes "/a/b/c") (codes "[1, 2]") ∷ ack_connected 1 1 ∷ []) ∷ out 4 (published (codes "/a/b/c") ∷ [])
     ∷ out 5 (event (codes "/a/b/c") (codes "[1, 2]") ∷ ack_connected 1 1 ∷ []) ∷ []
 
--- A connect that acknowledges the last event of its session is held.
+-- A connect that acknowledges the last batch of its session is held, since no event waits.
 abbrev pub EventIsBatchHeld : Type 0
 EventIsBatchHeld =
     held standard held_with_ack ≡ 6 ∷ []

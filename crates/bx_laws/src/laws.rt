@@ -21,7 +21,7 @@ ghost use Rattle.bx_theory.specs.Fronts.{AcknowledgedEventsAreNotGivenAgain, Ans
 ghost use Rattle.bx_laws.specs.Readers.{ReadOnlyRequestPublishesNothing, ReadersPublishNothing};
 ghost use Rattle.bx_laws.specs.ReadBack.{RepliesReadBack, EventsReadBack, BodiesReadBack};
 
-/// Proves that the number of events that a session never sends again does not fall.
+/// Proves that more entries never lower the number of events that a session never sends again.
 pub fn done_event_count_never_falls()
     ensures { DoneNeverFalls }
 {}
@@ -89,10 +89,10 @@ pub fn answers_share_no_event()
     ensures { AnswersShareNoEvent }
 {}
 
-/// Proves that no answer has an event that was acknowledged at its place or before.
+/// Proves that no answer has an event that was acknowledged at the answer's place or before.
 ///
-/// If the session does not acknowledge, the answer has no event that was sent before its place. The
-/// answer may be over any front of a log.
+/// If the session does not acknowledge, no answer has an event that was sent before the answer's
+/// place. The answer may be over any front of a log.
 pub fn acknowledged_events_are_not_given_again()
     ensures { AcknowledgedEventsAreNotGivenAgain }
 {}
@@ -111,13 +111,13 @@ pub fn rider_sessions_do_not_acknowledge()
 ///
 /// The message is a rider exactly if `--ride` is set, the session does not acknowledge, and the
 /// message is the last one of its request. All messages of the request must be accepted and come
-/// from the session, and none may be a handshake. The rider must be a subscription, an
+/// from the session, and none may be a handshake. The last one must be a subscription, an
 /// unsubscription or a publish.
 pub fn when_a_message_is_a_rider()
     ensures { RiderReading }
 {}
 
-/// Proves that a request has no rider if one of its messages is rejected or sessionless.
+/// Proves that a request has no rider if one of its messages is rejected or has no session.
 pub fn no_rider_beside_rejected_or_sessionless()
     ensures { NothingRidesBeside }
 {}
@@ -148,21 +148,26 @@ pub fn pattern_active_if_last_subscribed()
 {}
 
 /// Proves that a held connect stays held until an entry ends the hold.
+///
+/// An event that the session gets ends the hold, and so does a newer connect or a disconnect of the
+/// session. A tick ends it at the deadline or later.
 pub fn connect_held_until_entry_ends_hold()
     ensures { HeldReading }
 {}
 
-/// Proves that a held connect is answered at the first entry that ends it.
+/// Proves that a held connect is answered at the first entry that ends the hold.
 ///
 /// A publish that reaches the session answers the connect with its event, and a newer connect
-/// answers it with an error. A disconnect or a tick answers it with success and no events.
+/// answers it with an error. A disconnect, or a tick from the deadline on, answers it with success
+/// and no events.
 pub fn held_connect_answered_by_first_ending_entry()
     ensures { EndingReading }
 {}
 
 /// Proves that a session has overflowed exactly if some earlier entry found no room.
 ///
-/// The entry is an event for the full queue, or a subscription to too many patterns.
+/// The entry is a publish that the queue has no room for, or a subscription that results in too
+/// many patterns.
 pub fn overflowed_if_entry_found_no_room()
     ensures { OverflowReading }
 {}
@@ -174,12 +179,13 @@ pub fn queue_bounded()
 
 /// Proves that the due moment of a session is the greatest that its accepted messages set.
 ///
-/// Each sets the sum of its moment, the time that it may be held, and `config.max_interval`.
+/// Each message sets a sum: the greatest moment in the list so far, the time that the message may
+/// be held, and `config.max_interval`.
 pub fn due_is_greatest_set_by_messages()
     ensures { DueReading }
 {}
 
-/// Proves that the clock is the greatest moment in the list.
+/// Proves that the clock is the greatest moment in the list, or 0 if the list is empty.
 pub fn clock_is_greatest_moment()
     ensures { ClockReading }
 {}
@@ -191,13 +197,16 @@ pub fn registry_and_entries_agree_on_live()
 
 /// Proves that each event of a session is an accepted publish that reached it.
 ///
-/// The session was live and had not overflowed. It had room and an active pattern that matched.
+/// The publish was to a broadcast channel that an active pattern of the session matched. The
+/// session was live and had not overflowed, and its queue had room.
 pub fn events_were_published()
     ensures { EventsWerePublished }
 {}
 
-/// Proves that each publish that reaches a session becomes one of its events, after the earlier
-/// ones.
+/// Proves that each publish that reaches a session becomes the next of its events.
+///
+/// A publish to a broadcast channel reaches a live session if an active pattern matches the
+/// channel. The session must not have overflowed, and its queue must have room.
 pub fn publishes_are_events()
     ensures { PublishesAreEvents }
 {}
@@ -274,17 +283,24 @@ pub fn closed_session_never_changes()
     ensures { ClosedIsOver }
 {}
 
-/// Proves that the text of a reply is an object with the members of a reply, sorted by name.
+/// Proves that the text of a reply is a JSON object with the reply's members, sorted by name.
+///
+/// The id and the subscription in the reply must be JSON texts, and its numbers must fit in 64
+/// bits.
 pub fn replies_read_back()
     ensures { RepliesReadBack }
 {}
 
-/// Proves that the text of an event is an object with its channel, data and, if any, id.
+/// Proves that the text of an event is a JSON object with its channel, data and, if any, id.
+///
+/// The data and the id must be JSON texts.
 pub fn events_read_back()
     ensures { EventsReadBack }
 {}
 
-/// Proves that the text of a response is the array of its items.
+/// Proves that the text of a response is the JSON array of the values of its items.
+///
+/// The texts of the items must be JSON texts.
 pub fn bodies_read_back()
     ensures { BodiesReadBack }
 {}
@@ -324,16 +340,21 @@ pub fn next_line_appends_its_input()
 {}
 
 /// Proves that what the next line of a script prints is appended to what the earlier lines print.
+///
+/// The lines of held connects are left aside, since a replay prints them at the end.
 pub fn next_line_appends_its_output()
     ensures { LinesGoOn }
 {}
 
-/// Proves that a replay prints the lines of held connects last.
+/// Proves that a replay prints the lines of held connects after everything else.
 pub fn replay_prints_held_last()
     ensures { HeldComeLast }
 {}
 
-/// Proves that each line gets the nonce that the lines before it announce and do not use.
+/// Proves which nonce a request of a record gets: the last one announced before its line.
+///
+/// If an earlier request has used that nonce, or no nonce was announced, the request gets nonce 0.
+/// The requests of earlier lines keep their nonces.
 pub fn line_gets_nonce_announced_before()
     ensures { NoncesGoOn }
 {}

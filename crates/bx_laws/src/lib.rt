@@ -1,6 +1,7 @@
 //! Laws of the server's definitions, in a user's terms, and worked runs.
 //!
-//! Each is the contract of a function with an empty body, so that the prover checks it.
+//! Each law is the contract of a function with an empty body, so that the prover checks it. So is
+//! each group of runs.
 #![tactic(auto)]
 
 mod laws;

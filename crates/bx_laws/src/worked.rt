@@ -1,7 +1,7 @@
 //! Worked examples of the definitions, each computed by the prover.
 ghost use Rattle.bx_laws.specs.Worked.{EventsRide, RideAfterHold, NothingRides, NothingRidesAfterRefused, NothingRidesAfterSessionless, NothingRidesAfterHandshake, NothingRidesAfterTwo, SessionlessPublish, SessionlessRefused, NamesRead, LengthsRead, PatternsRead, StarsMatch, DoubleStarsMatch, AllMatch, PlainMatch, HandshakeWithId, RefusedHandshake, TwoHandshakes, NothingPosted, Unreadable, HeldThenGiven, MatchedTwice, ServicePublish, SenderBytes, NoNumber, BatchesRepeat, GreatNumber, EventIsBatch, EventIsBatchHeld, HoldRunsOut, NotSole, Superseded, SupersededHeld, HoldEndsWithSession, HoldExtends, MomentsRise, SessionExpires, GoneWithinARequest, EachRefusal, UnknownType, ManyPatterns, FullQueue, QueueWithRoom, FullWithBatch, HeldThroughOverflow, OverflowAt1025, FourFullBatches, HandshakeText, RefusedText, BatchText, DeliveryText, CallbackExample, EmptyCallback, GoneText, SupersededText, OverflowText, SecondText, EndedText, RefusalsText, RefusedMovesClock, EmptyKeepsClock, RefusedKeepsDue, HoldBeforeEnd, EndedWithNumber, SupersededWithoutNumber, MixedArrays, FullServer, OverflowOutlivesPatterns, ServicePatternsAside, ScriptLines, LineForms, NonceForms, NoteForms, NoncesWait, ScriptPrinted, NoncePrinted, NotePrinted};
 
-/// Proves examples of texts that are names or patterns, and of names that patterns match.
+/// Proves examples of channel names and patterns, valid or not, and of what patterns match.
 pub fn channels()
     ensures names_read { NamesRead }
     ensures lengths_read { LengthsRead }
@@ -12,7 +12,7 @@ pub fn channels()
     ensures plain_match { PlainMatch }
 {}
 
-/// Proves examples of handshakes, accepted and rejected.
+/// Proves examples of handshakes, accepted and rejected, and of empty and unreadable requests.
 pub fn handshakes()
     ensures handshake_with_id { HandshakeWithId }
     ensures refused_handshake { RefusedHandshake }
@@ -21,7 +21,7 @@ pub fn handshakes()
     ensures unreadable { Unreadable }
 {}
 
-/// Proves examples of events and of the connects that get them.
+/// Proves examples of publishes, and of the events that connects get.
 pub fn deliveries()
     ensures held_then_given { HeldThenGiven }
     ensures sessionless_publish { SessionlessPublish }
@@ -31,7 +31,9 @@ pub fn deliveries()
     ensures sender_bytes { SenderBytes }
 {}
 
-/// Proves examples of riders, which are messages with replies that carry waiting events.
+/// Proves examples of requests that have a rider, and of requests that have none.
+///
+/// A rider is a request's last message, if its reply carries the session's waiting events.
 pub fn riders()
     ensures events_ride { EventsRide }
     ensures ride_after_hold { RideAfterHold }

@@ -14,7 +14,8 @@ digit_in byte =
     else if nat_le 97 byte && nat_le byte 102 then Some (byte - 87)
     else None
 
--- The byte that two hexadecimal digits give. The first is the more significant one.
+-- The byte that two hexadecimal digits give. The first is the more significant one. The result is
+-- `None` if one of the bytes is not a digit.
 abbrev pub byte_in : ℕ → ℕ → Option ℕ
 byte_in high low = do
   h ← digit_in high

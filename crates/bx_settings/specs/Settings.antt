@@ -42,7 +42,7 @@ pub record PlainSettings : Type 0 where
 
 -- ---- Values as plain data
 
--- The configuration as plain data.
+-- The shards, times, options and limits of a `Config`, as numbers and truth values.
 abbrev pub plain_config : Config → PlainConfig
 plain_config config = record {
   shards = config.shards;
@@ -59,7 +59,7 @@ plain_config config = record {
   texts = config.limits.texts;
 }
 
--- The settings as plain data.
+-- The settings with each text as its bytes, and the configuration as numbers and truth values.
 abbrev pub plain : Settings → PlainSettings
 plain settings = record {
   listen = settings.listen.now;
@@ -84,8 +84,9 @@ count_in limit digits = option_and_then (λ n. if nat_le 1 n && nat_le n limit t
 abbrev pub time_in : List ℕ → Option ℕ
 time_in digits = option_and_then (λ n. if nat_lt n (2 ^ 32) then Some n else None) (number_of digits)
 
--- The configuration that these arguments give, if all of them are valid. All limits except the one
--- of waiting events are the standard ones.
+-- The configuration that six positional arguments give, if all of them are valid. They are the
+-- number of shards, `timeout`, `interval`, `max_interval`, the options and the limit of waiting
+-- events. All other limits are the standard ones.
 abbrev pub config_in : List ℕ → List ℕ → List ℕ → List ℕ → List ℕ → List ℕ → Option PlainConfig
 config_in shards timeout interval max_interval options limit = do
   s ← count_in 64 shards
@@ -97,7 +98,7 @@ config_in shards timeout interval max_interval options limit = do
   Some (record { shards = s; timeout = t; interval = i; max_interval = m; ride = o.ride; anonymous = o.anonymous; events = l; bytes = STANDARD_BYTES; patterns = STANDARD_PATTERNS; batch = STANDARD_BATCH; sessions = STANDARD_SESSIONS; texts = STANDARD_TEXTS })
 
 -- The options and the limit of waiting events among the optional arguments. The options default to
--- `-`, and the limit to 1024.
+-- `-`, and the limit to 1024. The result is `None` if there are more than two arguments.
 abbrev pub optional_in : List (List ℕ) → Option (List ℕ × List ℕ)
 optional_in [] = Some (codes "-", codes "1024")
 optional_in (options ∷ []) = Some (options, codes "1024")

@@ -33,7 +33,9 @@ pub fn parse_args(args: &[String]) -> Option<Settings<'_>>
     }
 }
 
-// Parses all arguments except the address, which can be any text.
+// Returns the settings that the positional arguments `args` give, or `None` if they are wrong.
+//
+// The first argument, the address to listen on, is not checked: any text is accepted.
 fn settings_in(args: &[String]) -> Option<Settings<'_>>
     ensures { option_map plain result ≡ settings_in (map string_bytes args.now) }
 {
@@ -73,9 +75,10 @@ fn settings_in(args: &[String]) -> Option<Settings<'_>>
     })
 }
 
-// Returns the options and the limit of events in the optional arguments `args`, or their defaults.
+// Returns the options and the limit of events in `args`, the arguments after the seventh.
 //
-// Returns `None` if there are more than two arguments.
+// A missing argument has its default, `-` or `1024`. Returns `None` if there are more than two
+// arguments.
 fn optional_in(args: &[String]) -> Option<(&[u8], &[u8])>
     ensures { option_map (λ o. (o.0.now, o.1.now)) result
         ≡ optional_in (map string_bytes args.now) }
@@ -88,7 +91,9 @@ fn optional_in(args: &[String]) -> Option<(&[u8], &[u8])>
     }
 }
 
-// Creates the configuration that the arguments give. Returns `None` if one of them is wrong.
+// Creates the configuration that these positional arguments give.
+//
+// Returns `None` if one of them is wrong. Limits other than `limit` have their default values.
 fn config_in(
     shards: &[u8],
     timeout: &[u8],

@@ -13,12 +13,12 @@ use std::alloc::{AllocError, Global};
 /// The version that `--version` prints.
 pub const VERSION: &str = "0.1.0";
 
-// Accepted values of the flags, for error messages.
+// What `--shards` accepts, in words for an error message. The constants below are for other flags.
 const SHARDS: &str = "a number from 1 to 64";
 
 const TIME: &str = "a number of milliseconds up to 4294967295, or of seconds such as 30s";
 
-// For `--limit` and `--sessions`.
+// What `--limit` and `--sessions` accept, in words for an error message.
 const LIMIT: &str = "a number from 1 to 65536";
 
 const BYTES: &str = "a number from 1 to 4294967295";
@@ -72,6 +72,8 @@ pub fn read_flags<'a>(
 }
 
 // Returns the configuration that the flags give: shards, times, options and limits.
+//
+// Returns the error for the user if a value is wrong, or memory runs out.
 fn read_config(
     alloc: Global,
     command: &mut Command<'_>,
@@ -104,8 +106,10 @@ fn read_config(
     }
 }
 
-// Creates a configuration with the number of shards from `--shards`, or one for each processor.
-// Returns `None` if the number is wrong.
+// Creates a configuration with these times in milliseconds, and the number of shards of `--shards`.
+//
+// Without the flag there is one shard for each of `processors`, but at least 1 and at most 64.
+// Returns `None` if the value of `--shards` is wrong.
 fn config_of(
     matches: &ArgMatches<'_>,
     processors: usize,
@@ -120,9 +124,9 @@ fn config_of(
     Config::new(shards, timeout, interval, max_interval)
 }
 
-// Applies `with` to `config` and the value of flag `name`, or returns `config` without the flag.
+// Returns what `with` returns for `config` and the number that flag `name` gives.
 //
-// Returns `None` if the value is wrong.
+// Returns `config` if the flag is missing, and `None` if its value is not a number below 2^32.
 fn with_number<F: FnOnce(Config, u32) -> Option<Config>>(
     config: Config,
     matches: &ArgMatches<'_>,
@@ -137,8 +141,9 @@ fn with_number<F: FnOnce(Config, u32) -> Option<Config>>(
     }
 }
 
-// Returns the greatest length of a body in bytes, by default `BODY_LIMIT`. Returns `None` if
-// `--body` is wrong.
+// Returns the greatest length of a body in bytes from `--body`, by default `BODY_LIMIT`.
+//
+// Returns `None` if the value is not a number from 1 to `BODY_LIMIT`.
 fn body_of(matches: &ArgMatches<'_>) -> Option<usize>
     ensures { IfSome result (λ bytes. (1 ≤ bytes) × (bytes ≤ BODY_LIMIT)) }
 {
@@ -198,7 +203,7 @@ fn command<'a>(alloc: Global) -> Result<Command<'a>, AllocError> {
     with_running(alloc, with_options(alloc, with_limits(alloc, command)?)?)
 }
 
-// Adds the flags for the server as a whole.
+// Adds `--listen`, `--readers`, `--shards` and `--seed-file` to `command`.
 fn with_server<'a>(alloc: Global, command: Command<'a>) -> Result<Command<'a>, AllocError> {
     command
         .arg(value(
@@ -227,7 +232,7 @@ fn with_server<'a>(alloc: Global, command: Command<'a>) -> Result<Command<'a>, A
         ))
 }
 
-// Adds the flags for times.
+// Adds the flags for times to `command`: `--timeout`, `--interval` and `--max-interval`.
 fn with_times<'a>(alloc: Global, command: Command<'a>) -> Result<Command<'a>, AllocError> {
     command
         .arg(value(
@@ -250,7 +255,9 @@ fn with_times<'a>(alloc: Global, command: Command<'a>) -> Result<Command<'a>, Al
         ))
 }
 
-// Adds the flags for limits.
+// Adds the flags for limits to `command`.
+//
+// They are `--limit`, `--bytes`, `--patterns`, `--sessions` and `--body`.
 fn with_limits<'a>(alloc: Global, command: Command<'a>) -> Result<Command<'a>, AllocError> {
     command
         .arg(value(
@@ -285,7 +292,7 @@ fn with_limits<'a>(alloc: Global, command: Command<'a>) -> Result<Command<'a>, A
         ))
 }
 
-// Adds the flags for options of the protocol.
+// Adds the flags for options of the protocol to `command`: `--ride` and `--anonymous`.
 fn with_options<'a>(alloc: Global, command: Command<'a>) -> Result<Command<'a>, AllocError> {
     command
         .arg(switch(
@@ -296,7 +303,9 @@ fn with_options<'a>(alloc: Global, command: Command<'a>) -> Result<Command<'a>, 
         .arg(switch(alloc, "anonymous", "Accept publishes without a client id"))
 }
 
-// Adds the flags for operating the server.
+// Adds the flags for operating the server to `command`.
+//
+// They are `--connections`, `--metrics`, `--record`, `--record-answers` and `--until-eof`.
 fn with_running<'a>(alloc: Global, command: Command<'a>) -> Result<Command<'a>, AllocError> {
     let answers = switch(
         alloc,
@@ -330,12 +339,14 @@ fn with_running<'a>(alloc: Global, command: Command<'a>) -> Result<Command<'a>, 
         .arg(switch(alloc, "until-eof", "Exit when standard input closes"))
 }
 
-// Creates a flag with a value.
+// Creates the flag `--name`, which takes a value.
+//
+// `kind`: the word for the value in the help, such as `FILE`.
 fn value<'a>(alloc: Global, name: &'a str, kind: &'a str, help: &'a str) -> Arg<'a> {
     Arg::new(alloc, name).long(name).value_name(kind).help(help)
 }
 
-// Creates a flag without a value.
+// Creates the flag `--name`, which takes no value.
 fn switch<'a>(alloc: Global, name: &'a str, help: &'a str) -> Arg<'a> {
     Arg::new(alloc, name)
         .long(name)

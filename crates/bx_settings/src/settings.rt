@@ -7,24 +7,26 @@ use bx_advice::Config;
 /// The source of the seed of the generator of nonces.
 #[derive(Clone, Copy, Debug, PartialEq, Eq)]
 pub enum Seed<'a> {
-    /// The operating system, which provides random bytes.
+    /// The seed of the generator of nonces consists of random bytes from the operating system.
     FromSystem,
-    /// The file with this name, which contains the seed as hexadecimal digits.
+    /// The seed of the generator of nonces is in the file with this name, as 64 hexadecimal digits.
     ///
     /// [`read_seed`](crate::read_seed) reads it.
     File(&'a str),
-    /// The positional arguments, which gave this seed.
+    /// The seed of the generator of nonces is this one, from the positional arguments.
     FromArguments([u8; 32]),
 }
 
 /// The settings of `bayeuxd`.
 #[derive(Clone, Copy, Debug)]
 pub struct Settings<'a> {
-    /// The address to listen on: a host name or IP address, and a port, as in `localhost:8087`.
+    /// The address that `bayeuxd` listens on, as in `localhost:8087`.
+    ///
+    /// It is a host name or IP address, and a port.
     pub listen: &'a str,
     /// The address of the read-only listener, if any: a host name or IP address, and a port.
     pub read_only_listen: Option<&'a str>,
-    /// The number of shards, the times in milliseconds, the limits and the options.
+    /// The server's number of shards, times in milliseconds, limits and options.
     pub config: Config,
     /// The greatest length in bytes of a request's body or query: 1 to [`bx_advice::BODY_LIMIT`].
     pub body: usize,
@@ -34,9 +36,9 @@ pub struct Settings<'a> {
     pub connections: u64,
     /// The address of the listener for metrics, if any: a host name or IP address, and a port.
     pub metrics: Option<&'a str>,
-    /// The file to create for the record, if any.
+    /// The name of the file that the server creates for its record, if any.
     pub record_file: Option<&'a str>,
-    /// Whether the record has the SHA-256 of each answer.
+    /// Whether the record, if there is one, has the SHA-256 of each answer.
     pub record_answers: bool,
     /// Whether the server ends at the end of standard input.
     pub until_eof: bool,

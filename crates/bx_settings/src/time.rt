@@ -17,7 +17,7 @@ pub(crate) fn milliseconds(text: &str) -> Option<u32> {
     }
 }
 
-/// Parses a number. Returns `None` if `digits` are not a number below 2^32.
+/// Parses a decimal number, or returns `None` if `digits` are not a number below 2^32.
 pub(crate) fn time_in(digits: &[u8]) -> Option<u32>
     ensures { result ≡ time_in digits.now }
 {
