@@ -1,5 +1,4 @@
--- Answers over any fronts of one log: which batch a repeated connect gets, and which events are
--- never sent again.
+-- What answers over the fronts of one log have: a repeated batch, and no event again.
 --
 -- A front of a log is a prefix of it, and may be all of it. Of two fronts that a hub's callers have
 -- seen, the shorter is a prefix of the longer. So both are fronts of the longer.
@@ -15,8 +14,7 @@ use Rattle.bx_theory.specs.Laws.{AllBelow, LastAnswer, Repeats}
 
 -- ---- Answers
 
--- The slot of the message at `place`, which is how the message is answered. The result is `None` if
--- the list has no such place.
+-- How the message at `place` is answered, if the list has it.
 abbrev pub slot_at : Config → List Listed → ℕ → Option PlaceSlot
 slot_at config list place = option_map (λ (j : Judged). j.slot) (slice_get (registry config list).judged place)
 
@@ -26,8 +24,7 @@ pub record WasGiven (config : Config) (log : List Listed) (place : ℕ) (a : Pla
   pub begins : IsPrefix front log
   pub answered : answer config front place ≡ Some a
 
--- Over the whole log, session `number` filed `filed` for its connect or rider at `place`. `a` is
--- that answer, with the place, the events and the reply of `filed`.
+-- `a` is `filed`, which session `number` filed for its connect or rider at `place`.
 pub record IsFiled (config : Config) (log : List Listed) (number place : ℕ) (filed : Filed) (a : PlacedAnswer) : Type 0 where
   pub found : find (λ (f : Filed). f.connect == place) (session config number (entries config log)).answers ≡ Some filed
   pub is : a ≡ record { place = filed.place; events = events_of filed.publications; reply = filed.reply }
@@ -125,8 +122,8 @@ pub record GivenLater (config : Config) (log : List Listed) (number place : ℕ)
   pub filed_is : IsFiled config log number place filed a
   pub later : (n : ℕ) → n ≤ a.place → AllBelow (take (done_at config log number n) (session config number (entries config log)).events) filed.publications
 
--- No answer has an event that was acknowledged at the answer's place or before. If the session does
--- not acknowledge, no answer has an event that was sent before the answer's place.
+-- No answer has an event that was acknowledged at its place or before or, if the session does not
+-- acknowledge, sent before it.
 abbrev pub AcknowledgedEventsAreNotGivenAgain : Type 0
 AcknowledgedEventsAreNotGivenAgain = (config : Config) (log : List Listed) (number place : ℕ) (a : PlacedAnswer) → 0 < config.limits.batch →
     slot_at config log place ≡ Some (Waiting number) → WasGiven config log place a → GivenLater config log number place a
