@@ -28,15 +28,15 @@ refused-asked len _ refusal = refl
 
 -- ---- The result of the admission
 
-record Took (len : ℕ) (refusal : Option Refusal) (first : ℕ) : Type 0 where
-  none : refusal ≡ None
-  at : first ≡ len
+pub record Took (len : ℕ) (refusal : Option Refusal) (first : ℕ) : Type 0 where
+  pub none : refusal ≡ None
+  pub at : first ≡ len
 
 took-by : (setup : Setup) (w : WorldState) (input : ReadInput) (first : ℕ) (slots : List Slot) (o : Option Refusal) → Admitted first slots ≡ output_admit setup w input o → Took (length w.list) o first
 took-by setup w input first slots None e = record { none = refl; at = cc }
 took-by setup w input first slots (Some refusal) e = cc
 
-took : (setup : Setup) (w : WorldState) (i : Input) (first : ℕ) (slots : List Slot) → IsOutput setup w (Admit i) (Admitted first slots) → Took (length w.list) (refusal_of (length w.list) (read_input i)) first
+pub took : (setup : Setup) (w : WorldState) (i : Input) (first : ℕ) (slots : List Slot) → IsOutput setup w (Admit i) (Admitted first slots) → Took (length w.list) (refusal_of (length w.list) (read_input i)) first
 took setup w i first slots (inl e) = took-by setup w (read_input i) first slots (refusal_of (length w.list) (read_input i)) e
 took setup w i first slots (inr (may, e)) = let no : Admitted first slots ≡ OutOfMemory = e in cc
 

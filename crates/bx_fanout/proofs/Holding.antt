@@ -1,5 +1,6 @@
 -- Proves which inputs are held.
-use Rattle.std.proofs.Common.{◌≡◌, ℕ, ◌<◌, Bool, true, false, not, List, [], ◌∷◌, ◌++◌, map, filter, refl, sym, ap, ◌∙◌, cond, append-nil}
+use Rattle.std.proofs.Common.{◌≡◌, ℕ, ◌<◌, Bool, true, false, not, List, [], ◌∷◌, ◌++◌, map, filter, refl, sym, ap, ◌∙◌, cond, append-nil, inl, inr}
+use Rattle.std.specs.Prelude.{◌⊎◌}
 use Rattle.std.proofs.lemmas.List.{append_cancel_left, map-append}
 use Rattle.bx_advice.specs.declared.config.Config.{Config}
 use Rattle.bx_entry.specs.Words.{ReadInput, Registry, held, outs}
@@ -75,6 +76,14 @@ held-collecting setup inputs input w rows n added batch c all =
     ∙ sym (incomplete_inputs_are_reported_held config (inputs ++ input ∷ []) batch)
 
 -- ---- A round
+
+none-by : {L : Type 0} (b : Bool) → L → (b ≡ true → ¬ L) → b ≡ false
+none-by true level lags = absurd (lags refl level)
+none-by false level lags = refl
+
+pub none-collecting : {L : Type 0} (stage : Stage) → L ⊎ (is_collecting stage ≡ false) → (is_collecting stage ≡ true → ¬ L) → is_collecting stage ≡ false
+none-collecting stage (inl level) lags = none-by (is_collecting stage) level lags
+none-collecting stage (inr none) lags = none
 
 pub held-none : (setup : Setup) (inputs : List ReadInput) (w : WorldState) (rows : List Row) (stage : Stage) (added : List runs.Out) → 0 < setup.config.limits.batch → is_collecting stage ≡ false →
     IsStaged setup inputs w rows stage added → numbers (filter waits rows) ≡ held setup.config inputs

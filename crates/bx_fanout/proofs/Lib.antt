@@ -6,6 +6,8 @@ pub mod Draining
 pub mod Finishing
 pub mod Giving
 pub mod Holding
+pub mod Lagging
+pub mod NoEntries
 pub mod Passing
 pub mod Running
 pub mod Stages

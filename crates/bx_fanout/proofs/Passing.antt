@@ -1,5 +1,5 @@
 -- Proves that an input can be completed without the shards.
-use Rattle.std.proofs.Common.{◌≡◌, ℕ, ◌<◌, List, [], ◌∷◌, ◌++◌, length, map, refl, sym, ap, subst, ◌∙◌, arith, Some, None, add-one}
+use Rattle.std.proofs.Common.{◌≡◌, ℕ, ◌+◌, ◌<◌, true, false, List, [], ◌∷◌, ◌++◌, length, map, refl, sym, ap, subst, ◌∙◌, arith, Some, None, add-one}
 use Rattle.bx_entry.specs.Words.{ReadInput, read_input}
 use Rattle.bx_entry.specs.Runs as runs
 use Rattle.bx_entry.specs.declared.{Placing.Ghosts, entry.Slot.Slot}
@@ -7,8 +7,8 @@ use Rattle.bx_entry.specs.declared.entry.Slot.TheVariants.{Ready}
 use Rattle.bx_message.specs.declared.reply.Answer.{Answer}
 use Rattle.bx_shard.specs.Words.{Setup, given_of}
 use Rattle.bx_world.specs.Words.{EachSlot, setup_of, world_of, WorldState}
-use Rattle.bx_fanout.specs.Words.{Row, IsConsistent, IsCollecting, IsTakenIn, IsGiving, seen_out}
-use Rattle.bx_fanout.specs.CurrentInputs.{Collects, IsCollected, NextBy, NextReady, NoneTakenFrom, next_place, out_of}
+use Rattle.bx_fanout.specs.Words.{Row, IsConsistent, IsCollecting, IsTakenIn, IsGiving, is_collecting, seen_out}
+use Rattle.bx_fanout.specs.CurrentInputs.{AreAnswers, Collects, IsCollected, NextBy, NextReady, NoneTakenFrom, next_place, out_of}
 use Rattle.bx_fanout.specs.declared.stage.Stage.TheVariants.{Collecting, Complete}
 use Rattle.bx_fanout.specs.declared.{current_input.CurrentInput.CurrentInput, round_state.RoundState.RoundState}
 use Rattle.bx_fanout.proofs.{Collecting.collected-more, TakingIn.collected-intake, TakingIn.fresh-behind, Finishing.intake-at, Stages.giving-whole}
@@ -33,6 +33,20 @@ pub intake-ready : (setup : Setup) (inputs : List ReadInput) (w : WorldState) (r
 intake-ready setup inputs w rows n m added batch d so_far collects =
     collected-intake setup setup inputs w w rows n m added batch refl d (so_far d.collecting.collected) (record { list = refl; applied = refl; earlier = λ p less. refl }) collects
 
+-- An input with more room for answers.
+pub intake-room : (setup : Setup) (inputs : List ReadInput) (w : WorldState) (rows : List Row) (n m : CurrentInput) (added : List runs.Out) → 0 < setup.config.limits.batch → m ≡ record n { answers = m.answers } → m.answers.items ≡ n.answers.items →
+    IsTakenIn setup inputs w rows n added → IsTakenIn setup inputs w rows m added
+intake-room setup inputs w rows n m added batch is same d =
+    let so_far = d.collecting.collected in
+    let r : CurrentInput = record n { answers = m.answers } in
+    subst (λ (x : CurrentInput). IsTakenIn setup inputs w rows x added) (sym is) (intake-ready setup inputs w rows n r added batch d
+    (λ _. record {
+      answers = subst (AreAnswers setup.config w.list n.first) (sym same) so_far.answers;
+      slots = subst (λ (os : List Answer). EachSlot setup w.list (n.first + length os) n.slots.items) (sym same) so_far.slots;
+      fresh = subst (λ (os : List Answer). NoneTakenFrom (n.first + length os) w.taken) (sym same) so_far.fresh;
+    })
+    (record { number = refl; first = refl; refusal = refl; items = refl; many = ap (λ (os : List Answer). length os + length n.slots.items) same }))
+
 giving-alone : (setup : Setup) (inputs : List ReadInput) (input : ReadInput) (w : WorldState) (rows : List Row) (n : CurrentInput) (added : List runs.Out) → 0 < setup.config.limits.batch → rows ≡ [] → IsCollecting setup inputs input w rows n added →
     n.slots.items ≡ [] → IsGiving setup (inputs ++ input ∷ []) w rows (seen_out (out_of n) ∷ []) added
 giving-alone setup inputs input w [] n added batch bare c none =
@@ -52,6 +66,7 @@ module _ {P : Type 0} {g : Ghosts P} where
       record {
         counted = i.counted;
         staged = intake-ready (setup_of p.world) inputs (world_of p.world) p.held n m (map seen_out p.added) p.world.admission.config.limits.some_batch intake (so_far (setup_of p.world) (world_of p.world)) collects;
+        lags = λ some. i.lags (ap is_collecting is);
       }
 
   pub consistent-whole : (p : RoundState P g) (n m : CurrentInput) → p.stage ≡ Collecting n → p.held ≡ [] → ((setup : Setup) (w : WorldState) → IsCollected setup w n → IsCollected setup w m) → Collects n m →
@@ -61,4 +76,5 @@ module _ {P : Type 0} {g : Ghosts P} where
       record {
         counted = i.counted;
         staged = giving-at-once (setup_of p.world) (map read_input p.inputs) (world_of p.world) p.held m (map seen_out p.added) p.world.admission.config.limits.some_batch bare more.staged none;
+        lags = λ some. let no : false ≡ true = some in cc;
       }

@@ -27,7 +27,7 @@ all-sole config list (o ∷ os) all = (record { accepted = all.0.accepted; sole 
 
 -- ---- One held connect
 
-whole-sole : (config : Config) (r : Registry) (o : Numbered) → IsSole o → is_whole config r o ≡ is_some (latest 0 (answer_in config r o.intake.first ∷ []))
+pub whole-sole : (config : Config) (r : Registry) (o : Numbered) → IsSole o → is_whole config r o ≡ is_some (latest 0 (answer_in config r o.intake.first ∷ []))
 whole-sole config r o s = ap (λ (ps : List ℕ). is_some (latest 0 (map (answer_in config r) ps))) s.sole
 
 result-sole : (config : Config) (r : Registry) (o : Numbered) (p : PlacedAnswer) → IsSole o → answer_in config r o.intake.first ≡ Some p → result_by (answers_to config r o) o.intake.refusal ≡ Ok (runs.items_of p)

@@ -1,5 +1,5 @@
 -- Proves that the invariant of a round's state holds after changes to its world.
-use Rattle.std.proofs.Common.{◌≡◌, ◌∙◌, ℕ, zero, suc, List, Some, ap, is_none, length, map, replicate, slice_get, sym, true≢false}
+use Rattle.std.proofs.Common.{◌≡◌, ◌∙◌, ℕ, zero, suc, true, false, List, Some, ap, is_none, length, map, replicate, slice_get, sym, true≢false}
 use Rattle.std.proofs.lemmas.Option.{same_Some}
 use Rattle.bx_entry.specs.Words.{ReadInput, Listed, read_input}
 use Rattle.bx_entry.specs.Runs as runs
@@ -7,7 +7,8 @@ use Rattle.bx_entry.specs.declared.Placing.{Ghosts}
 use Rattle.bx_entry.specs.Placings.{Setup}
 use Rattle.bx_world.specs.Words.{setup_of, world_of, WorldState}
 use Rattle.bx_world.specs.declared.world.World.{World}
-use Rattle.bx_fanout.specs.Words.{Row, IsDone, IsConsistent, IsGiving, own, seen_out}
+use Rattle.bx_fanout.specs.Words.{Row, IsDone, IsConsistent, IsGiving, is_collecting, own, seen_out}
+use Rattle.bx_fanout.specs.CurrentInputs.{IsLevel}
 use Rattle.bx_fanout.specs.Runs as state
 use Rattle.bx_fanout.specs.declared.round_state.RoundState.{RoundState}
 use Rattle.bx_fanout.proofs.Finishing.{giving-at, giving-same, staged-at, staged-same}
@@ -22,10 +23,12 @@ each-same (suc n) m zero i found = sym (same_Some m i found)
 each-same (suc n) m (suc k) i found = each-same n m k i found
 
 module _ {P : Type 0} {g : Ghosts P} where
-  pub consistent-over : (p : RoundState P g) (v : World P g) → setup_of v ≡ setup_of p.world → (world_of v).list ≡ (world_of p.world).list → (world_of v).taken ≡ (world_of p.world).taken → IsConsistent p → IsConsistent (record p { world = v })
-  consistent-over p v setup list taken i = record {
+  pub consistent-over : (p : RoundState P g) (v : World P g) → setup_of v ≡ setup_of p.world → (world_of v).list ≡ (world_of p.world).list → (world_of v).taken ≡ (world_of p.world).taken →
+      (is_collecting p.stage ≡ true → ¬ IsLevel (world_of v)) → IsConsistent p → IsConsistent (record p { world = v })
+  consistent-over p v setup list taken lags i = record {
     counted = i.counted;
     staged = staged-same (setup_of v) (setup_of p.world) (map read_input p.inputs) (world_of p.world) (world_of v) p.held p.stage (map seen_out p.added) setup list taken i.staged;
+    lags = lags;
   }
 
   giving-done : (p : RoundState P g) → IsDone p → IsConsistent p → IsGiving (setup_of p.world) (map read_input p.inputs) (world_of p.world) p.held (map seen_out (own p.stage)) (map seen_out p.added)
@@ -41,6 +44,7 @@ module _ {P : Type 0} {g : Ghosts P} where
         staged = staged-at (setup_of v) inputs (world_of v) p.held p.stage (map seen_out p.added) done.none
             (giving-same (setup_of v) (record (setup_of p.world) { shards = shards; placing = placing }) inputs (world_of p.world) (world_of v) p.held left (map seen_out p.added) setup list taken
             (giving-intake (setup_of p.world) shards placing inputs (world_of p.world) p.held left (map seen_out p.added) (giving-done p done i)));
+        lags = λ some. let none : is_collecting p.stage ≡ false = done.none in cc;
       }
 
   pub level-intake : (p : RoundState P g) (v : World P g) (shards : ℕ) → (world_of v).list ≡ (world_of p.world).list → (world_of v).applied ≡ replicate shards (length (world_of p.world).list) → IsDone p → IsConsistent p →

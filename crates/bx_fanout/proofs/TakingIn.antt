@@ -3,7 +3,7 @@ use Rattle.std.proofs.Common.{◌≡◌, ℕ, Bool, ◌+◌, ◌<◌, ◌≤◌,
 use Rattle.std.specs.List.{AllByRecursion}
 use Rattle.std.proofs.lemmas.{List.length-append, List.map-append, List.Sums.fold-append, List.Sums.sum_by-append, Option.slice_get_within}
 use Rattle.bx_advice.specs.declared.config.Config.{Config}
-use Rattle.bx_entry.specs.Words.{ReadInput, added_by, refusal_of, Listed, Judged, PlaceSlot, Waiting, registry, Taking, outs, places_of, taken_as, taken_in, take_in}
+use Rattle.bx_entry.specs.Words.{ReadInput, added_by, refusal_of, Listed, Judged, PlaceSlot, Waiting, registry, Taking, places_of, taken_as, taken_in, take_in}
 use Rattle.bx_entry.specs.Runs as runs
 use Rattle.bx_entry.specs.declared.input.Refusal.{Refusal}
 use Rattle.bx_theory.proofs.{Lists.judged_length, Lists.judged_more, Sole.incomplete_input_is_one_held_connect}
@@ -28,7 +28,7 @@ grows-by t input (Some refusal) = ([], sym (append-nil t.list))
 pub taken-one : (inputs : List ReadInput) (input : ReadInput) → taken_in (inputs ++ input ∷ []) ≡ take_in (taken_in inputs) input
 taken-one inputs input = fold-append take_in (record { list = []; intake = [] }) inputs (input ∷ [])
 
-grows : (inputs : List ReadInput) (input : ReadInput) → (more : List Listed) × ((taken_in (inputs ++ input ∷ [])).list ≡ (taken_in inputs).list ++ more)
+pub grows : (inputs : List ReadInput) (input : ReadInput) → (more : List Listed) × ((taken_in (inputs ++ input ∷ [])).list ≡ (taken_in inputs).list ++ more)
 grows inputs input =
     let g = grows-by (taken_in inputs) input (refusal_of (length (taken_in inputs).list) input) in
     (g.0, ap (λ (t : Taking). t.list) (taken-one inputs input) ∙ g.1)
@@ -46,7 +46,7 @@ within-by : (config : Config) (xs : List Listed) (place : ℕ) (s : PlaceSlot) (
 within-by config xs place s None e slot = let no : None ≡ Some s = slot in cc
 within-by config xs place s (Some j) e slot = let less : place < length (registry config xs).judged = slice_get_within (registry config xs).judged place j e in let len = judged_length config xs in omega arith
 
-slot-within : (config : Config) (xs : List Listed) (place : ℕ) (s : PlaceSlot) → slot_at config xs place ≡ Some s → place < length xs
+pub slot-within : (config : Config) (xs : List Listed) (place : ℕ) (s : PlaceSlot) → slot_at config xs place ≡ Some s → place < length xs
 slot-within config xs place s slot = within-by config xs place s (slice_get (registry config xs).judged place) refl slot
 
 -- ---- Held connects
@@ -239,7 +239,7 @@ giving-out setup inputs w rows after stage stage' before outs' added i g = recor
 level-by : (len : ℕ) (x : ℕ) (xs : List ℕ) → ((k n : ℕ) → slice_get xs k ≡ Some n → len ≤ n) → (b : Bool) → nat_lt x len ≡ b → cond b 1 0 + count_by (λ (n : ℕ). nat_lt n len) xs ≡ 0 → (k n : ℕ) → slice_get (x ∷ xs) k ≡ Some n → len ≤ n
 level-by len x xs ih n e none k n' found = grind arith
 
-count-behind-cons : (len x : ℕ) (xs : List ℕ) → count_by (λ (n : ℕ). nat_lt n len) (x ∷ xs) ≡ cond (nat_lt x len) 1 0 + count_by (λ (n : ℕ). nat_lt n len) xs
+pub count-behind-cons : (len x : ℕ) (xs : List ℕ) → count_by (λ (n : ℕ). nat_lt n len) (x ∷ xs) ≡ cond (nat_lt x len) 1 0 + count_by (λ (n : ℕ). nat_lt n len) xs
 count-behind-cons len x xs = sum_by-append (λ (n : ℕ). cond (nat_lt n len) 1 0) (x ∷ []) xs ∙ ap (λ (n : ℕ). n + count_by (λ (m : ℕ). nat_lt m len) xs) (zero-add (cond (nat_lt x len) 1 0))
 
 pub level-all : (len : ℕ) (xs : List ℕ) → count_by (λ (n : ℕ). nat_lt n len) xs ≡ 0 → (k n : ℕ) → slice_get xs k ≡ Some n → len ≤ n

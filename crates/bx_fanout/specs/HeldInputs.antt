@@ -1,5 +1,5 @@
 -- The held connects of a round, and their answers.
-use Rattle.std.specs.Prelude.{ℕ, ◌+◌, ◌==◌, ◌&&◌, ◌<◌, ◌≤◌, ◌≡◌, Bool, List, [], ◌∷◌, ◌++◌, filter, map, length, count_by, is_none, is_some, option_map, if◌then◌else◌, Option, Some, None, Ok}
+use Rattle.std.specs.Prelude.{ℕ, ◌+◌, ◌==◌, ◌&&◌, ◌<◌, ◌≤◌, ◌≡◌, Bool, true, List, [], ◌∷◌, ◌++◌, filter, map, length, count_by, is_none, is_some, option_map, if◌then◌else◌, Option, Some, None, Ok}
 use Rattle.std.specs.{List.AllByRecursion, List.Sorted.IsStrictlySortedBy, Map.keys_of, Ordering.nat_cmp}
 use Rattle.bx_history.specs.Members.{has}
 use Rattle.bx_fanout.specs.declared.{held_inputs.HeldInput.HeldInput, out.Out.Out}
@@ -19,6 +19,10 @@ waits row = is_none row.1.answer
 -- All held connects in `rows` are before `place`.
 abbrev pub AllBelow : ℕ → List Row → Type 0
 AllBelow place rows = AllByRecursion (λ (row : Row). row.0 < place) rows
+
+-- The last of `rows`, if any, has no answer.
+abbrev pub LastWaits : List Row → Type 0
+LastWaits rows = (earlier : List Row) (row : Row) → rows ≡ earlier ++ row ∷ [] → waits row ≡ true
 
 -- ---- An answer arrives
 

@@ -1,5 +1,5 @@
 -- The state of a round between the steps of a run.
-use Rattle.std.specs.Prelude.{ℕ, ◌≡◌, ◌≤◌, List, ◌++◌, false, filter, length, map, slice_get, Some}
+use Rattle.std.specs.Prelude.{ℕ, ◌≡◌, ◌≤◌, List, ◌++◌, true, false, filter, length, map, slice_get, Some}
 use Rattle.bx_entry.specs.declared.Placing.{Ghosts}
 use Rattle.bx_entry.specs.Requests.{read_input}
 use Rattle.bx_world.specs.Seen.{setup_of, world_of}
@@ -11,10 +11,12 @@ use Rattle.bx_fanout.specs.declared.stage.Stage.TheVariants.{Idle}
 
 module _ {P : Type 0} {g : Ghosts P} where
   -- In the state `p` of a round, `intake` is the number of inputs started, and the shards, the held
-  -- connects and the appended outs are as the stage requires (`IsStaged`).
+  -- connects and the appended outs are as the stage requires (`IsStaged`). While answers to the
+  -- last input are left to collect, some shard lacks entries.
   pub record IsConsistent (p : RoundState P g) : Type 0 where
     pub counted : p.intake ≡ length p.inputs
     pub staged : IsStaged (setup_of p.world) (map read_input p.inputs) (world_of p.world) p.held p.stage (map seen_out p.added)
+    pub lags : is_collecting p.stage ≡ true → ¬ IsLevel (world_of p.world)
 
   -- No answer to the last input is left to collect, and every shard is at the end of the list.
   pub record IsDone (p : RoundState P g) : Type 0 where

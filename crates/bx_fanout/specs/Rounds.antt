@@ -24,7 +24,8 @@ module _ {P : Type 0} {g : Ghosts P} where
   abbrev pub added_by : Round P g → List runs.Out
   added_by r = state.added_by r.state
 
-  -- Whether memory ran out before all answers to the last input were collected.
+  -- Whether memory ran out before all answers to the last input were collected. Some shard then
+  -- lacks entries.
   abbrev pub is_collecting : Round P g → Bool
   is_collecting r = state.is_collecting r.state
 

@@ -1,5 +1,6 @@
 //! The last input of a round, until it is held or its out is appended.
-ghost use Rattle.std.specs.Prelude.{◌≡◌, [], IfOk};
+ghost use Rattle.std.specs.Prelude.{◌≡◌, ◌+◌, ◌≤◌, [], IfOk, length};
+ghost use Rattle.std.specs.VecDeque.{deque_capacity};
 ghost use Rattle.bx_fanout.specs.CurrentInputs.{Collects, IsCollected, IsLevel, IsWhole, Keeps, Next, OthersStay, out_of, response_of};
 ghost use Rattle.bx_world.specs.Seen.{setup_of, world_of};
 
@@ -33,32 +34,24 @@ impl CurrentInput {
     /// missing.
     ///
     /// Stops at the first missing answer and returns `false`. Every shard must be at the end of the
-    /// list.
-    ///
-    /// # Errors
-    ///
-    /// `AllocError` if memory runs out; the answers collected so far are kept.
-    pub(crate) fn collect<P: Placing>(
-        &mut self,
-        alloc: Global,
-        world: &mut World<P>,
-    ) -> Result<bool, AllocError>
+    /// list, and `answers` must have room for all answers.
+    pub(crate) fn collect<P: Placing>(&mut self, alloc: Global, world: &mut World<P>) -> bool
+        requires room { length self.old.answers.items + length self.old.slots.items ≤ deque_capacity self.old.answers }
         requires level { IsLevel (world_of world.old) }
         requires so_far { IsCollected (setup_of world.old) (world_of world.old) self.old }
         ensures so_far { IsCollected (setup_of world.new) (world_of world.new) self.new }
         ensures setup { setup_of world.new ≡ setup_of world.old }
         ensures world { Keeps self.old.first (world_of world.old) (world_of world.new) }
         ensures collects { Collects self.old self.new }
-        ensures whole { IfOk result (λ whole. IsWhole (setup_of world.new).config (world_of world.new).list self.new whole) }
+        ensures whole { IsWhole (setup_of world.new).config (world_of world.new).list self.new result }
     {
         while !self.slots.is_empty() {
-            self.answers.reserve(1)?;
             let Some(answer) = next_answer(alloc, &mut self.slots, world) else {
-                return Ok(false);
+                return false;
             };
             self.answers.push_back_reserved(answer);
         }
-        Ok(true)
+        true
     }
 
     /// Converts the collected answers to items, and appends these to the items of the response.

@@ -1,10 +1,10 @@
 //! The held connects of a round.
-ghost use Rattle.std.specs.Prelude.{◌≡◌, ◌↔◌, ◌+◌, ◌++◌, ◌≤◌, IsTrue, [], ◌∷◌, filter, is_none, if◌then◌else◌, length, vec_capacity, vec_len, IfOk, OnOk, OnErr, reverse};
+ghost use Rattle.std.specs.Prelude.{List, ◌≡◌, ◌↔◌, ◌+◌, ◌++◌, ◌≤◌, IsTrue, [], ◌∷◌, filter, is_none, if◌then◌else◌, length, vec_capacity, vec_len, IfOk, OnOk, OnErr, reverse};
 ghost use Rattle.std.specs.List.{list_any};
 ghost use Rattle.std.specs.Map.{remove_entry};
 ghost use Rattle.std.specs.BTreeMap.{IsOrdered, get, is_at};
 ghost use Rattle.std.specs.Ordering.{nat_cmp};
-ghost use Rattle.bx_fanout.specs.HeldInputs.{AllBelow, Gives, answered_at, answered_places, items_of, numbers, out_by, room_by, waits, waits_there};
+ghost use Rattle.bx_fanout.specs.HeldInputs.{AllBelow, Gives, LastWaits, Row, answered_at, answered_places, items_of, numbers, out_by, room_by, waits, waits_there};
 
 use crate::items::add_items;
 use crate::out::Out;
@@ -78,6 +78,14 @@ impl HeldInputs {
         };
         self.held.insert(place, held)?;
         Ok(())
+    }
+
+    /// Removes the connect with the last place, if any. It must have no answer.
+    pub(crate) fn release(&mut self)
+        requires { LastWaits self.old }
+        ensures { (earlier : List Row) → (row : Row) → self.old ≡ earlier ++ row ∷ [] → self.new ≡ earlier }
+    {
+        self.held.pop_last();
     }
 
     /// Assigns `answer` to the connect that waits at `place`, or drops it if none waits there.

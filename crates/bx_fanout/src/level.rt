@@ -1,5 +1,5 @@
 //! Advancing every shard to the end of the list.
-ghost use Rattle.std.specs.Prelude.{ℕ, ◌≡◌, ◌≤◌, length, slice_get, IfOk, Some};
+ghost use Rattle.std.specs.Prelude.{ℕ, ◌≡◌, ◌≤◌, length, slice_get, IfOk, OnErr, Some};
 ghost use Rattle.bx_fanout.specs.CurrentInputs.{IsLevel};
 ghost use Rattle.bx_world.specs.Seen.{setup_of, world_of};
 
@@ -13,7 +13,7 @@ use std::thread::Threads;
 ///
 /// # Errors
 ///
-/// `AllocError` if memory runs out; some shards may then still lack entries.
+/// `AllocError` if memory runs out. Then some shard still lacks entries.
 pub(crate) fn level<R: Threads + Sync, G: Gate + Sync, P: Placing + Send + Sync>(
     rt: &R,
     alloc: Global,
@@ -22,6 +22,7 @@ pub(crate) fn level<R: Threads + Sync, G: Gate + Sync, P: Placing + Send + Sync>
     world: &mut World<P>,
 ) -> Result<(), AllocError>
     ensures level { IfOk result (λ _. IsLevel (world_of world.new)) }
+    ensures lags { OnErr result (¬ IsLevel (world_of world.new)) }
     ensures within { (k n : ℕ) → slice_get (world_of world.new).applied k ≡ Some n → n ≤ length (world_of world.new).list }
     ensures list { (world_of world.new).list ≡ (world_of world.old).list }
     ensures taken { (world_of world.new).taken ≡ (world_of world.old).taken }

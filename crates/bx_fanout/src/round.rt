@@ -28,7 +28,7 @@ pub struct Round<P: Placing> {
 }
 
 impl<P: Placing> Round<P> {
-    ghost use Rattle.std.specs.Prelude.{◌≡◌, ◌≤◌, ◌+◌, ◌^◌, [], false, true, length, IfOk, MatchResult};
+    ghost use Rattle.std.specs.Prelude.{◌≡◌, ◌≤◌, ◌+◌, ◌^◌, ◌⊎◌, [], false, true, length, IfOk, MatchResult};
     ghost use Rattle.std.specs.Arc.{arc_value};
     ghost use Rattle.bx_entry.specs.Runs as runs;
     ghost use Rattle.bx_fanout.specs.Rounds.{IsLevel, IsRun, added_by, inputs_of, is_collecting, setup_in, workers_in};
@@ -62,8 +62,9 @@ impl<P: Placing> Round<P> {
     /// Each input is completed or held before the next one starts. Outs that become ready together
     /// are appended in the order of their numbers.
     ///
-    /// An input needs no shard if no connect is held and all its messages are answered at once. The
-    /// shards then apply its entries later. All shards advance to the end of the list:
+    /// An input needs no shard if it adds no entries to the list, or if no connect is held and all
+    /// its messages are answered at once. The shards then apply its entries later. All shards
+    /// advance to the end of the list:
     ///
     /// - before any other input is completed or held,
     /// - when the slowest shard lacks more than 1,024 entries,
@@ -157,14 +158,15 @@ impl<P: Placing> Round<P> {
 
     /// Returns the numbers of the incomplete inputs, in ascending order.
     ///
-    /// Usually each is that of a held connect. If memory ran out before all answers to the last
-    /// input were collected, the last input's number is included.
+    /// If every shard is at the end of the list, each is that of a held connect. If memory ran out
+    /// before all answers to the last input were collected, some shard lacks entries. The result
+    /// then has the inputs that were incomplete before the last input, and the last input.
     ///
     /// # Errors
     ///
     /// `AllocError` if memory runs out.
     pub fn held(&self, alloc: Global) -> Result<Vec<usize>, AllocError>
-        ensures held { IfOk result (λ numbers. is_collecting self.now ≡ false
+        ensures held { IfOk result (λ numbers. IsLevel self.now ⊎ (is_collecting self.now ≡ false)
             → numbers.items ≡ runs.held (setup_in self.now).config (inputs_of self.now)) }
         ensures collecting { IfOk result (λ numbers. is_collecting self.now ≡ true
             → AreHeldBefore (setup_in self.now).config (inputs_of self.now) numbers.items) }

@@ -1,6 +1,5 @@
 //! The state of a round, and the steps of a run.
 ghost use Rattle.std.specs.Prelude.{ℕ, ◌≡◌, ◌+◌, ◌++◌, ◌≤◌, ◌<◌, ◌^◌, ◌⊎◌, [], ◌∷◌, false, length, slice_get, Some, IfOk, OnErr, OnOk};
-ghost use Rattle.bx_fanout.specs.CurrentInputs.{IsLevel};
 ghost use Rattle.bx_fanout.specs.RoundStates.{AddsOuts, IsCalm, IsDone, IsConsistent};
 ghost use Rattle.bx_fanout.specs.Stages.{is_collecting};
 ghost use Rattle.std.specs.Arc.{arc_value};
@@ -65,7 +64,7 @@ pub(crate) fn new_state<P: Placing + Drop>(
     })
 }
 
-/// Advances every shard to the end of the list, and collects the answers to the last input.
+/// Advances every shard to the end of the list, and completes or holds the last input.
 ///
 /// Uses one worker if few deliveries are expected, and otherwise `workers`.
 ///
@@ -87,8 +86,30 @@ pub(crate) fn finish<R: Threads + Sync, G: Gate + Sync, P: Placing + Send + Sync
     ensures setup { setup_of state.new.world ≡ setup_of state.old.world }
 {
     let workers = workers_for(&state.world, workers);
-    level(rt, alloc, gate, workers, &mut state.world)?;
-    collect_last(alloc, state)
+    let Some(mut current) = state.stage.take_collecting() else {
+        return level(rt, alloc, gate, workers, &mut state.world);
+    };
+    match bring_in(
+        rt,
+        alloc,
+        gate,
+        workers,
+        &mut state.world,
+        &mut state.held,
+        &mut current,
+        &state.inputs,
+        &state.added,
+    ) {
+        Ok(true) => {
+            state.stage = Stage::Complete(current);
+            Ok(())
+        }
+        Ok(false) => Ok(()),
+        Err(fault) => {
+            state.stage = Stage::Collecting(current);
+            Err(fault)
+        }
+    }
 }
 
 /// The least number of deliveries for which it is worthwhile to start and join threads.
@@ -122,51 +143,6 @@ fn expected<P: Placing>(world: &World<P>, place: u64) -> u64 {
             _ => 1,
         },
         None => 0,
-    }
-}
-
-/// Collects the answers to the last input, and then completes or holds it.
-///
-/// Does nothing if no answer to the last input is left to collect.
-///
-/// Every shard must be at the end of the list.
-///
-/// # Errors
-///
-/// `AllocError` if memory runs out; the next call continues.
-pub(crate) fn collect_last<P: Placing>(
-    alloc: Global,
-    state: &mut RoundState<P>,
-) -> Result<(), AllocError>
-    requires consistent { IsConsistent state.old }
-    requires level { IsLevel (world_of state.old.world) }
-    requires within { (k n : ℕ) → slice_get (world_of state.old.world).applied k ≡ Some n → n ≤ length (world_of state.old.world).list }
-    ensures consistent { IsConsistent state.new }
-    ensures done { IfOk result (λ _. IsDone state.new) }
-    ensures inputs { state.new.inputs ≡ state.old.inputs }
-    ensures added { state.new.added ≡ state.old.added }
-    ensures setup { setup_of state.new.world ≡ setup_of state.old.world }
-{
-    let Some(mut current) = state.stage.take_collecting() else {
-        return Ok(());
-    };
-    match bring_in(
-        alloc,
-        &mut state.world,
-        &mut state.held,
-        &mut current,
-        &state.inputs,
-        &state.added,
-    ) {
-        Ok(true) => {
-            state.stage = Stage::Complete(current);
-            Ok(())
-        }
-        Ok(false) => Ok(()),
-        Err(fault) => {
-            state.stage = Stage::Collecting(current);
-            Err(fault)
-        }
     }
 }
 
@@ -223,7 +199,7 @@ pub(crate) fn settle<R: Threads + Sync, G: Gate + Sync, P: Placing + Send + Sync
     add_outs(alloc, state, outs)
 }
 
-/// Starts `input`: admits or rejects it.
+/// Starts `input`: admits or rejects it. Completes it if it adds no entries to the list.
 ///
 /// No answer may be left to collect, and no out to append.
 ///
@@ -253,8 +229,13 @@ pub(crate) fn take_in_next<P: Placing>(
         &state.inputs,
         &state.added,
     )?;
+    let stage = if current.first < state.world.entries() {
+        Stage::Collecting(current)
+    } else {
+        Stage::Complete(current)
+    };
     state.intake += 1;
-    state.stage = Stage::Collecting(current);
+    state.stage = stage;
     state.inputs.push(input);
     Ok(())
 }

@@ -11,7 +11,7 @@ use std::mem;
 pub(crate) enum Stage {
     /// No input is in progress. The last input, if any, is held, or its out is appended.
     Idle,
-    /// The answers to the last input are being collected.
+    /// The answers to the last input are being collected. Some shard lacks entries.
     Collecting(CurrentInput),
     /// All answers to the last input are collected; its out is not appended yet.
     Complete(CurrentInput),

@@ -1,6 +1,7 @@
 //! Starting an input: it is admitted or rejected.
-ghost use Rattle.std.specs.Prelude.{◌≡◌, ◌++◌, [], ◌∷◌, filter, length, map, IfOk, OnErr};
+ghost use Rattle.std.specs.Prelude.{◌≡◌, ◌<◌, ◌++◌, [], ◌∷◌, filter, length, map, IfOk, OnErr};
 ghost use Rattle.bx_entry.specs.Requests.{read_input};
+ghost use Rattle.bx_fanout.specs.CurrentInputs.{IsLevel};
 ghost use Rattle.bx_fanout.specs.HeldInputs.{waits};
 ghost use Rattle.bx_fanout.specs.Stages.{IsTakenIn, IsGiving, seen_out};
 ghost use Rattle.bx_world.specs.Outputs.{admission};
@@ -39,6 +40,7 @@ pub(crate) fn take_in<P: Placing>(
     requires settled { held.now ≡ filter waits held.now }
     ensures intake { IfOk result (λ n. IsTakenIn (setup_of world.new) (map read_input (inputs.now ++ input.now ∷ [])) (world_of world.new) held.now n
         (map seen_out added.now)) }
+    ensures lags { IfOk result (λ n. n.first < length (world_of world.new).list → ¬ IsLevel (world_of world.new)) }
     ensures same { OnErr result (world_of world.new ≡ world_of world.old) }
     ensures setup { setup_of world.new ≡ setup_of world.old }
 {

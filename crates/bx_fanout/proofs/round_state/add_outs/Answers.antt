@@ -1,7 +1,7 @@
-use Rattle.std.proofs.Common.{◌≡◌, ◌++◌, arith, ◌∙◌, List, ap, length, map, subst, sym}
+use Rattle.std.proofs.Common.{◌≡◌, false, ◌++◌, arith, ◌∙◌, List, ap, length, map, subst, sym}
 use Rattle.std.proofs.lemmas.List.{map-append}
 use Rattle.bx_entry.specs.Requests.{read_input}
-use Rattle.bx_fanout.specs.Stages.{IsGiving, own, seen_out}
+use Rattle.bx_fanout.specs.Stages.{IsGiving, is_collecting, own, seen_out}
 use Rattle.bx_fanout.specs.declared.out.Out.{Out}
 use Rattle.bx_world.specs.Seen.{setup_of, world_of}
 use Rattle.bx_fanout.proofs.{TakingIn.giving-out, Finishing.behind-is, Finishing.giving-at, Finishing.staged-at}
@@ -26,4 +26,5 @@ returns-clause-consistent g c =
       counted = i.counted;
       staged = staged-at (setup_of w) inputs (world_of w) held stage (map seen_out c.append.new.self) (gives.collecting ∙ c.requires.done)
           (subst (IsGiving (setup_of w) inputs (world_of w) held (map seen_out (own stage))) added out);
+      lags = λ some. let none : is_collecting stage ≡ false = gives.collecting ∙ c.requires.done in cc;
     }

@@ -1,11 +1,11 @@
-use Rattle.std.proofs.Common.{◌≡◌, ◌++◌, ◌∷◌, [], ◌∙◌, Err, ap, length, map, subst, sym}
+use Rattle.std.proofs.Common.{ℕ, ◌<◌, ◌≡◌, ◌++◌, ◌∷◌, [], ◌∙◌, Err, ap, length, map, subst, sym}
 use Rattle.std.proofs.lemmas.List.{length-map, map-append}
 use Rattle.bx_entry.specs.Requests.{read_input}
-use Rattle.bx_world.specs.Words.{admission, Steps, setup_of, world_of}
+use Rattle.bx_world.specs.Words.{admission, Steps, setup_of, world_of, WorldState}
 use Rattle.bx_entry.specs.declared.{entry.Admitted.Admitted, input.AdmitFault.AdmitFault}
 use Rattle.bx_world.specs.declared.step.Step.TheVariants.{Admit}
 use Rattle.bx_fanout.specs.Stages.{seen_out}
-use Rattle.bx_fanout.proofs.Admitted.{intake-admitted, intake-of, intake-refused}
+use Rattle.bx_fanout.proofs.{Admitted.intake-admitted, Admitted.intake-of, Admitted.intake-refused, Admitted.took, Lagging.lags-on}
 use Rattle.bx_fanout.proofs.take_in.take_in.Goals as goal
 
 pub returns-in-Ok-clause-intake : goal.returns-in-Ok-clause-intake
@@ -40,3 +40,13 @@ returns-in-Err-Refused-clause-intake g c =
     (map-append read_input c.args.inputs.now (c.args.input.now ∷ []))
     (intake-refused (setup_of w) inputs c.args.input.now (world_of w) (world_of v) c.args.held.now n added c.in-Err-Refused.refusal c.requires.giving c.requires.settled steps.output steps.world
     (made.number ∙ c.requires.number ∙ sym many) (made.first ∙ c.entries-end.ensures) made.refusal made.items made.answers (made.slots ∙ c.new.ensures))
+
+pub returns-in-Ok-clause-lags : goal.returns-in-Ok-clause-lags
+returns-in-Ok-clause-lags g c = λ more level.
+    let w = c.args.world.now in
+    let v = c.admit.new.world in
+    let steps = c.in-Ok.ensures in
+    let a = c.in-Ok.field-0 in
+    let at : c.current_of.result.first ≡ length (world_of w).list =
+    c.current_of.ensures.first ∙ ap (λ (r : Admitted). r.first) (sym c.in-Ok.field-0-is) ∙ (took (setup_of w) (world_of w) c.args.input.now a.first a.slots steps.output).at in
+    lags-on w (world_of v) (ap (λ (x : WorldState). x.applied) steps.world) (subst (λ (n : ℕ). n < length (world_of v).list) at more) level

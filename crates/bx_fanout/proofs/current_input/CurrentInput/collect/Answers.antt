@@ -15,9 +15,10 @@ loop-alloc-preserved g c =
     let inv = c.loop-alloc.invariant in
     let k1 = c.is_empty.ensures in let k2 = c.loop-alloc-test.true in let some : 0 < length n.slots.items = grind (arith, common_steps) in
     let next = c.in-Some.ensures.next (next_place n) inv.level inv.so_far.slots inv.so_far.fresh some in
-    let answers : c.push_back_reserved.new.self.items ≡ n.answers.items ++ c.in-Some.answer ∷ [] = c.push_back_reserved.ensures.items ∙ ap (λ (items : List Answer). items ++ c.in-Some.answer ∷ []) c.in_ok-reserve.ensures.items in
+    let answers : c.push_back_reserved.new.self.items ≡ n.answers.items ++ c.in-Some.answer ∷ [] = c.push_back_reserved.ensures.items in
     let more : length c.push_back_reserved.new.self.items ≡ length n.answers.items + 1 = ap (λ (items : List Answer). length items) answers ∙ length_push n.answers.items c.in-Some.answer in
     record {
+      room = let fewer = next.2 in let same = c.push_back_reserved.ensures.capacity in omega (arith, inv.room);
       level = level-next (setup_of w) (world_of w) (world_of v) (next_place n) n.slots.items c.next_answer.new.slots.items c.in-Some.answer next inv.level;
       so_far = subst (λ (s : Setup). IsCollected s (world_of v) (record n { answers = c.push_back_reserved.new.self; slots = c.next_answer.new.slots })) (sym c.next_answer.ensures.setup) (collected-more (setup_of w) (world_of w) (world_of v) n (record n { answers = c.push_back_reserved.new.self; slots = c.next_answer.new.slots }) c.in-Some.answer inv.so_far next refl answers);
       setup = c.next_answer.ensures.setup ∙ inv.setup;

@@ -1,14 +1,15 @@
-use Rattle.std.proofs.Common.{◌≡◌, ◌∙◌, ◌++◌, ◌∷◌, [], false, true, Global, List, Vec, ap, filter, map, subst, sym, ℕ}
+use Rattle.std.proofs.Common.{arith, ◌≡◌, ◌∙◌, ◌++◌, ◌∷◌, [], false, true, Global, List, Vec, ap, filter, map, subst, sym, ℕ}
 use Rattle.bx_entry.specs.Requests.{read_input}
 use Rattle.bx_world.specs.Seen.{setup_of, world_of}
 use Rattle.bx_fanout.specs.Words.{numbers, waits, AreHeldBefore, is_collecting, seen_out}
-use Rattle.bx_fanout.proofs.Holding.{held-before, held-none, held-some}
+use Rattle.bx_fanout.proofs.Holding.{held-before, held-none, held-some, none-collecting}
 use Rattle.bx_fanout.proofs.round.Round.held.Goals.{in-Some+in_ok-push, in_default}
 use Rattle.bx_fanout.proofs.round.Round.held.Goals as goal
 
 pub returns-clause-held : goal.returns-clause-held
-returns-clause-held g c = λ none.
+returns-clause-held g c = λ either.
     let p = c.args.self.now.state in
+    let none : is_collecting p.stage ≡ false = none-collecting p.stage either (λ some all. c.args.self.now.consistent.lags some (λ k n found. let is = all.level k n found in omega (arith, is))) in
     let batch = p.world.admission.config.limits.some_batch in
     let staged = c.args.self.now.consistent.staged in
     elim c.match-collecting.branch [
