@@ -19,7 +19,8 @@ none-lack len (x ∷ xs) each =
     grind (arith, count-behind-cons len x xs)
 
 module _ {P : Type 0} {g : Ghosts P} where
-  -- If `v` has more entries than `w`, and its shards have applied no more, some shard lacks entries.
+  -- Some shard of `v` lacks entries if `v` has a longer list than `w`, and the shards of both have
+  -- applied the same numbers of entries.
   pub lags-on : (w : World P g) (v : WorldState) → v.applied ≡ (world_of w).applied → length (world_of w).list < length v.list → ¬ IsLevel v
   lags-on w v same more level =
       let xs : List (Shard P) = w.shards.items in

@@ -37,8 +37,9 @@ pub record Keeps (place : ℕ) (old new : WorldState) : Type 0 where
 
 -- ---- One answer
 
--- The result is the answer to the message at `place`, which was taken, and the first slot was
--- removed. Or it is `None` because the list has no such answer yet, and nothing changed.
+-- The result is the answer to the message at `place`, and the first slot was removed. From `place`
+-- on, no other answer was taken. Or the result is `None`, because the list has no answer to the
+-- message yet, and nothing changed.
 abbrev pub NextBy : Setup → WorldState → ℕ → List Slot → List Slot → WorldState → Option Answer → Type 0
 NextBy setup old place before after new None = (given_at setup.config old.list place ≡ None) × (after ≡ before) × (new ≡ old)
 NextBy setup old place before after new (Some a) =

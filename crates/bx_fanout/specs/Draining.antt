@@ -28,8 +28,9 @@ pub record CanDrain (setup : Setup) (w : WorldState) (rows : List Row) : Type 0 
 abbrev pub filled : Config → List Listed → Row → Row
 filled config list row = (row.0, record { number = row.1.number; answer = given_at config list row.0 })
 
--- In `after`, each connect of `before` has its answer if the list has it. No answer was taken for
--- the other connects, nor for a place after the end of the list. The list is unchanged.
+-- In `after`, each connect of `before` has its answer if the list has it. No answer was taken for a
+-- connect that the list does not answer, nor for a place after the end of the list. The list and
+-- what each shard has applied are unchanged.
 pub record Drained (setup : Setup) (old : WorldState) (before : List Row) (new : WorldState) (after : List Row) : Type 0 where
   pub list : new.list ≡ old.list
   pub applied : new.applied ≡ old.applied
@@ -49,7 +50,9 @@ IsEmptied setup list taken shard = (place session : ℕ) → slot_at setup.confi
     given_at setup.config list place ≡ None
 
 -- All answers that the first `shard` shards have filed were taken. `rows` are the connects of
--- `before`, each with its answer if that was taken. Every shard has applied the whole list.
+-- `before`, each with its answer if that was taken. Every shard has applied the whole list. No
+-- answer was taken for a connect that the list does not answer, nor for a place after the end of
+-- the list.
 pub record Draining (setup : Setup) (before : List Row) (w : WorldState) (rows : List Row) (shard : ℕ) : Type 0 where
   pub level : IsLevel w
   pub put : rows ≡ map (put_if setup.config w.list w.taken) before

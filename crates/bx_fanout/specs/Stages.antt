@@ -25,8 +25,8 @@ abbrev pub AllUntaken : List ℕ → List Numbered → Type 0
 AllUntaken taken os = AllByRecursion (λ (o : Numbered). is_taken taken o.intake.first ≡ false) os
 
 -- The answers to `input`, which comes after `inputs`, are being collected in `n`. `rows` are the
--- incomplete inputs among `inputs`, held without an answer. `added` are the outs of the complete
--- ones.
+-- incomplete inputs among `inputs`, held without an answer. No answer to their first messages was
+-- taken. `added` are the outs of the complete inputs among `inputs`.
 pub record IsCollecting (setup : Setup) (inputs : List ReadInput) (input : ReadInput) (w : WorldState) (rows : List Row) (n : CurrentInput) (added : List runs.Out) : Type 0 where
   pub list : w.list ≡ (taken_in (inputs ++ input ∷ [])).list
   pub number : n.number ≡ length inputs
@@ -41,7 +41,7 @@ pub record IsCollecting (setup : Setup) (inputs : List ReadInput) (input : ReadI
 
 -- All answers that the list gives to `inputs` are collected. The outs of the answered connects in
 -- `rows`, followed by `own`, are left to append to `added`. The other connects in `rows` are the
--- incomplete inputs.
+-- incomplete inputs. No answer to their first messages, or to a place after the list, was taken.
 pub record IsGiving (setup : Setup) (inputs : List ReadInput) (w : WorldState) (rows : List Row) (own : List runs.Out) (added : List runs.Out) : Type 0 where
   pub list : w.list ≡ (taken_in inputs).list
   pub rest : filter waits rows ≡ map bare (open_after setup.config inputs)
@@ -75,7 +75,8 @@ own (Collecting n) = []
 own (Complete n) = out_of n ∷ []
 
 -- The first of the outs that were left to append were appended to `before`, resulting in `after`.
--- The others are still left. The waiting connects are unchanged.
+-- The other outs are still left. The waiting connects are unchanged, and so is whether answers to
+-- the last input are being collected.
 pub record GivesOut (rows : List Row) (stage : Stage) (before after : List Out) (rows' : List Row) (stage' : Stage) : Type 0 where
   pub more : List Out
   pub behind : after ≡ before ++ more

@@ -17,15 +17,18 @@ use bx_world::World;
 use std::alloc::{AllocError, Global};
 use std::thread::Threads;
 
-/// Advances every shard to the end of the list, with `workers` workers, and then collects the
-/// answers to `current`, the last input, and to held connects.
+/// Advances every shard to the end of the list, and collects the answers to the last input.
 ///
-/// Returns `true` if all answers to `current` are collected. Otherwise holds `current` and returns
-/// `false`. The memory for both is allocated before the first shard advances.
+/// Uses `workers` workers. The last input is `current`. Returns `true` if all answers to `current`
+/// are collected. Otherwise holds `current` and returns `false`. Then assigns the other filed
+/// answers to the held connects that wait for them, and drops the rest.
+///
+/// Memory for the answers and for holding `current` is allocated before the first shard advances.
 ///
 /// # Errors
 ///
-/// `AllocError` if memory runs out. Then some shard still lacks entries, and no answer is collected.
+/// `AllocError` if memory runs out. Then some shard still lacks entries, and no answer is
+/// collected.
 pub(crate) fn bring_in<R: Threads + Sync, G: Gate + Sync, P: Placing + Send + Sync>(
     rt: &R,
     alloc: Global,

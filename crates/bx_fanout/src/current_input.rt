@@ -15,17 +15,18 @@ use std::collections::VecDeque;
 /// An input in progress: it is not held, and its out is not appended yet.
 #[derive(Drop)]
 pub(crate) struct CurrentInput {
-    /// The input's number among all inputs of the round, from 0.
+    /// The number of the input in progress among all inputs of the round, from 0.
     pub(crate) number: usize,
-    /// The length of the list before the input, and so the place of its first entry, if any.
+    /// The length of the list before the input in progress, and so the place of its first entry, if
+    /// any.
     pub(crate) first: u64,
-    /// Why the input was rejected, if it was.
+    /// Why the input in progress was rejected, if it was.
     pub(crate) refusal: Option<Refusal>,
-    /// The items that were converted from answers so far: the first items of the response.
+    /// The first items of the response to the input in progress, converted from answers.
     pub(crate) items: Vec<Item>,
-    /// The collected answers that are not converted to items yet, in order.
+    /// The answers to the input in progress that are collected and not converted yet, in order.
     pub(crate) answers: VecDeque<Answer>,
-    /// How the messages without a collected answer are answered, in order.
+    /// How the input's messages without a collected answer are answered, in order.
     pub(crate) slots: VecDeque<Slot>,
 }
 
@@ -95,7 +96,7 @@ impl CurrentInput {
 }
 
 // Takes the answer to the first slot's message, and removes the slot. Returns `None` and keeps the
-// slot if the answer is missing.
+// slot if the answer is missing. Also returns `None` without slots.
 fn next_answer<P: Placing>(
     alloc: Global,
     slots: &mut VecDeque<Slot>,

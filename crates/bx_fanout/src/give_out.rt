@@ -10,7 +10,8 @@ use std::alloc::{AllocError, Global};
 
 /// Appends the outs of answered held connects, and then that of the complete input, to `outs`.
 ///
-/// The answered connects and the complete input are removed.
+/// The answered connects are removed from `held`. If `stage` has a complete input, it becomes
+/// `Idle`; otherwise it is unchanged.
 ///
 /// # Errors
 ///
@@ -29,8 +30,8 @@ pub(crate) fn give_out(
     give_own(stage, outs)
 }
 
-// Appends the out of the complete input to `outs`, and removes the input from `stage`. Does nothing
-// in another stage. On error `outs` is unchanged; the next call continues.
+// Appends the out of the input in `Complete` to `outs`, and sets `stage` to `Idle`. Does nothing in
+// another stage. On error `outs` is unchanged; the next call continues.
 fn give_own(stage: &mut Stage, outs: &mut Vec<Out>) -> Result<(), AllocError>
     ensures all { IfOk result (λ _. own stage.new ≡ []) }
     ensures added { IfOk result (λ _. outs.new.items ≡ outs.old.items ++ own stage.old) }

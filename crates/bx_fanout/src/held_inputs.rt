@@ -18,22 +18,23 @@ use std::marker::Model;
 /// It is removed when its input's out is appended.
 #[derive(Drop)]
 pub(crate) struct HeldInput {
-    /// The number of the connect's input among all inputs of the round, from 0.
+    /// The number of the held connect's input among all inputs of the round, from 0.
     pub(crate) number: usize,
-    /// The answer, or `None` while the connect waits.
+    /// The answer to the held connect, or `None` while the connect waits.
     pub(crate) answer: Option<Answer>,
 }
 
 /// The held connects of a round, by place, and the answers that have arrived for them.
 ///
-/// Assigning an answer, or appending the outs of answered connects, does not scan the others.
+/// Assigning an answer, or appending the outs of answered connects, does not scan the connects that
+/// wait.
 ///
 /// Model: the connects, in ascending order of their places.
 #[derive(Drop)]
 pub(crate) struct HeldInputs {
     held: BTreeMap<u64, HeldInput>,
-    // The places of the answered connects, in any order. Its capacity is enough for the places of
-    // all connects.
+    // The places of the answered connects, in any order. The capacity is enough for the places of
+    // all held connects.
     answered: Vec<u64>,
 }
 
@@ -59,9 +60,10 @@ impl HeldInputs {
         }
     }
 
-    /// Adds the connect at `place`, which must be after the places of all others.
+    /// Adds the connect at `place`, without an answer.
     ///
-    /// `number`: the number of the connect's input.
+    /// `place` must be after the places of all held connects. `number`: the number of the connect's
+    /// input.
     ///
     /// # Errors
     ///

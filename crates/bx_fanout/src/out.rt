@@ -5,9 +5,9 @@ use bx_message::{Item, Sequence};
 /// The result of a complete input.
 #[derive(Drop)]
 pub struct Out {
-    /// The input's number among all inputs of the round, from 0.
+    /// The number of the complete input among all inputs of the round, from 0.
     pub input: usize,
-    /// The response, or why the input was rejected.
+    /// The response to the complete input, or why that input was rejected.
     ///
     /// A response has, for each message in order, its events and then its reply. It is empty for a
     /// tick.

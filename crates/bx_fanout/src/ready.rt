@@ -10,8 +10,9 @@ use bx_message::{Answer, Sequence};
 use std::alloc::{AllocError, Global};
 use std::collections::VecDeque;
 
-/// Collects the replies of slots up to the first `Waiting` slot, and returns `true` if there is
-/// none.
+/// Collects the replies of the input's slots, up to the first `Waiting` slot.
+///
+/// Returns `true` if there is no `Waiting` slot, and so all answers are collected.
 ///
 /// Shards need not have applied the input's entries.
 ///
@@ -34,7 +35,7 @@ pub(crate) fn collect_ready(alloc: Global, current: &mut CurrentInput) -> Result
 }
 
 // Takes the reply in the first slot as an answer without events, and removes the slot. Returns
-// `None` if the first slot is `Waiting`, and keeps the slot.
+// `None` if the first slot is `Waiting`, and keeps the slot. Also returns `None` without slots.
 fn next_ready(alloc: Global, slots: &mut VecDeque<Slot>) -> Option<Answer>
     ensures { NextReady slots.old.items slots.new.items result }
 {

@@ -60,7 +60,7 @@ impl<P: Placing> Round<P> {
     /// Answers `inputs` in order, and appends the outs of all inputs that become complete.
     ///
     /// Each input is completed or held before the next one starts. Outs that become ready together
-    /// are appended in the order of their numbers.
+    /// are appended in the order of their inputs.
     ///
     /// An input needs no shard if it adds no entries to the list, or if no connect is held and all
     /// its messages are answered at once. The shards then apply its entries later. All shards
@@ -115,8 +115,9 @@ impl<P: Placing> Round<P> {
 
     /// Redistributes the sessions among `shards` shards, by `placing`.
     ///
-    /// First, the calling thread advances every shard to the end of the list, without a gate. The
-    /// inputs and outs of earlier runs are kept.
+    /// First, the calling thread advances every shard to the end of the list, without a gate, and
+    /// collects the answers that are left. The next run appends their outs. The inputs and outs of
+    /// earlier runs are kept.
     ///
     /// # Errors
     ///
@@ -158,9 +159,9 @@ impl<P: Placing> Round<P> {
 
     /// Returns the numbers of the incomplete inputs, in ascending order.
     ///
-    /// If every shard is at the end of the list, each is that of a held connect. If memory ran out
-    /// before all answers to the last input were collected, some shard lacks entries. The result
-    /// then has the inputs that were incomplete before the last input, and the last input.
+    /// If memory ran out before all answers to the last input were collected, some shard lacks
+    /// entries. The result then has the numbers of the inputs that were incomplete before the last
+    /// input, and the number of the last input.
     ///
     /// # Errors
     ///

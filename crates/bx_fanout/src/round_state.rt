@@ -29,13 +29,13 @@ use std::thread::Threads;
 pub(crate) struct RoundState<P: Placing> {
     pub(crate) world: World<P>,
     pub(crate) held: HeldInputs,
-    /// The progress of the last input.
+    /// The progress of the round's last input.
     pub(crate) stage: Stage,
-    /// Number of inputs started, and so the number of the next input.
+    /// The number of inputs that the round has started, and so the number of its next input.
     pub(crate) intake: usize,
-    // Ghost: the inputs started.
+    // Ghost: the inputs that the round has started, in order.
     pub(crate) inputs: History<Input>,
-    // Ghost: the outs appended.
+    // Ghost: the outs that the round has appended, in order.
     pub(crate) added: History<Out>,
 }
 
@@ -66,7 +66,8 @@ pub(crate) fn new_state<P: Placing + Drop>(
 
 /// Advances every shard to the end of the list, and completes or holds the last input.
 ///
-/// Uses one worker if few deliveries are expected, and otherwise `workers`.
+/// If all answers to the last input are collected, only advances the shards. Uses one worker if
+/// fewer than `SHARED_WORK` deliveries are expected, and otherwise `workers`.
 ///
 /// # Errors
 ///
@@ -148,7 +149,8 @@ fn expected<P: Placing>(world: &World<P>, place: u64) -> u64 {
 
 /// Appends the outs of answered held connects, and then that of the complete input, to `outs`.
 ///
-/// All answers to the last input must be collected.
+/// All answers to the last input must be collected. The answered connects and the complete input
+/// are removed from `state`.
 ///
 /// # Errors
 ///
@@ -174,7 +176,7 @@ pub(crate) fn add_outs<P: Placing>(
 /// Completes or holds the last input, and appends the outs of all inputs that it completes to
 /// `outs`.
 ///
-/// Does not advance the shards if the input needs none.
+/// Does not advance the shards if the last input needs none of them.
 ///
 /// # Errors
 ///

@@ -6,7 +6,7 @@ ghost use Rattle.bx_fanout.specs.declared.stage.Stage.TheVariants.{Collecting, C
 use crate::current_input::CurrentInput;
 use std::mem;
 
-/// The progress of the last input.
+/// The progress of a round's last input.
 #[derive(Drop)]
 pub(crate) enum Stage {
     /// No input is in progress. The last input, if any, is held, or its out is appended.
@@ -29,7 +29,9 @@ impl Stage {
         }
     }
 
-    /// Takes the input in `Collecting` and leaves `Idle`, or returns `None` in another stage.
+    /// Takes the input in `Collecting`, and sets `self` to `Idle`.
+    ///
+    /// In another stage, returns `None` and leaves `self` unchanged.
     pub(crate) fn take_collecting(&mut self) -> Option<CurrentInput>
         ensures some { IfSome result (λ current. (self.old ≡ Collecting current) × (self.new ≡ Idle)) }
         ensures none { IfNone result ((is_collecting self.old ≡ false) × (self.new ≡ self.old)) }
@@ -43,7 +45,9 @@ impl Stage {
         }
     }
 
-    /// Takes the input in `Complete` and leaves `Idle`, or returns `None` in another stage.
+    /// Takes the input in `Complete`, and sets `self` to `Idle`.
+    ///
+    /// In another stage, returns `None` and leaves `self` unchanged.
     pub(crate) fn take_complete(&mut self) -> Option<CurrentInput>
         ensures some { IfSome result (λ current. (self.old ≡ Complete current) × (self.new ≡ Idle)) }
         ensures none { IfNone result ((is_complete self.old ≡ false) × (self.new ≡ self.old)) }

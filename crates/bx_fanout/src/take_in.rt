@@ -20,8 +20,7 @@ use std::collections::VecDeque;
 
 /// Admits or rejects `input`, and returns it with no answers collected.
 ///
-/// `number`: how many inputs were started before. The outs of those that are complete must be
-/// appended.
+/// `number`: how many inputs were started before. The outs of all complete inputs must be appended.
 ///
 /// # Errors
 ///
