@@ -10,12 +10,21 @@ const NEAR = 40;
 
 let ownName = '';
 let isSending = false;
+let hasJoined = false; // whether the others know that this user has joined
+let messageCount = 0; // how many messages this window has sent
+let newest = {}; // the newest message that this window has sent
 
-const client = newClient(() => (ownName ? [{ channel: CHANNEL, data: { name: ownName, left: true } }] : []));
+const client = newClient();
+client.onleave = () => {
+  hasJoined = false;
+  return [{ channel: CHANNEL, data: { name: ownName, left: true } }];
+};
 const showState = client.onstate;
 client.onstate = (state, why) => {
   showState(state, why);
-  if (state === 'connected') showProblem('');
+  if (state !== 'connected') return;
+  showProblem('');
+  if (!hasJoined) announce();
 };
 
 // Shows an event. Others may publish anything, so the form of `data` is checked, and it is shown as
@@ -24,7 +33,20 @@ function showEvent(data) {
   if (typeof data?.name !== 'string') return;
   if (data.joined === true) showNotice(`${data.name} joined`);
   else if (data.left === true) showNotice(`${data.name} left`);
-  else if (typeof data.text === 'string') showMessage(data.name, data.text, data.mark === OWN_MARK);
+  else if (typeof data.text === 'string') {
+    showMessage(data.name, data.text, data.mark === OWN_MARK);
+    if (data.mark === OWN_MARK && data.number === newest.number) confirmNewest();
+  }
+}
+
+// Takes the newest message out of the field if it had been put back there.
+function confirmNewest() {
+  const field = element('text');
+  newest.hasArrived = true;
+  if (!newest.isPutBack) return;
+  if (field.value === newest.text) field.value = '';
+  else if (field.value.startsWith(`${newest.text} `)) field.value = field.value.slice(newest.text.length + 1);
+  showProblem('');
 }
 
 function showMessage(name, text, isOwn) {
@@ -68,8 +90,8 @@ function showProblem(text) {
   element('problem').hidden = text === '';
 }
 
-// Sends one message at a time. A message that could not be sent is put back into the field, before
-// what was typed meanwhile.
+// Sends one message at a time. A message that may not have been sent is put back into the field,
+// before what was typed meanwhile. It leaves the field if it arrives after all.
 async function send() {
   const field = element('text');
   const text = field.value;
@@ -77,11 +99,15 @@ async function send() {
   isSending = true;
   field.value = '';
   showProblem('');
+  newest = { number: ++messageCount, text, hasArrived: false, isPutBack: false };
   try {
-    await client.publish(CHANNEL, { name: ownName, text, mark: OWN_MARK });
+    await client.publish(CHANNEL, { name: ownName, text, mark: OWN_MARK, number: newest.number });
   } catch (failure) {
-    field.value = field.value === '' ? text : `${text} ${field.value}`;
-    showProblem(publishErrorText(failure));
+    if (!newest.hasArrived) {
+      newest.isPutBack = true;
+      field.value = field.value === '' ? text : `${text} ${field.value}`;
+      showProblem(publishErrorText(failure));
+    }
   }
   isSending = false;
 }
@@ -100,12 +126,11 @@ element('join').addEventListener('submit', (event) => {
   element('text').focus();
   client.subscribe(CHANNEL, showEvent);
   client.start();
-  announce();
 });
 
-// Publishes that this user has joined, once the client is connected.
-async function announce() {
-  while (client.state !== 'connected') await pause(50);
+// Publishes that this user has joined.
+function announce() {
+  hasJoined = true;
   client.publish(CHANNEL, { name: ownName, joined: true }).catch((failure) => {
     if (failure.status === 403) showProblem(publishErrorText(failure));
   });

@@ -6,5 +6,6 @@ type Client = BayeuxClient;
 export { Client as BayeuxClient, Client as default };
 export type Failure = BayeuxFailure;
 export type Listener<T = any> = BayeuxListener<T>;
+export type Message = BayeuxMessage;
 export type Options = BayeuxOptions;
 export type State = BayeuxState;

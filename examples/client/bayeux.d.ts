@@ -1,8 +1,13 @@
-// The types of bayeux.js, a script that defines BayeuxClient for the whole page.
+// The types of bayeux.js, a script that defines BayeuxClient for the whole page, or for node.
 
 type BayeuxState = 'connecting' | 'connected' | 'interrupted' | 'stopped';
 type BayeuxConnectionType = 'long-polling' | 'callback-polling';
 type BayeuxListener<T = any> = (data: T, channel: string) => void;
+
+interface BayeuxMessage {
+  channel: string;
+  data: unknown;
+}
 
 interface BayeuxOptions {
   connectionType?: BayeuxConnectionType;
@@ -23,18 +28,25 @@ interface BayeuxFailure extends Error {
 }
 
 declare class BayeuxClient {
-  constructor(url: string, options?: BayeuxOptions | BayeuxConnectionType);
+  /** Creates a client that is stopped. Throws a TypeError if an argument is wrong. */
+  constructor(url: string | URL, options?: BayeuxOptions | BayeuxConnectionType);
   readonly url: string;
   readonly connectionType: BayeuxConnectionType;
   readonly state: BayeuxState;
   readonly clientId: string | null;
   headers: Record<string, string>;
   onstate: (state: BayeuxState, why: string) => void;
-  /** Is called if events may be missing: a new session has replaced an earlier one. */
-  ongap: () => void;
-  start(): void;
+  /**
+   * Is called if events may be missing: a new session has replaced an earlier one. `since`: when the
+   * last event arrived.
+   */
+  ongap: (since: Date) => void;
+  /** Is called when the user leaves the page. Returns the messages to publish then. */
+  onleave: () => BayeuxMessage[] | void;
+  /** Resolves once the client is connected. Rejects if it is stopped first. */
+  start(): Promise<void>;
   /** Publishes `last`, and ends the session unless other windows share it. */
-  stop(last?: { channel: string; data: unknown }[]): void;
+  stop(last?: BayeuxMessage[]): void;
   subscribe<T = any>(pattern: string, listener: BayeuxListener<T>): Promise<void>;
   /** Removes this listener, or all of the pattern. */
   unsubscribe(pattern: string, listener?: BayeuxListener): Promise<void>;

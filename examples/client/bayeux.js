@@ -19,6 +19,9 @@
  * was away for too long), the client opens a new session and subscribes again. Events that were
  * published meanwhile are lost, and `ongap` is called.
  *
+ * While the browser keeps a page that the user has left, the client is stopped. It starts again if
+ * the user returns. In node 18 and later the client works too.
+ *
  * The windows of one origin share a session if the browser supports it. docs/CLIENT.md describes
  * the client. bayeux-module.js is the same client as a module.
  */
@@ -36,9 +39,66 @@ const LONGEST_PAUSE = 10000;
 // The greatest number of patterns in one request. It keeps the URLs of callback-polling short.
 const PATTERNS_AT_ONCE = 16;
 
+// Whether this is a web page, and not a worker or node.
+const IS_PAGE = typeof document !== 'undefined';
+
 /** Returns an error with this message. `mayHaveArrived`: whether the request may have succeeded. */
 function failureOf(message, mayHaveArrived, more) {
   return Object.assign(new Error(message), { mayHaveArrived, ...more });
+}
+
+/** Returns an error about the argument `name`: what was `expected`, and what was `given`. */
+function argumentError(name, expected, given) {
+  const isObject = typeof given === 'object' && given !== null;
+  const object = Array.isArray(given) ? 'an array' : 'an object';
+  const text = typeof given === 'string' ? JSON.stringify(given) : typeof given === 'function' ? 'a function' : String(given);
+  return new TypeError(`${name}: expected ${expected}, got ${isObject ? object : text}`);
+}
+
+/** Returns `url` as an absolute address. Throws a TypeError if it is no address of HTTP. */
+function addressOf(url) {
+  const isGiven = url instanceof URL || (typeof url === 'string' && url !== '');
+  try {
+    const address = new URL(url, globalThis.location?.href);
+    if (isGiven && /^https?:$/.test(address.protocol)) return address;
+  } catch {
+    // It is not an address. The error below says so.
+  }
+  const kind = globalThis.location ? 'an http: or https: address' : 'an absolute http: or https: address';
+  throw argumentError('url', kind, url);
+}
+
+/** Throws a TypeError if a member of `options` has a wrong type. */
+function checkOptions(options) {
+  if (typeof options !== 'object' || options === null) throw argumentError('options', 'an object or a connection type', options);
+  const { connectionType, headers, share, name } = options;
+  const types = Object.keys(TRANSPORTS).filter((type) => IS_PAGE || type !== 'callback-polling');
+  if (connectionType !== undefined && !types.includes(connectionType)) {
+    throw argumentError('options.connectionType', types.map((type) => `"${type}"`).join(' or '), connectionType);
+  }
+  const isRecord = typeof headers === 'object' && headers !== null && !(Symbol.iterator in headers);
+  if (headers !== undefined && !(isRecord && Object.values(headers).every((value) => typeof value === 'string'))) {
+    throw argumentError('options.headers', 'an object with a string for each header field', headers);
+  }
+  if (share !== undefined && typeof share !== 'boolean') throw argumentError('options.share', 'true or false', share);
+  if (name !== undefined && typeof name !== 'string') throw argumentError('options.name', 'a string', name);
+}
+
+/** Throws a TypeError about the argument `name` if `channel` is no string that begins with a slash. */
+function checkChannel(name, channel) {
+  if (typeof channel !== 'string' || !channel.startsWith('/')) throw argumentError(name, 'a string that begins with "/"', channel);
+}
+
+/** Throws a TypeError if a message with `channel` and `data` cannot be published. */
+function checkMessage(channel, data) {
+  checkChannel('channel', channel);
+  let text;
+  try {
+    text = JSON.stringify(data);
+  } catch {
+    // It has a cycle or a BigInt. The error below says so.
+  }
+  if (text === undefined) throw argumentError('data', 'a value that JSON can express', data);
 }
 
 /**
@@ -98,9 +158,9 @@ function pageIsLoaded() {
 
 const TRANSPORTS = { 'long-polling': askByFetch, 'callback-polling': askByScript };
 
-/** Returns the transport that works from this page: fetch to its own origin, otherwise scripts. */
-function transportFor(url) {
-  return new URL(url, location.href).origin === location.origin ? 'long-polling' : 'callback-polling';
+/** Returns the transport that works from here: fetch, or in a page scripts for other origins. */
+function transportFor(address) {
+  return IS_PAGE && address.origin !== location.origin ? 'callback-polling' : 'long-polling';
 }
 
 /** Returns whether `channel` matches: a final `*` stands for one segment, `**` for one or more. */
@@ -117,7 +177,8 @@ function pause(milliseconds) {
 
 /** Returns whether windows can share a session: not from disk, over HTTP only on this machine. */
 function canShareSession() {
-  return self.origin !== 'null' && 'locks' in navigator && 'BroadcastChannel' in self;
+  const { origin, navigator } = globalThis;
+  return origin !== undefined && origin !== 'null' && 'locks' in navigator && 'BroadcastChannel' in globalThis;
 }
 
 /**
@@ -130,7 +191,7 @@ function canShareSession() {
  */
 class BayeuxWindows {
   constructor(client, lead) {
-    const name = `bayeux 1 ${client.connectionType} ${new URL(client.url, location.href)}`;
+    const name = `bayeux 1 ${client.connectionType} ${addressOf(client.url)}`;
     this.client = client;
     this.id = `${Date.now()} ${Math.random()}`;
     this.isLeading = false;
@@ -201,6 +262,8 @@ class BayeuxWindows {
     } else if (message.kind === 'publish' && isToThis) {
       const { from, number, channel, data } = message;
       this.answer(message, client.send(channel, data, () => this.post('taken', { to: from, number })));
+    } else if (message.kind === 'retry') {
+      client.retry();
     } else if (message.kind === 'leave') {
       this.forget(() => this.wanted.delete(message.from));
     }
@@ -283,7 +346,7 @@ class BayeuxWindows {
 
 class BayeuxClient {
   /**
-   * Creates a client that is stopped.
+   * Creates a client that is stopped. Throws a TypeError if an argument is wrong.
    *
    * `url`: the server's address, such as `/cometd`.
    * `options`: an object with these members, or the connection type alone:
@@ -294,21 +357,32 @@ class BayeuxClient {
    */
   constructor(url, options = {}) {
     const given = typeof options === 'string' ? { connectionType: options } : options;
-    this.url = url;
-    this.connectionType = given.connectionType ?? transportFor(url);
+    checkOptions(given);
+    const address = addressOf(url);
+    this.url = String(url);
+    this.connectionType = given.connectionType ?? transportFor(address);
     this.headers = given.headers ?? {};
     this.name = given.name;
     this.isShared = (given.share ?? !given.headers) && canShareSession();
     /** Is called with 'connecting', 'connected', 'interrupted' or 'stopped', and the reason. */
     this.onstate = () => {};
-    /** Is called if events may be missing: a new session has replaced an earlier one. */
+    /**
+     * Is called if events may be missing: a new session has replaced an earlier one. Gets the Date
+     * of the last event that arrived, or of the subscription if none has.
+     */
     this.ongap = () => {};
+    /** Is called when the user leaves the page. Returns the messages to publish, as for `stop`. */
+    this.onleave = () => [];
     this.state = 'stopped';
     this.why = '';
     this.starts = 0; // how often it was started or stopped
+    this.opening = null; // the promise of `start` and its functions, until `stop`
+    this.watching = null; // removes the client's listeners from the page, until `stop`
+    this.endPause = () => {}; // ends the pause after a failure
     this.windows = null; // the windows that share the session, while the client is started
     this.clientId = null;
     this.knownId = null; // the client id of the session that was last subscribed
+    this.lastEventTime = 0; // when its last event arrived, or it was subscribed; Date.now()
     this.advice = {};
     this.failures = 0;
     this.mayPublish = true; // whether no publish was forbidden since the last successful one
@@ -319,36 +393,98 @@ class BayeuxClient {
     this.sending = Promise.resolve(); // settles when all earlier requests are answered
   }
 
-  /** Opens a session, or joins that of other windows, and keeps it until `stop`. */
+  /**
+   * Opens a session, or joins that of other windows, and keeps it until `stop`.
+   *
+   * The promise resolves once the client is connected and subscribed. It rejects if the client is
+   * stopped first: by `stop`, or because the server does not want it to try again.
+   */
   start() {
-    if (this.state !== 'stopped') return;
+    if (this.opening !== null) return this.opening.promise;
+    const opening = {};
+    opening.promise = new Promise((resolve, reject) => Object.assign(opening, { resolve, reject }));
+    // A page that does not use the promise gets the reason from `onstate`.
+    opening.promise.catch(() => {});
+    this.opening = opening;
+    this.watchPage();
+    this.open();
+    return opening.promise;
+  }
+
+  /**
+   * Publishes `last`, a list of `{ channel, data }`, and ends the session unless other windows
+   * share it. Throws a TypeError if `last` is wrong.
+   */
+  stop(last = []) {
+    if (!Array.isArray(last)) throw argumentError('last', 'an array of messages', last);
+    last.forEach(({ channel, data }) => checkMessage(channel, data));
+    this.endSession(last);
+    this.leave();
+  }
+
+  // Opens or joins a session.
+  open() {
     const start = ++this.starts;
     this.setState('connecting');
     if (this.isShared) this.windows = new BayeuxWindows(this, () => this.run(start));
     else this.run(start);
   }
 
-  /**
-   * Publishes `last`, a list of `{ channel, data }`, and ends the session unless other windows
-   * share it. The browser sends this even while the page unloads, so call it at 'pagehide' too.
-   */
-  stop(last = []) {
+  // Stops when the user leaves the page, and starts again on return. Retries at once when the
+  // network is back, and when the user looks at the page.
+  watchPage() {
+    if (!IS_PAGE) return;
+    this.watching = new AbortController();
+    const { signal } = this.watching;
+    window.addEventListener('pagehide', () => this.suspend(), { signal });
+    window.addEventListener('pageshow', ({ persisted }) => persisted && this.open(), { signal });
+    window.addEventListener('online', () => this.retry(), { signal });
+    document.addEventListener('visibilitychange', () => document.hidden || this.retry(), { signal });
+  }
+
+  // Stops until the user returns to the page. The promise of `start` stays open.
+  suspend() {
+    try {
+      this.endSession(this.onleave() ?? []);
+    } finally {
+      this.close();
+    }
+  }
+
+  // Ends the pause after a failure. If another window has the session, that one retries.
+  retry() {
+    this.failures = 0;
+    this.endPause();
+    if (this.isLed()) this.windows.post('retry');
+  }
+
+  // Publishes `last` and ends the session. The browser sends this even while the page unloads.
+  endSession(last) {
     // All of it is one request, since the page gets no answer. A forbidden publish would make the
     // server reject the whole request, with the disconnect.
     const publishes = this.mayPublish ? last : [];
     const messages = this.windows?.hasOthers() ? publishes : [...publishes, { channel: '/meta/disconnect' }];
-    if (this.clientId !== null && messages.length > 0) {
-      const body = JSON.stringify(messages.map((message) => ({ ...message, clientId: this.clientId })));
-      const hasHeaders = this.connectionType === 'long-polling' && Object.keys(this.headers).length > 0;
-      // A beacon cannot have headers.
-      if (hasHeaders) fetch(this.url, { method: 'POST', keepalive: true, headers: this.headers, body }).catch(() => {});
-      else navigator.sendBeacon(this.url, body);
-    }
-    this.leave();
+    if (this.clientId === null || messages.length === 0) return;
+    const body = JSON.stringify(messages.map((message) => ({ ...message, clientId: this.clientId })));
+    const headers = this.connectionType === 'long-polling' ? this.headers : {};
+    // A beacon cannot have headers, and node has none.
+    const isBeacon = Object.keys(headers).length === 0 && 'sendBeacon' in (globalThis.navigator ?? {});
+    if (isBeacon) navigator.sendBeacon(this.url, body);
+    else fetch(this.url, { method: 'POST', keepalive: true, headers, body }).catch(() => {});
   }
 
+  // Stops for the reason `why`.
   leave(why) {
+    const { opening } = this;
+    this.opening = null;
+    this.watching?.abort();
+    this.close(why);
+    opening?.reject(new Error(why ?? 'stopped'));
+  }
+
+  close(why) {
     this.starts++;
+    this.endPause();
     this.windows?.leave();
     this.windows = null;
     this.clientId = null;
@@ -360,8 +496,11 @@ class BayeuxClient {
    * Calls `listener(data, channel)` for each event that matches `pattern`.
    *
    * The promise rejects if the server rejects the pattern. Before `start` it resolves at once.
+   * Throws a TypeError if an argument is wrong.
    */
   subscribe(pattern, listener) {
+    checkChannel('pattern', pattern);
+    if (typeof listener !== 'function') throw argumentError('listener', 'a function', listener);
     this.listeners.set(pattern, [...(this.listeners.get(pattern) || []), listener]);
     return this.adjust();
   }
@@ -380,8 +519,10 @@ class BayeuxClient {
    * The promise rejects if the server rejects the publish, or if no reply arrives. Without a reply,
    * `data` may have been published (`mayHaveArrived`): a page that repeats it may publish it twice.
    * If publishing is forbidden here (`status` 403), it stays so, and the session continues.
+   * Throws a TypeError if an argument is wrong.
    */
   publish(channel, data) {
+    checkMessage(channel, data);
     if (this.isLed()) {
       if (this.clientId === null) return Promise.reject(failureOf('not connected', false));
       return this.windows.ask('publish', { channel, data });
@@ -480,9 +621,20 @@ class BayeuxClient {
         this.setState('interrupted', failure.message);
         const longest = Math.min(LONGEST_PAUSE, FIRST_PAUSE * 2 ** this.failures++);
         // A random length, so that not all clients return at once when a server restarts.
-        await pause(longest * (0.5 + Math.random() / 2));
+        await this.waitToRetry(longest * (0.5 + Math.random() / 2));
       }
     }
+  }
+
+  // Waits for some milliseconds, or until `endPause` is called.
+  waitToRetry(milliseconds) {
+    return new Promise((resolve) => {
+      const timer = setTimeout(resolve, milliseconds);
+      this.endPause = () => {
+        clearTimeout(timer);
+        resolve();
+      };
+    });
   }
 
   async handshake(isOver) {
@@ -501,9 +653,11 @@ class BayeuxClient {
   recordSession(id) {
     if (id === this.knownId || id === null) return;
     const hadOne = this.knownId !== null;
+    const since = new Date(this.lastEventTime);
     this.knownId = id;
+    this.lastEventTime = Date.now();
     this.windows?.shareState();
-    if (hadOne) this.ongap();
+    if (hadOne) this.ongap(since);
   }
 
   // Sends a connect. The server holds it until there is an event, or until its timeout has passed.
@@ -570,6 +724,7 @@ class BayeuxClient {
   }
 
   deliver({ channel, data }) {
+    this.lastEventTime = Date.now();
     for (const [pattern, listeners] of this.listeners) {
       if (!isMatch(pattern, channel)) continue;
       // Each call is its own task, so that a listener that throws does not stop the others.
@@ -582,7 +737,23 @@ class BayeuxClient {
     this.state = state;
     this.why = why;
     this.windows?.shareState();
+    if (state === 'connected') this.confirmStart();
     this.onstate(state, why);
+  }
+
+  // Resolves the promise of `start`. If another window has the session, that one first has to
+  // subscribe to the patterns of this window.
+  async confirmStart() {
+    const { opening } = this;
+    if (opening === null || opening.isConfirmed) return;
+    try {
+      if (this.isLed()) await this.windows.sendPatterns();
+    } catch (failure) {
+      // A rejected pattern is removed. After any other failure, the next connection resolves it.
+      if (!failure.pattern) return;
+    }
+    opening.isConfirmed = true;
+    opening.resolve();
   }
 }
 

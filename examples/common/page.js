@@ -6,31 +6,35 @@ const STATE_TEXTS = {
   interrupted: 'connection lost, trying again …',
   unreached: 'no server, trying again …',
   unanswered: 'no answer, trying again …',
-  refused: 'refused, trying again …',
+  rejected: 'rejected, trying again …',
   stopped: 'not connected',
 };
 
-// What an HTTP status other than 200 means. It is from bayeuxd or from a server in front.
+// What an HTTP status other than 200 means. It is from bayeuxd or from a reverse proxy.
 const STATUS_TEXTS = {
-  401: 'refuses this page. Log in, and load it anew.',
-  403: 'refuses this page. Log in, or open it from the server’s own site.',
-  429: 'takes no more requests just now. The page tries again.',
-  503: 'has too much to do just now, or lets in only so much. The page tries again.',
-  502: 'has no server behind it that runs. Start bayeuxd there, or wait.',
-  504: 'gets no answer from the server behind it. Start bayeuxd there anew, or wait.',
+  401: 'requires a login. Log in, then reload this page.',
+  403: 'rejects this page. Log in, or open it from the server’s own site.',
+  429: 'allows no more requests at the moment. This page tries again.',
+  502: 'is a proxy, and the server behind it is not running. Start bayeuxd, or wait.',
+  503: 'is overloaded. This page tries again.',
+  504: 'is a proxy, and got no answer from the server behind it. Restart bayeuxd, or wait.',
 };
-const WRONG_PATH_TEXT = 'is no Bayeux server’s. Look at the path, as /cometd.';
+const WRONG_PATH_TEXT = 'is not a Bayeux address. Check the path, such as /cometd.';
+// The statuses of a proxy that cannot reach the server, or gets no answer from it.
+const NOT_RUNNING = 502;
+const TOO_LATE = 504;
 
 const element = (id) => document.getElementById(id);
 
 // The parameters in the page's address, such as `?server=ADDRESS`.
 const PARAMETERS = new URLSearchParams(location.search);
 
-// Returns the server's address: from disk one on this machine, from a web server its path /cometd,
-// or what `?server=ADDRESS` names.
+// The server's address by default: from disk one on this machine, from a web server its path.
+const DEFAULT_ADDRESS = location.protocol === 'file:' ? 'http://127.0.0.1:8087/cometd' : '/cometd';
+
+// Returns the server's address: the default, or what `?server=ADDRESS` names.
 function serverAddress() {
-  const own = location.protocol === 'file:' ? 'http://127.0.0.1:8087/cometd' : '/cometd';
-  return PARAMETERS.get('server') || own;
+  return PARAMETERS.get('server') || DEFAULT_ADDRESS;
 }
 
 /** Returns whether `address` is an HTTP address, absolute or relative to this page's server. */
@@ -51,28 +55,30 @@ const isLasting = (why) => why === NO_ANSWER || [401, 403, 429].includes(statusO
 /** Returns the text for a state other than `connected`. `why`: its reason. */
 function stateText(state, why, wasConnected) {
   if (state === 'interrupted' && why === NO_ANSWER) return STATE_TEXTS.unanswered;
-  if (state === 'interrupted' && isLasting(why)) return STATE_TEXTS.refused;
+  if (state === 'interrupted' && isLasting(why)) return STATE_TEXTS.rejected;
   if (state !== 'interrupted' || wasConnected) return STATE_TEXTS[state];
-  return isError(why) || statusOf(why) ? STATE_TEXTS.refused : STATE_TEXTS.unreached;
+  if (statusOf(why) === TOO_LATE) return STATE_TEXTS.unanswered;
+  const isRejected = isError(why) || (statusOf(why) && statusOf(why) !== NOT_RUNNING);
+  return isRejected ? STATE_TEXTS.rejected : STATE_TEXTS.unreached;
 }
 
 /** Returns a text about what is wrong if the page cannot connect to `address`, and what to do. */
 function connectionError(address, why) {
   if (!isAddress(address)) {
-    return `“${address}” is no address of a server. Write one as ?server=http://127.0.0.1:8087/cometd behind this page’s address.`;
+    return `“${address}” is not a server address. Add one to this page’s address, such as ?server=http://127.0.0.1:8087/cometd.`;
   }
   const status = statusOf(why);
   if (status) return `${address} answers with status ${status}: it ${STATUS_TEXTS[status] || WRONG_PATH_TEXT}`;
-  if (isError(why)) return `The server at ${address} refuses: ${why}. The page tries again.`;
+  if (isError(why)) return `The server at ${address} rejects this page: ${why}. This page tries again.`;
   if (why === NO_ANSWER) {
-    return `No answer from ${address} for ten seconds. The line or the server is slow, or too many windows are open: a browser has six connections to a server, and each window can take one.`;
+    return `No answer from ${address} for ten seconds. The network or the server is slow, or too many windows are open: a browser has six connections to a server, and each window can take one.`;
   }
-  return `No Bayeux server answers this page at ${address}. Start bayeuxd there, or name another server by ?server=ADDRESS.`;
+  return `No Bayeux server answers this page at ${address}. Start bayeuxd there, or add another server to this page’s address, such as ?server=ADDRESS.`;
 }
 
 /** Returns the text about the failure of a publish. */
 function publishErrorText({ message, mayHaveArrived, status }) {
-  if (status === 403) return 'Not sent: pages may only read here, or the server refuses this one. To send it again does not help.';
+  if (status === 403) return 'Not sent: pages may only read here, or the server rejects this one. Sending it again does not help.';
   return mayHaveArrived ? 'No answer: it may have been sent.' : `Not sent: ${message}`;
 }
 
@@ -92,21 +98,19 @@ function showError(text) {
 }
 
 /**
- * Creates a client for `serverAddress()`. The page shows its state. It stops when the page unloads.
- *
- * `lastMessages`: returns the messages to publish then. If the address is wrong, the client does
- * not start.
+ * Creates a client for `serverAddress()`. The page shows its state. If the address is wrong, the
+ * client does not start.
  */
-function newClient(lastMessages = () => []) {
+function newClient() {
   const address = serverAddress();
-  const client = new BayeuxClient(isAddress(address) ? address : '/cometd');
+  const client = new BayeuxClient(isAddress(address) ? address : DEFAULT_ADDRESS);
   let wasConnected = false;
   client.onstate = (state, why) => {
     const isConnected = state === 'connected';
     wasConnected ||= isConnected;
     element('state').className = state;
-    element('state').textContent = isConnected ? `connected by ${client.connectionType}` : stateText(state, why, wasConnected);
-    element('state').title = why;
+    element('state').textContent = isConnected ? 'connected' : stateText(state, why, wasConnected);
+    element('state').title = isConnected ? client.connectionType : why;
     if (isConnected) showError('');
     else if (state === 'interrupted' && (!wasConnected || isLasting(why))) showError(connectionError(address, why));
   };
@@ -114,6 +118,5 @@ function newClient(lastMessages = () => []) {
     client.start = () => {};
     showError(connectionError(address, ''));
   }
-  window.addEventListener('pagehide', () => client.stop(lastMessages()));
   return client;
 }

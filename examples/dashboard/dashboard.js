@@ -88,9 +88,9 @@ class Card {
     this.part('.newest').setAttribute('visibility', newest.time > start ? 'visible' : 'hidden');
     this.showAge(newest);
     this.drawGrid(scale, up, right);
-    this.part('.least').textContent = formatNumber(Math.min(...values));
-    this.part('.greatest').textContent = formatNumber(Math.max(...values));
-    this.part('.mean').textContent = formatNumber(values.reduce((sum, value) => sum + value, 0) / values.length);
+    this.part('.min').textContent = formatNumber(Math.min(...values));
+    this.part('.max').textContent = formatNumber(Math.max(...values));
+    this.part('.average').textContent = formatNumber(values.reduce((sum, value) => sum + value, 0) / values.length);
   }
 
   // Makes the picture as wide as its card, so that its text keeps its size. Returns the right edge

@@ -5,7 +5,7 @@ usage: bayeux.py listen PATTERN ..  |  bayeux.py publish CHANNEL JSON
 
 BAYEUX_URL: the server, by default http://127.0.0.1:8087/cometd. BAYEUX_NAME: a name to find the session in a record
 """
-import http.client, json, os, random, sys, time, urllib.error, urllib.request
+import http.client, json, os, random, shlex, sys, time, urllib.error, urllib.request
 
 
 class Refused(Exception):
@@ -13,6 +13,8 @@ class Refused(Exception):
 
 
 class Client:
+    """A session. It opens when it is first needed. As a context manager, it ends with the block."""
+
     def __init__(self, url=os.environ.get("BAYEUX_URL", "http://127.0.0.1:8087/cometd"), name=os.environ.get("BAYEUX_NAME")):
         self.url, self.id, self.batch, self.advice = url, None, 0, {}
         self.ext = {"ack": True} | ({"name": name} if name else {})
@@ -35,22 +37,44 @@ class Client:
         self.id, self.batch = reply["clientId"], 0
 
     def publish(self, channel, data):
-        """Publishes. Raises `Refused` if that is not allowed, or if the session is gone: the next publish opens a new one."""
-        if not self.id:
-            self.handshake()
+        """Publishes. If the session has expired, opens a new one and publishes again. Raises `Refused` if the server rejects it."""
+        for is_last in (False, True):
+            if not self.id:
+                self.handshake()
+            try:
+                self.ask(channel, data=data)
+                return
+            except urllib.error.HTTPError as failure:
+                raise Refused("publishing is not allowed here: HTTP status 403") if failure.code == 403 else failure
+            except Refused:
+                if self.id or is_last:
+                    raise
+
+    def close(self):
+        """Ends the session. If the server cannot be reached, the session expires there."""
         try:
-            self.ask(channel, data=data)
-        except urllib.error.HTTPError as failure:
-            raise Refused("publishing is not allowed here: HTTP status 403") if failure.code == 403 else failure
+            if self.id:
+                self.ask("/meta/disconnect")
+        except (OSError, ValueError, Refused, http.client.HTTPException):
+            pass
+        self.id = None
+
+    def __enter__(self):
+        return self
+
+    def __exit__(self, *_):
+        self.close()
 
     def listen(self, *patterns):
         """Yields the channel and the data of each event. After a lost connection or session it waits and tries again."""
-        pause = 0.25
+        pause, subscribed = 0.25, None
         while True:
             try:
                 if not self.id:
                     self.handshake()
+                if self.id != subscribed:
                     self.ask("/meta/subscribe", subscription=patterns)
+                    subscribed = self.id
                 # Acknowledges what arrived. The server sends the events of a lost response again.
                 hold, ack = self.advice.get("timeout", 0) / 1000, {"ack": self.batch}
                 events, reply = self.ask("/meta/connect", hold, connectionType="long-polling", ext=ack)
@@ -65,16 +89,33 @@ class Client:
                 pause = min(2 * pause, 10)
 
 
+def parse(text):
+    """Returns the JSON value `text`. Raises `ValueError` with an explanation if it is not JSON."""
+    try:
+        return json.loads(text, parse_constant=int)  # `int` raises for NaN and Infinity, which are not JSON.
+    except ValueError:
+        raise ValueError(f"expected JSON, got {text}; to publish it as text, write {shlex.quote(json.dumps(text))}") from None
+
+
+def main(args):
+    match args:
+        case ["--help" | "-h"]:
+            print(__doc__)
+        case ["listen", first, *others]:
+            with Client() as client:
+                for where, what in client.listen(first, *others):
+                    print(where, json.dumps(what), flush=True)
+        case ["publish", where, text]:
+            data = parse(text)
+            with Client() as client:
+                client.publish(where, data)
+        case _:
+            sys.exit(__doc__)
+
+
 if __name__ == "__main__":
     try:
-        match sys.argv[1:]:
-            case ["listen", first, *others]:
-                for where, what in Client().listen(first, *others):
-                    print(where, json.dumps(what), flush=True)
-            case ["publish", where, what]:
-                Client().publish(where, json.loads(what))
-            case _:
-                sys.exit(__doc__)
+        main(sys.argv[1:])
     except KeyboardInterrupt:
         pass
     except (OSError, ValueError, Refused) as failure:

@@ -106,6 +106,37 @@ def try_slow_line(fixture):
         raise CheckFailed(f"the field has {chat.run('return text.value')!r}, and not what was not sent and what was typed")
     site.status = 200
     chat.close()
+    try_late_message(fixture)
+
+
+def try_late_message(fixture):
+    """Checks that a message leaves its field if it arrives after the page has said that it may not have been sent.
+
+    If it arrives before the failure, it does not return to the field.
+    """
+    site = fixture.site
+    chat = Chat(fixture.browser, f"{site.address}/chat/", "Ann")
+    site.status = 504
+    chat.send("Arrives late")
+    wait_until("the page says so", lambda: chat.texts(PROBLEM) == ["No answer: it may have been sent."])
+    chat.write("#text", " and more")
+    site.status = 200
+    # The server had the message, and only now publishes it.
+    sent = chat.run("return { name: ownName, text: newest.text, mark: OWN_MARK, number: newest.number }")
+    fixture.server.publish("/chat/hall", sent)
+    chat.wait_messages(["Arrives late"])
+    if chat.run("return document.getElementById('text').value") != "and more" or chat.texts(PROBLEM):
+        raise CheckFailed(f"the field has {chat.run('return text.value')!r}, and the page says {chat.texts(PROBLEM)}")
+    chat.run("document.getElementById('text').value = ''")
+    chat.run("const ask = client.publish; client.publish = (...args) => ask.apply(client, args).then(() => new Promise((_, fail) => (window.fail = fail)))")
+    chat.send("Arrives first")
+    chat.wait_messages(["Arrives late", "Arrives first"])
+    wait_until("it was published", lambda: chat.run("return window.fail !== undefined"))
+    chat.run("fail(Object.assign(new Error('no answer in time'), { mayHaveArrived: true }))")
+    wait_until("it is over", lambda: not chat.run("return isSending"))
+    if chat.run("return document.getElementById('text').value") or chat.texts(PROBLEM):
+        raise CheckFailed(f"the field has {chat.run('return text.value')!r}, and the page says {chat.texts(PROBLEM)}")
+    chat.close()
 
 
 def try_cut(fixture, ann, ben, texts):
@@ -179,12 +210,12 @@ def try_leaving(server, ann, ben):
 def try_chat(fixture, address, transport, picture=None):
     """Runs the tests with two windows at `address`.
 
-    `transport`: the name of the transport that the page must show. `picture`: a path for a
+    `transport`: the transport that the page must have in the title of its state. `picture`: a path for a
     screenshot, or `None`.
     """
     ann, ben = (Chat(fixture.browser, address, name) for name in ("Ann", "Ben"))
-    if ann.texts("#state") != [f"connected by {transport}"]:
-        raise CheckFailed(f"the page says {ann.texts('#state')}, and not that it is connected by {transport}")
+    if ann.run("const it = document.getElementById('state'); return [it.textContent, it.title]") != ["connected", transport]:
+        raise CheckFailed(f"the page says {ann.texts('#state')}, and not that it is connected, with {transport} as its title")
     texts = try_talk(ann, ben)
     if picture:
         ann.picture(picture)

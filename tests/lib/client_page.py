@@ -10,12 +10,49 @@ NEW_CLIENT = """
 const [url, options] = arguments, client = new BayeuxClient(url, options);
 client.log = [];
 client.onstate = (state, why) => client.log.push(why ? `${state} ${why}` : state);
-client.ongap = () => client.log.push('gap');
+client.ongap = (since) => { client.log.push('gap'); client.since = since; };
 (window.clients ||= []).push(client);
-addEventListener('pagehide', () => client.stop());
 client.subscribeLogged = (pattern) => client.subscribe(pattern, (data) => client.log.push(data)).catch(({ message }) => client.log.push(message));
 client.publishLogged = (channel, data) => client.publish(channel, data).then(() => client.log.push('published'),
   ({ message, mayHaveArrived }) => client.log.push([message, mayHaveArrived]));
+"""
+
+
+# Calls with a wrong argument, and what the TypeError says. `it` is a client that is stopped.
+WRONG_CALLS = {
+    "new BayeuxClient()": "url: expected an http: or https: address, got undefined",
+    "new BayeuxClient('')": 'url: expected an http: or https: address, got ""',
+    "new BayeuxClient('ws://127.0.0.1/cometd')": 'url: expected an http: or https: address, got "ws://127.0.0.1/cometd"',
+    "new BayeuxClient('/cometd', null)": "options: expected an object or a connection type, got null",
+    "new BayeuxClient('/cometd', 'websocket')": 'options.connectionType: expected "long-polling" or "callback-polling", got "websocket"',
+    "new BayeuxClient('/cometd', { headers: new Headers() })": "options.headers: expected an object with a string for each header field, got an object",
+    "new BayeuxClient('/cometd', { headers: { 'X-A': 1 } })": "options.headers: expected an object with a string for each header field, got an object",
+    "new BayeuxClient('/cometd', { share: 'no' })": 'options.share: expected true or false, got "no"',
+    "new BayeuxClient('/cometd', { name: 5 })": "options.name: expected a string, got 5",
+    "it.subscribe('/a')": "listener: expected a function, got undefined",
+    "it.subscribe('a', () => {})": 'pattern: expected a string that begins with "/", got "a"',
+    "it.subscribe(['/a'], () => {})": 'pattern: expected a string that begins with "/", got an array',
+    "it.publish(5, 1)": 'channel: expected a string that begins with "/", got 5',
+    "it.publish('/a')": "data: expected a value that JSON can express, got undefined",
+    "it.publish('/a', () => {})": "data: expected a value that JSON can express, got a function",
+    "it.publish('/a', 5n)": "data: expected a value that JSON can express, got 5",
+    "it.stop('Bye')": 'last: expected an array of messages, got "Bye"',
+    "it.stop([{ channel: '/a' }])": "data: expected a value that JSON can express, got undefined",
+}
+# Returns the error of such a call.
+ERROR_OF = "const it = new BayeuxClient('/cometd'); try { %s; return 'no error'; } catch (error) { return [error.name, error.message]; }"
+# Starts a client twice, and records what its promises do.
+START = """
+const it = new BayeuxClient('/cometd', { share: false });
+window.starting = it;
+window.outcomes = [];
+for (const promise of [it.start(), it.start()]) promise.then(() => outcomes.push(it.state), (error) => outcomes.push(error.message));
+"""
+
+# Makes the window that has the session wait before it subscribes.
+SLOW_ADJUST = """
+window.waiting = [];
+clients[0].adjust = () => new Promise((go) => waiting.push(go)).then(() => BayeuxClient.prototype.adjust.call(clients[0]));
 """
 
 
@@ -68,6 +105,53 @@ def try_client(fixture):
     if any(it["ext"] != {"ack": True, "name": "Ben"} for it in fixture.site.messages("/meta/handshake")):
         raise CheckFailed("a handshake had not the name that the page gave the session")
     page.close()
+
+
+def try_arguments(fixture):
+    """Checks that wrong arguments throw at once. The error names the argument, and what was expected and given."""
+    page = Window(fixture.browser, fixture.site.address)
+    for call, message in WRONG_CALLS.items():
+        error = page.run(ERROR_OF % call)
+        if error != ["TypeError", message]:
+            raise CheckFailed(f"{call}: {error}, and not {message}")
+    page.close()
+
+
+def try_start(fixture):
+    """Checks that the promise of `start` resolves once the client is connected, and rejects if it is stopped first."""
+    page = Window(fixture.browser, fixture.site.address)
+    fixture.relay.is_down = True
+    page.run(START)
+    wait_until("it is interrupted", lambda: page.run("return starting.state") == "interrupted")
+    if page.run("return outcomes"):
+        raise CheckFailed("a promise has settled, and the client was never connected")
+    page.run("starting.stop()")
+    wait_until("both promises reject", lambda: page.run("return outcomes") == ["stopped", "stopped"])
+    page.run(START.replace("window.starting", "it.ask = () => Promise.reject(Object.assign(new Error('403::No'), { isFinal: true })); window.starting"))
+    wait_until("both promises reject", lambda: page.run("return outcomes") == ["403::No", "403::No"])
+    page.run(START)
+    wait_until("it is interrupted", lambda: page.run("return starting.state") == "interrupted")
+    fixture.relay.is_down = False
+    wait_until("both promises resolve", lambda: page.run("return outcomes") == ["connected", "connected"])
+    page.close()
+    try_start_in_second_window(fixture)
+
+
+def try_start_in_second_window(fixture):
+    """Checks that the promise waits until the window that has the session has subscribed for this one."""
+    pages = [Window(fixture.browser, fixture.site.address) for _ in range(2)]
+    Client(pages[0], "/a")
+    pages[0].run(SLOW_ADJUST)
+    pages[1].run("window.it = new BayeuxClient('/cometd'); it.subscribe('/b', () => {}); it.start().then(() => (window.isStarted = true))")
+    wait_until("it is connected", lambda: pages[1].run("return it.state") == "connected")
+    if pages[1].run("return window.isStarted"):
+        raise CheckFailed("the promise has resolved, and the window is not yet subscribed")
+    pages[0].run("clients[0].adjust = BayeuxClient.prototype.adjust; waiting.forEach((go) => go())")
+    wait_until("the promise resolves", lambda: pages[1].run("return window.isStarted"))
+    if pages[0].run("return [...clients[0].subscribed]") != ["/a", "/b"]:
+        raise CheckFailed("the promise has resolved, and the session is not subscribed")
+    for page in pages:
+        page.close()
 
 
 def try_listeners(site, client):
@@ -194,7 +278,7 @@ class SharedSession:
         for client in self.clients:
             client.clear()
         self.publish_while(0, lambda: self.clients.pop(0).do("stop()"))
-        self.pages[0].run("clients.forEach((it) => (it.stop = () => {}))")
+        self.pages[0].run("clients.forEach((it) => (it.suspend = () => {}))")
         del self.clients[:3]
         self.publish_while(1, lambda: self.pages.pop(0).close())
 

@@ -50,8 +50,10 @@ def try_dashboard(fixture, address, picture=None):
 def try_curves(window):
     """Checks that there is a card with a curve for each of two feeds."""
     wait_until("two cards with curves", lambda: [count > 5 for count in window.run(COUNTS)] == [True, True])
-    if sorted(window.texts(".card h2")) != ["processor percent", "wave"]:
+    if sorted(window.texts(".card h2")) != ["CPU percent", "wave"]:
         raise CheckFailed(f"the cards are {window.texts('.card h2')}")
+    if window.texts(".card dt") != ["min", "average", "max"] * 2:
+        raise CheckFailed(f"the numbers beside a curve are {window.texts('.card dt')}")
     if window.run("return document.querySelectorAll('.old').length"):
         raise CheckFailed("a number that is new is shown as old")
 
@@ -100,16 +102,23 @@ def try_metrics(fixture):
     """
     metrics_address = f"127.0.0.1:{free_port()}"
     fixture.server.restart("--metrics", metrics_address)
-    window = Window(fixture.browser, fixture.from_disk("dashboard/figures.html"))
+    window = Window(fixture.browser, fixture.from_disk("dashboard/metrics.html"))
     window.wait_state("connected")
     try_cards(fixture.server, window)
-    wait_until("they are told to be old", lambda: re.fullmatch(r"These figures came \d+ s ago\.", "".join(window.texts("#age:not([hidden])"))))
+    wait_until("they are told to be old", lambda: re.fullmatch(r"Received \d+ s ago\.", "".join(window.texts("#age:not([hidden])"))))
     check_accessibility(window)
-    with feed(fixture.server, "--figures", metrics_address):
-        wait_until("the server's figures are shown", lambda: len(window.texts("h2")) > 10)
+    with feed(fixture.server, "--metrics", metrics_address):
+        wait_until("the server's metrics are shown", lambda: len(window.texts("h2")) > 10)
         if not all(window.texts(".meaning")) or window.texts("#age:not([hidden])"):
-            raise CheckFailed("a figure has no meaning, or the page says that it is old")
+            raise CheckFailed("a metric has no meaning, or the page says that it is old")
+        wait_until("changes are shown", lambda: any(window.texts(".change")))
+        if window.texts(".change")[0]:
+            raise CheckFailed("the uptime has a change")
         check_accessibility(window)
+    try_cards(fixture.server, window)
+    # The former name of the flag.
+    with feed(fixture.server, "--figures", metrics_address):
+        wait_until("the server's metrics are shown again", lambda: len(window.texts("h2")) > 10)
     window.close()
     fixture.server.restart()
 
@@ -117,11 +126,11 @@ def try_metrics(fixture):
 def try_cards(server, window):
     """Checks that each number has a card with its name and meaning, and that a text has none."""
     metrics = {"bayeux_sessions": 3, 'bayeux_replies_total{kind="publish"}': 12, 'bayeux_replies_total{kind="connect"}': 0, "text": "3"}
-    server.publish("/figures/all", {"figures": metrics, "help": {"bayeux_sessions": "Sessions that live."}})
-    wait_until("the figures are shown", lambda: window.texts("h2") == ["sessions", "replies in all"])
+    server.publish("/metrics/all", {"metrics": metrics, "help": {"bayeux_sessions": "Sessions that live."}})
+    wait_until("the metrics are shown", lambda: window.texts("h2") == ["sessions", "replies (total)"])
     for selector, texts in (("code", ["bayeux_sessions", "bayeux_replies_total"]), (".meaning", ["Sessions that live.", ""])):
-        if window.texts(f"#figures {selector}") != texts:
-            raise CheckFailed(f"{selector} are {window.texts(f'#figures {selector}')}, and not {texts}")
+        if window.texts(f"#metrics {selector}") != texts:
+            raise CheckFailed(f"{selector} are {window.texts(f'#metrics {selector}')}, and not {texts}")
     if window.texts("dt") != ["", "publish"] or window.texts("dd:not(.change)") != ["3", "12"]:
-        raise CheckFailed(f"the figures are {window.texts('dt, dd')}")
+        raise CheckFailed(f"the metrics are {window.texts('dt, dd')}")
     check_accessibility(window)

@@ -1,4 +1,4 @@
-"""The page of metrics of a daemon (`--figures`)."""
+"""The page of metrics of a daemon (`--metrics`)."""
 import re
 import time
 
@@ -53,7 +53,7 @@ def scrape(address):
     """
     response = ask_for(address, get(b"", b"/metrics"))
     if (response.status, response.fields[b"content-type"]) != (200, b"text/plain; version=0.0.4; charset=utf-8"):
-        raise CheckFailed(f"no page of figures: {response.status} {response.fields}")
+        raise CheckFailed(f"no page of metrics: {response.status} {response.fields}")
     return read_page(response.body.decode())
 
 

@@ -35,7 +35,7 @@ def try_refusals(address, of_a_get):
     expect("a GET", status_of(f"{address}/cometd?{query}"), of_a_get)
     expect("a foreign page's GET", status_of(f"{address}/cometd?{query}", "-H", "Sec-Fetch-Site: cross-site"), 403)
     expect("another name", status_of(f"{address}/cometd", *post, "-H", "Host: other.example"), 421)
-    expect("a path below", status_of(f"{address}/cometd/setup.bat", *post), 404)
+    expect("a path below", status_of(f"{address}/cometd/handshake", *post), 200)
 
 
 def expect(what, found, wanted):

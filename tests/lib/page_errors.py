@@ -7,7 +7,19 @@ from browser import Window
 # The element that says what is wrong.
 ERROR_MESSAGE = "#error:not([hidden])"
 # A part of what a page says about a status.
-STATUS_TEXTS = {401: "Log in", 403: "Log in", 404: "Look at the path", 429: "no more requests", 502: "Start bayeuxd", 503: "too much to do"}
+STATUS_TEXTS = {
+    401: "then reload this page",
+    403: "rejects this page",
+    404: "Check the path",
+    429: "no more requests",
+    502: "is not running. Start bayeuxd",
+    503: "is overloaded",
+    504: "Restart bayeuxd",
+}
+# The texts about the state after some statuses. After the others, the page says that it was rejected.
+STATE_TEXTS = {502: "no server, trying again …", 504: "no answer, trying again …"}
+# Returns whether the page hides its advice on how to publish data.
+IS_EMPTY_HIDDEN = "return getComputedStyle(document.getElementById('empty')).display === 'none'"
 
 
 def wait_for_error(window, *texts):
@@ -29,10 +41,19 @@ def try_statuses(fixture):
         for other in {*STATUS_TEXTS.values()} - {wanted}:
             if other in text:
                 raise CheckFailed(f"with status {status} the page says {text!r}")
+        if window.texts("#state") != [STATE_TEXTS.get(status, "rejected, trying again …")]:
+            raise CheckFailed(f"with status {status} the state is {window.texts('#state')}")
+        check_no_advice(window)
         if status == 401:
             try_login(site, window)
         window.close()
     site.status = 200
+
+
+def check_no_advice(window):
+    """Raises `CheckFailed` if a page that is not connected says how to publish data."""
+    if not window.run(IS_EMPTY_HIDDEN):
+        raise CheckFailed("a page that is not connected says how to publish data")
 
 
 def try_login(site, window):
@@ -49,14 +70,14 @@ def try_wrong_addresses(fixture):
 
     It continues as soon as a server answers.
     """
-    for page in ("dashboard/figures.html", "dashboard/index.html"):
+    for page in ("dashboard/metrics.html", "dashboard/index.html"):
         try_wrong_address(fixture.browser, fixture.server, fixture.file(page))
 
 
 def try_wrong_address(browser, server, address):
     """Checks this for the page at `address`."""
     nobody = f"http://127.0.0.1:{free_port()}/cometd"
-    for wrong, texts in (("ftp://127.0.0.1/", ["is no address", "?server="]), (nobody, ["No Bayeux server answers", "Start bayeuxd"])):
+    for wrong, texts in (("ftp://127.0.0.1/", ["is not a server address", "?server="]), (nobody, ["No Bayeux server answers", "Start bayeuxd"])):
         window = Window(browser, f"{address}?server={wrong}")
         wait_for_error(window, wrong, *texts)
         check_accessibility(window)
@@ -64,10 +85,13 @@ def try_wrong_address(browser, server, address):
     server.kill()
     window = Window(browser, f"{address}?server=http://127.0.0.1:{server.port}/cometd")
     wait_for_error(window, str(server.port), "Start bayeuxd")
+    check_no_advice(window)
     server.start()
     window.wait_state("connected")
     if window.texts(ERROR_MESSAGE):
         raise CheckFailed("the trouble is still shown")
+    if window.run(IS_EMPTY_HIDDEN):
+        raise CheckFailed("a connected page without data does not say how to publish some")
     window.close()
 
 
@@ -80,7 +104,7 @@ def try_refused(fixture):
     first = Window(fixture.browser, fixture.from_disk("dashboard/index.html"))
     first.wait_state("connected")
     second = Window(fixture.browser, fixture.from_disk("dashboard/index.html"))
-    wait_for_error(second, "refuses: 503::Too many sessions")
+    wait_for_error(second, "rejects this page: 503::Too many sessions")
     first.close()
     second.wait_state("connected")
     second.close()
@@ -90,7 +114,7 @@ def try_refused(fixture):
 def try_wrong_path(fixture, address):
     """Checks that the dashboard of nginx says that another path leads to no server."""
     window = Window(fixture.browser, f"{address}/dashboard/?server=/elsewhere")
-    wait_for_error(window, "/elsewhere answers with status 404", "Look at the path")
+    wait_for_error(window, "/elsewhere answers with status 404", "Check the path")
     window.close()
 
 

@@ -11,7 +11,7 @@ from chat_page import PROBLEM
 from dashboard_page import WAVE, feed
 from server import Site
 
-FORBIDDEN = "Not sent: pages may only read here, or the server refuses this one. To send it again does not help."
+FORBIDDEN = "Not sent: pages may only read here, or the server rejects this one. Sending it again does not help."
 PUBLISHED = """
 client.publish(arguments[0], 0).then(() => (window.outcome = 'published'), (it) => (window.outcome = [it.message, it.status, it.mayHaveArrived]));
 """
@@ -99,8 +99,10 @@ def try_chat(fixture, address):
         if chat.texts(PROBLEM) != [FORBIDDEN] or chat.texts("#messages li p") != ["Read this"]:
             raise CheckFailed(f"the page says {chat.texts(PROBLEM)} and shows {chat.texts('#messages li p')}")
     last = {"channel": "/nobody", "data": 0, "clientId": chats[1].run("return client.clientId")}
-    for chat in chats:
-        chat.call("POST", "/url", {"url": "about:blank"})
+    chats[0].call("POST", "/url", {"url": "about:blank"})
+    # A window that has not yet taken over the session cannot end it.
+    wait_until("the other has the session alone", lambda: not chats[1].run("return client.windows?.hasOthers()"))
+    chats[1].call("POST", "/url", {"url": "about:blank"})
     wait_until("the session is gone", lambda: fixture.server.ask(last)[0].get("error") == "402::Unknown client")
     for chat in chats:
         chat.close()

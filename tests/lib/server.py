@@ -127,7 +127,8 @@ class Site(http.server.ThreadingHTTPServer):
     """A web server over plain HTTP/1.1: the examples, a blank page at /, and the server at /cometd.
 
     `relay`: a `Relay` or another object with the `port` of a server. `status`: if it is not 200,
-    each POST gets this status, and the server does not see it.
+    each POST gets this status, and the server does not see it. `documents`: further JSON values by
+    their paths.
     """
 
     daemon_threads = True
@@ -136,6 +137,7 @@ class Site(http.server.ThreadingHTTPServer):
         super().__init__(("127.0.0.1", 0), SiteHandler)
         self.relay = relay
         self.status = 200
+        self.documents = {}
         # The header fields and the messages of each POST.
         self.received = []
         self.address = f"http://127.0.0.1:{self.server_address[1]}"
@@ -159,6 +161,8 @@ class SiteHandler(http.server.BaseHTTPRequestHandler):
         file = TOP / "examples" / (path.lstrip("/") + ("index.html" if path.endswith("/") else ""))
         if path == "/":
             self.respond(200, BLANK.encode(), "text/html")
+        elif path in self.server.documents:
+            self.respond(200, json.dumps(self.server.documents[path]).encode(), "application/json")
         elif file.is_file():
             self.respond(200, file.read_bytes(), KINDS[file.suffix])
         else:

@@ -1,9 +1,10 @@
 'use strict';
 // The server's own metrics in cards. The feed publishes them as
-// { figures: {NAME: NUMBER}, help: {NAME: TEXT} }. A NAME in `figures` may have labels, as in
+// { metrics: {NAME: NUMBER}, help: {NAME: TEXT} }. A NAME in `metrics` may have labels, such as
 // bayeux_replies_total{kind="publish"}.
 
-const CHANNEL = '/figures/all';
+const CHANNEL = '/metrics/all';
+const UPTIME = 'bayeux_uptime_seconds_total';
 // Metrics are old after this time, in milliseconds.
 const OLD_AFTER = 5000;
 
@@ -12,7 +13,7 @@ let before = null;
 /** Returns the card of a metric, with its meaning and a line for each label. */
 function card(name, lines, help, time) {
   const root = element('card').content.firstElementChild.cloneNode(true);
-  root.querySelector('h2').textContent = name.replace('bayeux_', '').replace(/_total$/, ' in all').replaceAll('_', ' ');
+  root.querySelector('h2').textContent = name.replace('bayeux_', '').replace(/_total$/, ' (total)').replaceAll('_', ' ');
   root.querySelector('code').textContent = name;
   root.querySelector('.meaning').textContent = help[name] || '';
   // If there are several lines, those with 0 are left out.
@@ -31,17 +32,18 @@ function part(kind, text, name = '') {
   return made;
 }
 
-// Returns the text for the change of a metric a second since the metrics before, or '' if none.
+// Returns the text for the change of a metric per second since the metrics before, or '' if none.
+// The uptime has none, because it always grows by one.
 function changeOf({ key, value }, time) {
-  if (!before || !(key in before.figures) || time <= before.time) return '';
-  const change = (1000 * (value - before.figures[key])) / (time - before.time);
-  return change === 0 ? '' : `${change > 0 ? '+' : '−'}${formatNumber(Math.abs(change))} a second`;
+  if (key === UPTIME || !before || !(key in before.metrics) || time <= before.time) return '';
+  const change = (1000 * (value - before.metrics[key])) / (time - before.time);
+  return change === 0 ? '' : `${change > 0 ? '+' : '−'}${formatNumber(Math.abs(change))}/s`;
 }
 
-function show({ figures, help }) {
+function show({ metrics, help }) {
   const time = Date.now();
   const families = new Map();
-  for (const [key, value] of Object.entries(figures)) {
+  for (const [key, value] of Object.entries(metrics)) {
     if (typeof value !== 'number') continue;
     const [, name, label] = key.match(/^([^{]*)(.*)$/);
     // {kind="publish"} is shown as publish.
@@ -49,24 +51,24 @@ function show({ figures, help }) {
     families.set(name, [...(families.get(name) || []), { key, label: labels, value }]);
   }
   element('empty').hidden = true;
-  element('figures').replaceChildren(...[...families].map(([name, lines]) => card(name, lines, help, time)));
-  before = { figures, time };
+  element('metrics').replaceChildren(...[...families].map(([name, lines]) => card(name, lines, help, time)));
+  before = { metrics, time };
   showAge();
 }
 
 // Shows the age of the metrics if they are old.
 function showAge() {
   const age = before ? Date.now() - before.time : 0;
-  element('figures').classList.toggle('old', age > OLD_AFTER);
+  element('metrics').classList.toggle('old', age > OLD_AFTER);
   element('age').hidden = age <= OLD_AFTER;
-  element('age').textContent = `These figures came ${formatAge(age)}.`;
+  element('age').textContent = `Received ${formatAge(age)}.`;
 }
 
 const isObject = (it) => typeof it === 'object' && it !== null;
 
 const client = newClient();
 client.subscribe(CHANNEL, (data) => {
-  if (isObject(data) && isObject(data.figures)) show({ figures: data.figures, help: isObject(data.help) ? data.help : {} });
+  if (isObject(data) && isObject(data.metrics)) show({ metrics: data.metrics, help: isObject(data.help) ? data.help : {} });
 });
 setInterval(showAge, 1000);
 client.start();
