@@ -67,9 +67,10 @@ pub fn no_event_twice()
     ensures { NoEventTwice }
 {}
 
-/// Proves that a session that does not acknowledge sends its events in order, each in one answer.
+/// Proves that the events sent so far are a session's first ones, in order, each in one answer.
 ///
-/// The answers are those to connects and riders. Events that an overflow drops are not sent.
+/// The session does not acknowledge. The answers are those to connects and riders. Events that
+/// still wait, or that an overflow drops, are not among them.
 pub fn given_once()
     ensures { GivenOnce }
 {}
