@@ -111,16 +111,23 @@ def try_metrics(fixture):
         wait_until("the server's metrics are shown", lambda: len(window.texts("h2")) > 10)
         if not all(window.texts(".meaning")) or window.texts("#age:not([hidden])"):
             raise CheckFailed("a metric has no meaning, or the page says that it is old")
-        wait_until("changes are shown", lambda: any(window.texts(".change")))
-        if window.texts(".change")[0]:
-            raise CheckFailed("the uptime has a change")
         check_accessibility(window)
-    try_cards(fixture.server, window)
+    try_changes(fixture.server, window)
     # The former name of the flag.
     with feed(fixture.server, "--figures", metrics_address):
         wait_until("the server's metrics are shown again", lambda: len(window.texts("h2")) > 10)
     window.close()
     fixture.server.restart()
+
+
+def try_changes(server, window):
+    """Checks that a metric that grows has its change per second, except for the uptime."""
+    for value in (1, 5):
+        server.publish("/metrics/all", {"metrics": {"bayeux_uptime_seconds_total": value, "bayeux_events_total": value}, "help": {}})
+        wait_until("the metrics are shown", lambda value=value: window.texts("dd:not(.change)") == [str(value)] * 2)
+    uptime, events = window.texts(".change")
+    if uptime or not re.fullmatch(r"\+[\d.,]+/s", events):
+        raise CheckFailed(f"the changes are {uptime!r} and {events!r}")
 
 
 def try_cards(server, window):
