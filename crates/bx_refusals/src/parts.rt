@@ -29,7 +29,7 @@ const MOST_FRAMES: usize = 4;
 /// # Errors
 ///
 /// `Memory` if memory runs out outside of the calls of `Pieces`, or in a second attempt; `Wrong` if
-/// a frame or the whole text is not as expected.
+/// a frame or the whole text is not as expected, or if a frame follows an error.
 pub fn run<R: RandomSource + AllocGlobal>(rt: &R, alloc: Global) -> Result<String, Unlike> {
     let task = MockTask::new(rt).map_err(|_| Unlike::Memory)?;
     let mut text = String::new(alloc);
@@ -40,16 +40,38 @@ pub fn run<R: RandomSource + AllocGlobal>(rt: &R, alloc: Global) -> Result<Strin
     Ok(text)
 }
 
-// Reads a whole response, checks its text, and returns the line with the lengths of its frames.
-// With a `callback`, the response is a script.
+// Reads a whole response, and returns the line with the lengths of its frames. If the response
+// breaks off, checks that no frame follows, and reads a new response. With a `callback`, the
+// response is a script.
 fn given(alloc: Global, task: &MockTask, callback: Option<&str>) -> Result<String, Unlike> {
     let wanted = wanted(alloc, callback)?;
-    let mut body = answered(alloc, callback)?;
+    let mut first = answered(alloc, callback)?;
+    if let Some(line) = read(alloc, task, &mut first, wanted.as_str())? {
+        return Ok(line);
+    }
+    check_ended(task, &mut first)?;
+    let mut second = answered(alloc, callback)?;
+    match read(alloc, task, &mut second, wanted.as_str())? {
+        Some(line) => Ok(line),
+        None => Err(Unlike::Memory),
+    }
+}
+
+// Reads the response `body`, checks that its text is `wanted`, and returns the line with the
+// lengths of its frames. Returns `None` if memory runs out for a frame.
+fn read(
+    alloc: Global,
+    task: &MockTask,
+    body: &mut Pieces<Bytes>,
+    wanted: &str,
+) -> Result<Option<String>, Unlike> {
     let mut whole = Vec::with_capacity(alloc, wanted.len())?;
     let mut line = String::new(alloc);
     for _ in 0..MOST_FRAMES {
-        let Some(data) = next_data(task, &mut body)? else {
-            break;
+        let data = match next_part(task, body)? {
+            Part::Data(data) => data,
+            Part::End => break,
+            Part::BrokenOff => return Ok(None),
         };
         whole.extend_from_slice(data.chunk())?;
         let part = said(alloc, data.len(), body.size_hint().exact())?;
@@ -59,7 +81,15 @@ fn given(alloc: Global, task: &MockTask, callback: Option<&str>) -> Result<Strin
         return Err(Unlike::Wrong("another text"));
     }
     line.push_str("the events")?;
-    Ok(line)
+    Ok(Some(line))
+}
+
+// Checks that a response that broke off has no further frame.
+fn check_ended(task: &MockTask, body: &mut Pieces<Bytes>) -> Result<(), Unlike> {
+    match next_part(task, body)? {
+        Part::End => Ok(()),
+        _ => Err(Unlike::Wrong("a frame follows an error")),
+    }
 }
 
 // Returns the text for a frame of `size` bytes after which `left` bytes remain. Fails if `left` is
@@ -71,21 +101,25 @@ fn said(alloc: Global, size: usize, left: Option<u64>) -> Result<String, Unlike>
     Ok(format!(in alloc; "{size} and {left} left, ")?)
 }
 
-// Returns the data of the next frame, or `None` at the end. Retries once if memory runs out.
-fn next_data(task: &MockTask, body: &mut Pieces<Bytes>) -> Result<Option<Bytes>, Unlike> {
-    match ask_once(task, body) {
-        Err(Unlike::Memory) => ask_once(task, body),
-        other => other,
-    }
+// What a response gives next.
+#[derive(Drop)]
+enum Part {
+    // The data of a frame.
+    Data(Bytes),
+    // The end of the response.
+    End,
+    // An error, because memory ran out.
+    BrokenOff,
 }
 
-fn ask_once(task: &MockTask, body: &mut Pieces<Bytes>) -> Result<Option<Bytes>, Unlike> {
+// Returns what `body` gives next.
+fn next_part(task: &MockTask, body: &mut Pieces<Bytes>) -> Result<Part, Unlike> {
     match task.poll(&mut body.frame()) {
         Poll::Pending => Err(Unlike::Wrong("a body waits")),
-        Poll::Ready(None) => Ok(None),
-        Poll::Ready(Some(Err(_))) => Err(Unlike::Memory),
+        Poll::Ready(None) => Ok(Part::End),
+        Poll::Ready(Some(Err(_))) => Ok(Part::BrokenOff),
         Poll::Ready(Some(Ok(frame))) => match frame.into_data() {
-            Ok(data) => Ok(Some(data)),
+            Ok(data) => Ok(Part::Data(data)),
             Err(_) => Err(Unlike::Wrong("no data")),
         },
     }
