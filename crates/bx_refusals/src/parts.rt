@@ -57,8 +57,9 @@ fn given(alloc: Global, task: &MockTask, callback: Option<&str>) -> Result<Strin
     }
 }
 
-// Reads the response `body`, checks that its text is `wanted`, and returns the line with the
-// lengths of its frames. Returns `None` if memory runs out for a frame.
+// Reads the response `body`, and returns the line with the lengths of its frames.
+//
+// Checks that its text is `wanted`. Returns `None` if memory runs out for a frame.
 fn read(
     alloc: Global,
     task: &MockTask,
