@@ -1,4 +1,5 @@
 """Tests of pages that the user leaves, and of pages that lose the network and get it back."""
+import contextlib
 import re
 
 from base import TOP, CheckFailed, wait_until
@@ -22,6 +23,14 @@ document.body.append(price, script);
 """
 
 
+# How often a test leaves a page and returns, until the browser has kept the page.
+MAX_TRIES = 25
+
+
+class PageNotKept(Exception):
+    """The browser has not kept the page that was left, but loaded it again."""
+
+
 def leave(window, address):
     """Goes to another page of the site at `address`. The browser keeps the page that it leaves."""
     window.run("window.isKept = true")
@@ -29,64 +38,77 @@ def leave(window, address):
 
 
 def press_back_button(window):
-    """Returns to the page that was left. Raises `CheckFailed` if the browser loaded it again."""
+    """Returns to the page that was left. Raises `PageNotKept` if the browser loaded it again."""
     window.call("POST", "/back", {})
     if not window.run("return window.isKept"):
-        raise CheckFailed("the browser has not kept the page, so nothing is tested")
+        raise PageNotKept
+
+
+def repeat_until_kept(test, *args):
+    """Runs `test` with the arguments `args` until the browser has kept the page that it leaves.
+
+    Chromium drops a page whose last requests are still being sent when it is left, so this can take several tries.
+    """
+    for _ in range(MAX_TRIES):
+        with contextlib.suppress(PageNotKept):
+            return test(*args)
+    raise CheckFailed("the browser has not kept the page, so nothing is tested")
 
 
 def try_back(fixture):
     """Checks that chat, dashboard and client continue when the user presses Back."""
     try_back_to_pages(fixture, fixture.site.address)
-    try_back_to_client(fixture)
+    repeat_until_kept(try_back_to_client, fixture)
 
 
 def try_back_to_pages(fixture, address):
     """Checks this for the chat and the dashboard of the site at `address`."""
-    try_back_to_chat(fixture, address)
-    try_back_to_dashboard(fixture, address)
+    repeat_until_kept(try_back_to_chat, fixture, address)
+    repeat_until_kept(try_back_to_dashboard, fixture, address)
 
 
 def try_back_to_chat(fixture, address):
     """Checks that the others see who left and returned, and that messages arrive again."""
-    ann, ben = (Chat(fixture.browser, f"{address}/chat/", name) for name in ("Ann", "Ben"))
-    leave(ann, address)
-    wait_until("Ben sees that Ann left", lambda: "Ann left" in ben.texts(".notice"))
-    press_back_button(ann)
-    ann.wait_state("connected")
-    wait_until("Ben sees that Ann is back", lambda: ben.texts(".notice")[-2:] == ["Ann left", "Ann joined"])
-    ben.send("Welcome back")
-    ann.send("Thank you")
-    for chat in (ann, ben):
-        wait_until("both messages are shown", lambda chat=chat: sorted(chat.messages()) == ["Thank you", "Welcome back"])
-        chat.close()
+    with contextlib.ExitStack() as stack:
+        ann, ben = (Chat(fixture.browser, f"{address}/chat/", name) for name in ("Ann", "Ben"))
+        stack.callback(ann.close)
+        stack.callback(ben.close)
+        leave(ann, address)
+        wait_until("Ben sees that Ann left", lambda: "Ann left" in ben.texts(".notice"))
+        press_back_button(ann)
+        ann.wait_state("connected")
+        wait_until("Ben sees that Ann is back", lambda: ben.texts(".notice")[-2:] == ["Ann left", "Ann joined"])
+        ben.send("Welcome back")
+        ann.send("Thank you")
+        for chat in (ann, ben):
+            wait_until("both messages are shown", lambda chat=chat: sorted(chat.messages()) == ["Thank you", "Welcome back"])
 
 
 def try_back_to_dashboard(fixture, address):
     """Checks that the dashboard shows numbers again."""
     window = Window(fixture.browser, f"{address}/dashboard/")
-    window.wait_state("connected")
-    leave(window, address)
-    press_back_button(window)
-    window.wait_state("connected")
-    fixture.server.publish("/dashboard/back", 7)
-    wait_until("the number is shown", lambda: window.texts(".value") == ["7"])
-    window.close()
+    with contextlib.closing(window):
+        window.wait_state("connected")
+        leave(window, address)
+        press_back_button(window)
+        window.wait_state("connected")
+        fixture.server.publish("/dashboard/back", 7)
+        wait_until("the number is shown", lambda: window.texts(".value") == ["7"])
 
 
 def try_back_to_client(fixture):
     """Checks that a client continues and reports a gap, and that one that the page stopped stays so."""
     page = Window(fixture.browser, fixture.site.address)
-    started, stopped = (Client(page, "/a", share=False) for _ in range(2))
-    stopped.do("stop()")
-    leave(page, fixture.site.address)
-    press_back_button(page)
-    wait_until("it is connected", started.is_connected)
-    fixture.server.publish("/a", 1)
-    started.wait_for_log("stopped", "gap", 1)
-    if stopped.do("state") != "stopped":
-        raise CheckFailed("a client that the page stopped has started again")
-    page.close()
+    with contextlib.closing(page):
+        started, stopped = (Client(page, "/a", share=False) for _ in range(2))
+        stopped.do("stop()")
+        leave(page, fixture.site.address)
+        press_back_button(page)
+        wait_until("it is connected", started.is_connected)
+        fixture.server.publish("/a", 1)
+        started.wait_for_log("stopped", "gap", 1)
+        if stopped.do("state") != "stopped":
+            raise CheckFailed("a client that the page stopped has started again")
 
 
 def try_example(fixture):
