@@ -1,11 +1,10 @@
 //! The record of a hub's list: its file, and the thread that writes it.
 use bx_advice::Config;
-use bx_answers::{TakenAnswerLines, WaitingAnswerLines};
 use bx_entry::ByRemainder;
 use bx_hub::{Hub, OpenGate, RecordFront};
 use bx_record::{
-    CountedFile, RecordFault, RecordFile, Source, TakenText, WriteSummary, WriterEnd, config_text,
-    write_until_stopped,
+    CountedFile, RecordFault, RecordFile, Source, TakenAnswerLines, TakenText, WaitingAnswerLines,
+    WriteSummary, WriterEnd, config_text, write_until_stopped,
 };
 use bx_window::LogId;
 use log::{Log, info, warn};

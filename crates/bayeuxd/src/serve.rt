@@ -7,13 +7,15 @@ use crate::end::CloseOnShutdown;
 use crate::recorder::{NewRecordFile, Recorder};
 use crate::ticker::run_ticker;
 use bx_advice::Config;
-use bx_answers::{AnswerLogger, WaitingAnswerLines};
 use bx_entry::{Access, ByRemainder};
 use bx_hub::{Hub, OpenGate};
 use bx_message::Item;
 use bx_metrics::Counts;
+use bx_record::WaitingAnswerLines;
 use bx_serve::{Endpoint, serve_until};
-use bx_service::{Backend, BayeuxService, BodyLimit, HubBackend, Observer, Unanswered};
+use bx_service::{
+    AnswerLogger, Backend, BayeuxService, BodyLimit, HubBackend, Observer, Unanswered,
+};
 use bx_window::{EmptyWindow, LogId};
 use futures::Future;
 use futures::channel::oneshot::Receiver;

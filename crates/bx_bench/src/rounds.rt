@@ -7,7 +7,7 @@ use anyhow::{Result, anyhow};
 use bx_advice::Config;
 use bx_entry::{ByRemainder, Input};
 use bx_fanout::{Out, Round};
-use bx_workers::{OpenGate, WorkerCount};
+use bx_shard::{OpenGate, WorkerCount};
 use std::alloc::Global;
 use std::mem;
 use std::sync::Arc;

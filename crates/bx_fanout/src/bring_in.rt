@@ -12,7 +12,7 @@ use crate::level::level;
 use crate::out::Out;
 use bx_entry::{Input, Placing};
 use bx_history::History;
-use bx_workers::{Gate, WorkerCount};
+use bx_shard::{Gate, WorkerCount};
 use bx_world::World;
 use std::alloc::{AllocError, Global};
 use std::thread::Threads;

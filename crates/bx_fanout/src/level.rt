@@ -4,7 +4,7 @@ ghost use Rattle.bx_fanout.specs.CurrentInputs.{IsLevel};
 ghost use Rattle.bx_world.specs.Seen.{setup_of, world_of};
 
 use bx_entry::Placing;
-use bx_workers::{Gate, WorkerCount};
+use bx_shard::{Gate, WorkerCount};
 use bx_world::World;
 use std::alloc::{AllocError, Global};
 use std::thread::Threads;

@@ -9,7 +9,7 @@ use crate::ready::collect_ready;
 use crate::round_state::{RoundState, workers_for};
 use crate::stage::Stage;
 use bx_entry::Placing;
-use bx_workers::{Gate, WorkerCount};
+use bx_shard::{Gate, WorkerCount};
 use std::alloc::{AllocError, Global};
 use std::thread::Threads;
 

@@ -8,7 +8,7 @@ use crate::round_state::{RoundState, finish, new_state};
 use crate::run::run;
 use bx_advice::{Config, ShardCount};
 use bx_entry::{Input, Placing};
-use bx_workers::{Gate, OpenGate, WorkerCount};
+use bx_shard::{Gate, OpenGate, WorkerCount};
 use std::alloc::{AllocError, Global};
 use std::sync::Arc;
 use std::thread::Threads;

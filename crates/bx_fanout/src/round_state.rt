@@ -18,7 +18,7 @@ use crate::take_in::take_in;
 use bx_advice::Config;
 use bx_entry::{EntryKind, Input, Placing};
 use bx_history::History;
-use bx_workers::{Gate, WorkerCount};
+use bx_shard::{Gate, WorkerCount};
 use bx_world::World;
 use std::alloc::{AllocError, Global};
 use std::sync::Arc;

@@ -7,7 +7,7 @@ use crate::out::{Out, RoundFault};
 use crate::pass_over::catch_up;
 use crate::round_state::{RoundState, settle, take_in_next};
 use bx_entry::{Input, Placing};
-use bx_workers::{Gate, WorkerCount};
+use bx_shard::{Gate, WorkerCount};
 use std::alloc::Global;
 use std::thread::Threads;
 

@@ -1,3 +1,4 @@
 pub mod Record
 pub mod Answers
+pub mod AnswerLog
 pub mod Laws

@@ -1,23 +1,46 @@
 //! The line that records an answer, by its digest.
 ghost use Rattle.std.specs.Prelude.{◌≡◌, IfOk};
+ghost use Rattle.bx_message.specs.Texts.{body_text};
 ghost use Rattle.bx_record.specs.Answers.{answer_text};
+ghost use Rattle.sha2.specs.Sha256.{sha256};
 
+use bx_message::{Item, body_text};
 use itoa::Buffer;
+use sha2::{Digest, Sha256};
 use std::alloc::{AllocError, Global};
 
 // The most bytes in the line of an answer. The line has a letter, a place of up to 20 digits, 64
 // digits of the digest, two spaces and a newline.
 const ANSWER_LENGTH: usize = 1 + 20 + 64 + 2 + 1;
 
-/// Formats the line that records the answer to a request.
+/// Creates the line for an answered request: its place and the SHA-256 of its items.
 ///
-/// `place`: the place of the request's first message. `digest`: the SHA-256 of the replies and
-/// events in the response.
+/// `place`: the place of the request's first message. The digest is that of the JSON array of
+/// `items`.
 ///
 /// # Errors
 ///
 /// `AllocError` if memory runs out.
-pub fn answer_text(alloc: Global, place: u64, digest: &[u8; 32]) -> Result<Vec<u8>, AllocError>
+pub(crate) fn answer_line(alloc: Global, place: u64, items: &[Item]) -> Result<Vec<u8>, AllocError>
+    ensures { IfOk result (λ line. line.items ≡ answer_text place (sha256 (body_text items.now))) }
+{
+    let text = body_text(alloc, items)?;
+    let digest = Sha256::digest(text.as_slice());
+    answer_text(alloc, place, &digest)
+}
+
+/// Formats the line of an answer with the SHA-256 `digest`.
+///
+/// `place`: the place of the request's first message.
+///
+/// # Errors
+///
+/// `AllocError` if memory runs out.
+pub(crate) fn answer_text(
+    alloc: Global,
+    place: u64,
+    digest: &[u8; 32],
+) -> Result<Vec<u8>, AllocError>
     ensures { IfOk result (λ text. text.items ≡ answer_text place digest.now) }
 {
     let mut text = Vec::with_capacity(alloc, ANSWER_LENGTH)?;

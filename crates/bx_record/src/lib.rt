@@ -2,6 +2,8 @@
 #![tactic(auto)]
 
 mod answer;
+mod answer_lines;
+mod answer_log;
 mod chunk;
 mod config;
 mod counted;
@@ -16,7 +18,8 @@ mod text;
 mod waiting;
 mod writer;
 
-pub use answer::answer_text;
+pub use answer_lines::TakenAnswerLines;
+pub use answer_log::WaitingAnswerLines;
 pub use chunk::{Chunk, TextPosition};
 pub use config::config_text;
 pub use counted::CountedFile;

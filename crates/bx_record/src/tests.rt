@@ -1,3 +1,4 @@
-//! Tests of the lines of a record and of the writer.
+//! Tests of the lines of a record, of the log of answers, and of the writer.
+mod answers;
 mod texts;
 mod writing;

@@ -8,7 +8,7 @@ use crate::unlike::Unlike;
 use bx_advice::{Options, ShardCount};
 use bx_entry::{ByRemainder, Input};
 use bx_fanout::{Out, Round, RoundFault};
-use bx_workers::{OpenGate, WorkerCount};
+use bx_shard::{OpenGate, WorkerCount};
 use std::alloc::Global;
 use std::sync::Arc;
 use std::thread::Threads;

@@ -3,7 +3,7 @@ use crate::requests::{CONNECT, HANDSHAKE, PUBLISH, SUBSCRIBE, arrival, config, t
 use crate::unlike::Unlike;
 use bx_entry::{AdmitFault, Admitted, ByRemainder, Slot, Ticket};
 use bx_message::Answer;
-use bx_workers::{OpenGate, WorkerCount};
+use bx_shard::{OpenGate, WorkerCount};
 use bx_world::{Applied, World};
 use std::alloc::Global;
 use std::sync::Arc;

@@ -8,7 +8,7 @@ ghost use Rattle.bx_replay.specs.Settings.{count_in, named_in, settings_in, sett
 use crate::argument_error::ArgumentError;
 use bx_advice::{Config, MAX_SHARDS, Options};
 use bx_message::number_of;
-use bx_workers::WorkerCount;
+use bx_shard::WorkerCount;
 
 /// The configuration of a replay and its number of workers.
 #[derive(Clone, Copy)]

@@ -13,7 +13,7 @@ use crate::server::{ReplayServer, answer, new_server};
 use bx_advice::Config;
 use bx_entry::Placing;
 use bx_script::{Lines, Output, ScriptFault};
-use bx_workers::WorkerCount;
+use bx_shard::WorkerCount;
 use std::alloc::Global;
 use std::io::{BufRead, Write};
 use std::sync::Arc;

@@ -17,7 +17,7 @@ use bx_entry::{Arrival, Input, Placing};
 use bx_fanout::{Round, RoundFault};
 use bx_history::History;
 use bx_script::{Line, Output, ScriptFault, write_bad, write_status};
-use bx_workers::{OpenGate, WorkerCount};
+use bx_shard::{OpenGate, WorkerCount};
 use std::alloc::Global;
 use std::collections::BTreeMap;
 use std::io::Write;

@@ -5,7 +5,7 @@ use bx_advice::Config;
 use bx_cut::Bodies;
 use bx_entry::{Access, Arrival, ByRemainder, Input};
 use bx_fanout::Round;
-use bx_workers::{OpenGate, WorkerCount};
+use bx_shard::{OpenGate, WorkerCount};
 use bx_world::{Step, StepOut, World};
 use std::sync::Arc;
 use std::test::*;

@@ -8,7 +8,7 @@ use bx_advice::{Config, Options, ShardCount};
 use bx_entry::{ByTable, Input};
 use bx_fanout::{Out, Round};
 use bx_message::body_text;
-use bx_workers::{Gate, OpenGate, WorkerCount};
+use bx_shard::{Gate, OpenGate, WorkerCount};
 use std::alloc::{AllocError, Global};
 use std::hint;
 use std::process::Abort;

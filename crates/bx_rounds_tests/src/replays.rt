@@ -5,7 +5,7 @@ use bx_advice::Config;
 use bx_entry::{AllFirst, ByRemainder, ByTable, Placing};
 use bx_replay::replay;
 use bx_script::{Dialect, Lines, Output, ScriptFault};
-use bx_workers::WorkerCount;
+use bx_shard::WorkerCount;
 use std::alloc::Global;
 use std::io;
 use std::io::{BufRead, BufReader, ErrorKind, Read, Write};

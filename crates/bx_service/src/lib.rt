@@ -1,6 +1,7 @@
 //! Bayeux over HTTP: collects a request's body, posts its messages, and responds with the answers.
 #![tactic(auto)]
 
+mod answer_logger;
 mod backend;
 mod collect;
 mod exchange;
@@ -13,6 +14,7 @@ mod route;
 mod service;
 mod status;
 
+pub use answer_logger::AnswerLogger;
 pub use backend::{Backend, Clock, Declined, HubBackend, Nonces, Unanswered};
 pub use collect::{Collect, CollectError};
 pub use exchange::Exchange;

@@ -29,8 +29,8 @@ fn data(alloc: Global, sign: &str, count: usize) -> Result<String, AllocError> {
     Ok(text)
 }
 
-// Creates an event on `/a/b` with a JSON string of `count` times `sign` as its data.
-fn event(alloc: Global, sign: &str, count: usize) -> Result<Item, Fail> {
+/// Creates an event on `/a/b` with a JSON string of `count` times `sign` as its data.
+pub fn event(alloc: Global, sign: &str, count: usize) -> Result<Item, Fail> {
     let name = ChannelName::read(alloc, "/a/b")?;
     let payload = data(alloc, sign, count)?;
     let event = Event {

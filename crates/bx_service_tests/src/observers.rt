@@ -1,10 +1,14 @@
 //! Tests of observers: the events that a service reports, with a backend of fixed outcomes.
+use crate::answers::event;
 use crate::requests::{Ask, Content, POST};
 use bx_cut::Bodies;
 use bx_entry::Refusal;
 use bx_hub::PostFault;
 use bx_message::{Item, Status};
-use bx_service::{Backend, BayeuxService, Declined, Observer, ServiceEvent, Unanswered};
+use bx_record::WaitingAnswerLines;
+use bx_service::{
+    AnswerLogger, Backend, BayeuxService, Declined, Observer, ServiceEvent, Unanswered,
+};
 use futures::Future;
 use futures::task::{Context, Poll};
 use futures::test::MockTask;
@@ -140,6 +144,46 @@ fn observers_are_told(rt: HostRuntime) -> Result<(), Fail> {
         }
         assert_eq!(rt; one.0.load(Ordering::SeqCst), digits);
         assert_eq!(rt; two.0.load(Ordering::SeqCst), digits);
+    }
+    Ok(())
+}
+
+// The digest that `sha256sum` computes of `[{"channel":"/a/b","data":"x"}]`, in hexadecimal.
+const EVENT_DIGEST: &str = "f6f2643f1ada2b3a95283ad147b15188884e6deadf53ea95c92c18f9e7155b8d";
+
+// Returns `value`. This compiles only if threads can share `value`.
+fn shared<T: Send + Sync>(value: T) -> T {
+    value
+}
+
+#[test]
+fn answers_are_logged(rt: HostRuntime) -> Result<(), Fail> {
+    let alloc = rt.alloc();
+    let one_event = [event(alloc, "x", 1)?];
+    let items = Some(one_event.as_slice());
+    let log = Arc::new(alloc, WaitingAnswerLines::new(alloc))?;
+    let nobody = shared(AnswerLogger::new(rt, alloc, None));
+    let logger = shared(AnswerLogger::new(rt, alloc, Some(Arc::try_clone(&log)?)));
+    let line = format!(in alloc; "A 7 {EVENT_DIGEST}\n")?;
+    for (place, items, logged) in [
+        (Some(7), items, line.as_str()),
+        (None, items, ""),
+        (Some(7), None, ""),
+    ] {
+        for event in [
+            ServiceEvent::RequestArrived,
+            ServiceEvent::Admitted(place),
+            ServiceEvent::Refused(PostFault::Refused(Refusal::BadMoment)),
+            ServiceEvent::Responded(Some(Status::Ok)),
+            ServiceEvent::RequestEnded { was_admitted: true },
+        ] {
+            logger.see(event);
+        }
+        nobody.see(ServiceEvent::Answered { place, items });
+        assert_eq!(rt; log.take(&rt, Vec::new(alloc)).bytes.as_slice(), b"");
+        logger.see(ServiceEvent::Answered { place, items });
+        let taken = log.take(&rt, Vec::new(alloc));
+        assert_eq!(rt; taken.bytes.as_slice(), logged.as_bytes());
     }
     Ok(())
 }

@@ -28,3 +28,5 @@ pub mod Untaken
 pub mod Waits
 pub mod Waking
 pub mod Cases
+pub mod Going
+pub mod Parts

@@ -9,4 +9,5 @@ pub mod Sessions
 pub mod Shards
 pub mod States
 pub mod Steps
+pub mod Upward
 pub mod Words

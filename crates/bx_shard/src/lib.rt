@@ -1,7 +1,8 @@
-//! Shards: sessions with their patterns, connects and answers, advanced entry by entry.
+//! Shards: sessions with their patterns, connects and answers, and workers that advance many shards.
 #![tactic(auto)]
 
 mod follow;
+mod gate;
 mod laws;
 mod patterns;
 mod publish;
@@ -9,8 +10,11 @@ mod ride;
 mod sessions;
 mod shard;
 mod tick;
+mod upward;
+mod worker_count;
 
 pub use bx_connects::{TakenAnswer, Wakers, Watch};
+pub use gate::{Gate, OpenGate};
 pub use laws::{
     entry_determines_filed_answers, entry_determines_sessions, filed_answers_match_definitions,
     new_session_is_newest, refines_applied, refines_longer_list, refines_other_swept,
@@ -19,3 +23,5 @@ pub use laws::{
 };
 pub use sessions::Sessions;
 pub use shard::Shard;
+pub use upward::bring_up;
+pub use worker_count::{MAX_WORKERS, WorkerCount};

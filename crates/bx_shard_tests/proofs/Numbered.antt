@@ -5,7 +5,7 @@ use Rattle.std.proofs.lemmas.Option.{none-some, same_Some}
 use Rattle.bx_entry.specs.declared.entry.Entry.{Entry}
 use Rattle.bx_shard.specs.declared.shard.Shard.{Shard}
 use Rattle.bx_shard_tests.specs.Numbered.{AreFresh, AreNumbered}
-use Rattle.bx_workers.specs.Upward.{AreConsecutive, AreWithin, first_of}
+use Rattle.bx_shard.specs.Upward.{AreConsecutive, AreWithin, first_of}
 
 pub first_is_0 : (es : List Entry) → AreNumbered es → first_of es ≡ 0
 first_is_0 [] h = refl

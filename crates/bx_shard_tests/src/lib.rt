@@ -1,4 +1,4 @@
-//! Tests of `bx_shard` and `bx_workers`.
+//! Tests of `bx_shard`.
 //!
 //! They are a separate crate because `.ci/run` proves a crate with tests twice.
 #![tactic(auto)]

@@ -9,7 +9,7 @@ use Rattle.bx_entry.specs.Registry.{entries}
 use Rattle.bx_entry.specs.declared.entry.Entry.{Entry}
 use Rattle.bx_shard.specs.Words.{Setup, takes_no_memory}
 use Rattle.bx_shard.specs.declared.shard.Shard.{Shard}
-use Rattle.bx_workers.specs.Upward.{AreConsecutive, AreOf, AreWithin, BroughtUp, WentOn, count_behind, end_of, first_of, is_behind}
+use Rattle.bx_shard.specs.Upward.{AreConsecutive, AreOf, AreWithin, BroughtUp, WentOn, count_behind, end_of, first_of, is_behind}
 use Rattle.bx_world.specs.Words.{Admitting, entries_kept, EachRefines, RefinesFrom, StandFrom, StandWithin}
 use Rattle.bx_theory.proofs.{Lists.entries_length, Lists.place_within, Verdicts.entry_placed}
 

@@ -6,7 +6,7 @@ ghost use Rattle.bx_entry.specs.Inputs.{refusal_of};
 ghost use Rattle.bx_entry.specs.Registry.{count_live, entries, registry};
 ghost use Rattle.bx_entry.specs.Requests.{read_input};
 ghost use Rattle.bx_entry.specs.declared.input.Input.TheVariants.{Post, Tick};
-ghost use Rattle.bx_workers.specs.Upward.{BroughtUp, count_behind};
+ghost use Rattle.bx_shard.specs.Upward.{BroughtUp, count_behind};
 ghost use Rattle.bx_world.specs.Admissions.{IsAdmission, entries_kept};
 ghost use Rattle.bx_world.specs.Refining.{StandFrom, StandWithin};
 ghost use Rattle.bx_entry.specs.declared.input.AdmitFault.TheVariants.{Memory, Refused};
@@ -15,8 +15,7 @@ use crate::backlog::Backlog;
 use bx_advice::{Config, ShardCount};
 use bx_entry::{AdmitFault, Admitted, Arrival, Entry, Placing};
 use bx_registry::{Plan, Registry};
-use bx_shard::Shard;
-use bx_workers::{Gate, WorkerCount};
+use bx_shard::{Gate, Shard, WorkerCount};
 use std::alloc::{AllocError, Global};
 use std::marker::Model;
 use std::thread::Threads;
@@ -151,7 +150,7 @@ impl Intake {
     ///
     /// A shard still lacks entries only if memory runs out. `workers`: the number of workers that
     /// share the shards. Each worker with shards calls `gate` before and after its work, as
-    /// [`bring_up`](bx_workers::bring_up) of `bx_workers` describes.
+    /// [`bring_up`](bx_shard::bring_up) of `bx_shard` describes.
     pub(crate) fn bring_up<R: Threads + Sync, G: Gate + Sync, P: Placing + Send + Sync>(
         &mut self,
         rt: &R,

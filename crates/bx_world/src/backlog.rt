@@ -1,14 +1,13 @@
 //! The entries that some shard has yet to apply.
 ghost use Rattle.std.specs.Prelude.{◌≡◌, ◌≤◌, ◌+◌, ◌++◌, [], ◌∷◌, length, max, slice_get, option_map, OnOk};
 ghost use Rattle.bx_advice.specs.Limits.{greatest_length};
-ghost use Rattle.bx_workers.specs.Upward.{AreConsecutive, AreWithin, BroughtUp, count_behind, end_of};
+ghost use Rattle.bx_shard.specs.Upward.{AreConsecutive, AreWithin, BroughtUp, count_behind, end_of};
 ghost use Rattle.bx_world.specs.Backlogs.{empty, kept_in};
 
 use bx_entry::{Entry, Placing};
 use bx_history::History;
 use bx_message::Sequence;
-use bx_shard::Shard;
-use bx_workers::{Gate, WorkerCount};
+use bx_shard::{Gate, Shard, WorkerCount};
 use std::alloc::{AllocError, Global};
 use std::collections::VecDeque;
 use std::marker::Model;
@@ -117,7 +116,7 @@ impl Backlog {
     ///
     /// A shard still lacks entries only if memory runs out. `workers`: the number of workers that
     /// share the shards. Each worker with shards calls `gate` before and after its work, as
-    /// [`bring_up`](bx_workers::bring_up) of `bx_workers` describes.
+    /// [`bring_up`](bx_shard::bring_up) of `bx_shard` describes.
     pub(crate) fn bring_up<R: Threads + Sync, G: Gate + Sync, P: Placing + Send + Sync>(
         &mut self,
         rt: &R,
@@ -134,6 +133,6 @@ impl Backlog {
         ensures count { result ≡ count_behind (kept_in self.old.contents) shards.new }
     {
         let kept = self.kept.make_contiguous();
-        bx_workers::bring_up(rt, alloc, gate, workers, shards, kept)
+        bx_shard::bring_up(rt, alloc, gate, workers, shards, kept)
     }
 }

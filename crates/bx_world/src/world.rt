@@ -14,8 +14,7 @@ use bx_entry::{AdmitFault, Admitted, Arrival, Entry, Input, Placing, Ticket};
 use bx_history::History;
 use bx_message::Answer;
 use bx_reshard::redistribute;
-use bx_shard::{Shard, TakenAnswer, Wakers};
-use bx_workers::{Gate, WorkerCount};
+use bx_shard::{Gate, Shard, TakenAnswer, Wakers, WorkerCount};
 use std::alloc::{AllocError, Global};
 use std::sync::Arc;
 use std::thread::Threads;
@@ -151,7 +150,7 @@ impl<P: Placing> World<P> {
     ///
     /// A shard still lacks entries only if memory runs out. `workers`: the number of workers that
     /// share the shards. Each worker with shards calls `gate` before and after its work, as
-    /// [`bring_up`](bx_workers::bring_up) of `bx_workers` describes.
+    /// [`bring_up`](bx_shard::bring_up) of `bx_shard` describes.
     pub fn bring_up<R: Threads + Sync, G: Gate + Sync>(
         &mut self,
         rt: &R,

@@ -1,5 +1,6 @@
 //! Tests of the lines of a record.
-use crate::{answer_text, config_text, request_text, tick_text};
+use crate::answer::answer_text;
+use crate::{config_text, request_text, tick_text};
 use bx_advice::{BODY_LIMIT, Config, Options};
 use bx_cut::Bodies;
 use bx_entry::{Access, Arrival};

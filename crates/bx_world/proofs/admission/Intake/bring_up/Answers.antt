@@ -1,7 +1,7 @@
 use Rattle.std.proofs.Common.{◌≡◌, ◌≤◌, List, length, drop, sym, ap, subst}
 use Rattle.bx_advice.specs.Limits.{greatest_length}
 use Rattle.bx_entry.specs.declared.entry.Entry.{Entry}
-use Rattle.bx_workers.specs.Upward.{AreConsecutive, AreWithin, end_of}
+use Rattle.bx_shard.specs.Upward.{AreConsecutive, AreWithin, end_of}
 use Rattle.bx_world.specs.Words.{Admitting, entries_kept, kept_in, StandFrom, StandWithin}
 use Rattle.bx_world.proofs.Upwards.{kept_bounded, kept_consecutive, kept_within}
 use Rattle.bx_world.proofs.admission.Intake.bring_up.Goals as goal

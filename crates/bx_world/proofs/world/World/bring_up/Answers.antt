@@ -4,7 +4,7 @@ use Rattle.std.specs.Arc.{arc_value}
 use Rattle.bx_advice.specs.Limits.{greatest_length}
 use Rattle.bx_entry.specs.Registry.{entries}
 use Rattle.bx_shard.specs.declared.shard.Shard.{Shard}
-use Rattle.bx_workers.specs.Upward.{BroughtUp}
+use Rattle.bx_shard.specs.Upward.{BroughtUp}
 use Rattle.bx_world.specs.Words.{Admitting, entries_kept, EachRefines, StandFrom, StandWithin, some_stands_at}
 use Rattle.bx_entry.specs.Placings.{placed_by}
 use Rattle.bx_world.proofs.Applications.{each_from}

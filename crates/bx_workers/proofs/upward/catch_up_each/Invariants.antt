@@ -1,5 +1,0 @@
-use Rattle.bx_workers.proofs.Parts.{WentSoFar}
-use Rattle.bx_workers.proofs.upward.catch_up_each.Given as goal
-
-abbrev pub invariant-loop-shard : goal.invariant-loop-shard
-invariant-loop-shard g l = WentSoFar g.P.Placing.place_of l.entries l.shard-index l.initial.shard-items l.shard-items
