@@ -180,7 +180,7 @@ fn answers_are_logged(rt: HostRuntime) -> Result<(), Fail> {
             logger.see(event);
         }
         nobody.see(ServiceEvent::Answered { place, items });
-        assert_eq!(rt; log.take(&rt, Vec::new(alloc)).bytes.as_slice(), b"");
+        assert_eq!(rt; log.take(&rt, Vec::new(alloc)).bytes.len(), 0);
         logger.see(ServiceEvent::Answered { place, items });
         let taken = log.take(&rt, Vec::new(alloc));
         assert_eq!(rt; taken.bytes.as_slice(), logged.as_bytes());
