@@ -1,9 +1,8 @@
 //! Serves HTTP connections, each as a task of a runtime.
 use crate::answer::Bare;
-use bx_serve::{Connections, MakeTask, accept_limit};
+use bx_serve::{Connections, IgnoreOutput, MakeTask, accept_limit};
 use bytes::Bytes;
-use futures::task::{Context, Poll};
-use futures::{Future, StreamExt};
+use futures::StreamExt;
 use http_body_util::Full;
 use hyper::server::conn::http1::{Builder, Connection};
 use std::alloc::AllocGlobal;
@@ -20,27 +19,6 @@ use tokio::runtime::Runtime;
 
 // Pause after a failed accept, in milliseconds.
 const PAUSE: u64 = 20;
-
-/// A future that runs another future and drops its output.
-#[derive(Drop)]
-pub struct IgnoreOutput<F> {
-    inner: F,
-}
-
-impl<F: Future<Output = T>, T: Drop> Future for IgnoreOutput<F> {
-    type Output = ();
-
-    ghost can_poll = { λ q. F.can_poll q.inner };
-
-    ghost needs = { λ q. F.needs q.inner };
-
-    fn poll(&mut self, cx: &mut Context<'_>) -> Poll<()> {
-        match self.inner.poll(cx) {
-            Poll::Ready(_) => Poll::Ready(()),
-            Poll::Pending => Poll::Pending,
-        }
-    }
-}
 
 /// A [`MakeTask`] that serves each connection over HTTP, without time limits.
 #[derive(Drop)]

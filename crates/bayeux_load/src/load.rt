@@ -7,6 +7,7 @@ use crate::worker::work;
 use bx_load::{LoadSettings, Target};
 use std::alloc::{AllocGlobal, Global};
 use std::net::{Net, SocketAddr, TcpListener, TcpStream, ToSocketAddrs};
+use std::sync::atomic::Ordering;
 use std::sync::{Arc, Wait};
 use std::thread;
 use std::thread::{JoinHandle, Threads};
@@ -65,7 +66,7 @@ fn context_of<R: Net + Clock + AllocGlobal>(
 }
 
 // Runs all parts, the first on this thread, and adds their results to `whole`. Returns the fault of
-// the first part that failed.
+// the first part that failed, or why a thread cannot be spawned. Joins all spawned threads.
 fn all_parts<R>(
     rt: R,
     context: &Arc<Context, Global>,
@@ -85,21 +86,31 @@ where
         + Drop
         + 'static,
 {
-    let mut others = Vec::new(context.alloc);
+    let mut others = Vec::with_capacity(context.alloc, MOST_THREADS as usize)?;
+    let mut begun = Ok(());
     for index in 1..threads {
-        begin(rt, context, index, threads, &mut others)?;
+        begun = begin(rt, context, index, threads, &mut others);
+        if begun.is_err() {
+            break;
+        }
     }
-    let own = match LoadPart::new(context.alloc, 0, threads) {
-        Ok(part) => work(&rt, &**context, part, is_shown),
-        Err(_) => Err(Fault::Memory),
+    let own = match (begun, LoadPart::new(context.alloc, 0, threads)) {
+        (Ok(()), Ok(part)) => work(&rt, &**context, part, is_shown),
+        (Err(fault), _) => Err(fault),
+        (_, Err(_)) => Err(Fault::Memory),
     };
+    // Ends the threads that run, so that they can be joined.
+    if own.is_err() {
+        context.has_failed.store(true, Ordering::SeqCst);
+    }
     match added(rt, whole, own, others) {
         None => Ok(()),
         Some(fault) => Err(fault),
     }
 }
 
-// Spawns a thread that runs part `index` of `threads`, and appends its handle to `others`.
+// Spawns a thread that runs part `index` of `threads`, and appends its handle to `others`. Without
+// room for it, the thread might not be joined.
 fn begin<R>(
     rt: R,
     context: &Arc<Context, Global>,

@@ -41,10 +41,7 @@ fn main(rt: HostRuntime) -> ExitCode {
 // Parses the command-line arguments.
 fn settings(rt: &HostRuntime) -> Result<LoadSettings, SettingsFault> {
     let mut args = Vec::new(rt.alloc());
-    for arg in env::args(rt)
-        .map_err(|_error| SettingsFault::Memory)?
-        .skip(1)
-    {
+    for arg in env::args(rt)?.skip(1) {
         args.push(arg).map_err(|_arg| SettingsFault::Memory)?;
     }
     LoadSettings::read(rt.alloc(), args.as_slice())

@@ -28,7 +28,13 @@ fn main(rt: HostRuntime) -> ExitCode {
 // Replays the record in the file after `--record`, or on standard input if that is `-`. Without
 // `--record`, replays the script on standard input. Returns the exit code of the program.
 fn run<T: Threads + Sync>(rt: &HostRuntime, threads: &T) -> Result<ExitCode, ScriptFault> {
-    let args = args(rt).map_err(|error| ScriptFault::of_read(&error))?;
+    let args = match args(rt) {
+        Err(error) if error.kind() == io::ErrorKind::InvalidData => {
+            let _ = eprintln!(rt; "{USAGE}\nbayeux_replay: expected arguments in UTF-8");
+            return Ok(ExitCode::from(2));
+        }
+        args => args.map_err(|error| ScriptFault::of_read(&error))?,
+    };
     match args.as_slice() {
         [flag, path] if flag.as_str() == "--record" && path.as_str() == "-" => {
             replay_record(rt, threads, rt.reader())

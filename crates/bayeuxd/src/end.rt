@@ -1,8 +1,6 @@
 //! Ends the server when standard input ends.
-use bx_entry::Placing;
-use bx_hub::{Gate, Hub};
+use bx_hub::{Hub, HubKind};
 use bx_metrics::Counts;
-use bx_window::LogId;
 use futures::channel::oneshot::Sender;
 use futures::task::{Context, Poll};
 use futures::{Future, ready};
@@ -29,22 +27,20 @@ pub fn signal_at_eof<R: Input>(rt: &R, shutdown: Sender<()>) {
 ///
 /// Polling it locks as [`Hub::close`] does.
 #[derive(Drop)]
-pub struct CloseOnShutdown<L: LogId, P: Placing, G: Gate + Drop, R: Wait + Drop, A> {
+pub struct CloseOnShutdown<L: HubKind, R: Wait + Drop, A> {
     /// The right to wait for the hub's locks.
     pub rt: R,
     /// The hub to close.
-    pub hub: Arc<Hub<L, P, G, R>, Global>,
+    pub hub: Arc<Hub<L, R>, Global>,
     /// The metrics. Once `shutdown` is ready, they show that the server no longer listens.
     pub counts: Arc<Counts, Global>,
     /// The future of the signal to end.
     pub shutdown: A,
 }
 
-impl<L, P, G, R, A, T> Future for CloseOnShutdown<L, P, G, R, A>
+impl<L, R, A, T> Future for CloseOnShutdown<L, R, A>
 where
-    L: LogId,
-    P: Placing + Drop,
-    G: Gate + Drop,
+    L: HubKind,
     R: Wait + Drop,
     A: Future<Output = T>,
     T: Drop,

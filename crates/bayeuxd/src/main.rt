@@ -9,9 +9,8 @@ mod refusals;
 mod serve;
 mod ticker;
 
-use bx_advice::STANDARD_BYTES;
+use bx_advice::Limit;
 use bx_metrics::Counts;
-use bx_service::BodyLimit;
 use bx_settings::{Seed, Settings, parse_args, read_flags, read_seed};
 use end::signal_at_eof;
 use futures::channel::oneshot;
@@ -55,8 +54,9 @@ const SECOND: u32 = 1000;
 const OUT_OF_MEMORY: &str = "bayeuxd: out of memory";
 
 fn main(rt: HostRuntime) -> ExitCode {
-    let Ok(args) = args(&rt) else {
-        return failed(&rt, OUT_OF_MEMORY);
+    let args = match read_args(&rt) {
+        Ok(args) => args,
+        Err(status) => return status,
     };
     let processors = thread::available_parallelism(&rt).map_or(1, |it| it.get());
     let settings = match settings_of(&rt, args.as_slice(), processors) {
@@ -149,7 +149,7 @@ fn parts_of<'a>(rt: &HostRuntime, settings: &Settings<'a>) -> Result<Parts<'a>, 
     Ok(Parts {
         arguments: ServeSettings {
             config: settings.config,
-            body: body_of(settings),
+            body: settings.body,
             seed,
             connections: settings.connections,
             until_eof: settings.until_eof,
@@ -174,14 +174,6 @@ fn record_of(
     match make_record(rt, path, &settings.config, settings.record_answers) {
         Ok(file) => Ok(Some(file)),
         Err(error) => Err(refused_at(rt, CANNOT_RECORD, path, &error)),
-    }
-}
-
-// Returns the size limit of bodies and queries from the settings.
-fn body_of(settings: &Settings<'_>) -> BodyLimit {
-    match BodyLimit::new(settings.body) {
-        Some(limit) => limit,
-        None => unreachable!(),
     }
 }
 
@@ -235,18 +227,19 @@ fn settings_text(alloc: Global, settings: &Settings<'_>) -> Result<String, Alloc
         " timeout={} interval={} max_interval={}",
         config.timeout, config.interval, config.max_interval
     )?;
-    write!(text, " limit={} bytes=", config.limits.events)?;
-    if config.limits.bytes == STANDARD_BYTES {
-        write!(text, "no-limit")?;
-    } else {
-        write!(text, "{}", config.limits.bytes)?;
+    for limit in &Limit::ALL {
+        match config.limits.get(*limit) {
+            n if n <= limit.greatest() => write!(text, " {}={n}", limit.name())?,
+            _ => write!(text, " {}=no-limit", limit.name())?,
+        }
     }
     write!(
         text,
-        " patterns={} sessions={} body={}",
-        config.limits.patterns, config.limits.sessions, settings.body
+        " body={} ride={} anonymous={}",
+        settings.body.get(),
+        config.ride,
+        config.anonymous
     )?;
-    write!(text, " ride={} anonymous={}", config.ride, config.anonymous)?;
     write!(
         text,
         " connections={} metrics={} record={} record_answers={} until_eof={}",
@@ -266,6 +259,19 @@ fn args(rt: &HostRuntime) -> io::Result<Vec<String>> {
         args.push(arg)?;
     }
     Ok(args)
+}
+
+// Returns the command-line arguments. If one is not UTF-8 or memory runs out, prints the error and
+// returns the exit status.
+fn read_args(rt: &HostRuntime) -> Result<Vec<String>, ExitCode> {
+    match args(rt) {
+        Ok(args) => Ok(args),
+        Err(error) if error.kind() == io::ErrorKind::OutOfMemory => Err(failed(rt, OUT_OF_MEMORY)),
+        Err(_) => {
+            let _ = rt.eprintln(USAGE);
+            Err(ExitCode::from(2))
+        }
+    }
 }
 
 // Parses the arguments, as flags or by position. For `--help`, `--version` and errors it prints the

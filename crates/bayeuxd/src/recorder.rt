@@ -1,7 +1,7 @@
 //! The record of a hub's list: its file, and the thread that writes it.
 use bx_advice::Config;
 use bx_entry::ByRemainder;
-use bx_hub::{Hub, OpenGate, RecordFront};
+use bx_hub::{Hub, HubKind, Kind, OpenGate, RecordFront};
 use bx_record::{
     CountedFile, RecordFault, RecordFile, Source, TakenAnswerLines, TakenText, WaitingAnswerLines,
     WriteSummary, WriterEnd, config_text, write_until_stopped,
@@ -78,7 +78,7 @@ impl Recorder {
     /// Locks admission.
     pub fn start<L, R, F>(
         rt: R,
-        hub: &Arc<Hub<L, ByRemainder, OpenGate, R>, Global>,
+        hub: &Arc<Hub<Kind<L, ByRemainder, OpenGate>, R>, Global>,
         file: Option<NewRecordFile<F>>,
     ) -> io::Result<Recorder>
     where
@@ -153,14 +153,14 @@ struct Ended {
 
 // The lines of a hub's record, and those of its answers, that wait to be written.
 #[derive(Drop)]
-struct HubRecord<L: LogId, R: Wait + Drop> {
+struct HubRecord<L: HubKind, R: Wait + Drop> {
     rt: R,
     alloc: Global,
-    hub: Arc<Hub<L, ByRemainder, OpenGate, R>, Global>,
+    hub: Arc<Hub<L, R>, Global>,
     log: Arc<WaitingAnswerLines, Global>,
 }
 
-impl<L: LogId, R: Wait + Log + Drop> Source for HubRecord<L, R> {
+impl<L: HubKind, R: Wait + Log + Drop> Source for HubRecord<L, R> {
     type TextPosition = RecordFront<L>;
 
     type Fault = Ended;

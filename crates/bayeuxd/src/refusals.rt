@@ -1,6 +1,7 @@
 //! Log lines for requests that are rejected or not answered.
+use bx_hub::PostFault;
 use bx_message::Status;
-use bx_metrics::{Counts, Metric, Reason};
+use bx_metrics::{Counts, Metric};
 use log::{Log, warn};
 
 // Metrics that count rejected or unanswered requests, each with its log text.
@@ -18,23 +19,23 @@ const CAUSES: [(Metric, &str); 10] = [
         "413: body or query too large",
     ),
     (
-        Metric::Refused(Reason::Behind),
+        Metric::Refused(PostFault::Behind { first: 0 }),
         "the window is full because a shard lags",
     ),
     (
-        Metric::Refused(Reason::Overrun),
+        Metric::Refused(PostFault::Overrun { shard: 0, place: 0 }),
         "internal error: the window has dropped entries that a shard needs",
     ),
     (
-        Metric::Refused(Reason::WrongShard),
+        Metric::Refused(PostFault::WrongShard { shard: 0, found: 0 }),
         "internal error: shard lock mismatch",
     ),
     (
-        Metric::Refused(Reason::Memory),
+        Metric::Refused(PostFault::Memory),
         "out of memory for a request",
     ),
     (
-        Metric::Refused(Reason::Closed),
+        Metric::Refused(PostFault::Closed),
         "the server is shutting down",
     ),
     (Metric::UnansweredRequests, "answer unavailable"),

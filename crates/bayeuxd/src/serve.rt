@@ -6,16 +6,14 @@ use crate::clock::{RandomNonces, SinceStart};
 use crate::end::CloseOnShutdown;
 use crate::recorder::{NewRecordFile, Recorder};
 use crate::ticker::run_ticker;
-use bx_advice::Config;
+use bx_advice::{BodyLimit, Config};
 use bx_entry::{Access, ByRemainder};
-use bx_hub::{Hub, OpenGate};
+use bx_hub::{Hub, HubKind, Kind, OpenGate};
 use bx_message::Item;
 use bx_metrics::Counts;
 use bx_record::WaitingAnswerLines;
 use bx_serve::{Endpoint, serve_until};
-use bx_service::{
-    AnswerLogger, Backend, BayeuxService, BodyLimit, HubBackend, Observer, Unanswered,
-};
+use bx_service::{AnswerLogger, Backend, BayeuxService, HubBackend, Observer, Unanswered};
 use bx_window::{EmptyWindow, LogId};
 use futures::Future;
 use futures::channel::oneshot::Receiver;
@@ -212,7 +210,7 @@ where
 {
     let alloc = rt.alloc();
     let clock = SinceStart { rt, start };
-    let hub = Hub::<L, ByRemainder, OpenGate, R>::new(
+    let hub = Hub::<Kind<L, ByRemainder, OpenGate>, R>::new(
         alloc,
         rt,
         opened,
@@ -301,9 +299,9 @@ fn bind<'a, R: Net>(
 
 // The parts that the backends and observers of both listeners share.
 #[derive(Drop)]
-struct SharedParts<L: LogId, R: Wait + Drop> {
+struct SharedParts<L: HubKind, R: Wait + Drop> {
     rt: R,
-    hub: Arc<Hub<L, ByRemainder, OpenGate, R>, Global>,
+    hub: Arc<Hub<L, R>, Global>,
     clock: SinceStart<R>,
     generator: Arc<Mutex<ChaCha20Rng>, Global>,
     counts: Arc<Counts, Global>,
@@ -318,7 +316,7 @@ struct EndpointParts<S, O> {
     observer: O,
 }
 
-impl<L: LogId, R: Wait + Clock + AllocGlobal + Copy + Drop> SharedParts<L, R> {
+impl<L: HubKind, R: Wait + Clock + AllocGlobal + Copy + Drop> SharedParts<L, R> {
     // Creates the backend and the observer for `listener`, and returns all three. `access`: what
     // the listener allows.
     fn parts_for(
@@ -327,7 +325,7 @@ impl<L: LogId, R: Wait + Clock + AllocGlobal + Copy + Drop> SharedParts<L, R> {
         access: Access,
     ) -> io::Result<
         EndpointParts<
-            HubBackend<L, ByRemainder, OpenGate, R, SinceStart<R>, RandomNonces<R>>,
+            HubBackend<L, R, SinceStart<R>, RandomNonces<R>>,
             (Arc<Counts, Global>, AnswerLogger<R>),
         >,
     > {

@@ -1,10 +1,8 @@
 //! The thread that posts ticks.
 use crate::refusals::RefusalLogger;
-use bx_entry::Placing;
-use bx_hub::{Gate, Hub, Lagging, Pass, ShardSurvey, Survey, Tick};
+use bx_hub::{Hub, HubKind, Lagging, Pass, ShardSurvey, Survey, Tick};
 use bx_metrics::{Counts, Metric};
 use bx_service::Clock;
-use bx_window::LogId;
 use log::Log;
 use std::alloc::Global;
 use std::collections::VecDeque;
@@ -35,19 +33,17 @@ const TELLING: u64 = 10;
 /// # Blocking
 ///
 /// Sleeps between ticks. Locks and wakes tasks as [`Hub::tick`] does.
-pub fn run_ticker<L, P, G, H, R, C>(
+pub fn run_ticker<L, H, R, C>(
     rt: &R,
     alloc: Global,
-    hub: &Hub<L, P, G, H>,
+    hub: &Hub<L, H>,
     clock: &C,
     counts: &Counts,
     crowd: usize,
     stop: &AtomicBool,
 )
 where
-    L: LogId,
-    P: Placing,
-    G: Gate + Drop,
+    L: HubKind,
     H: Wait + Drop,
     R: Wait + time::Clock + Log,
     C: Clock,
@@ -117,9 +113,9 @@ fn count_tick(counts: &Counts, behind: Lagging) {
 
 // Copies the state of the hub and its shards to `counts`. Returns how many answers are filed in all
 // shards.
-fn survey<L: LogId, P: Placing, G: Gate + Drop, H: Wait + Drop, R: Wait>(
+fn survey<L: HubKind, H: Wait + Drop, R: Wait>(
     rt: &R,
-    hub: &Hub<L, P, G, H>,
+    hub: &Hub<L, H>,
     pass: &mut Pass<L>,
     counts: &Counts,
 ) -> u64 {

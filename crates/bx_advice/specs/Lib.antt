@@ -1,4 +1,5 @@
 pub mod Errors
 pub mod Limits
+pub mod Configs
 pub mod Advice
 pub mod Options

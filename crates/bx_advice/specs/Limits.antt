@@ -1,8 +1,9 @@
 -- The limits of a server.
-use Rattle.std.specs.Prelude.{ℕ, ◌≡◌}
+use Rattle.std.specs.Prelude.{ℕ, ◌==◌, ◌&&◌, ◌||◌, Bool, List, codes, nat_le}
 use Rattle.std.proofs.Common.{lit≤}
-use Rattle.bx_advice.specs.declared.config.Limits.{Limits}
-use Rattle.bx_advice.specs.declared.config.TheConstants.{MAX_MOMENT, MAX_ENTRIES, STANDARD_BATCH, STANDARD_BYTES, STANDARD_EVENTS, STANDARD_PATTERNS, STANDARD_SESSIONS, STANDARD_TEXTS}
+use Rattle.bx_advice.specs.declared.limit.{Limits.Limits, Limit.Limit}
+use Rattle.bx_advice.specs.declared.limit.Limit.TheVariants.{Bytes, Sessions, Patterns, Events}
+use Rattle.bx_advice.specs.declared.limit.TheConstants.{MAX_MOMENT, MAX_ENTRIES}
 
 -- The greatest moment of a request or a tick, in milliseconds since the server started.
 abbrev pub greatest_moment : ℕ
@@ -15,20 +16,49 @@ greatest_length = MAX_ENTRIES
 -- The default limits of sessions and messages.
 abbrev pub standard_limits : Limits
 standard_limits = record {
-  events = STANDARD_EVENTS;
-  bytes = STANDARD_BYTES;
-  patterns = STANDARD_PATTERNS;
-  batch = STANDARD_BATCH;
-  sessions = STANDARD_SESSIONS;
-  texts = STANDARD_TEXTS;
+  events = 1024;
+  bytes = 4611686018427387904;
+  patterns = 1024;
+  batch = 256;
+  sessions = 65536;
+  texts = 64;
   some_batch = lit≤ tt;
 }
 
--- Each limit in `limits` is the default one.
-pub record IsStandard (limits : Limits) : Type 0 where
-  pub events : limits.events ≡ standard_limits.events
-  pub bytes : limits.bytes ≡ standard_limits.bytes
-  pub patterns : limits.patterns ≡ standard_limits.patterns
-  pub batch : limits.batch ≡ standard_limits.batch
-  pub sessions : limits.sessions ≡ standard_limits.sessions
-  pub texts : limits.texts ≡ standard_limits.texts
+-- ---- Limits that can be configured
+
+-- The name of a limit in arguments and in records.
+abbrev pub limit_name : Limit → List ℕ
+limit_name Bytes = codes "bytes"
+limit_name Sessions = codes "sessions"
+limit_name Patterns = codes "patterns"
+limit_name Events = codes "limit"
+
+-- The greatest value of a limit that can be configured.
+abbrev pub greatest : Limit → ℕ
+greatest Bytes = 4294967295
+greatest Sessions = 65536
+greatest Patterns = 1024
+greatest Events = 65536
+
+-- The value of a limit.
+abbrev pub limit_of : Limit → Limits → ℕ
+limit_of Bytes limits = limits.bytes
+limit_of Sessions limits = limits.sessions
+limit_of Patterns limits = limits.patterns
+limit_of Events limits = limits.events
+
+-- The limits with another value of one of them.
+abbrev pub with_limit : Limit → ℕ → Limits → Limits
+with_limit Bytes n limits = record limits { bytes = n }
+with_limit Sessions n limits = record limits { sessions = n }
+with_limit Patterns n limits = record limits { patterns = n }
+with_limit Events n limits = record limits { events = n }
+
+-- The default value of a limit.
+abbrev pub standard : Limit → ℕ
+standard limit = limit_of limit standard_limits
+
+-- Whether a value of a limit can be configured: the default, or one from 1 to the greatest.
+abbrev pub accepts : Limit → ℕ → Bool
+accepts limit n = (nat_le 1 n && nat_le n (greatest limit)) || n == standard limit

@@ -3,13 +3,16 @@
 
 mod advice;
 mod config;
+mod count;
 mod error;
+mod limit;
 mod options;
 
 pub use advice::{Advice, Outcome, Reconnect, advice_for};
-pub use config::{
-    BODY_LIMIT, Config, Limits, MAX_BYTES, MAX_ENTRIES, MAX_EVENTS, MAX_MOMENT, MAX_SHARDS,
-    STANDARD_BYTES, STANDARD_EVENTS, STANDARD_LIMITS, ShardCount,
-};
+pub use config::Config;
+pub use count::{BodyLimit, Count, ShardCount, WorkerCount};
 pub use error::Error;
+pub use limit::{
+    BODY_LIMIT, Limit, Limits, MAX_ENTRIES, MAX_MOMENT, MAX_SHARDS, MAX_WORKERS, STANDARD_LIMITS,
+};
 pub use options::Options;

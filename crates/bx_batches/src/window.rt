@@ -93,7 +93,7 @@ impl Window {
         }
     }
 
-    /// Returns how many events wait or are outstanding.
+    /// Returns the number of queued events: the outstanding batch and the waiting events.
     pub fn len(&self) -> usize
         ensures { result ≡ length self.now.contents.queue }
     {

@@ -7,7 +7,7 @@ use crate::load::Load;
 use anyhow::{Result, anyhow};
 use bx_advice::Config;
 use bx_entry::{ByRemainder, Slot};
-use bx_hub::{Hub, OpenGate, Pass, Tick};
+use bx_hub::{Hub, HubKind, Kind, OpenGate, Pass, Tick};
 use bx_window::{EmptyWindow, LogId};
 use std::alloc::Global;
 use std::marker::Brand;
@@ -16,8 +16,6 @@ use std::thread::{Threads, join};
 
 // Number of live sessions while `ticks` makes its ticks.
 const IDLE: u64 = 65_536;
-
-type Served<L, R> = Hub<L, ByRemainder, OpenGate, R>;
 
 /// Runs `load` in each of `threads` threads, and returns how many events their connects get in all.
 ///
@@ -64,7 +62,9 @@ fn serves<L: LogId + Send + Sync, R: Threads + Wait + Sync>(
     requires config { config ≡ L.config }
     requires placing { by_remainder ≡ L.placing }
 {
-    let hub = Served::<L, &R>::new(alloc, rt, opened, config, placing, OpenGate)?;
+    let hub = Hub::<Kind<L, ByRemainder, OpenGate>, &R>::new(
+        alloc, rt, opened, config, placing, OpenGate,
+    )?;
     for thread in 0..threads {
         opens(rt, alloc, &hub, thread, load).ok_or(anyhow!("not opened"))?;
     }
@@ -78,10 +78,10 @@ fn serves<L: LogId + Send + Sync, R: Threads + Wait + Sync>(
 
 // Opens the sessions of `thread`: one that publishes, and those that receive, which it subscribes.
 // Returns `Some(0)`, or `None` if memory runs out or the hub does not admit a request.
-fn opens<L: LogId, H: Wait + Drop, R: Wait>(
+fn opens<L: HubKind, H: Wait + Drop, R: Wait>(
     rt: &R,
     alloc: Global,
-    hub: &Served<L, H>,
+    hub: &Hub<L, H>,
     thread: u64,
     load: Load,
 ) -> Option<u64> {
@@ -104,10 +104,10 @@ fn opens<L: LogId, H: Wait + Drop, R: Wait>(
 
 // Runs the load of `thread`, and returns the number of events that its connects get. Returns `None`
 // if memory runs out or the hub does not admit a request.
-fn works<L: LogId, H: Wait + Drop, R: Wait>(
+fn works<L: HubKind, H: Wait + Drop, R: Wait>(
     rt: &R,
     alloc: Global,
-    hub: &Served<L, H>,
+    hub: &Hub<L, H>,
     thread: u64,
     load: Load,
 ) -> Option<u64> {
@@ -122,10 +122,10 @@ fn works<L: LogId, H: Wait + Drop, R: Wait>(
 // Runs one turn of `load`: publishes, and then connects each receiving session. Returns the number
 // of events that the connects get, or `None` if memory runs out or the hub does not admit a
 // request.
-fn round<L: LogId, H: Wait + Drop, R: Wait>(
+fn round<L: HubKind, H: Wait + Drop, R: Wait>(
     rt: &R,
     alloc: Global,
-    hub: &Served<L, H>,
+    hub: &Hub<L, H>,
     pass: &mut Pass<L>,
     thread: u64,
     load: Load,
@@ -144,10 +144,10 @@ fn round<L: LogId, H: Wait + Drop, R: Wait>(
 
 // Posts `body` and takes the answers. Returns the number of their events, or `None` if memory runs
 // out, the hub does not admit the request, or an answer is missing.
-fn post<L: LogId, H: Wait + Drop, R: Wait>(
+fn post<L: HubKind, H: Wait + Drop, R: Wait>(
     rt: &R,
     alloc: Global,
-    hub: &Served<L, H>,
+    hub: &Hub<L, H>,
     pass: &mut Pass<L>,
     body: String,
 ) -> Option<u64> {
@@ -165,13 +165,11 @@ fn post<L: LogId, H: Wait + Drop, R: Wait>(
 
 // Runs `load` in two threads, numbered `thread` and `thread + 1`. Returns the number of events that
 // their connects get, or `None` if a thread fails.
-fn two<L: LogId + Send + Sync, H: Wait + Drop + Send, R: Threads + Wait + Sync>(
-    rt: &R,
-    alloc: Global,
-    hub: &Served<L, H>,
-    thread: u64,
-    load: Load,
-) -> Option<u64> {
+fn two<
+    L: HubKind<Placing: Send + Sync, Gate: Send + Sync> + Send + Sync,
+    H: Wait + Drop + Send,
+    R: Threads + Wait + Sync,
+>(rt: &R, alloc: Global, hub: &Hub<L, H>, thread: u64, load: Load) -> Option<u64> {
     let next = thread.saturating_add(1);
     let (a, b) = join(
         rt,
@@ -183,12 +181,11 @@ fn two<L: LogId + Send + Sync, H: Wait + Drop + Send, R: Threads + Wait + Sync>(
 
 // Runs `load` in four threads. Returns the number of events that their connects get, or `None` if a
 // thread fails.
-fn four<L: LogId + Send + Sync, H: Wait + Drop + Send, R: Threads + Wait + Sync>(
-    rt: &R,
-    alloc: Global,
-    hub: &Served<L, H>,
-    load: Load,
-) -> Option<u64> {
+fn four<
+    L: HubKind<Placing: Send + Sync, Gate: Send + Sync> + Send + Sync,
+    H: Wait + Drop + Send,
+    R: Threads + Wait + Sync,
+>(rt: &R, alloc: Global, hub: &Hub<L, H>, load: Load) -> Option<u64> {
     let (a, b) = join(
         rt,
         || two(rt, alloc, hub, 0, load),
@@ -227,7 +224,9 @@ fn idles<L: LogId + Send + Sync, R: Threads + Wait + Sync>(
     requires config { config ≡ L.config }
     requires placing { by_remainder ≡ L.placing }
 {
-    let hub = Served::<L, &R>::new(alloc, rt, opened, config, placing, OpenGate)?;
+    let hub = Hub::<Kind<L, ByRemainder, OpenGate>, &R>::new(
+        alloc, rt, opened, config, placing, OpenGate,
+    )?;
     let idle = Load {
         rounds: 0,
         publishes: 0,
@@ -237,10 +236,10 @@ fn idles<L: LogId + Send + Sync, R: Threads + Wait + Sync>(
     ticked(rt, alloc, &hub, count).ok_or(anyhow!("no tick"))
 }
 
-fn ticked<L: LogId, H: Wait + Drop, R: Wait>(
+fn ticked<L: HubKind, H: Wait + Drop, R: Wait>(
     rt: &R,
     alloc: Global,
-    hub: &Served<L, H>,
+    hub: &Hub<L, H>,
     count: u64,
 ) -> Option<u64> {
     let mut pass = hub.pass();

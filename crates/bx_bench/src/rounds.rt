@@ -4,10 +4,10 @@
 //! to drop a round would distort the result.
 use crate::bodies::{HANDSHAKE, arrival, connect};
 use anyhow::{Result, anyhow};
-use bx_advice::Config;
+use bx_advice::{Config, WorkerCount};
 use bx_entry::{ByRemainder, Input};
 use bx_fanout::{Out, Round};
-use bx_shard::{OpenGate, WorkerCount};
+use bx_shard::OpenGate;
 use std::alloc::Global;
 use std::mem;
 use std::sync::Arc;

@@ -1,8 +1,8 @@
 //! Workloads of 1,000 sessions.
+use crate::workloads::stock_event;
 use anyhow::{Result, anyhow};
 use bx_advice::Config;
-use bx_message::{Event, RawJson, SharedEvent, Text};
-use bx_names::ChannelName;
+use bx_message::{SharedEvent, Text};
 use bx_session::{ConnectResult, Delivery, PendingConnect, Session};
 use std::alloc::Global;
 
@@ -31,15 +31,7 @@ impl Setting {
         Ok(Setting {
             config: Config::new(1, 30_000, 0, 10_000).ok_or(anyhow!("no configuration"))?,
             client: Text::new(alloc, "000000000000000000000000000000000000000000000001")?,
-            event: SharedEvent::new(
-                alloc,
-                Event {
-                    channel: Text::new(alloc, "/stock/GOOG")?,
-                    payload: RawJson::new(alloc, "{\"symbol\":\"GOOG\",\"price\":1234.5}")?,
-                    id: None,
-                },
-                ChannelName::read(alloc, "/stock/GOOG")?,
-            )?,
+            event: stock_event(alloc)?,
         })
     }
 

@@ -96,19 +96,26 @@ pub fn item_texts(alloc: Global) -> Result<usize> {
     Ok(total)
 }
 
+/// Creates an event with a stock's price, as an application publishes it.
+///
+/// # Errors
+///
+/// If memory runs out.
+pub fn stock_event(alloc: Global) -> Result<SharedEvent> {
+    let event = Event {
+        channel: Text::new(alloc, "/stock/GOOG")?,
+        payload: RawJson::new(alloc, "{\"symbol\":\"GOOG\",\"price\":1234.5}")?,
+        id: None,
+    };
+    let name = ChannelName::read(alloc, "/stock/GOOG")?;
+    Ok(SharedEvent::new(alloc, event, name)?)
+}
+
 // Creates 1,000 events, each followed by the reply to the connect that gets it.
 fn items(alloc: Global) -> Result<Vec<Item>> {
     let config = Config::new(1, 30_000, 0, 10_000).ok_or(anyhow!("no configuration"))?;
     let client = Text::new(alloc, "000000000000000000000000000000000000000000000001")?;
-    let event = SharedEvent::new(
-        alloc,
-        Event {
-            channel: Text::new(alloc, "/stock/GOOG")?,
-            payload: RawJson::new(alloc, "{\"symbol\":\"GOOG\",\"price\":1234.5}")?,
-            id: None,
-        },
-        ChannelName::read(alloc, "/stock/GOOG")?,
-    )?;
+    let event = stock_event(alloc)?;
     let mut items = Vec::with_capacity(alloc, 2_000)?;
     for _ in 0..1_000 {
         items.push(Item::EventItem(event.clone()?))?;

@@ -5,67 +5,20 @@
 //! Functions with `rt` take locks and wake tasks as [`Hub::post`] and [`Hub::poll_answer`] do.
 #![tactic(auto)]
 
+mod tasks;
+pub mod texts;
 mod ticker;
 
 use bx_cut::Bodies;
-use bx_entry::{Access, Arrival, ByTable, Placing, Slot, Ticket};
-use bx_hub::{Gate, Hub, HubFault, Pass};
-use bx_message::{Answer, Item, body_text};
-use bx_window::LogId;
+use bx_entry::{Access, Arrival, ByTable, Slot, Ticket};
+use bx_hub::{Hub, HubFault, HubKind, Pass, PostFault, Tick};
+use bx_message::{Answer, Event, Item, RawJson, SharedEvent, Text, body_text};
+use bx_names::ChannelName;
 use std::alloc::{AllocError, Global};
 use std::sync::Wait;
+pub use tasks::{Task, Tasks, waker_of};
+use texts::{CONNECT, HANDSHAKE, PING, PUBLISH, SUBSCRIBE};
 pub use ticker::{Taken, Ticker};
-
-/// The body of a request with one handshake.
-pub const HANDSHAKE: &str =
-    r#"[{"channel":"/meta/handshake","version":"1.0","supportedConnectionTypes":["long-polling"]}]"#;
-
-/// The body of a request with a subscription of the first session to `/a/*`.
-pub const SUBSCRIBE: &str =
-    r#"[{"channel":"/meta/subscribe","clientId":"000000000000000000000000000000000000000000000001","subscription":"/a/*"}]"#;
-
-/// The body of a request with a connect of the first session.
-pub const CONNECT: &str =
-    r#"[{"channel":"/meta/connect","clientId":"000000000000000000000000000000000000000000000001","connectionType":"long-polling"}]"#;
-
-/// The body of a request with a subscription of the third session to `/a/*`.
-pub const SUBSCRIBE_THIRD: &str =
-    r#"[{"channel":"/meta/subscribe","clientId":"000000000000000000000000000000000000000000000003","subscription":"/a/*"}]"#;
-
-/// The body of a request with a connect of the third session.
-pub const CONNECT_THIRD: &str =
-    r#"[{"channel":"/meta/connect","clientId":"000000000000000000000000000000000000000000000003","connectionType":"long-polling"}]"#;
-
-/// The body of a request with a message that fails, and only adds an entry to the list.
-pub const PING: &str = r#"[{"channel":"/meta/ping"}]"#;
-
-/// The body of a request with a connect of the second session.
-pub const CONNECT_OTHER: &str =
-    r#"[{"channel":"/meta/connect","clientId":"000000000000000000000000000000000000000000000002","connectionType":"long-polling"}]"#;
-
-/// The body of a request with a publish of 7 to `/a/b` by the second session.
-pub const PUBLISH: &str =
-    r#"[{"channel":"/a/b","clientId":"000000000000000000000000000000000000000000000002","data":7}]"#;
-
-/// The body of a request with a publish of 8 to `/a/c` by the first session, a subscriber.
-pub const PUBLISH_OWN: &str =
-    r#"[{"channel":"/a/c","clientId":"000000000000000000000000000000000000000000000001","data":8}]"#;
-
-/// The response to the first session's connect with the event of [`PUBLISH`].
-pub const ANSWER: &str =
-    r#"[{"channel":"/a/b","data":7},{"advice":{"interval":0,"reconnect":"retry","timeout":30000},"channel":"/meta/connect","clientId":"000000000000000000000000000000000000000000000001","successful":true}]"#;
-
-/// The response to the third session's connect with the event of [`PUBLISH`].
-pub const ANSWER_THIRD: &str =
-    r#"[{"channel":"/a/b","data":7},{"advice":{"interval":0,"reconnect":"retry","timeout":30000},"channel":"/meta/connect","clientId":"000000000000000000000000000000000000000000000003","successful":true}]"#;
-
-/// The response to the first session's connect without events, at its deadline.
-pub const TICKED: &str =
-    r#"[{"advice":{"interval":0,"reconnect":"retry","timeout":30000},"channel":"/meta/connect","clientId":"000000000000000000000000000000000000000000000001","successful":true}]"#;
-
-/// The response to the rider [`PUBLISH_OWN`], with the events of [`PUBLISH`] and of the rider.
-pub const RIDDEN: &str =
-    r#"[{"channel":"/a/b","data":7},{"channel":"/a/c","data":8},{"channel":"/a/c","successful":true}]"#;
 
 /// What a poll finds for a ticket.
 #[derive(Clone, Copy, Debug, PartialEq, Eq)]
@@ -145,10 +98,10 @@ fn ticket_of(slots: &[Slot]) -> Option<Ticket> {
 /// # Errors
 ///
 /// [`Refused`] if memory runs out or the hub does not admit the request.
-pub fn post<L: LogId, P: Placing, G: Gate + Drop, H: Wait + Drop, R: Wait>(
+pub fn post<L: HubKind, H: Wait + Drop, R: Wait>(
     rt: &R,
     alloc: Global,
-    hub: &Hub<L, P, G, H>,
+    hub: &Hub<L, H>,
     pass: &mut Pass<L>,
     body: &str,
 ) -> Result<(u64, Option<Ticket>), Refused> {
@@ -159,8 +112,55 @@ pub fn post<L: LogId, P: Placing, G: Gate + Drop, H: Wait + Drop, R: Wait>(
     }
 }
 
-// Returns the text of a response with the events of `answer` and then its reply.
-fn text_of(alloc: Global, answer: Answer) -> Result<Vec<u8>, AllocError> {
+/// Appends a tick at `moment`, in milliseconds since the server started, and returns its place.
+///
+/// # Errors
+///
+/// The hub's fault.
+pub fn tick<L: HubKind, H: Wait + Drop, R: Wait>(
+    rt: &R,
+    alloc: Global,
+    hub: &Hub<L, H>,
+    pass: &mut Pass<L>,
+    moment: u64,
+) -> Result<u64, PostFault> {
+    match hub.tick(rt, alloc, pass, Tick::new(moment)) {
+        Ok(ticked) => Ok(ticked.place),
+        Err((_, refused)) => Err(refused.fault()),
+    }
+}
+
+/// Creates an event on `channel` with `data`, a JSON text.
+///
+/// # Errors
+///
+/// [`Refused`] if `channel` is not the name of a channel, or memory runs out.
+pub fn event(alloc: Global, channel: &str, data: &str) -> Result<SharedEvent, Refused> {
+    let event = Event {
+        channel: Text::new(alloc, channel)?,
+        payload: RawJson::new(alloc, data)?,
+        id: None,
+    };
+    let name = ChannelName::read(alloc, channel).map_err(|_| Refused)?;
+    Ok(SharedEvent::new(alloc, event, name)?)
+}
+
+/// Creates a JSON string of `count` times `sign`.
+///
+/// # Errors
+///
+/// `AllocError` if memory runs out.
+pub fn json_string(alloc: Global, sign: &str, count: usize) -> Result<String, AllocError> {
+    let signs = sign.repeat(alloc, count)?;
+    format!(in alloc; "\"{signs}\"")
+}
+
+/// Returns the text of a response with the events of `answer` and then its reply.
+///
+/// # Errors
+///
+/// `AllocError` if memory runs out.
+pub fn text_of(alloc: Global, answer: Answer) -> Result<Vec<u8>, AllocError> {
     let Answer { events, reply } = answer;
     let mut items = Vec::new(alloc);
     for event in events.into_vec() {
@@ -184,10 +184,10 @@ fn found_in(alloc: Global, answer: Answer, wanted: &str) -> Result<Found, AllocE
 /// # Errors
 ///
 /// [`Refused`] if memory runs out for the answer's text. The answer was then taken all the same.
-pub fn find<L: LogId, P: Placing, G: Gate + Drop, H: Wait + Drop, R: Wait>(
+pub fn find<L: HubKind, H: Wait + Drop, R: Wait>(
     rt: &R,
     alloc: Global,
-    hub: &Hub<L, P, G, H>,
+    hub: &Hub<L, H>,
     pass: &mut Pass<L>,
     ticket: Ticket,
     wanted: &str,
@@ -207,10 +207,10 @@ pub fn find<L: LogId, P: Placing, G: Gate + Drop, H: Wait + Drop, R: Wait>(
 /// # Errors
 ///
 /// [`Refused`] if the poll fails.
-pub fn poll<L: LogId, P: Placing, G: Gate + Drop, H: Wait + Drop, R: Wait>(
+pub fn poll<L: HubKind, H: Wait + Drop, R: Wait>(
     rt: &R,
     alloc: Global,
-    hub: &Hub<L, P, G, H>,
+    hub: &Hub<L, H>,
     pass: &mut Pass<L>,
     ticket: Ticket,
 ) -> Result<usize, Refused> {
@@ -247,10 +247,10 @@ pub fn in_turn(alloc: Global, home: usize) -> Result<ByTable, AllocError> {
 /// # Errors
 ///
 /// [`Refused`] if a post fails or the connect is answered at once.
-pub fn hold<L: LogId, P: Placing, G: Gate + Drop, H: Wait + Drop, R: Wait>(
+pub fn hold<L: HubKind, H: Wait + Drop, R: Wait>(
     rt: &R,
     alloc: Global,
-    hub: &Hub<L, P, G, H>,
+    hub: &Hub<L, H>,
     pass: &mut Pass<L>,
 ) -> Result<Ticket, Refused> {
     post(rt, alloc, hub, pass, HANDSHAKE)?;
@@ -264,10 +264,10 @@ pub fn hold<L: LogId, P: Placing, G: Gate + Drop, H: Wait + Drop, R: Wait>(
 /// # Errors
 ///
 /// [`Refused`] if a post fails.
-pub fn publish<L: LogId, P: Placing, G: Gate + Drop, H: Wait + Drop, R: Wait>(
+pub fn publish<L: HubKind, H: Wait + Drop, R: Wait>(
     rt: &R,
     alloc: Global,
-    hub: &Hub<L, P, G, H>,
+    hub: &Hub<L, H>,
     pass: &mut Pass<L>,
 ) -> Result<(), Refused> {
     post(rt, alloc, hub, pass, HANDSHAKE)?;

@@ -5,11 +5,9 @@ use Rattle.bx_cut.specs.Pieces.{Object}
 use Rattle.bx_message.specs.declared.message.Message.{Message}
 use Rattle.bx_message.specs.Fields.{message_in}
 use Rattle.bx_message.specs.MessageKinds.{is_handshake}
-use Rattle.bx_entry.specs.Words.{IsUnread, listed_from, Cut, objects_in, objects_of, all_messages, has_broadcast, let_in}
-use Rattle.bx_entry.specs.declared.input.{AdmitFault.AdmitFault, BodyError.BodyError, Access.Access}
-use Rattle.bx_entry.specs.declared.input.AdmitFault.TheVariants.{Refused, Memory}
-use Rattle.bx_entry.specs.declared.input.Refusal.TheVariants.{Body}
-use Rattle.bx_entry.specs.declared.input.BodyError.TheVariants.{Forbidden}
+use Rattle.bx_entry.specs.Words.{listed_from, Cut, objects_in, objects_of, all_messages, has_broadcast, let_in}
+use Rattle.bx_entry.specs.declared.input.{Refusal.Refusal, Access.Access}
+use Rattle.bx_entry.specs.declared.input.Refusal.TheVariants.{Forbidden}
 use Rattle.bx_entry.specs.declared.input.Access.TheVariants.{ReadWrite, ReadOnly}
 
 abbrev pub joined : List Message → Option (List Message) → Option (List Message)
@@ -25,9 +23,6 @@ one_more_by xs m (Some ms) = ap (λ ys. Some ys) (sym (append_assoc xs (m ∷ []
 pub one_more : (xs : List Message) (o : Object) (os : List Object) (m : Message) → message_in o.1 ≡ Some m → joined xs (all_messages (o ∷ os)) ≡ joined (xs ++ m ∷ []) (all_messages os)
 one_more xs o os m e =
     ap (λ (read : Option Message). joined xs (option_and_then (λ m. joined (m ∷ []) (all_messages os)) read)) e ∙ one_more_by xs m (all_messages os)
-
-pub no_message : (o : Object) (os : List Object) → message_in o.1 ≡ None → all_messages (o ∷ os) ≡ None
-no_message o os e = ap (λ (read : Option Message). option_and_then (λ m. joined (m ∷ []) (all_messages os)) read) e
 
 joined-nil : (rest : Option (List Message)) → joined [] rest ≡ rest
 joined-nil None = refl
@@ -85,21 +80,15 @@ ok_by : (ns ms : List Message) (b : Bool) → cond b (Err Forbidden) (Ok ns) ≡
 ok_by ns ms true e = cc
 ok_by ns ms false e = cc
 
-pub let_in-ok : (access : Access) (read : Result (List Message) BodyError) (ms : List Message) → let_in access read ≡ Ok ms → read ≡ Ok ms
+pub let_in-ok : (access : Access) (read : Result (List Message) Refusal) (ms : List Message) → let_in access read ≡ Ok ms → read ≡ Ok ms
 let_in-ok ReadWrite read ms e = e
 let_in-ok ReadOnly (Ok ns) ms e = ap (λ xs. Ok xs) (ok_by ns ms (has_broadcast ns) e)
 let_in-ok ReadOnly (Err f) ms e = e
 
-pub let_in-is_ok : (access : Access) (read : Result (List Message) BodyError) → is_ok (let_in access read) ≡ true → is_ok read ≡ true
+pub let_in-is_ok : (access : Access) (read : Result (List Message) Refusal) → is_ok (let_in access read) ≡ true → is_ok read ≡ true
 let_in-is_ok ReadWrite read e = e
 let_in-is_ok ReadOnly (Ok ns) e = refl
 let_in-is_ok ReadOnly (Err f) e = e
-
-pub let_in-unread : (access : Access) (read : Result (List Message) BodyError) (fault : AdmitFault) → IsUnread read fault → IsUnread (let_in access read) fault
-let_in-unread access read Memory is = tt
-let_in-unread ReadWrite read (Refused refusal) is = is
-let_in-unread ReadOnly read (Refused (Body fault)) is = ap (let_in ReadOnly) is
-let_in-unread ReadOnly read (Refused _) is = is
 
 -- ---- The elements of a request
 

@@ -5,21 +5,22 @@ use Rattle.bx_advice.specs.Limits.{greatest_moment, greatest_length}
 use Rattle.bx_message.specs.declared.message.Message.{Message}
 use Rattle.bx_entry.specs.Listing.{Listed, request}
 use Rattle.bx_entry.specs.Listing as messages
-use Rattle.bx_entry.specs.declared.input.{AdmitFault.AdmitFault, BodyError.BodyError, Refusal.Refusal}
+use Rattle.bx_entry.specs.declared.input.{AdmitFault.AdmitFault, Refusal.Refusal}
 use Rattle.bx_entry.specs.declared.input.AdmitFault.TheVariants.{Refused, Memory}
-use Rattle.bx_entry.specs.declared.input.Refusal.TheVariants.{Body, BadMoment, Ended}
+use Rattle.bx_entry.specs.declared.input.Refusal.TheVariants.{BadMoment, Ended}
 
--- A request with its messages, a request that is rejected for its documents, or a tick.
+-- A request with its messages, a request that is rejected before its messages are listed, or a
+-- tick.
 pub data ReadInput : Type 0 where
   Request : (moment : ℕ) → (nonce : ℕ) → (messages : List Message) → ReadInput
-  Unread : (fault : BodyError) → ReadInput
+  Unread : (refusal : Refusal) → ReadInput
   Tick : (moment : ℕ) → ReadInput
 
--- The elements that an input appends to the list, if it is admitted. A request that is rejected for
--- its documents appends none.
+-- The elements that an input appends to the list, if it is admitted. A request without messages to
+-- list appends none.
 abbrev pub added_by : ReadInput → List Listed
 added_by (Request moment nonce ms) = request moment nonce ms
-added_by (Unread fault) = []
+added_by (Unread refusal) = []
 added_by (Tick moment) = messages.Tick moment ∷ []
 
 -- Why an input at `moment` is rejected, if the list would have length `end` after it. The moment is
@@ -30,7 +31,7 @@ refused_beyond moment end = first_case ((nat_lt greatest_moment moment, BadMomen
 -- Why an input is rejected if the list has length `len` before it, or `None` if it is admitted.
 abbrev pub refusal_of : ℕ → ReadInput → Option Refusal
 refusal_of len (Request moment nonce ms) = refused_beyond moment (len + length ms)
-refusal_of len (Unread fault) = Some (Body fault)
+refusal_of len (Unread refusal) = Some refusal
 refusal_of len (Tick moment) = refused_beyond moment (len + 1)
 
 -- A program may report this fault: the refusal or, only if there is none, that memory ran out.

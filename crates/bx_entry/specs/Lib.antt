@@ -8,5 +8,5 @@ pub mod Inputs
 pub mod Runs
 pub mod Requests
 pub mod Keeping
-pub mod Statuses
+pub mod Refusals
 pub mod Words

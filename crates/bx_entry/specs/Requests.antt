@@ -10,12 +10,11 @@ use Rattle.bx_cut.specs.Words.{fault, Object, pieces, texts_of}
 use Rattle.bx_message.specs.declared.message.Message.{Message}
 use Rattle.bx_message.specs.Fields.{message_in}
 use Rattle.bx_entry.specs.Inputs.{ReadInput, Request, Unread}
-use Rattle.bx_entry.specs.declared.input.{AdmitFault.AdmitFault, Arrival.Arrival, Access.Access, Input.Input, BodyError.BodyError}
+use Rattle.bx_entry.specs.declared.input.{AdmitFault.AdmitFault, Arrival.Arrival, Access.Access, Input.Input, Refusal.Refusal}
 use Rattle.bx_entry.specs.declared.input.AdmitFault.TheVariants.{Refused, Memory}
-use Rattle.bx_entry.specs.declared.input.Refusal.TheVariants.{Body, BadMoment, Ended}
 use Rattle.bx_entry.specs.declared.input.Access.TheVariants.{ReadWrite, ReadOnly}
 use Rattle.bx_entry.specs.declared.input.Input.TheVariants.{Post}
-use Rattle.bx_entry.specs.declared.input.BodyError.TheVariants.{NotJson, NotObject, TooMany, NoChannel, Forbidden}
+use Rattle.bx_entry.specs.declared.input.Refusal.TheVariants.{NotJson, NotObject, TooMany, NoChannel, Forbidden}
 
 -- ---- Documents
 
@@ -34,27 +33,18 @@ cut_of document = cut_by (fault document) (pieces document)
 
 -- Whether a document is not JSON.
 abbrev pub is_not_json : Cut → Bool
-is_not_json (Ok objects) = false
 is_not_json (Err cuts.NotJson) = true
-is_not_json (Err cuts.NotObject) = false
-is_not_json (Err cuts.TooMany) = false
-is_not_json (Err cuts.Memory) = false
+is_not_json _ = false
 
 -- Whether a JSON document is neither an object nor an array of objects.
 abbrev pub is_not_object : Cut → Bool
-is_not_object (Ok objects) = false
-is_not_object (Err cuts.NotJson) = false
 is_not_object (Err cuts.NotObject) = true
-is_not_object (Err cuts.TooMany) = false
-is_not_object (Err cuts.Memory) = false
+is_not_object _ = false
 
 -- Whether one document alone has too many messages.
 abbrev pub is_too_many : Cut → Bool
-is_too_many (Ok objects) = false
-is_too_many (Err cuts.NotJson) = false
-is_too_many (Err cuts.NotObject) = false
 is_too_many (Err cuts.TooMany) = true
-is_too_many (Err cuts.Memory) = false
+is_too_many _ = false
 
 -- The objects of a document, or none if it has a fault.
 abbrev pub objects_in : Cut → List Object
@@ -69,7 +59,7 @@ objects_of cs = flat_map objects_in cs
 
 -- The first fault that applies to any document: `NotJson`, `NotObject` or `TooMany`. Messages are
 -- counted over all documents.
-abbrev pub cut_fault : List Cut → Option BodyError
+abbrev pub cut_fault : List Cut → Option Refusal
 cut_fault cs = first_case (
     (list_any is_not_json cs, NotJson)
     ∷ (list_any is_not_object cs, NotObject)
@@ -82,24 +72,24 @@ all_messages [] = Some []
 all_messages (o ∷ os) = option_and_then (λ m. option_map (λ ms. m ∷ ms) (all_messages os)) (message_in o.1)
 
 -- The messages, or the fault that one has no channel.
-abbrev pub with_channels : Option (List Message) → Result (List Message) BodyError
+abbrev pub with_channels : Option (List Message) → Result (List Message) Refusal
 with_channels None = Err NoChannel
 with_channels (Some ms) = Ok ms
 
 -- The messages of split documents, unless they have this fault. Without it, the result is still
 -- `NoChannel` if a message has no channel.
-abbrev pub messages_by : List Cut → Option BodyError → Result (List Message) BodyError
+abbrev pub messages_by : List Cut → Option Refusal → Result (List Message) Refusal
 messages_by cs None = with_channels (all_messages (objects_of cs))
 messages_by cs (Some f) = Err f
 
 -- The messages of split documents, or the first of the faults `NotJson`, `NotObject`, `TooMany` and
 -- `NoChannel` that applies.
-abbrev pub messages_of : List Cut → Result (List Message) BodyError
+abbrev pub messages_of : List Cut → Result (List Message) Refusal
 messages_of cs = messages_by cs (cut_fault cs)
 
 -- The messages of all documents in order, or the first fault that applies, whatever the listener
 -- allows.
-abbrev pub request_messages : List (List ℕ) → Result (List Message) BodyError
+abbrev pub request_messages : List (List ℕ) → Result (List Message) Refusal
 request_messages documents = messages_of (map cut_of documents)
 
 -- ---- Listeners
@@ -110,27 +100,25 @@ has_broadcast ms = list_any (λ m. is_broadcast m.channel) ms
 
 -- The messages that the listener allows. The read-only listener rejects a request with a message to
 -- a broadcast channel.
-abbrev pub let_in : Access → Result (List Message) BodyError → Result (List Message) BodyError
+abbrev pub let_in : Access → Result (List Message) Refusal → Result (List Message) Refusal
 let_in ReadWrite messages = messages
 let_in ReadOnly (Ok ms) = if has_broadcast ms then Err Forbidden else Ok ms
 let_in ReadOnly (Err f) = Err f
 
 -- The messages of a request as it arrived, or the first fault.
-abbrev pub arrival_messages : Arrival → Result (List Message) BodyError
+abbrev pub arrival_messages : Arrival → Result (List Message) Refusal
 arrival_messages a = let_in a.access (request_messages (texts_of a.bodies))
 
 -- A program may report this fault instead of `messages`: the fault of their documents, or at any
 -- time that memory ran out.
-abbrev pub IsUnread : Result (List Message) BodyError → AdmitFault → Type 0
-IsUnread messages (Refused (Body fault)) = messages ≡ Err fault
-IsUnread messages (Refused BadMoment) = ⊥
-IsUnread messages (Refused Ended) = ⊥
+abbrev pub IsUnread : Result (List Message) Refusal → AdmitFault → Type 0
+IsUnread messages (Refused refusal) = messages ≡ Err refusal
 IsUnread messages Memory = ⊤
 
 -- ---- Inputs
 
 -- A request with these messages, or with this fault of its documents.
-abbrev pub read_by : ℕ → ℕ → Result (List Message) BodyError → ReadInput
+abbrev pub read_by : ℕ → ℕ → Result (List Message) Refusal → ReadInput
 read_by moment nonce (Ok ms) = Request moment nonce ms
 read_by moment nonce (Err f) = Unread f
 

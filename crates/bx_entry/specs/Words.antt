@@ -7,5 +7,5 @@ pub use Rattle.bx_entry.specs.Registry.{Judged, NoSlot, PlaceSlot, Ready, Regist
 pub use Rattle.bx_entry.specs.Requests.{Cut, IsUnread, all_messages, objects_in, objects_of, arrival_messages, has_broadcast, let_in, read_by, read_input, request_messages}
 pub use Rattle.bx_entry.specs.Runs.{Intake, Out, Taking, Whole, answered_items, has_place, held, is_at, latest, numbers_from, outs, places_of, result_by, take_in, taken_as, taken_in, whole_at, whole_by, whole_of, wholes, wholes_from, wholes_in}
 pub use Rattle.bx_entry.specs.Sessions.{Closed, Filed, Live, Pending, Session, Stage, Unopened, admitted, batch, begun, closed_by, connected, deadline, disconnected, ended, ends_by, expired, expired_from, forgotten, is_hit, is_live, is_riding, published, received, released, released_from, ridden, ridden_by, ride_portion, rider_of, session, stage_after, step, step_by, subscribed, unheld, unopened, unsubscribed}
-pub use Rattle.bx_entry.specs.Statuses.{refusal_status}
+pub use Rattle.bx_entry.specs.Refusals.{refusal_name, refusal_status}
 pub use Rattle.bx_entry.specs.Windows.{acknowledges, forms}

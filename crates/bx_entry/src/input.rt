@@ -1,8 +1,7 @@
 //! Requests and ticks, and why they are rejected.
 ghost use Rattle.std.specs.Prelude.{◌≡◌};
-ghost use Rattle.bx_entry.specs.Statuses.{refusal_status};
-ghost use Rattle.bx_entry.specs.declared.input.AdmitFault.TheVariants.{Memory, Refused};
-ghost use Rattle.bx_entry.specs.declared.input.Refusal.TheVariants.{Body};
+ghost use Rattle.bx_entry.specs.Refusals.{refusal_name, refusal_status};
+ghost use Rattle.bx_entry.specs.declared.input.AdmitFault.TheVariants.{Memory};
 
 use bx_cut::Bodies;
 use bx_message::Status;
@@ -41,11 +40,12 @@ pub enum Input {
     Tick(u64),
 }
 
-/// Why a request is rejected for its documents.
+/// Why a request or a tick is rejected.
 ///
-/// The variants are in the order in which they are tested, each over all documents of the request.
-#[derive(Clone, Copy, Debug, PartialEq, Eq, PartialOrd, Ord)]
-pub enum BodyError {
+/// The variants are in the order in which they are tested, the first four each over all documents
+/// of the request. A rejected request or tick changes nothing.
+#[derive(Clone, Copy, Debug, PartialEq, Eq)]
+pub enum Refusal {
     /// A document is not JSON.
     NotJson,
     /// A document is neither an object nor an array of objects.
@@ -56,16 +56,6 @@ pub enum BodyError {
     NoChannel,
     /// A message is to a broadcast channel, and the listener is read-only.
     Forbidden,
-}
-
-/// Why a request or a tick is rejected.
-///
-/// The variants are in the order in which they are tested. A rejected request or tick changes
-/// nothing.
-#[derive(Clone, Copy, Debug, PartialEq, Eq)]
-pub enum Refusal {
-    /// The request is rejected for its documents, by this error.
-    Body(BodyError),
     /// The moment of the request or tick exceeds `MAX_MOMENT`, 2^62 milliseconds.
     BadMoment,
     /// With the request or tick, the list would have more than `MAX_ENTRIES` (2^62) entries.
@@ -81,15 +71,6 @@ pub enum AdmitFault {
     Refused(Refusal),
     /// Memory ran out before the request or tick was admitted.
     Memory,
-}
-
-impl AdmitFault {
-    /// Creates the fault of a request that is rejected for its documents, by the error `fault`.
-    pub(crate) fn unread(fault: BodyError) -> AdmitFault
-        ensures { result ≡ Refused (Body fault) }
-    {
-        AdmitFault::Refused(Refusal::Body(fault))
-    }
 }
 
 impl From<AllocError> for AdmitFault {
@@ -109,7 +90,23 @@ impl<T: Drop> From<AllocFailed<T>> for AdmitFault {
 }
 
 impl Refusal {
-    /// Returns the HTTP status for this refusal.
+    /// Returns the name under which requests that are rejected for this reason are counted.
+    ///
+    /// The faults of documents have the same name.
+    ///
+    /// Policy of this server.
+    pub fn name(self) -> &'static str
+        ensures { result.now ≡ refusal_name self }
+    {
+        match self {
+            Refusal::NotJson | Refusal::NotObject | Refusal::TooMany | Refusal::NoChannel => "body",
+            Refusal::Forbidden => "forbidden",
+            Refusal::BadMoment => "bad_moment",
+            Refusal::Ended => "ended",
+        }
+    }
+
+    /// Returns the HTTP status of the response to a request that is rejected for this reason.
     ///
     /// It is 403 for `Forbidden`, 503 for `Ended`, and otherwise 400.
     ///
@@ -118,9 +115,13 @@ impl Refusal {
         ensures { result ≡ refusal_status self }
     {
         match self {
-            Refusal::Body(BodyError::Forbidden) => Status::Forbidden,
-            Refusal::Body(_) | Refusal::BadMoment => Status::BadRequest,
+            Refusal::Forbidden => Status::Forbidden,
             Refusal::Ended => Status::Unavailable,
+            Refusal::NotJson
+            | Refusal::NotObject
+            | Refusal::TooMany
+            | Refusal::NoChannel
+            | Refusal::BadMoment => Status::BadRequest,
         }
     }
 }

@@ -9,7 +9,7 @@ mod read;
 mod senders;
 
 pub use entry::{Admitted, Batch, Entry, EntryKind, Rider, Slot, Ticket};
-pub use input::{Access, AdmitFault, Arrival, BodyError, Input, Refusal};
+pub use input::{Access, AdmitFault, Arrival, Input, Refusal};
 pub use listing::{Element, Listing};
 pub use placing::{AllFirst, ByRemainder, ByTable, Placing};
 pub use read::read_messages;

@@ -6,7 +6,7 @@ ghost use Rattle.bx_cut.specs.declared.document.TheConstants.{MAX_MESSAGES};
 ghost use Rattle.bx_entry.specs.Requests.{IsUnread, all_messages, arrival_messages, has_broadcast, request_messages};
 ghost use Rattle.bx_entry.specs.Requests.{cut_fault, cut_of, is_not_json, is_not_object, is_too_many, objects_in, objects_of};
 
-use crate::input::{Access, AdmitFault, Arrival, BodyError};
+use crate::input::{Access, AdmitFault, Arrival, Refusal};
 use bx_cut::{Bodies, CutError, Document, MAX_MESSAGES};
 use bx_message::{Message, MessageError};
 use bx_names::is_broadcast;
@@ -17,7 +17,7 @@ impl Arrival {
     ///
     /// # Errors
     ///
-    /// - `Refused(Body(_))`: the first [`BodyError`] that applies.
+    /// - `Refused`: the first [`Refusal`] through `Forbidden` that applies.
     /// - `Memory`: memory ran out, at any step.
     pub fn read(&self, alloc: Global) -> Result<Vec<Message>, AdmitFault>
         ensures messages { IfOk result (λ ms. arrival_messages self.now ≡ Ok ms.items) }
@@ -27,7 +27,7 @@ impl Arrival {
         match self.access {
             Access::ReadWrite => Ok(messages),
             Access::ReadOnly if has_broadcast(messages.as_slice()) => {
-                Err(AdmitFault::unread(BodyError::Forbidden))
+                Err(AdmitFault::Refused(Refusal::Forbidden))
             }
             Access::ReadOnly => Ok(messages),
         }
@@ -50,7 +50,7 @@ type Cut<'a> = Result<Document<'a>, CutError>;
 ///
 /// # Errors
 ///
-/// - `Refused(Body(_))`: the first [`BodyError`] that applies, except `Forbidden`.
+/// - `Refused`: the first [`Refusal`] through `NoChannel` that applies.
 /// - `Memory`: memory ran out, at any step.
 pub fn read_messages(alloc: Global, bodies: &Bodies) -> Result<Vec<Message>, AdmitFault>
     ensures messages { IfOk result (λ ms. request_messages (texts_of bodies.now) ≡ Ok ms.items) }
@@ -58,11 +58,11 @@ pub fn read_messages(alloc: Global, bodies: &Bodies) -> Result<Vec<Message>, Adm
 {
     let cuts = cut_all(alloc, bodies)?;
     if let Some(fault) = fault_in(cuts.as_slice()) {
-        return Err(AdmitFault::unread(fault));
+        return Err(AdmitFault::Refused(fault));
     }
     match read_all(alloc, cuts.as_slice()) {
         Ok(messages) => Ok(messages),
-        Err(MessageError::NoChannel) => Err(AdmitFault::unread(BodyError::NoChannel)),
+        Err(MessageError::NoChannel) => Err(AdmitFault::Refused(Refusal::NoChannel)),
         Err(MessageError::Memory) => Err(AdmitFault::Memory),
     }
 }
@@ -85,15 +85,15 @@ fn cut_all(alloc: Global, bodies: &Bodies) -> Result<Vec<Cut<'_>>, AllocError>
 }
 
 // Returns the first of `NotJson`, `NotObject` and `TooMany` that applies to the documents, if any.
-fn fault_in(cuts: &[Cut<'_>]) -> Option<BodyError>
+fn fault_in(cuts: &[Cut<'_>]) -> Option<Refusal>
     ensures { result ≡ cut_fault cuts.now }
 {
     if has_not_json(cuts) {
-        Some(BodyError::NotJson)
+        Some(Refusal::NotJson)
     } else if has_not_object(cuts) {
-        Some(BodyError::NotObject)
+        Some(Refusal::NotObject)
     } else if has_too_many(cuts) | are_too_many(cuts) {
-        Some(BodyError::TooMany)
+        Some(Refusal::TooMany)
     } else {
         None
     }

@@ -1,5 +1,5 @@
 -- Proves that the steps of a run keep the invariant of a round's state.
-use Rattle.std.proofs.Common.{◌≡◌, ℕ, ◌+◌, List, [], ◌∷◌, ◌++◌, length, refl, sym, ap, subst, ◌∙◌, drop, take, append-nil, arith, map, ◌-◌, false}
+use Rattle.std.proofs.Common.{◌≡◌, ℕ, ◌+◌, List, [], ◌∷◌, ◌++◌, length, sym, ap, subst, ◌∙◌, drop, take, append-nil, arith, map, ◌-◌, false}
 use Rattle.bx_entry.specs.Placings.{Setup}
 use Rattle.bx_entry.specs.Runs as runs
 use Rattle.bx_entry.specs.Words.{ReadInput, Listed}
@@ -43,10 +43,6 @@ pub staged-at : (setup : Setup) (inputs : List ReadInput) (w : WorldState) (rows
     IsGiving setup inputs w rows (map seen_out (own stage)) added → IsStaged setup inputs w rows stage added
 staged-at setup inputs w rows (Collecting n) added none i = cc
 staged-at setup inputs w rows _ added none i = i
-
-pub idle-at : (stage : Stage) → is_collecting stage ≡ false → own stage ≡ [] → stage ≡ Idle
-idle-at Idle none left = refl
-idle-at _ none left = cc
 
 pub behind-is : (xs ys all now : List Out) (k : ℕ) → k ≡ length xs → all ≡ xs ++ ys → now ≡ all → take (length now - k) (drop k now) ≡ ys
 behind-is xs ys all now k at is same =

@@ -3,8 +3,9 @@ ghost use Rattle.std.specs.Prelude.{ℕ, ◌≡◌, ◌≤◌, length, slice_get
 ghost use Rattle.bx_fanout.specs.CurrentInputs.{IsLevel};
 ghost use Rattle.bx_world.specs.Seen.{setup_of, world_of};
 
+use bx_advice::WorkerCount;
 use bx_entry::Placing;
-use bx_shard::{Gate, WorkerCount};
+use bx_shard::Gate;
 use bx_world::World;
 use std::alloc::{AllocError, Global};
 use std::thread::Threads;

@@ -8,8 +8,9 @@ use crate::level::level;
 use crate::ready::collect_ready;
 use crate::round_state::{RoundState, workers_for};
 use crate::stage::Stage;
+use bx_advice::WorkerCount;
 use bx_entry::Placing;
-use bx_shard::{Gate, WorkerCount};
+use bx_shard::Gate;
 use std::alloc::{AllocError, Global};
 use std::thread::Threads;
 

@@ -6,8 +6,9 @@ ghost use Rattle.std.specs.Prelude.{◌+◌, ◌≤◌, ◌^◌, length};
 use crate::out::{Out, RoundFault};
 use crate::pass_over::catch_up;
 use crate::round_state::{RoundState, settle, take_in_next};
+use bx_advice::WorkerCount;
 use bx_entry::{Input, Placing};
-use bx_shard::{Gate, WorkerCount};
+use bx_shard::Gate;
 use std::alloc::Global;
 use std::thread::Threads;
 

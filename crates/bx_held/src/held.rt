@@ -10,8 +10,8 @@ ghost use Rattle.bx_held.specs.Waiting.{IsUnknown, IsWaitedFor};
 ghost use Rattle.bx_message.specs.declared.reply.Answer.{Answer};
 ghost use Rattle.bx_hub.specs.declared.fault.HubFault.{HubFault};
 
-use bx_entry::{Placing, Ticket};
-use bx_hub::{Gate, Hub, NoAnswer, Pass, Watch, WatchEvidence};
+use bx_entry::Ticket;
+use bx_hub::{Hub, HubKind, NoAnswer, Pass, Watch, WatchEvidence};
 use bx_message::Answer;
 use bx_window::LogId;
 use futures::task::{Context, Poll, Source, Waker};
@@ -36,7 +36,7 @@ pub struct PendingAnswer<L: LogId> {
     ghost reached: { ticket.place < length (list_of pass) },
 }
 
-impl<L: LogId> PendingAnswer<L> {
+impl<L: HubKind> PendingAnswer<L> {
     /// Creates a pending answer for `ticket`.
     ///
     /// `pass` must have seen the connect or rider of `ticket`.
@@ -55,11 +55,11 @@ impl<L: LogId> PendingAnswer<L> {
 
     // Polls the hub once. Returns the answer or a fault, and then sets `is_done`. Returns `None` if
     // there is no answer yet.
-    fn ask<P: Placing, G: Gate + Drop, H: Wait + Drop, R: Wait>(
+    fn ask<H: Wait + Drop, R: Wait>(
         &mut self,
         rt: &R,
         alloc: Global,
-        hub: &Hub<L, P, G, H>,
+        hub: &Hub<L, H>,
     ) -> Option<Result<Option<Answer>, NoAnswer<L>>>
         ensures seen { IsPrefix self.old.pass self.new.pass }
         ensures same { (self.new.ticket ≡ self.old.ticket) × (self.new.source ≡ self.old.source) }
@@ -99,11 +99,11 @@ impl<L: LogId> PendingAnswer<L> {
     /// # Blocking
     ///
     /// Locks the ticket's shard, up to three times. Tasks are woken as in [`Hub::poll_answer`].
-    pub fn poll<P: Placing + Drop, G: Gate + Drop, H: Wait + Drop, R: Wait>(
+    pub fn poll<H: Wait + Drop, R: Wait>(
         &mut self,
         rt: &R,
         alloc: Global,
-        hub: &Hub<L, P, G, H>,
+        hub: &Hub<L, H>,
         cx: &mut Context<'_>,
     ) -> (
         Poll<Result<Option<Answer>, NoAnswer<L>>>,

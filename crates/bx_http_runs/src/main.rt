@@ -4,10 +4,8 @@
 //! held connect, and a request to a closed hub.
 #![tactic(auto)]
 
-mod forms;
-mod held;
 mod host;
-mod posts;
+mod requests;
 mod runs;
 mod wire;
 

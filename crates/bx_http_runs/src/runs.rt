@@ -3,12 +3,11 @@ ghost use Rattle.std.specs.Prelude.{◌≡◌};
 ghost use Rattle.bx_entry.specs.Placings.{by_remainder};
 
 use crate::host::Host;
-use crate::posts::Served;
 use crate::wire::Wire;
 use anyhow::{Result, anyhow};
 use bx_advice::Config;
 use bx_entry::{Access, ByRemainder};
-use bx_hub::OpenGate;
+use bx_hub::{Hub, HubKind, Kind, OpenGate};
 use bx_pieces::Pieces;
 use bx_service::{BayeuxService, Clock, HubBackend, Nonces};
 use bx_window::{EmptyWindow, LogId};
@@ -75,18 +74,20 @@ where
     requires config { config ≡ L.config }
     requires placing { by_remainder ≡ L.placing }
 {
-    let hub = Served::<L, R>::new(alloc, rt, opened, config, placing, OpenGate)?;
+    let hub = Hub::<Kind<L, ByRemainder, OpenGate>, R>::new(
+        alloc, rt, opened, config, placing, OpenGate,
+    )?;
     serve_hub(rt, alloc, &Arc::new(alloc, hub)?, http)
 }
 
 fn serve_hub<L, R>(
     rt: R,
     alloc: Global,
-    hub: &Arc<Served<L, R>, Global>,
+    hub: &Arc<Hub<L, R>, Global>,
     http: &http1::Builder,
 ) -> Result<String>
 where
-    L: LogId,
+    L: HubKind,
     R: Wait + RandomSource + AllocGlobal + Copy + Drop,
 {
     let backend = HubBackend::new(
@@ -106,12 +107,12 @@ where
 fn serve_all<L, S, E, H, R>(
     rt: &R,
     alloc: Global,
-    hub: &Served<L, H>,
+    hub: &Hub<L, H>,
     service: &S,
     http: &http1::Builder,
 ) -> Result<String>
 where
-    L: LogId,
+    L: HubKind,
     S: Service<Request<Incoming<Wire>>, Response = Response<Pieces<Bytes>>, Error = E> + Clone,
     E: Into<anyhow::Error> + Drop,
     H: Wait + Drop,
@@ -130,9 +131,9 @@ where
     add_all(rt, &host, hub)
 }
 
-fn add_all<L, S, E, H, R>(rt: &R, host: &Host<'_, S>, hub: &Served<L, H>) -> Result<String>
+fn add_all<L, S, E, H, R>(rt: &R, host: &Host<'_, S>, hub: &Hub<L, H>) -> Result<String>
 where
-    L: LogId,
+    L: HubKind,
     S: Service<Request<Incoming<Wire>>, Response = Response<Pieces<Bytes>>, Error = E> + Clone,
     E: Into<anyhow::Error> + Drop,
     H: Wait + Drop,

@@ -1,6 +1,6 @@
 -- What a request or a tick adds to the front of a pass, and why it is not admitted.
-use Rattle.std.proofs.Common.{◌≡◌, ℕ, ◌+◌, ◌<◌, ◌≤◌, Bool, true, false, Option, Some, None, List, [], ◌∷◌, ◌++◌, length, take, drop, refl, sym, ap, ◌∙◌, subst, arith, inl, inr, length-append}
-use Rattle.std.specs.Prelude.{Result, Ok, Err, IfOk, IfErr, IfSome, IsErrAnd, IsOkUnless, OnOk, OnErr, nat_lt, if◌then◌else◌}
+use Rattle.std.proofs.Common.{◌≡◌, ℕ, ◌+◌, ◌<◌, ◌≤◌, Option, None, List, [], ◌∷◌, ◌++◌, length, take, drop, refl, sym, ap, ◌∙◌, subst, arith, inl, inr, length-append}
+use Rattle.std.specs.Prelude.{Result, Ok, Err, IfOk, IfErr, IfSome, IsErrAnd, IsOkUnless, OnOk, OnErr}
 use Rattle.std.proofs.lemmas.{Grind.common_steps, List.drop_at}
 use mathlib.Core.List.{IsPrefix}
 use Rattle.bx_registry.specs.Standings.{Continues, Standing}
@@ -10,15 +10,15 @@ use Rattle.bx_registry.specs.declared.plan.Plan.{Plan}
 use Rattle.bx_registry.proofs.Faults.{fault_told, planned_taken}
 use Rattle.bx_registry.proofs.Slotting.{tick_slots}
 use Rattle.bx_entry.specs.Listing as messages
-use Rattle.bx_advice.specs.Limits.{greatest_length, greatest_moment}
+use Rattle.bx_advice.specs.Limits.{greatest_length}
 use Rattle.bx_advice.specs.declared.config.Config.{Config}
-use Rattle.bx_entry.specs.Inputs.{Request, Tick, Unread}
+use Rattle.bx_entry.specs.Inputs.{Tick}
 use Rattle.bx_entry.specs.Words.{IsFault, IsUnread, ReadInput, added_by, read_by, refusal_of, Listed, entries}
 use Rattle.bx_message.specs.declared.message.Message.{Message}
 use Rattle.bx_entry.specs.declared.input.Input.{Input}
 use Rattle.bx_entry.specs.declared.entry.Entry.{Entry}
 use Rattle.bx_theory.proofs.Lists.{entries_length}
-use Rattle.bx_entry.specs.declared.input.{AdmitFault.AdmitFault, BodyError.BodyError, Refusal.Refusal}
+use Rattle.bx_entry.specs.declared.input.{AdmitFault.AdmitFault, Refusal.Refusal}
 use Rattle.bx_entry.specs.declared.input.AdmitFault.TheVariants as admissions
 use Rattle.bx_entry.specs.declared.input.Refusal.TheVariants as refusals
 use Rattle.bx_entry.specs.Placings.{Setup}
@@ -26,7 +26,10 @@ use Rattle.bx_window.specs.Places as places
 use Rattle.bx_window.specs.Steps.{list_of, setup_of}
 use Rattle.bx_window.specs.declared.law.LogStep.{LogStep}
 use Rattle.bx_hub.specs.Faults.{of_admission}
-use Rattle.bx_hub.specs.Posts.{AreSlotsAt, IsAdmittedAt, IsFullFor, IsRefused, IsUnpublished, IsWhole, IsWithoutRoom, WasFullFor}
+use Rattle.bx_hub.specs.Posts.{AreSlotsAt, IsAdmittedAt, IsFullFor, IsReadable, IsRefused, IsUnpublished, IsWhole, IsWithoutRoom, WasFullFor}
+use Rattle.bx_hub.specs.Submissions.{input_of}
+use Rattle.bx_hub.specs.declared.submission.Submission.{Submission}
+use Rattle.bx_hub.specs.declared.submission.Submission.TheVariants as submission
 use Rattle.bx_hub.specs.declared.fault.PostFault.{PostFault}
 use Rattle.bx_hub.specs.declared.fault.PostFault.TheVariants.{Refused, Closed, Behind, Overrun, WrongShard, Memory}
 use Rattle.bx_window.proofs.Fronts.{prefix_self, prefix_trans}
@@ -109,25 +112,14 @@ fault_planned refusal (Err f) some memory = fault_told refusal (Err f) f refl so
 
 -- ---- Faults
 
-beyond_body : (b c : Bool) (fault : BodyError) → (if b then Some refusals.BadMoment else (if c then Some refusals.Ended else None)) ≡ Some (refusals.Body fault) → ⊥
-beyond_body true c fault e = cc
-beyond_body false true fault e = cc
-beyond_body false false fault e = cc
-
-unread_refused : (len : ℕ) (input : ReadInput) (fault : BodyError) → refusal_of len input ≡ Some (refusals.Body fault) → input ≡ Unread fault
-unread_refused len (Request moment nonce ms) fault e = absurd (beyond_body (nat_lt greatest_moment moment) (nat_lt greatest_length (len + length ms)) fault e)
-unread_refused len (Unread f) fault e = cc
-unread_refused len (Tick moment) fault e = absurd (beyond_body (nat_lt greatest_moment moment) (nat_lt greatest_length (len + 1)) fault e)
-
 pub refused_by : (input : ReadInput) (f : AdmitFault) (front : List LogStep) → IsFault (refusal_of (length (list_of front)) input) f → IsRefused input (of_admission f) front
-refused_by input (admissions.Refused (refusals.Body fault)) front is = unread_refused (length (list_of front)) input fault is
-refused_by input (admissions.Refused refusals.BadMoment) front is = is
 refused_by input (admissions.Refused refusals.Ended) front is = inl is
+refused_by input (admissions.Refused _) front is = is
 refused_by input admissions.Memory front is = tt
 
-pub unread_by : (moment nonce : ℕ) (messages : Result (List Message) BodyError) (f : AdmitFault) (front : List LogStep) → IsUnread messages f → IsRefused (read_by moment nonce messages) (of_admission f) front
-unread_by moment nonce messages (admissions.Refused (refusals.Body fault)) front is = ap (read_by moment nonce) is
-unread_by moment nonce messages (admissions.Refused _) front is = absurd is
+pub unread_by : (moment nonce : ℕ) (messages : Result (List Message) Refusal) (f : AdmitFault) (front : List LogStep) → IsUnread messages f → IsRefused (read_by moment nonce messages) (of_admission f) front
+unread_by moment nonce messages (admissions.Refused refusal) front is =
+    refused_by (read_by moment nonce messages) (admissions.Refused refusal) front (ap (λ (r : Result (List Message) Refusal). refusal_of (length (list_of front)) (read_by moment nonce r)) is)
 unread_by moment nonce messages admissions.Memory front is = tt
 
 pub whole_planned : (f : AdmitFault) (front log : List LogStep) → IsWhole (of_admission f) front log
@@ -135,7 +127,7 @@ whole_planned (admissions.Refused refusal) front log = tt
 whole_planned admissions.Memory front log = tt
 
 pub unpublished : (input : ReadInput) (f : PostFault) (front : List LogStep) → refusal_of (length (list_of front)) input ≡ None → 0 < length (added_by input) → IsUnpublished f front → IsRefused input f front
-unpublished input Closed front allowed some u = tt
+unpublished input Closed front allowed some u = absurd u
 unpublished input (Refused refusals.Ended) front allowed some u = inr u
 unpublished input (Behind first) front allowed some u = record { allowed = allowed; some = some; full = u }
 unpublished input Memory front allowed some u = tt
@@ -164,5 +156,9 @@ pub was_full : {T : Type 0} (input : ReadInput) (first : ℕ) (front : List LogS
 was_full {T} input first front r is refused =
     let full : IsFullFor input first front = subst (λ (x : Result T PostFault). IfErr x (λ e. IsRefused input e front)) is refused in
     record { before = front; first = first; begins = prefix_self front; full = full }
+
+pub input_readable : (s : Submission) → IsReadable (input_of s)
+input_readable (submission.Request r) = tt
+input_readable (submission.Tick tick) = tt
 
 pub ruleset planning = (allowed_planned, fault_planned, common_steps)

@@ -1,18 +1,36 @@
 -- The faults of posts and shards, and the number of shards that each fault stopped.
-use Rattle.std.specs.Prelude.{ℕ, ◌≡◌, ◌≢◌, ◌+◌, ◌<◌, List}
+use Rattle.std.specs.Prelude.{ℕ, ◌≡◌, ◌≢◌, ◌+◌, ◌<◌, List, codes}
 use Rattle.bx_entry.specs.declared.input.AdmitFault.{AdmitFault}
 use Rattle.bx_entry.specs.declared.input.AdmitFault.TheVariants as admissions
+use Rattle.bx_entry.specs.Refusals.{refusal_name, refusal_status}
+use Rattle.bx_message.specs.declared.status.Status.{Status}
+use Rattle.bx_message.specs.declared.status.Status.TheVariants as statuses
 use Rattle.bx_window.specs.declared.law.LogStep.{LogStep}
 use Rattle.bx_window.specs.Steps.{begin_of}
 use Rattle.bx_hub.specs.declared.{activity.Activity.Activity, fault.HubFault.HubFault, fault.Lagging.Lagging, fault.PostFault.PostFault}
 use Rattle.bx_hub.specs.declared.activity.Activity.TheVariants.{Active, Paused, Closed}
 use Rattle.bx_hub.specs.declared.fault.HubFault.TheVariants as stops
-use Rattle.bx_hub.specs.declared.fault.PostFault.TheVariants.{Refused, Memory}
+use Rattle.bx_hub.specs.declared.fault.PostFault.TheVariants.{Refused, Behind, Overrun, WrongShard, Memory}
+use Rattle.bx_hub.specs.declared.fault.PostFault.TheVariants as faults
 
 -- The fault of a post or tick for a fault of planning its entries: the same refusal, or `Memory`.
 abbrev pub of_admission : AdmitFault → PostFault
 of_admission (admissions.Refused refusal) = Refused refusal
 of_admission admissions.Memory = Memory
+
+-- The name of a fault of a post: that of its refusal, or its own.
+abbrev pub fault_name : PostFault → List ℕ
+fault_name (Refused refusal) = refusal_name refusal
+fault_name faults.Closed = codes "closed"
+fault_name (Behind first) = codes "behind"
+fault_name (Overrun shard place) = codes "overrun"
+fault_name (WrongShard shard found) = codes "misplaced"
+fault_name Memory = codes "memory"
+
+-- The HTTP status of a request that was not admitted: that of its refusal, or 503 for other faults.
+abbrev pub fault_status : PostFault → Status
+fault_status (Refused refusal) = refusal_status refusal
+fault_status _ = statuses.Unavailable
 
 -- The number of stopped shards, for any fault: the sum of the counts.
 abbrev pub count_of : Lagging → ℕ

@@ -55,17 +55,21 @@ IsWithoutRoom (WrongShard shard found) front = found ≢ shard
 IsWithoutRoom Memory front = Unit {0}
 IsWithoutRoom _ front = ⊥
 
--- The fault can be the reason why `input` was not admitted, if the pass has then seen `front`.
--- `Body`: the documents are not messages, are more than 256 messages, or the listener forbids them.
--- `BadMoment`: the moment is too large. `Ended`: the list, or the log of publishes and trims, is
--- too long. `Behind`: `input` could be appended, but the window is full and begins at `first`.
--- `Overrun`: the window was full, and now begins after `place`. `WrongShard`: the window was full,
--- and the lock of `shard` guards another shard. `Closed` and `Memory` claim nothing.
+-- A tick, or a request with documents that are messages, which its listener allows.
+abbrev pub IsReadable : ReadInput → Type 0
+IsReadable (Unread refusal) = ⊥
+IsReadable input = Unit {0}
+
+-- The fault can be why `input` was not admitted, if the pass has then seen `front`. `Refused`: the
+-- rules reject `input` after the list of `front`, with this refusal. `Ended` can also
+-- mean that the log of publishes and trims is too long. `Behind`: `input` could be appended, but
+-- the window is full and begins at `first`. `Overrun`: the window was full, and now begins after
+-- `place`. `WrongShard`: the window was full, and the lock of `shard` guards another shard.
+-- `Closed`: the documents are messages that the listener allows. `Memory` claims nothing.
 abbrev pub IsRefused : ReadInput → PostFault → List LogStep → Type 0
-IsRefused input (Refused (refusals.Body fault)) front = input ≡ Unread fault
-IsRefused input (Refused refusals.BadMoment) front = refusal_of (length (list_of front)) input ≡ Some refusals.BadMoment
 IsRefused input (Refused refusals.Ended) front = (refusal_of (length (list_of front)) input ≡ Some refusals.Ended) ⊎ (2 ^ 62 ≤ length front)
-IsRefused input Closed front = Unit {0}
+IsRefused input (Refused refusal) front = refusal_of (length (list_of front)) input ≡ Some refusal
+IsRefused input Closed front = IsReadable input
 IsRefused input (Behind first) front = IsFullFor input first front
 IsRefused input (Overrun shard place) front = WasFullFor input front × (place < begin_of front)
 IsRefused input (WrongShard shard found) front = WasFullFor input front × (found ≢ shard)

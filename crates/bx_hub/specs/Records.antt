@@ -7,7 +7,7 @@ use Rattle.bx_entry.specs.Inputs.{added_by}
 use Rattle.bx_entry.specs.Listing.{Listed}
 use Rattle.bx_message.specs.declared.message.Message.{Message}
 use Rattle.bx_entry.specs.Requests.{arrival_messages, read_input}
-use Rattle.bx_entry.specs.declared.input.BodyError.{BodyError}
+use Rattle.bx_entry.specs.declared.input.Refusal.{Refusal}
 use Rattle.bx_entry.specs.declared.input.Input.{Input}
 use Rattle.bx_entry.specs.declared.input.Input.TheVariants.{Post, Tick}
 use Rattle.bx_record.specs.Laws.{CanRecord}
@@ -36,7 +36,7 @@ inputs_by (submission.Tick tick) = Tick tick.moment ∷ []
 
 -- The inputs recorded of the request `input`: itself, if messages were read from it and there are
 -- any.
-abbrev pub input_by : Result (List Message) BodyError → Input → List Input
+abbrev pub input_by : Result (List Message) Refusal → Input → List Input
 input_by (Ok ms) input = where_any ms input
 input_by (Err fault) input = []
 

@@ -257,7 +257,7 @@ impl<L: LogId, R: Wait + Drop> Admission<L, R> {
     // Appends `wanted` to the list, and returns its first place and slots. A request without
     // messages appends nothing. `pass` has then seen the whole list, unless the result is `Closed`.
     // Does not record `wanted`. Fails as `admit` does.
-    #[tactic(auto, using(crate::proofs::Posts::whole_planned))]
+    #[tactic(auto, using(crate::proofs::Posts::whole_planned, crate::proofs::Posts::input_readable))]
     fn list<P: Placing>(
         &mut self,
         alloc: Global,

@@ -1,11 +1,11 @@
 //! Results of posts and ticks, and the faults of the hub.
 ghost use Rattle.std.specs.Prelude.{◌≡◌, ◌+◌, ◌<◌, ◌^◌};
 ghost use Rattle.bx_hub.specs.declared.fault.PostFault.TheVariants as faults;
-ghost use Rattle.bx_hub.specs.Faults.{count_of, of_admission, one_more};
+ghost use Rattle.bx_hub.specs.Faults.{count_of, fault_name, fault_status, of_admission, one_more};
 
 use crate::walk::AdvanceReport;
 use bx_entry::{AdmitFault, Refusal, Slot};
-use bx_message::Sequence;
+use bx_message::{Sequence, Status};
 use bx_window::LogId;
 use std::alloc::AllocError;
 
@@ -114,6 +114,43 @@ pub enum PostFault {
     WrongShard { shard: usize, found: usize },
     /// The post or tick was not admitted, because memory ran out.
     Memory,
+}
+
+impl PostFault {
+    /// Returns the name under which requests that are not admitted for this reason are counted.
+    ///
+    /// Policy of this server.
+    pub fn name(self) -> &'static str
+        ensures { result.now ≡ fault_name self }
+    {
+        match self {
+            PostFault::Refused(refusal) => refusal.name(),
+            PostFault::Closed => "closed",
+            PostFault::Behind { .. } => "behind",
+            PostFault::Overrun { .. } => "overrun",
+            PostFault::WrongShard { .. } => "misplaced",
+            PostFault::Memory => "memory",
+        }
+    }
+
+    /// Returns the HTTP status of the response to a request that is not admitted for this reason.
+    ///
+    /// `Refused`: the status of the refusal, for example 400 for a body that is not JSON. All other
+    /// faults: 503.
+    ///
+    /// Policy of this server.
+    pub fn status(self) -> Status
+        ensures { result ≡ fault_status self }
+    {
+        match self {
+            PostFault::Refused(refusal) => refusal.status(),
+            PostFault::Closed
+            | PostFault::Behind { .. }
+            | PostFault::Overrun { .. }
+            | PostFault::WrongShard { .. }
+            | PostFault::Memory => Status::Unavailable,
+        }
+    }
 }
 
 /// The reason why a shard did not advance, or why a poll found no answer.

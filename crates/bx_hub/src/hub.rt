@@ -9,6 +9,7 @@ ghost use Rattle.bx_hub.specs.Faults.{IsStopped};
 
 use crate::admission::Admission;
 use crate::fault::{PostFault, PostReceipt, TickReceipt};
+use crate::kind::HubKind;
 use crate::parsed_request::{ParsedRequest, Rejection};
 use crate::recording::{NotRecording, RecordFront};
 use crate::shard_state::{
@@ -20,11 +21,11 @@ use crate::survey::{ShardSurvey, Survey};
 use crate::walk::{AdvanceReport, ChangeReport, LowestPosition};
 use bx_advice::Config;
 use bx_connects::Watch;
-use bx_entry::{Admitted, Arrival, Placing, Ticket};
+use bx_entry::{Admitted, Arrival, Ticket};
 use bx_message::Answer;
 use bx_record::{RecordFault, TakenText};
-use bx_shard::{Gate, Wakers};
-use bx_window::{EmptyWindow, Front, LogId, log_pair};
+use bx_shard::Wakers;
+use bx_window::{EmptyWindow, Front, log_pair};
 use futures::task::Waker;
 use std::alloc::{AllocError, Global};
 use std::snapshot::Snapshot;
@@ -48,18 +49,18 @@ pub type Pass<L> = Front<L>;
 /// A caller gets what a single-threaded server would give for the entries that the [`Pass`] of the
 /// caller has seen.
 #[derive(Drop)]
-pub struct Hub<L: LogId, P: Placing, G: Gate + Drop, R: Wait + Drop> {
-    placing: Arc<P, Global>,
-    gate: G,
+pub struct Hub<L: HubKind, R: Wait + Drop> {
+    placing: Arc<L::Placing, Global>,
+    gate: L::Gate,
     start: Front<L>,
     admission: Mutex<Admission<L, R>>,
-    shards: Vec<Mutex<ShardState<L, P>>>,
-    ghost placed: { P.place_of (arc_value placing) ≡ L.placing },
+    shards: Vec<Mutex<ShardState<L, L::Placing>>>,
+    ghost placed: { L.Placing.place_of (arc_value placing) ≡ L.placing },
     ghost started: { start ≡ [] },
     ghost counted: { length shards.items ≡ L.config.shards },
 }
 
-impl<L: LogId, P: Placing, G: Gate + Drop, R: Wait + Drop> Hub<L, P, G, R> {
+impl<L: HubKind, R: Wait + Drop> Hub<L, R> {
     ghost use Rattle.bx_hub.specs.Advancing.{IsOfAll};
     ghost use Rattle.bx_hub.specs.Held.{IsUnfiledAt, answer_over};
     ghost use Rattle.bx_hub.specs.Lags.{IsLagging};
@@ -87,14 +88,13 @@ impl<L: LogId, P: Placing, G: Gate + Drop, R: Wait + Drop> Hub<L, P, G, R> {
         rt: R,
         opened: EmptyWindow,
         config: Config,
-        placing: Arc<P, Global>,
-        gate: G,
-    ) -> Result<Hub<L, P, G, R>, AllocError>
+        placing: Arc<L::Placing, Global>,
+        gate: L::Gate,
+    ) -> Result<Hub<L, R>, AllocError>
     where
-        P: Drop,
         requires book { opened.seen.book ≡ L.book }
         requires config { config ≡ L.config }
-        requires placing { P.place_of (arc_value placing) ≡ L.placing }
+        requires placing { L.Placing.place_of (arc_value placing) ≡ L.placing }
     {
         let (writer, readers) = log_pair::<L, R>(alloc, rt, opened, config.shards)?;
         let start = writer.tell();
@@ -137,8 +137,8 @@ impl<L: LogId, P: Placing, G: Gate + Drop, R: Wait + Drop> Hub<L, P, G, R> {
     /// The first of these that applies. Nothing is appended, but `pass` may have seen more of the
     /// list:
     ///
-    /// - `Refused(Body(_))`: the documents are not messages, are more than 256 messages, or the
-    ///   read-only listener forbids them.
+    /// - `Refused`, from `NotJson` to `Forbidden`: the documents are not messages, have more than
+    ///   256 messages, or the read-only listener forbids them.
     /// - `Closed`: [`close`](Self::close) was called.
     /// - `Refused(BadMoment)`, `Refused(Ended)`: the moment is too large; the list or the window's
     ///   log is too long.
@@ -212,7 +212,7 @@ impl<L: LogId, P: Placing, G: Gate + Drop, R: Wait + Drop> Hub<L, P, G, R> {
     ///
     /// # Errors
     ///
-    /// `tick`, with one of the faults of [`post`](Self::post), except `Body`; nothing is appended.
+    /// `tick`, with one of the faults of [`post`](Self::post) after the first; nothing is appended.
     ///
     /// # Blocking
     ///
@@ -425,7 +425,10 @@ impl<L: LogId, P: Placing, G: Gate + Drop, R: Wait + Drop> Hub<L, P, G, R> {
         &self,
         rt: &W,
         index: usize,
-    ) -> Result<MutexGuard<'_, ShardState<L, P>>, MutexGuard<'_, ShardState<L, P>>>
+    ) -> Result<
+        MutexGuard<'_, ShardState<L, L::Placing>>,
+        MutexGuard<'_, ShardState<L, L::Placing>>,
+    >
         requires { index < length self.now.shards.items }
         ensures own { IfOk result (λ shard_state. shard_state.value.shard.index ≡ index) }
         ensures other { IfErr result (λ shard_state. shard_state.value.shard.index ≢ index) }
@@ -473,6 +476,7 @@ impl<L: LogId, P: Placing, G: Gate + Drop, R: Wait + Drop> Hub<L, P, G, R> {
         ensures answer { IfOk result.0 (λ o. IfSome o (λ a. answer_over L.config pass.new ticket.place ≡ Some a)) }
         ensures none { IfOk result.0 (λ o. IfNone o (MatchOption result.1 (L.config.shards ≤ ticket.shard) (IsUnfiledAt ticket pass.new))) }
         ensures stopped { IfErr result.0 (λ s. (s.ticket.value ≡ ticket) × IsStopped s.fault ticket.shard pass.new) }
+        ensures unknown { L.config.shards ≤ ticket.shard → result.0 ≡ Ok None }
     {
         if ticket.shard >= self.shards.len() {
             return (Ok(None), None);

@@ -1,15 +1,11 @@
 //! A hub under test, its caller's pass, and two waiting tasks that its gate inspects.
 use crate::same::same;
-use bx_calls::{
-    CONNECT, CONNECT_THIRD, HANDSHAKE, PING, Refused, SUBSCRIBE, SUBSCRIBE_THIRD, is_of, long_ping,
-    post, publish,
-};
+use bx_calls::texts::{CONNECT, CONNECT_THIRD, HANDSHAKE, PING, SUBSCRIBE, SUBSCRIBE_THIRD};
+use bx_calls::{Refused, Task, Tasks, is_of, long_ping, post, publish, waker_of};
 use bx_entry::{Arrival, ByTable, Ticket};
-use bx_hub::{Gate, Hub, Lagging, Pass, PostFault, RecordFront, Tick, Watch};
+use bx_hub::{Gate, Hub, HubKind, Lagging, Pass, PostFault, RecordFront, Watch};
 use bx_record::{Chunk, RecordFault};
-use bx_window::LogId;
-use futures::task::{Poll, Source, Waker};
-use futures::test::MockTask;
+use futures::task::Waker;
 use std::alloc::{AllocGlobal, Global};
 use std::process::Abort;
 use std::random::RandomSource;
@@ -17,20 +13,12 @@ use std::sync::atomic::{AtomicBool, AtomicU64, Ordering};
 use std::sync::{Arc, Wait};
 use std::test::*;
 
-/// One of the two waiting tasks.
-#[derive(Clone, Copy, Debug)]
-pub enum Task {
-    First,
-    Second,
-}
-
 /// Two waiting tasks, and what the hub's gate has recorded.
 #[derive(Drop)]
 pub struct Waiting {
     /// Shard of the first session.
     pub home: usize,
-    pub first: MockTask,
-    pub second: MockTask,
+    pub tasks: Tasks,
     /// Whether the first task was woken while a call held the lock of shard `home`.
     pub woken_under_lock: AtomicBool,
     /// How often the hub called the gate before it advanced a shard.
@@ -48,27 +36,13 @@ impl Waiting {
     ///
     /// [`Fail`] if memory runs out.
     pub fn new<R: Wait + AllocGlobal + RandomSource>(rt: &R, home: usize) -> Result<Waiting, Fail> {
-        let first = MockTask::new(rt)?;
-        let second = MockTask::new(rt)?;
-        // A new task counts as woken until it is polled.
-        first.enter(|_cx| ());
-        second.enter(|_cx| ());
         Ok(Waiting {
             home,
-            first,
-            second,
+            tasks: Tasks::new(rt)?,
             woken_under_lock: AtomicBool::new(false),
             before: AtomicU64::new(0),
             after: AtomicU64::new(0),
         })
-    }
-
-    /// Returns the task that `task` names.
-    pub fn task(&self, task: Task) -> &MockTask {
-        match task {
-            Task::First => &self.first,
-            Task::Second => &self.second,
-        }
     }
 }
 
@@ -86,20 +60,10 @@ impl Gate for Looking {
 
     fn after(&self, shard: usize) {
         self.waiting.after.fetch_add(1, Ordering::SeqCst);
-        if shard == self.waiting.home && self.waiting.first.is_woken() {
+        if shard == self.waiting.home && self.waiting.tasks.first.is_woken() {
             self.waiting.woken_under_lock.store(true, Ordering::SeqCst);
         }
     }
-}
-
-// Creates a waker of `task`.
-fn waker(task: &MockTask) -> Result<Waker, Fail> {
-    let mut slot = None;
-    let source = Source::new();
-    task.enter(|cx| {
-        let _: Poll<()> = cx.register(&source, &mut slot);
-    });
-    Ok(slot.ok_or("no waker")?)
 }
 
 /// What the hub did with a waker that was to be registered for a connect.
@@ -122,9 +86,9 @@ pub fn behind(paused: usize) -> Lagging {
 
 /// A hub, its caller's pass, and the waiting tasks.
 #[derive(Drop)]
-pub struct Bench<L: LogId, H: Wait + Drop> {
+pub struct Bench<L: HubKind, H: Wait + Drop> {
     pub alloc: Global,
-    pub hub: Hub<L, ByTable, Looking, H>,
+    pub hub: Hub<L, H>,
     pub pass: Pass<L>,
     pub waiting: Arc<Waiting, Global>,
     /// The last request that the hub did not admit, until a step posts it again.
@@ -133,7 +97,7 @@ pub struct Bench<L: LogId, H: Wait + Drop> {
     pub older: Option<Waker>,
 }
 
-impl<L: LogId, H: Wait + Drop> Bench<L, H> {
+impl<L: HubKind, H: Wait + Drop> Bench<L, H> {
     /// Creates the ticket of a connect or rider at `place` in the first session's shard.
     pub fn ticket(&self, place: u64) -> Ticket {
         Ticket {
@@ -227,23 +191,6 @@ impl<L: LogId, H: Wait + Drop> Bench<L, H> {
         Ok(())
     }
 
-    /// Appends a tick, and returns its place.
-    ///
-    /// `moment`: milliseconds since the server started.
-    ///
-    /// # Errors
-    ///
-    /// The hub's fault.
-    pub fn tick<R: Wait>(&mut self, rt: &R, moment: u64) -> Result<u64, PostFault> {
-        match self
-            .hub
-            .tick(rt, self.alloc, &mut self.pass, Tick::new(moment))
-        {
-            Ok(ticked) => Ok(ticked.place),
-            Err((_, refused)) => Err(refused.fault()),
-        }
-    }
-
     /// Registers a waker of `task` for the connect with `ticket`, and returns the result.
     ///
     /// If the hub stores the waker, `older` is afterwards the waker that this replaced, if any.
@@ -252,7 +199,7 @@ impl<L: LogId, H: Wait + Drop> Bench<L, H> {
     ///
     /// [`Fail`] if memory runs out for the waker.
     pub fn watch<R: Wait>(&mut self, rt: &R, ticket: Ticket, task: Task) -> Result<Watched, Fail> {
-        let waker = waker(self.waiting.task(task))?;
+        let waker = waker_of(self.waiting.tasks.task(task)).ok_or("no waker")?;
         let (said, _watching) = self.hub.watch(rt, ticket, waker);
         match said {
             Watch::Unknown(_) => Ok(Watched::Unknown),

@@ -5,9 +5,10 @@ ghost use Rattle.std.specs.Prelude.{◌≡◌};
 ghost use Rattle.bx_entry.specs.Placings.{by_remainder};
 
 use bx_advice::Config;
-use bx_calls::{CONNECT, HANDSHAKE, arrival, post};
-use bx_entry::{ByRemainder, Placing, Slot};
-use bx_hub::{Gate, Hub, OpenGate};
+use bx_calls::texts::{CONNECT, HANDSHAKE};
+use bx_calls::{arrival, post};
+use bx_entry::{ByRemainder, Slot};
+use bx_hub::{Hub, HubKind, Kind, OpenGate};
 use bx_window::{EmptyWindow, LogId};
 use std::alloc::Global;
 use std::marker::Brand;
@@ -15,10 +16,10 @@ use std::process::Abort;
 use std::sync::{Arc, Wait};
 use std::test::*;
 
-fn posts_and_polls<L: LogId, P: Placing, G: Gate + Drop, H: Wait + Drop, R: Wait + Abort>(
+fn posts_and_polls<L: HubKind, H: Wait + Drop, R: Wait + Abort>(
     rt: &R,
     alloc: Global,
-    hub: &Hub<L, P, G, H>,
+    hub: &Hub<L, H>,
 ) -> Result<(), Fail> {
     post(rt, alloc, hub, &mut hub.pass(), HANDSHAKE)?;
     let connect = arrival(alloc, CONNECT)?;
@@ -45,7 +46,7 @@ fn over_a_hub<L: LogId, R: Wait + Abort>(
     requires config { config ≡ L.config }
     requires placing { by_remainder ≡ L.placing }
 {
-    let hub = Hub::<L, ByRemainder, OpenGate, &R>::new(
+    let hub = Hub::<Kind<L, ByRemainder, OpenGate>, &R>::new(
         alloc, rt, opened, config, placing, OpenGate,
     )?;
     posts_and_polls(rt, alloc, &hub)

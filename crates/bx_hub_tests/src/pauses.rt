@@ -1,6 +1,7 @@
 //! Tests of paused shards.
 use crate::steps::{Step, check_runs};
-use bx_calls::{ANSWER, Found, HANDSHAKE, PING, PUBLISH_OWN, RIDDEN, SUBSCRIBE};
+use bx_calls::Found;
+use bx_calls::texts::{ANSWER, HANDSHAKE, PING, PUBLISH_OWN, RIDDEN, SUBSCRIBE};
 use bx_hub::{HubFault, PostFault, Survey};
 use std::test::*;
 

@@ -1,7 +1,7 @@
 //! Tests of the hub's record.
 use crate::steps::{LATE, Step, check_runs};
 use bx_advice::BODY_LIMIT;
-use bx_calls::{HANDSHAKE, PING};
+use bx_calls::texts::{HANDSHAKE, PING};
 use bx_entry::Refusal;
 use bx_hub::PostFault;
 use bx_record::RecordFault;

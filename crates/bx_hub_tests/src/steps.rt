@@ -3,12 +3,12 @@ ghost use Rattle.std.specs.Prelude.{◌≡◌};
 ghost use Rattle.std.specs.Arc.{arc_value};
 ghost use Rattle.bx_entry.specs.Placings.{by_table};
 
-use crate::bench::{Bench, Looking, Task, Waiting, Watched, behind};
+use crate::bench::{Bench, Looking, Waiting, Watched, behind};
 use crate::same::same;
 use bx_advice::{Config, Options};
-use bx_calls::{Found, arrival, find, hold, in_turn, publish, shards_for};
+use bx_calls::{Found, Task, arrival, find, hold, in_turn, publish, shards_for, tick};
 use bx_entry::{ByTable, Ticket};
-use bx_hub::{Hub, PostFault, ShardSurvey, Survey};
+use bx_hub::{Hub, HubKind, Kind, PostFault, ShardSurvey, Survey};
 use bx_record::RecordFault;
 use bx_window::{EmptyWindow, LogId};
 use std::alloc::{AllocGlobal, Global};
@@ -98,7 +98,7 @@ pub enum Step {
 }
 
 // Runs a step that posts or ticks, and passes other steps to `ask`.
-fn take<L: LogId, H: Wait + Drop, R: Wait + Abort>(
+fn take<L: HubKind, H: Wait + Drop, R: Wait + Abort>(
     rt: &R,
     bench: &mut Bench<L, H>,
     step: Step,
@@ -127,14 +127,17 @@ fn take<L: LogId, H: Wait + Drop, R: Wait + Abort>(
             let wanted = wanted.map(|place| (place, behind(0)));
             same(rt, bench.post(rt, back, body), wanted, step);
         }
-        Step::Tick(moment, wanted) => same(rt, bench.tick(rt, moment), wanted, step),
+        Step::Tick(moment, wanted) => {
+            let ticked = tick(rt, alloc, &bench.hub, &mut bench.pass, moment);
+            same(rt, ticked, wanted, step);
+        }
         _ => ask(rt, bench, step)?,
     }
     Ok(())
 }
 
 // Runs a step that polls, watches, sweeps, closes, pauses or resumes, and passes others to `look`.
-fn ask<L: LogId, H: Wait + Drop, R: Wait + Abort>(
+fn ask<L: HubKind, H: Wait + Drop, R: Wait + Abort>(
     rt: &R,
     bench: &mut Bench<L, H>,
     step: Step,
@@ -169,7 +172,7 @@ fn ask<L: LogId, H: Wait + Drop, R: Wait + Abort>(
 }
 
 // Runs a step that inspects the hub or uses its record.
-fn look<L: LogId, H: Wait + Drop, R: Wait + Abort>(
+fn look<L: HubKind, H: Wait + Drop, R: Wait + Abort>(
     rt: &R,
     bench: &mut Bench<L, H>,
     step: Step,
@@ -191,7 +194,7 @@ fn look<L: LogId, H: Wait + Drop, R: Wait + Abort>(
             same(rt, hub.survey_shard(rt, waiting.home), Some(stood), step);
         }
         Step::Woken(task, wanted) => {
-            same(rt, waiting.task(task).is_woken(), wanted, step);
+            same(rt, waiting.tasks.task(task).is_woken(), wanted, step);
             let under_lock = waiting.woken_under_lock.load(Ordering::SeqCst);
             same(rt, under_lock, false, step);
         }
@@ -210,7 +213,7 @@ fn look<L: LogId, H: Wait + Drop, R: Wait + Abort>(
 }
 
 // Runs all steps, and checks that the gate was called, and as often after advances as before them.
-fn take_all<L: LogId, H: Wait + Drop, R: Wait + Abort>(
+fn take_all<L: HubKind, H: Wait + Drop, R: Wait + Abort>(
     rt: &R,
     bench: &mut Bench<L, H>,
     steps: &[Step],
@@ -240,7 +243,7 @@ fn run_in_hub<L: LogId, R: Wait + Abort>(
     requires placing { by_table (arc_value placing) ≡ L.placing }
 {
     let (gate, waiting) = gates;
-    let hub = Hub::<L, ByTable, Looking, &R>::new(alloc, rt, opened, config, placing, gate)?;
+    let hub = Hub::<Kind<L, ByTable, Looking>, &R>::new(alloc, rt, opened, config, placing, gate)?;
     let pass = hub.pass();
     let mut bench = Bench {
         alloc,

@@ -1,7 +1,8 @@
 //! Tests of a hub's calls from one thread.
 use crate::steps::{LATE, Step, check_runs};
-use bx_calls::{ANSWER, CONNECT_OTHER, Found, HANDSHAKE, PING, PUBLISH};
-use bx_entry::{BodyError, Refusal};
+use bx_calls::Found;
+use bx_calls::texts::{ANSWER, CONNECT_OTHER, HANDSHAKE, PING, PUBLISH};
+use bx_entry::Refusal;
 use bx_hub::{HubFault, PostFault};
 use std::test::*;
 
@@ -11,7 +12,7 @@ const TWO_PINGS: &str = r#"[{"channel":"/meta/ping"},{"channel":"/meta/ping"}]"#
 const RUNS: [&[Step]; 8] = [
     // A truncated body and a late tick are rejected. A request without messages appends nothing.
     &[
-        Step::Refused("[", PostFault::Refused(Refusal::Body(BodyError::NotJson))),
+        Step::Refused("[", PostFault::Refused(Refusal::NotJson)),
         Step::Seen(0, 0),
         Step::Post("[]", 0, 0),
         Step::Post(HANDSHAKE, 0, 0),
@@ -101,7 +102,7 @@ const RUNS: [&[Step]; 8] = [
         Step::Publish,
         Step::Close,
         Step::Refused(PUBLISH, PostFault::Closed),
-        Step::Refused("[", PostFault::Refused(Refusal::Body(BodyError::NotJson))),
+        Step::Refused("[", PostFault::Refused(Refusal::NotJson)),
         Step::Refused("[]", PostFault::Closed),
         Step::Tick(0, Err(PostFault::Closed)),
         Step::Tick(LATE, Err(PostFault::Closed)),

@@ -1,7 +1,8 @@
 //! Tests of the wakers of held connects.
-use crate::bench::{Task, Watched};
+use crate::bench::Watched;
 use crate::steps::{Step, check_runs};
-use bx_calls::{ANSWER, ANSWER_THIRD, Found, PING, PUBLISH, TICKED};
+use bx_calls::texts::{ANSWER, ANSWER_THIRD, CONNECTED, PING, PUBLISH};
+use bx_calls::{Found, Task};
 use bx_hub::PostFault;
 use std::test::*;
 
@@ -15,7 +16,7 @@ const RUNS: [&[Step]; 4] = [
         Step::Woken(Task::First, false),
         Step::Tick(30_000, Ok(4)),
         Step::Woken(Task::First, true),
-        Step::Finds(2, TICKED, Found::Wanted),
+        Step::Finds(2, CONNECTED, Found::Wanted),
     ],
     // One publish wakes both tasks. Taking one answer leaves the other.
     &[

@@ -9,8 +9,8 @@ use Rattle.bx_cut.specs.Bodies.{texts_of}
 use Rattle.bx_advice.specs.declared.config.Config.{Config}
 use Rattle.bx_message.specs.declared.{event.Event.Event, message.Message.Message}
 use Rattle.bx_message.specs.MessageKinds.{is_handshake}
-use Rattle.bx_entry.specs.declared.input.{BodyError.BodyError, Access.Access, Input.Input, Refusal.Refusal}
-use Rattle.bx_entry.specs.declared.input.BodyError.TheVariants.{Forbidden}
+use Rattle.bx_entry.specs.declared.input.{Access.Access, Input.Input, Refusal.Refusal}
+use Rattle.bx_entry.specs.declared.input.Refusal.TheVariants.{Forbidden}
 use Rattle.bx_entry.specs.declared.input.Access.TheVariants.{ReadOnly}
 use Rattle.bx_entry.specs.declared.input.Input.TheVariants.{Post, Tick}
 use Rattle.bx_entry.specs.Sessions.{Publication, session}
@@ -44,7 +44,7 @@ quiet_where : (moment nonce : ℕ) (ms : List Message) (b : Bool) → has_broadc
 quiet_where moment nonce ms true e = tt
 quiet_where moment nonce ms false e = listed_quiet moment nonce (length ms == 1) false ms e
 
-let_in_quiet : (moment nonce : ℕ) (read : Result (List Message) BodyError) → AreQuiet (added_by (read_by moment nonce (let_in ReadOnly read)))
+let_in_quiet : (moment nonce : ℕ) (read : Result (List Message) Refusal) → AreQuiet (added_by (read_by moment nonce (let_in ReadOnly read)))
 let_in_quiet moment nonce (Ok ms) = quiet_where moment nonce ms (has_broadcast ms) refl
 let_in_quiet moment nonce (Err f) = tt
 

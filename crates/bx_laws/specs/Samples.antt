@@ -189,10 +189,12 @@ refused_messages = post 0 (handshake ∷ []) ∷ post 0 (
     ∷ subscribe 1 (codes "/meta/*") ∷ subscribe 1 (codes "/service/x") ∷ of_session (codes "/meta/subscribe") 1
     ∷ publish 1 (codes "/a/*") (codes "1") ∷ of_session (codes "/a") 1 ∷ []) ∷ []
 
--- A subscription of session 1 to an array with `text` and something that is not a string.
+-- A subscribe message of session 1. Its `subscription` is an array of `text`, quoted, and of a
+-- value that is not a string, such as `["/a",1]`.
 abbrev pub mixed : List ℕ → Message
 mixed text = record (subscribe 1 text) { listed = false }
 
+-- The reply to `mixed text` that reports `error`.
 abbrev pub mixed_failed : List ℕ → Error → Item
 mixed_failed text error = ReplyItem (record (reply MessageKind.Subscribe (codes "/meta/subscribe") (Some (id_of 1)) (Failed error) AckReply.NoAck) { subscription = Some (in_quotes text) })
 

@@ -9,10 +9,8 @@ use Rattle.bx_advice.specs.declared.error.Error.TheVariants.{UnknownMetaChannel,
 use Rattle.bx_advice.specs.declared.advice.Outcome.TheVariants.{Opened, Disconnected, Done, Failed}
 use Rattle.bx_message.specs.declared.reply.Item.TheVariants.{EventItem, ReplyItem}
 use Rattle.bx_entry.specs.Inputs.{Request, Tick}
-use Rattle.bx_entry.specs.declared.input.Refusal.TheVariants.{BadMoment}
-use Rattle.bx_entry.specs.Words.{outs, held, Unread, outs, held}
-use Rattle.bx_entry.specs.declared.input.Refusal.TheVariants.{Body}
-use Rattle.bx_entry.specs.declared.input.BodyError.TheVariants.{NotJson}
+use Rattle.bx_entry.specs.declared.input.Refusal.TheVariants.{BadMoment, NotJson}
+use Rattle.bx_entry.specs.Words.{outs, held, Unread}
 use Rattle.bx_advice.specs.declared.error.Error.TheVariants.{UnknownConnectionType, InvalidPattern, TooManyPatterns}
 use Rattle.bx_message.specs.Texts.{callback_text}
 use Rattle.bx_laws.specs.Samples.{ack_connect, blank, id_of, versioned, handshake, ack_handshake, connect, connect_now, ack_connect_now, in_quotes, subscribe, unsubscribe, disconnect, publish, post, standard, reply, handshaken, ack_handshaken, connected_as, connected, ack_connected, subscribed, unsubscribed, disconnected, published, unknown_client, event, out, subscribe_all, subscribed_all, match_all, two_connects, held_with_ack, small, failed, four_batches, full_batch, texts, refused_messages, mixed, mixed_failed, crowded, anonymous, open_to_all, ridden_publishes, ridden_hold, ridden_after, waits_after, riding}
@@ -95,7 +93,7 @@ NothingPosted =
 abbrev pub Unreadable : Type 0
 Unreadable =
     outs standard (Unread NotJson ∷ post 0 (handshake ∷ []) ∷ [])
-    ≡ record { input = 0; result = Err (Body NotJson) } ∷ out 1 (handshaken 1 ∷ []) ∷ []
+    ≡ record { input = 0; result = Err NotJson } ∷ out 1 (handshaken 1 ∷ []) ∷ []
 
 -- ---- Events
 
@@ -518,7 +516,7 @@ RefusedMovesClock =
 abbrev pub EmptyKeepsClock : Type 0
 EmptyKeepsClock =
     drop 1 (outs standard (post 0 (handshake ∷ []) ∷ post 20000 [] ∷ Unread NotJson ∷ Tick 5 ∷ post 5 (connect_now 1 ∷ []) ∷ []))
-    ≡ out 1 [] ∷ record { input = 2; result = Err (Body NotJson) } ∷ out 3 [] ∷ out 4 (connected 1 ∷ []) ∷ []
+    ≡ out 1 [] ∷ record { input = 2; result = Err NotJson } ∷ out 3 [] ∷ out 4 (connected 1 ∷ []) ∷ []
 
 -- A rejected message does not put off the due moment of its session.
 abbrev pub RefusedKeepsDue : Type 0

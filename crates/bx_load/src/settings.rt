@@ -3,6 +3,7 @@ ghost use Rattle.std.specs.Prelude.{◌<◌, IfOk, IfSome};
 
 use std::alloc::{AllocError, Global};
 use std::fmt::{self, Display, Formatter, Write};
+use std::io;
 
 /// The URL of the server.
 #[derive(Drop)]
@@ -49,6 +50,8 @@ pub struct LoadSettings {
 pub enum SettingsFault {
     /// The arguments are not parsed, because memory ran out.
     Memory,
+    /// The arguments are not parsed, because one is not UTF-8.
+    NotText,
     /// There are fewer than five arguments for a load, or more than seven.
     Count,
     /// The URL does not have the form `http://HOST/PATH`, or has characters that are not visible
@@ -74,11 +77,21 @@ impl From<AllocError> for SettingsFault {
     }
 }
 
+impl From<io::Error> for SettingsFault {
+    fn from(error: io::Error) -> SettingsFault {
+        match error.kind() {
+            io::ErrorKind::OutOfMemory => SettingsFault::Memory,
+            _ => SettingsFault::NotText,
+        }
+    }
+}
+
 impl Display for SettingsFault {
     /// Writes the name of the argument and what it must be.
     fn fmt<W: Write>(&self, f: &mut Formatter<W>) -> fmt::Result {
         f.write_str(match self {
             SettingsFault::Memory => "out of memory",
+            SettingsFault::NotText => "expected arguments in UTF-8",
             SettingsFault::Count => "expected 5 to 7 arguments",
             SettingsFault::Url => "url: expected a URL such as http://127.0.0.1:8087/cometd",
             SettingsFault::Sessions => "sessions: expected a number from 0 to 4294967295",

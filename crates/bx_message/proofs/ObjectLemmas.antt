@@ -7,7 +7,7 @@ use Rattle.json.specs.Run.{is_plain}
 use Rattle.json.specs.Print.{escape, escape_byte}
 use Rattle.json.proofs.Printed.Strings.{escape_byte_plain}
 use Rattle.std.proofs.lemmas.List.{append-nil, take_more, map-append, length-map, length-take-le}
-use Rattle.json.specs.Token.{key, string, number}
+use Rattle.json.specs.Token.{string}
 use Rattle.json.specs.Print.{print, print_from, quoted}
 use Rattle.bx_message.specs.Objects.{OpenObject, opened, resumed, with_name, with_member, with_members, closed}
 use Rattle.bx_message.specs.Texts.{member, object}
@@ -17,17 +17,9 @@ use Rattle.bx_advice.specs.declared.error.Error.TheVariants.{UnknownMetaChannel}
 
 -- ---- one token
 
-pub print-key : (name : List ℕ) → print (key name ∷ []) ≡ quoted name ++ 58 ∷ []
-unfolding print_from
-print-key name = append-nil (quoted name ++ 58 ∷ [])
-
 pub print-string : (text : List ℕ) → print (string text ∷ []) ≡ quoted text
 unfolding print_from
 print-string text = append-nil (quoted text)
-
-pub print-number : (digits : List ℕ) → print (number digits ∷ []) ≡ digits
-unfolding print_from
-print-number digits = append-nil digits
 
 -- ---- members
 

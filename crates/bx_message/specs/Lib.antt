@@ -6,3 +6,4 @@ pub mod Stored
 pub mod Texts
 pub mod Objects
 pub mod Fields
+pub mod Numbers

@@ -16,7 +16,7 @@ mod write;
 pub use event::{Event, SharedEvent};
 pub use message::{AckMember, Message, TextMember};
 pub use message_kind::MessageKind;
-pub use number::number_of;
+pub use number::{count_in, limit_in, number_of, time_in};
 pub use read::MessageError;
 pub use reply::{AckReply, Answer, Item, Reply, share_json};
 pub use sequence::Sequence;

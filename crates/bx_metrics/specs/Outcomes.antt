@@ -1,26 +1,24 @@
--- Which metric counts a fault or a reply.
+-- Which metric counts a reply, and which metrics share a row of the page.
+use Rattle.std.specs.Prelude.{ℕ, Bool, Option, position}
+use Rattle.std.specs.{Str.bytes_eq}
 use Rattle.bx_advice.specs.declared.advice.Outcome.{Outcome}
 use Rattle.bx_advice.specs.declared.advice.Outcome.TheVariants as outcomes
-use Rattle.bx_entry.specs.declared.input.BodyError.TheVariants as bodies
-use Rattle.bx_entry.specs.declared.input.Refusal.TheVariants as refusals
-use Rattle.bx_metrics.specs.declared.metric.{Metric.Metric, Reason.Reason}
-use Rattle.bx_metrics.specs.declared.metric.Metric.TheVariants.{ErrorReplies, SuccessfulReplies}
-use Rattle.bx_metrics.specs.declared.metric.Reason.TheVariants as reasons
-use Rattle.bx_hub.specs.declared.fault.PostFault.{PostFault}
-use Rattle.bx_hub.specs.declared.fault.PostFault.TheVariants as faults
+use Rattle.bx_hub.specs.Faults.{fault_name}
 use Rattle.bx_message.specs.declared.{message_kind.MessageKind.MessageKind, reply.Reply.Reply}
+use Rattle.bx_metrics.specs.contracts.metric.MetricPartialEq.TheImpl as metrics
+use Rattle.bx_metrics.specs.declared.metric.Metric.{Metric}
+use Rattle.bx_metrics.specs.declared.metric.Metric.TheVariants.{ErrorReplies, Refused, SuccessfulReplies}
+use Rattle.bx_metrics.specs.declared.metric.TheConstants.{METRICS}
 
--- The reason under which a fault is counted.
-abbrev pub reason_of : PostFault → Reason
-reason_of (faults.Refused (refusals.Body bodies.Forbidden)) = reasons.Forbidden
-reason_of (faults.Refused (refusals.Body fault)) = reasons.Body
-reason_of (faults.Refused refusals.BadMoment) = reasons.BadMoment
-reason_of (faults.Refused refusals.Ended) = reasons.Ended
-reason_of faults.Closed = reasons.Closed
-reason_of (faults.Behind first) = reasons.Behind
-reason_of (faults.Overrun shard place) = reasons.Overrun
-reason_of (faults.WrongShard shard found) = reasons.WrongShard
-reason_of faults.Memory = reasons.Memory
+-- Whether two metrics have the same row: they are equal, or count requests that were not admitted
+-- for reasons with the same name.
+abbrev pub counts : Metric → Metric → Bool
+counts (Refused fault) (Refused other) = bytes_eq (fault_name fault) (fault_name other)
+counts metric other = metrics.ghosts.eq metric other
+
+-- The index of the row of a metric.
+abbrev pub place_of : Metric → Option ℕ
+place_of metric = position (λ row. counts row.0 metric) METRICS
 
 -- The metric that counts a reply of this kind with this outcome.
 abbrev pub metric_for : MessageKind → Outcome → Metric

@@ -10,6 +10,6 @@ mod response;
 mod tests;
 
 pub use counts::{Counts, MetricValues};
-pub use metric::{Metric, Reason};
+pub use metric::Metric;
 pub use page::page_text;
 pub use response::{MetricsRequest, response_text};

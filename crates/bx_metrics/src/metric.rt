@@ -1,50 +1,11 @@
-//! The metrics: their order, names, help texts and types.
-ghost use Rattle.std.specs.Prelude.{◌≡◌, Some, slice_get};
-ghost use Rattle.bx_metrics.specs.declared.metric.Metric.TheVariants.{ErrorReplies, Refused, SuccessfulReplies, Responses};
-ghost use Rattle.bx_metrics.specs.declared.metric.TheConstants.{METRICS};
+//! The metrics: their order, names, types and help texts.
+ghost use Rattle.std.specs.Prelude.{◌≡◌, Some, position};
+ghost use Rattle.bx_metrics.specs.Outcomes.{counts, place_of};
 
 use bx_advice::Error;
+use bx_entry::Refusal;
+use bx_hub::PostFault;
 use bx_message::{MessageKind, Status};
-
-/// Why a request was not admitted.
-#[derive(Clone, Copy, Debug, PartialEq, Eq)]
-pub enum Reason {
-    /// Requests not admitted because their messages are not valid, or are too many.
-    Body,
-    /// Requests not admitted because they have a message that the read-only listener forbids.
-    Forbidden,
-    /// Requests not admitted because their moment is too large.
-    BadMoment,
-    /// Requests not admitted because the list would become too long with them.
-    Ended,
-    /// Requests not admitted because the hub was closed.
-    Closed,
-    /// Requests not admitted because a shard has not applied the oldest entries of the full window.
-    Behind,
-    /// Requests not admitted because the full window lacks the entry that a shard must apply next.
-    Overrun,
-    /// Requests not admitted because the lock of a shard guards another shard.
-    WrongShard,
-    /// Requests not admitted because memory ran out.
-    Memory,
-}
-
-impl Reason {
-    /// Returns the name of the reason, which is the label `reason` on the metrics page.
-    pub fn name(self) -> &'static str {
-        match self {
-            Reason::Body => "body",
-            Reason::Forbidden => "forbidden",
-            Reason::BadMoment => "bad_moment",
-            Reason::Ended => "ended",
-            Reason::Closed => "closed",
-            Reason::Behind => "behind",
-            Reason::Overrun => "overrun",
-            Reason::WrongShard => "misplaced",
-            Reason::Memory => "memory",
-        }
-    }
-}
 
 /// A metric of the server: a number that the page of metrics shows.
 ///
@@ -91,266 +52,118 @@ pub enum Metric {
     FiledAnswers,
     /// The number of responses with this status.
     Responses(Status),
-    /// The number of requests that were not admitted, for this reason.
-    Refused(Reason),
+    /// The number of requests that were not admitted, for a reason with this name.
+    Refused(PostFault),
     /// The number of successful replies to messages of this kind.
     SuccessfulReplies(MessageKind),
     /// The number of replies with this error.
     ErrorReplies(Error),
 }
 
-/// All metrics in the order of the metrics page, with those of the same name adjacent.
-pub(crate) const METRICS: [Metric; 59] = [
-    Metric::Uptime,
-    Metric::OpenConnections,
-    Metric::AcceptedConnections,
-    Metric::RequestsInProgress,
-    Metric::AdmittedInProgress,
-    Metric::AdmittedRequests,
-    Metric::Events,
-    Metric::UnansweredRequests,
-    Metric::MissingResponses,
-    Metric::Entries,
-    Metric::Ticks,
-    Metric::RefusedTicks,
-    Metric::ShardsBehind,
-    Metric::SweptAnswers,
-    Metric::Sessions,
-    Metric::OpenedSessions,
-    Metric::Batches,
-    Metric::HeldConnects,
-    Metric::FiledAnswers,
-    Metric::Responses(Status::Ok),
-    Metric::Responses(Status::BadRequest),
-    Metric::Responses(Status::Forbidden),
-    Metric::Responses(Status::NotFound),
-    Metric::Responses(Status::MethodNotAllowed),
-    Metric::Responses(Status::TooLarge),
-    Metric::Responses(Status::NotImplemented),
-    Metric::Responses(Status::Unavailable),
-    Metric::Refused(Reason::Body),
-    Metric::Refused(Reason::Forbidden),
-    Metric::Refused(Reason::BadMoment),
-    Metric::Refused(Reason::Ended),
-    Metric::Refused(Reason::Closed),
-    Metric::Refused(Reason::Behind),
-    Metric::Refused(Reason::Overrun),
-    Metric::Refused(Reason::WrongShard),
-    Metric::Refused(Reason::Memory),
-    Metric::SuccessfulReplies(MessageKind::Handshake),
-    Metric::SuccessfulReplies(MessageKind::Connect),
-    Metric::SuccessfulReplies(MessageKind::Subscribe),
-    Metric::SuccessfulReplies(MessageKind::Unsubscribe),
-    Metric::SuccessfulReplies(MessageKind::Disconnect),
-    Metric::SuccessfulReplies(MessageKind::Publish),
-    Metric::SuccessfulReplies(MessageKind::UnknownMeta),
-    Metric::ErrorReplies(Error::UnknownMetaChannel),
-    Metric::ErrorReplies(Error::SecondHandshake),
-    Metric::ErrorReplies(Error::UnsupportedVersion),
-    Metric::ErrorReplies(Error::NoSupportedConnectionType),
-    Metric::ErrorReplies(Error::TooManySessions),
-    Metric::ErrorReplies(Error::NoClientId),
-    Metric::ErrorReplies(Error::UnknownClient),
-    Metric::ErrorReplies(Error::UnknownConnectionType),
-    Metric::ErrorReplies(Error::InvalidChannel),
-    Metric::ErrorReplies(Error::InvalidPattern),
-    Metric::ErrorReplies(Error::TooManyPatterns),
-    Metric::ErrorReplies(Error::SubscriptionDenied),
-    Metric::ErrorReplies(Error::MissingSubscription),
-    Metric::ErrorReplies(Error::MissingData),
-    Metric::ErrorReplies(Error::SupersededConnect),
-    Metric::ErrorReplies(Error::QueueOverflow),
-];
+/// A row of the metrics page: a metric, its name, its type in Prometheus' format, and its help
+/// text.
+pub(crate) type Row = (Metric, &'static str, &'static str, &'static str);
+
+// Expands to an array of rows, from each name, type and help text with its metrics.
+macro_rules! rows {
+    ($($name:literal, $type_name:literal, $help:literal: $($metric:expr),*;)*) => {
+        [$($(($metric, $name, $type_name, $help)),*),*]
+    };
+}
+
+/// The rows of the metrics page, in order, with those of the same name adjacent.
+pub(crate) const METRICS: [Row; 59] = rows! {
+    "bayeux_uptime_seconds_total", "counter", "Seconds since the program started.": Metric::Uptime;
+    "bayeux_connections", "gauge", "Open connections.": Metric::OpenConnections;
+    "bayeux_connections_total", "counter", "Connections accepted.": Metric::AcceptedConnections;
+    "bayeux_requests", "gauge", "Requests in progress.": Metric::RequestsInProgress;
+    "bayeux_requests_held", "gauge", "Admitted requests in progress.": Metric::AdmittedInProgress;
+    "bayeux_requests_admitted_total", "counter", "Requests admitted.": Metric::AdmittedRequests;
+    "bayeux_events_total", "counter", "Events in responses.": Metric::Events;
+    "bayeux_requests_unanswered_total", "counter", "Admitted requests whose answer was unavailable.":
+        Metric::UnansweredRequests;
+    "bayeux_responses_missing_total", "counter", "Requests dropped for lack of memory.": Metric::MissingResponses;
+    "bayeux_list_entries_total", "counter", "Length of the list at the last tick, in entries.": Metric::Entries;
+    "bayeux_ticks_total", "counter", "Ticks appended to the list.": Metric::Ticks;
+    "bayeux_ticks_refused_total", "counter", "Ticks not appended to the list.": Metric::RefusedTicks;
+    "bayeux_shards_behind", "gauge", "Shards that had not applied the last tick.": Metric::ShardsBehind;
+    "bayeux_answers_swept_total", "counter", "Unclaimed answers dropped.": Metric::SweptAnswers;
+    "bayeux_sessions", "gauge", "Live sessions.": Metric::Sessions;
+    "bayeux_sessions_opened_total", "counter", "Sessions opened.": Metric::OpenedSessions;
+    "bayeux_window_batches", "gauge", "Batches in the window.": Metric::Batches;
+    "bayeux_connects_held", "gauge", "Held connects.": Metric::HeldConnects;
+    "bayeux_answers_filed", "gauge", "Filed answers that nobody has taken.": Metric::FiledAnswers;
+    "bayeux_responses_total", "counter", "Responses, by status.":
+        Metric::Responses(Status::Ok),
+        Metric::Responses(Status::BadRequest),
+        Metric::Responses(Status::Forbidden),
+        Metric::Responses(Status::NotFound),
+        Metric::Responses(Status::MethodNotAllowed),
+        Metric::Responses(Status::TooLarge),
+        Metric::Responses(Status::NotImplemented),
+        Metric::Responses(Status::Unavailable);
+    "bayeux_requests_refused_total", "counter", "Requests not admitted, by reason.":
+        Metric::Refused(PostFault::Refused(Refusal::NotJson)),
+        Metric::Refused(PostFault::Refused(Refusal::Forbidden)),
+        Metric::Refused(PostFault::Refused(Refusal::BadMoment)),
+        Metric::Refused(PostFault::Refused(Refusal::Ended)),
+        Metric::Refused(PostFault::Closed),
+        Metric::Refused(PostFault::Behind { first: 0 }),
+        Metric::Refused(PostFault::Overrun { shard: 0, place: 0 }),
+        Metric::Refused(PostFault::WrongShard { shard: 0, found: 0 }),
+        Metric::Refused(PostFault::Memory);
+    "bayeux_replies_total", "counter", "Successful replies, by kind of message.":
+        Metric::SuccessfulReplies(MessageKind::Handshake),
+        Metric::SuccessfulReplies(MessageKind::Connect),
+        Metric::SuccessfulReplies(MessageKind::Subscribe),
+        Metric::SuccessfulReplies(MessageKind::Unsubscribe),
+        Metric::SuccessfulReplies(MessageKind::Disconnect),
+        Metric::SuccessfulReplies(MessageKind::Publish),
+        Metric::SuccessfulReplies(MessageKind::UnknownMeta);
+    "bayeux_errors_total", "counter", "Error replies, by error.":
+        Metric::ErrorReplies(Error::UnknownMetaChannel),
+        Metric::ErrorReplies(Error::SecondHandshake),
+        Metric::ErrorReplies(Error::UnsupportedVersion),
+        Metric::ErrorReplies(Error::NoSupportedConnectionType),
+        Metric::ErrorReplies(Error::TooManySessions),
+        Metric::ErrorReplies(Error::NoClientId),
+        Metric::ErrorReplies(Error::UnknownClient),
+        Metric::ErrorReplies(Error::UnknownConnectionType),
+        Metric::ErrorReplies(Error::InvalidChannel),
+        Metric::ErrorReplies(Error::InvalidPattern),
+        Metric::ErrorReplies(Error::TooManyPatterns),
+        Metric::ErrorReplies(Error::SubscriptionDenied),
+        Metric::ErrorReplies(Error::MissingSubscription),
+        Metric::ErrorReplies(Error::MissingData),
+        Metric::ErrorReplies(Error::SupersededConnect),
+        Metric::ErrorReplies(Error::QueueOverflow);
+};
 
 impl Metric {
-    /// Returns the metric's index in [`METRICS`].
+    /// Returns the index of the metric's row in [`METRICS`].
     pub(crate) fn place(self) -> usize
-        ensures { slice_get METRICS result ≡ Some self }
+        ensures { place_of self ≡ Some result }
     {
-        match self {
-            Metric::Uptime => 0,
-            Metric::OpenConnections => 1,
-            Metric::AcceptedConnections => 2,
-            Metric::RequestsInProgress => 3,
-            Metric::AdmittedInProgress => 4,
-            Metric::AdmittedRequests => 5,
-            Metric::Events => 6,
-            Metric::UnansweredRequests => 7,
-            Metric::MissingResponses => 8,
-            Metric::Entries => 9,
-            Metric::Ticks => 10,
-            Metric::RefusedTicks => 11,
-            Metric::ShardsBehind => 12,
-            Metric::SweptAnswers => 13,
-            Metric::Sessions => 14,
-            Metric::OpenedSessions => 15,
-            Metric::Batches => 16,
-            Metric::HeldConnects => 17,
-            Metric::FiledAnswers => 18,
-            Metric::Responses(status) => response_place(status),
-            Metric::Refused(reason) => refused_place(reason),
-            Metric::SuccessfulReplies(kind) => reply_place(kind),
-            Metric::ErrorReplies(error) => error_place(error),
+        match place_in(METRICS.as_slice(), self) {
+            Some(place) => place,
+            None => unreachable!(),
         }
     }
 
-    /// Returns the metric's name. Metrics that differ only in a label share a name.
-    pub(crate) fn name(self) -> &'static str {
-        match self {
-            Metric::Uptime => "bayeux_uptime_seconds_total",
-            Metric::OpenConnections => "bayeux_connections",
-            Metric::AcceptedConnections => "bayeux_connections_total",
-            Metric::RequestsInProgress => "bayeux_requests",
-            Metric::AdmittedInProgress => "bayeux_requests_held",
-            Metric::AdmittedRequests => "bayeux_requests_admitted_total",
-            Metric::Events => "bayeux_events_total",
-            Metric::UnansweredRequests => "bayeux_requests_unanswered_total",
-            Metric::MissingResponses => "bayeux_responses_missing_total",
-            Metric::Entries => "bayeux_list_entries_total",
-            Metric::Ticks => "bayeux_ticks_total",
-            Metric::RefusedTicks => "bayeux_ticks_refused_total",
-            Metric::ShardsBehind => "bayeux_shards_behind",
-            Metric::SweptAnswers => "bayeux_answers_swept_total",
-            Metric::Sessions => "bayeux_sessions",
-            Metric::OpenedSessions => "bayeux_sessions_opened_total",
-            Metric::Batches => "bayeux_window_batches",
-            Metric::HeldConnects => "bayeux_connects_held",
-            Metric::FiledAnswers => "bayeux_answers_filed",
-            Metric::Responses(_) => "bayeux_responses_total",
-            Metric::Refused(_) => "bayeux_requests_refused_total",
-            Metric::SuccessfulReplies(_) => "bayeux_replies_total",
-            Metric::ErrorReplies(_) => "bayeux_errors_total",
-        }
-    }
-
-    /// Returns the help text, which metrics with the same name share.
-    pub(crate) fn help(self) -> &'static str {
-        match self {
-            Metric::Uptime => "Seconds since the program started.",
-            Metric::OpenConnections => "Open connections.",
-            Metric::AcceptedConnections => "Connections accepted.",
-            Metric::RequestsInProgress => "Requests in progress.",
-            Metric::AdmittedInProgress => "Admitted requests in progress.",
-            Metric::AdmittedRequests => "Requests admitted.",
-            Metric::Events => "Events in responses.",
-            Metric::UnansweredRequests => "Admitted requests whose answer was unavailable.",
-            Metric::MissingResponses => "Requests dropped for lack of memory.",
-            Metric::Entries => "Length of the list at the last tick, in entries.",
-            Metric::Ticks => "Ticks appended to the list.",
-            Metric::RefusedTicks => "Ticks not appended to the list.",
-            Metric::ShardsBehind => "Shards that had not applied the last tick.",
-            Metric::SweptAnswers => "Unclaimed answers dropped.",
-            Metric::Sessions => "Live sessions.",
-            Metric::OpenedSessions => "Sessions opened.",
-            Metric::Batches => "Batches in the window.",
-            Metric::HeldConnects => "Held connects.",
-            Metric::FiledAnswers => "Filed answers that nobody has taken.",
-            Metric::Responses(_) => "Responses, by status.",
-            Metric::Refused(_) => "Requests not admitted, by reason.",
-            Metric::SuccessfulReplies(_) => "Successful replies, by kind of message.",
-            Metric::ErrorReplies(_) => "Error replies, by error.",
-        }
-    }
-
-    /// Returns the metric's type in Prometheus' format: `gauge` or `counter`.
-    pub(crate) fn type_name(self) -> &'static str {
-        match self {
-            Metric::OpenConnections
-            | Metric::RequestsInProgress
-            | Metric::AdmittedInProgress
-            | Metric::ShardsBehind
-            | Metric::Sessions
-            | Metric::Batches
-            | Metric::HeldConnects
-            | Metric::FiledAnswers => "gauge",
-            _ => "counter",
-        }
-    }
-
-    /// Returns `true` if this metric is the first in [`METRICS`] with its name.
-    pub(crate) fn is_first(self) -> bool {
-        match self {
-            Metric::Responses(Status::Ok)
-            | Metric::Refused(Reason::Body)
-            | Metric::SuccessfulReplies(MessageKind::Handshake)
-            | Metric::ErrorReplies(Error::UnknownMetaChannel) => true,
-            Metric::Responses(_)
-            | Metric::Refused(_)
-            | Metric::SuccessfulReplies(_)
-            | Metric::ErrorReplies(_) => false,
-            _ => true,
+    // Returns `true` if this metric and `other` have the same row. Reasons with the same name do.
+    fn counts(self, other: Metric) -> bool
+        ensures { result ≡ counts self other }
+    {
+        match (self, other) {
+            (Metric::Refused(fault), Metric::Refused(other)) => fault.name() == other.name(),
+            (metric, other) => metric == other,
         }
     }
 }
 
-// Returns the index of the metric `Responses(status)` in `METRICS`.
-fn response_place(status: Status) -> usize
-    ensures { slice_get METRICS result ≡ Some (Responses status) }
+// Returns the index of the row of `metric` in `rows`, or `None` if it has no row.
+fn place_in(rows: &[Row], metric: Metric) -> Option<usize>
+    ensures { result ≡ position (λ row. counts row.0 metric) rows.now }
 {
-    match status {
-        Status::Ok => 19,
-        Status::BadRequest => 20,
-        Status::Forbidden => 21,
-        Status::NotFound => 22,
-        Status::MethodNotAllowed => 23,
-        Status::TooLarge => 24,
-        Status::NotImplemented => 25,
-        Status::Unavailable => 26,
-    }
-}
-
-// Returns the index of the metric `Refused(reason)` in `METRICS`.
-fn refused_place(reason: Reason) -> usize
-    ensures { slice_get METRICS result ≡ Some (Refused reason) }
-{
-    match reason {
-        Reason::Body => 27,
-        Reason::Forbidden => 28,
-        Reason::BadMoment => 29,
-        Reason::Ended => 30,
-        Reason::Closed => 31,
-        Reason::Behind => 32,
-        Reason::Overrun => 33,
-        Reason::WrongShard => 34,
-        Reason::Memory => 35,
-    }
-}
-
-// Returns the index of the metric `SuccessfulReplies(kind)` in `METRICS`.
-fn reply_place(kind: MessageKind) -> usize
-    ensures { slice_get METRICS result ≡ Some (SuccessfulReplies kind) }
-{
-    match kind {
-        MessageKind::Handshake => 36,
-        MessageKind::Connect => 37,
-        MessageKind::Subscribe => 38,
-        MessageKind::Unsubscribe => 39,
-        MessageKind::Disconnect => 40,
-        MessageKind::Publish => 41,
-        MessageKind::UnknownMeta => 42,
-    }
-}
-
-// Returns the index of the metric `ErrorReplies(error)` in `METRICS`.
-fn error_place(error: Error) -> usize
-    ensures { slice_get METRICS result ≡ Some (ErrorReplies error) }
-{
-    match error {
-        Error::UnknownMetaChannel => 43,
-        Error::SecondHandshake => 44,
-        Error::UnsupportedVersion => 45,
-        Error::NoSupportedConnectionType => 46,
-        Error::TooManySessions => 47,
-        Error::NoClientId => 48,
-        Error::UnknownClient => 49,
-        Error::UnknownConnectionType => 50,
-        Error::InvalidChannel => 51,
-        Error::InvalidPattern => 52,
-        Error::TooManyPatterns => 53,
-        Error::SubscriptionDenied => 54,
-        Error::MissingSubscription => 55,
-        Error::MissingData => 56,
-        Error::SupersededConnect => 57,
-        Error::QueueOverflow => 58,
-    }
+    rows.iter().position(|row| row.0.counts(metric))
 }

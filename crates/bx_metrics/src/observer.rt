@@ -1,12 +1,10 @@
 //! The observer that counts connections, requests and answers.
 ghost use Rattle.std.specs.Prelude.{◌≡◌};
-ghost use Rattle.bx_metrics.specs.Outcomes.{metric_of, reason_of};
+ghost use Rattle.bx_metrics.specs.Outcomes.{metric_of};
 
 use crate::counts::Counts;
-use crate::metric::{Metric, Reason};
+use crate::metric::Metric;
 use bx_advice::Outcome;
-use bx_entry::{BodyError, Refusal};
-use bx_hub::PostFault;
 use bx_message::{Item, Reply};
 use bx_service::{Observer, ServiceEvent};
 
@@ -23,7 +21,7 @@ impl Observer for Counts {
                 self.add(Metric::AdmittedRequests, 1);
                 self.add(Metric::AdmittedInProgress, 1);
             }
-            ServiceEvent::Refused(fault) => self.add(Metric::Refused(reason_of(fault)), 1),
+            ServiceEvent::Refused(fault) => self.add(Metric::Refused(fault), 1),
             ServiceEvent::Answered { place: _, items } => count_all(self, items),
             ServiceEvent::Responded(Some(status)) => self.add(Metric::Responses(status), 1),
             ServiceEvent::Responded(None) => self.add(Metric::MissingResponses, 1),
@@ -52,23 +50,6 @@ fn count_all(counts: &Counts, items: Option<&[Item]>) {
     }
     if events > 0 {
         counts.add(Metric::Events, events);
-    }
-}
-
-// Returns the reason under which `fault` is counted.
-fn reason_of(fault: PostFault) -> Reason
-    ensures { result ≡ reason_of fault }
-{
-    match fault {
-        PostFault::Refused(Refusal::Body(BodyError::Forbidden)) => Reason::Forbidden,
-        PostFault::Refused(Refusal::Body(_)) => Reason::Body,
-        PostFault::Refused(Refusal::BadMoment) => Reason::BadMoment,
-        PostFault::Refused(Refusal::Ended) => Reason::Ended,
-        PostFault::Closed => Reason::Closed,
-        PostFault::Behind { .. } => Reason::Behind,
-        PostFault::Overrun { .. } => Reason::Overrun,
-        PostFault::WrongShard { .. } => Reason::WrongShard,
-        PostFault::Memory => Reason::Memory,
     }
 }
 

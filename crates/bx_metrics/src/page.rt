@@ -26,10 +26,10 @@ const LAG_HELP: &str = "Entries of the list that the shard has not applied.";
 /// `AllocError` if memory runs out.
 pub fn page_text(alloc: Global, metrics: &MetricValues) -> Result<String, AllocError> {
     let mut page = String::with_capacity(alloc, ROOM)?;
-    for (place, metric) in METRICS.iter().enumerate() {
-        let name = metric.name();
-        if metric.is_first() {
-            push_head(alloc, &mut page, name, metric.type_name(), metric.help())?;
+    for (place, (metric, name, type_name, help)) in METRICS.iter().enumerate() {
+        let before = METRICS.get(place.wrapping_sub(1));
+        if !before.is_some_and(|row| row.1 == *name) {
+            push_head(alloc, &mut page, name, type_name, help)?;
         }
         let label = label_of(alloc, *metric)?;
         let value = metrics.value(place);
@@ -59,7 +59,7 @@ fn push_head(
 fn label_of(alloc: Global, metric: Metric) -> Result<String, AllocError> {
     match metric {
         Metric::Responses(status) => format!(in alloc; "{{status=\"{}\"}}", status.code()),
-        Metric::Refused(reason) => format!(in alloc; "{{reason=\"{}\"}}", reason.name()),
+        Metric::Refused(fault) => format!(in alloc; "{{reason=\"{}\"}}", fault.name()),
         Metric::SuccessfulReplies(kind) => format!(in alloc; "{{kind=\"{}\"}}", kind_name(kind)),
         Metric::ErrorReplies(error) => format!(in alloc; "{{error=\"{}\"}}", error.text()),
         _ => Ok(String::new(alloc)),

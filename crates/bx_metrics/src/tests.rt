@@ -1,5 +1,6 @@
-use crate::{Counts, Metric, MetricValues, Reason, page_text};
+use crate::{Counts, Metric, MetricValues, page_text};
 use bx_advice::Error;
+use bx_hub::PostFault;
 use bx_message::{MessageKind, Status};
 use bx_service::{Observer, ServiceEvent};
 use std::test::Fail;
@@ -139,7 +140,7 @@ fn counts_are_of_their_metric(rt: HostRuntime) -> Result<(), Fail> {
     counts.add(Metric::Events, 3);
     counts.add(Metric::Events, 2);
     counts.add(Metric::Responses(Status::Unavailable), 1);
-    counts.add(Metric::Refused(Reason::Memory), 4);
+    counts.add(Metric::Refused(PostFault::Memory), 4);
     counts.add(Metric::SuccessfulReplies(MessageKind::UnknownMeta), 5);
     counts.add(Metric::ErrorReplies(Error::QueueOverflow), 6);
     counts.set(Metric::Entries, 9);

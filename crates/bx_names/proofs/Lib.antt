@@ -3,3 +3,4 @@ pub mod GlobLemmas
 pub mod FaultLemmas
 pub mod WalkLemmas
 pub mod MatchLemmas
+pub mod Actives

@@ -1,5 +1,5 @@
 //! Channel names.
-ghost use Rattle.std.specs.Prelude.{◌≡◌, ◌<◌, ◌≤◌, ◌↔◌, None, IsTrue, length, slice_get, IfOk, IfSome, OnOk, IsOkUnless};
+ghost use Rattle.std.specs.Prelude.{◌≡◌, ◌<◌, ◌≤◌, None, length, slice_get, IfOk, IfSome, OnOk, IsOkUnless};
 ghost use Rattle.bx_names.specs.Segments.{path_of, segments};
 ghost use Rattle.bx_names.specs.Faults.{name_fault, read_name};
 ghost use Rattle.bx_names.specs.Kinds.{kind_of};
@@ -10,7 +10,6 @@ use crate::kind::{ChannelKind, kind_of};
 use crate::limits::MAX_NAME_SEGMENTS;
 use crate::segments::{Segments, segments_of};
 use std::alloc::{AllocError, Global};
-use std::hash::{Hash, Hasher};
 use std::marker::Model;
 
 /// A channel name such as `/a/b`: an absolute path of segments.
@@ -105,55 +104,5 @@ impl ChannelName {
         ensures { slice_get self.now k ≡ Some result.now }
     {
         self.segments().nth(k).unwrap()
-    }
-}
-
-impl PartialEq for ChannelName {
-    ghost use Rattle.std.specs.Cmp.{decided, partial_equiv_from_equiv};
-    ghost use Rattle.bx_names.specs.Globs.{same_segments};
-    ghost use Rattle.bx_names.specs.Equality.{same_segments-decides};
-
-    ghost eq = { same_segments };
-
-    ghost laws = { partial_equiv_from_equiv (decided same_segments same_segments-decides) };
-
-    fn eq(&self, other: &ChannelName) -> bool
-        ensures same { IsTrue result ↔ (self.now ≡ other.now) }
-        ensures test { result ≡ same_segments self.now other.now }
-    {
-        self.text == other.text
-    }
-}
-
-impl Eq for ChannelName {
-    ghost use Rattle.std.specs.Cmp.{decided};
-    ghost use Rattle.bx_names.specs.Globs.{same_segments};
-    ghost use Rattle.bx_names.specs.Equality.{same_segments-decides};
-
-    ghost laws = { decided same_segments same_segments-decides };
-}
-
-impl Hash for ChannelName {
-    ghost use Rattle.std.specs.Hash as fed;
-    ghost use Rattle.std.proofs.Common.{ap};
-    ghost use Rattle.bx_names.specs.Segments.{path_of};
-    ghost use Rattle.bx_names.specs.Equality.{same_segments-decides};
-
-    ghost hash_input = { λ name. fed.str (path_of name) };
-
-    ghost respects_eq = { λ m n same. ap (λ r. fed.str (path_of r)) ((same_segments-decides m n).0 same) };
-
-    fn hash<H: Hasher>(&self, state: &mut H) {
-        self.as_str().hash(state);
-    }
-}
-
-impl Clone for ChannelName {
-    ghost is_clone = { λ name copy. copy ≡ name };
-
-    fn clone(&self) -> Result<ChannelName, AllocError> {
-        Ok(ChannelName {
-            text: self.text.clone()?,
-        })
     }
 }

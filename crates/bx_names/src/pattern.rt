@@ -12,7 +12,6 @@ use crate::limits::MAX_NAME_SEGMENTS;
 use crate::segments::{Segments, segments_of};
 use crate::tail::Tail;
 use std::alloc::{AllocError, Global};
-use std::hash::{Hash, Hasher};
 use std::marker::Model;
 
 /// A pattern of channel names, such as `/a/b`, `/a/*` or `/a/**`.
@@ -146,29 +145,6 @@ impl PartialEq for Pattern {
         ensures test { result ≡ same_glob self.now other.now }
     {
         self.text == other.text
-    }
-}
-
-impl Eq for Pattern {
-    ghost use Rattle.std.specs.Cmp.{decided};
-    ghost use Rattle.bx_names.specs.Globs.{same_glob};
-    ghost use Rattle.bx_names.specs.Equality.{same_glob-decides};
-
-    ghost laws = { decided same_glob same_glob-decides };
-}
-
-impl Hash for Pattern {
-    ghost use Rattle.std.specs.Hash as fed;
-    ghost use Rattle.std.proofs.Common.{ap};
-    ghost use Rattle.bx_names.specs.Globs.{glob_text};
-    ghost use Rattle.bx_names.specs.Equality.{same_glob-decides};
-
-    ghost hash_input = { λ pattern. fed.str (glob_text pattern) };
-
-    ghost respects_eq = { λ p q same. ap (λ r. fed.str (glob_text r)) ((same_glob-decides p q).0 same) };
-
-    fn hash<H: Hasher>(&self, state: &mut H) {
-        self.as_str().hash(state);
     }
 }
 

@@ -151,18 +151,6 @@ whole-first callback (y ∷ ys) x h e = ap (λ z. beginning_text callback z ++ r
 
 -- ---- no piece is empty
 
-pub some_part : (last s : Bool) (xs : List Element) → (last ≡ false → 0 < length xs) → 0 < length (part_text last s xs)
-some_part true s xs some = omega (arith, rest-size s xs)
-some_part false s [] some = absurd (omega (arith, some refl))
-some_part false s (x ∷ xs) some =
-    let cut = sent-cut s 44 comma_apart [] (element_text x ++ led_text xs) in
-    let size = ap length cut ∙ length-append (sent_as s []) (44 ∷ sent_as s (element_text x ++ led_text xs)) in
-    omega (arith, size)
-
-pub some_beginning : (callback : Option (List ℕ)) (x : Element) → 0 < length (beginning_text callback x)
-some_beginning None x = omega arith
-some_beginning (Some callback) x = omega (arith, length-append callback (40 ∷ script_safe (91 ∷ element_text x)))
-
 pub some_text : (callback : Option (List ℕ)) (items : List Item) → 0 < length (answer_text callback items)
 some_text None items = omega arith
 some_text (Some callback) items = omega (arith, length-append callback (40 ∷ (script_safe (body_text items) ++ 41 ∷ [])))

@@ -6,7 +6,7 @@ use Rattle.std.proofs.lemmas.{Bool.and_parts, Bool.le-ltb, Bool.Decides.nat_test
 use Rattle.std.proofs.Math.Nat.{mod-lt}
 use Rattle.hex.specs.Hex.{encode_lower, encode_with, lower_digits}
 use Rattle.hex.proofs.HexLemmas.{length-encode_with}
-use Rattle.bx_advice.specs.declared.config.TheConstants.{BODY_LIMIT}
+use Rattle.bx_advice.specs.declared.limit.TheConstants.{BODY_LIMIT}
 use Rattle.bx_message.specs.Fields.{number_of}
 use Rattle.bx_entry.specs.declared.input.Input.TheVariants.{Post}
 use Rattle.bx_entry.specs.declared.input.Input.TheVariants as inputs

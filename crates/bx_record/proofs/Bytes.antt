@@ -10,8 +10,8 @@ use Rattle.bx_cut.specs.Words.{fault, pieces, texts_of}
 use Rattle.bx_cut.specs.declared.error.CutError.{CutError}
 use Rattle.bx_cut.specs.declared.error.CutError.TheVariants.{NotJson}
 use Rattle.bx_entry.proofs.RequestLemmas.{let_in-is_ok}
-use Rattle.bx_entry.specs.declared.input.{Arrival.Arrival, BodyError.BodyError}
-use Rattle.bx_entry.specs.declared.input.BodyError.TheVariants as bodies
+use Rattle.bx_entry.specs.declared.input.{Arrival.Arrival, Refusal.Refusal}
+use Rattle.bx_entry.specs.declared.input.Refusal.TheVariants as refusals
 use Rattle.bx_entry.specs.Requests.{Cut, arrival_messages, cut_by, cut_of, is_not_json, is_not_object, is_too_many, messages_by, objects_of, request_messages}
 use Rattle.bx_cut.specs.declared.document.TheConstants.{MAX_MESSAGES}
 
@@ -72,10 +72,10 @@ each_utf8 (d ∷ ds) h =
     let parts = or_parts (is_not_json (cut_of d)) (list_any is_not_json (map cut_of ds)) h in
     (cut_utf8 d parts.0, each_utf8 ds parts.1)
 
-abbrev tail_cases : List Cut → List (Bool × BodyError)
-tail_cases cs = (list_any is_not_object cs, bodies.NotObject) ∷ (list_any is_too_many cs || ltb MAX_MESSAGES (length (objects_of cs)), bodies.TooMany) ∷ []
+abbrev tail_cases : List Cut → List (Bool × Refusal)
+tail_cases cs = (list_any is_not_object cs, refusals.NotObject) ∷ (list_any is_too_many cs || ltb MAX_MESSAGES (length (objects_of cs)), refusals.TooMany) ∷ []
 
-json_by : (cs : List Cut) (others : Option BodyError) (b : Bool) → is_ok (messages_by cs (cond b (Some bodies.NotJson) others)) ≡ true → b ≡ false
+json_by : (cs : List Cut) (others : Option Refusal) (b : Bool) → is_ok (messages_by cs (cond b (Some refusals.NotJson) others)) ≡ true → b ≡ false
 json_by cs others true h = cc
 json_by cs others false h = refl
 

@@ -6,7 +6,7 @@ use Rattle.std.specs.List.{join_with_byte, sum_by}
 use Rattle.percent_encoding.specs.Percent.{percent_encode_byte}
 use Rattle.form_urlencoded.specs.Form.{byte_serialize, is_unchanged, serialize_byte}
 use Rattle.form_urlencoded.proofs.FormLemmas.{byte_serialize-nil, byte_serialize-cons, byte_serialize-append}
-use Rattle.bx_advice.specs.declared.config.TheConstants.{BODY_LIMIT}
+use Rattle.bx_advice.specs.declared.limit.TheConstants.{BODY_LIMIT}
 use Rattle.bx_record.specs.Record.{form_of, parameter_of}
 
 -- ---- The form

@@ -3,12 +3,12 @@ use Rattle.std.proofs.Common.{◌≡◌, ℕ, ◌+◌, ◌<◌, ◌^◌, ◌||�
 use Rattle.std.specs.Prelude.{flat_map, nat_eq, nat_lt, nat_le}
 use Rattle.std.specs.{List.after_first, List.list_all, List.list_any, List.starts_with, List.AllByRecursion, Str.IsUtf8}
 use Rattle.std.proofs.lemmas.{Bool.le-ltb, Bool.leb-true, Grind.common_steps}
-use Rattle.bx_advice.specs.declared.config.TheConstants.{BODY_LIMIT}
+use Rattle.bx_advice.specs.declared.limit.TheConstants.{BODY_LIMIT}
 use Rattle.bx_cut.specs.Bodies.{texts_of}
 use Rattle.bx_message.specs.declared.message.Message.{Message}
 use Rattle.bx_message.specs.MessageKinds.{is_handshake}
 use Rattle.bx_message.specs.Fields.{number_of}
-use Rattle.bx_entry.specs.declared.input.{BodyError.BodyError, Input.Input}
+use Rattle.bx_entry.specs.declared.input.{Input.Input, Refusal.Refusal}
 use Rattle.bx_entry.specs.declared.input.Input.TheVariants.{Post}
 use Rattle.bx_entry.specs.declared.input.Input.TheVariants as inputs
 use Rattle.bx_entry.specs.Words.{ReadInput, Request, arrival_messages, read_by, read_input, request_messages}
@@ -123,13 +123,13 @@ pub input_lines : (input : Input) (rest : List ℕ) → CanRecord input → with
 input_lines (inputs.Tick moment) rest fits = ap (with_nonces 0) (one_line moment (codes "T") rest fits (refl, tt))
 input_lines (Post a) rest can = by_result (arrival_messages a) refl can.readable
   where
-    SameLines : Result (List Message) BodyError → Type 0
+    SameLines : Result (List Message) Refusal → Type 0
     SameLines r =
         let input : ReadInput = read_by a.moment a.nonce r in
         with_nonces 0 (lines_in Recorded ((nonce_text (asks_for_session input) a.moment a.nonce ++ line_text a.moment (command_of (texts_of a.bodies))) ++ rest))
         ≡ said_by (asks_for_session input) a.nonce (as_recorded input) ++ with_nonces 0 (lines_in Recorded rest)
 
-    by_result : (r : Result (List Message) BodyError) → arrival_messages a ≡ r → is_ok r ≡ true → SameLines (arrival_messages a)
+    by_result : (r : Result (List Message) Refusal) → arrival_messages a ≡ r → is_ok r ≡ true → SameLines (arrival_messages a)
     by_result (Err fault) e h = cc
     by_result (Ok ms) e h =
         let read = let_in-ok a.access (request_messages (texts_of a.bodies)) ms e in

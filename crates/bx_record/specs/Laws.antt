@@ -1,18 +1,18 @@
 -- What is read from a record: the configuration in its first line, and the inputs in the others.
-use Rattle.std.specs.Prelude.{ℕ, ◌^◌, ◌<◌, ◌==◌, ◌≡◌, Bool, true, false, List, [], ◌∷◌, ◌++◌, map, take, if◌then◌else◌, is_ok, Option, Some, None}
-use Rattle.std.specs.List.{list_all, slice_split, AllByRecursion}
+use Rattle.std.specs.Prelude.{ℕ, ◌^◌, ◌<◌, ◌≡◌, Bool, true, false, List, [], ◌∷◌, ◌++◌, map, take, if◌then◌else◌, is_ok, Some, None}
+use Rattle.std.specs.List.{list_all, AllByRecursion}
 use Rattle.bx_advice.specs.declared.config.Config.{Config}
-use Rattle.bx_advice.specs.declared.config.TheConstants.{STANDARD_BYTES}
-use Rattle.bx_advice.specs.Options.{options_in}
-use Rattle.bx_message.specs.Fields.{number_of}
+use Rattle.bx_advice.specs.declared.limit.TheConstants.Limit.{ALL}
+use Rattle.bx_advice.specs.Limits.{accepts, limit_of, standard_limits}
 use Rattle.bx_cut.specs.Bodies.{texts_of}
 use Rattle.bx_entry.specs.declared.input.{Arrival.Arrival, Input.Input}
 use Rattle.bx_entry.specs.declared.input.Input.TheVariants.{Post, Tick}
 use Rattle.bx_entry.specs.Words.{arrival_messages, held, outs, read_input}
-use Rattle.bx_script.specs.Words.{Accepted, Announced, Line, Noted, Recorded, first_of, is_newline, is_space, line_of, lines_in, rest_of, with_nonces}
+use Rattle.bx_script.specs.Words.{Accepted, Announced, Line, Noted, Recorded, first_of, is_newline, line_of, lines_in, rest_of, with_nonces}
 use Rattle.bx_theory.specs.Lines.{inputs_in}
+use Rattle.bx_record.specs.Configs.{config_text, recorded_config}
 use Rattle.bx_record.specs.Answers.{Given, IsSha256, Part, Taken, answer_text, record_with, taken_inputs}
-use Rattle.bx_record.specs.Record.{can_say, config_text, config_words, options_word, record_of, as_recorded}
+use Rattle.bx_record.specs.Record.{can_say, record_of, as_recorded}
 
 -- ---- Inputs
 
@@ -138,25 +138,19 @@ AnswersBreakOff = (parts : List Part) (front behind : List ℕ) → AllByRecursi
 
 -- ---- The configuration
 
--- The times and the recorded limits of `c` are below 2^64.
-pub record FitsWords (c : Config) : Type 0 where
-  pub times : (c.timeout < 2 ^ 64) × (c.interval < 2 ^ 64) × (c.max_interval < 2 ^ 64)
-  pub limits : (c.limits.events < 2 ^ 64) × (c.limits.bytes < 2 ^ 64) × (c.limits.sessions < 2 ^ 64) × (c.limits.patterns < 2 ^ 64)
+-- A record's first line can give `c`: its times are below 2^32, its limits have values that can be
+-- configured, and those that cannot be configured are the default ones.
+pub record CanSay (c : Config) : Type 0 where
+  pub times : (c.timeout < 2 ^ 32) × (c.interval < 2 ^ 32) × (c.max_interval < 2 ^ 32)
+  pub limits : AllByRecursion (λ limit. accepts limit (limit_of limit c.limits) ≡ true) ALL
+  pub batch : c.limits.batch ≡ standard_limits.batch
+  pub texts : c.limits.texts ≡ standard_limits.texts
 
--- The number that each argument of a configuration's line gives. Names, options and `-` give
--- `None`.
-abbrev pub config_numbers : Config → List (Option ℕ)
-config_numbers c = None ∷ (if c.limits.bytes == STANDARD_BYTES then None else Some c.limits.bytes) ∷ None ∷ Some c.limits.sessions ∷ None ∷ Some c.limits.patterns
-    ∷ Some c.shards ∷ Some 1 ∷ Some c.timeout ∷ Some c.interval ∷ Some c.max_interval ∷ None ∷ Some c.limits.events ∷ []
-
--- The first line of `text` has the arguments of `c`, which give its numbers and options. `rest`
--- follows that line.
+-- The first line of `text` gives `c`, and `rest` follows that line.
 pub record SaysConfig (c : Config) (text rest : List ℕ) : Type 0 where
-  pub words_are : slice_split is_space (first_of text) ≡ config_words c
-  pub numbers_are : map number_of (config_words c) ≡ config_numbers c
-  pub options_are : options_in (options_word c.ride c.anonymous) ≡ Some (record { ride = c.ride; anonymous = c.anonymous })
+  pub config : recorded_config text ≡ Some c
   pub left : rest_of text ≡ rest
 
--- The line of a configuration gives its numbers and options, whatever text follows the line.
+-- The line of a configuration gives this configuration, whatever text follows the line.
 abbrev pub ConfigsReadBack : Type 0
-ConfigsReadBack = (c : Config) (rest : List ℕ) → FitsWords c → SaysConfig c (config_text c ++ rest) rest
+ConfigsReadBack = (c : Config) (rest : List ℕ) → CanSay c → SaysConfig c (config_text c ++ rest) rest

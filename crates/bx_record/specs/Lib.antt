@@ -1,3 +1,4 @@
+pub mod Configs
 pub mod Record
 pub mod Answers
 pub mod AnswerLog

@@ -1,9 +1,8 @@
 -- The text of a record: the lines of a server's requests and ticks.
-use Rattle.std.specs.Prelude.{ℕ, ◌==◌, Bool, true, false, List, [], ◌∷◌, ◌++◌, length, map, flat_map, nat_le, codes, decimal, if◌then◌else◌, Option, Some, None}
+use Rattle.std.specs.Prelude.{ℕ, Bool, false, List, [], ◌∷◌, ◌++◌, length, map, flat_map, nat_le, codes, if◌then◌else◌, Option, Some, None}
 use Rattle.std.specs.List.{list_any, join_with_byte}
 use Rattle.form_urlencoded.specs.Form.{byte_serialize}
-use Rattle.bx_advice.specs.declared.config.Config.{Config}
-use Rattle.bx_advice.specs.declared.config.TheConstants.{BODY_LIMIT, STANDARD_BYTES}
+use Rattle.bx_advice.specs.declared.limit.TheConstants.{BODY_LIMIT}
 use Rattle.bx_cut.specs.Bodies.{texts_of}
 use Rattle.bx_message.specs.MessageKinds.{is_handshake}
 use Rattle.bx_entry.specs.declared.input.Input.{Input}
@@ -48,28 +47,6 @@ command_of documents = command_by (plain_document documents) documents
 abbrev pub can_say : List (List ℕ) → Bool
 can_say [] = false
 can_say documents = nat_le (length (carrier_by (plain_document documents) documents)) BODY_LIMIT
-
--- ---- The configuration
-
--- The argument for the options `ride` and `anonymous`: `r`, `a`, `ra` for both, or `-` for neither.
-abbrev pub options_word : Bool → Bool → List ℕ
-options_word false false = codes "-"
-options_word true false = codes "r"
-options_word false true = codes "a"
-options_word true true = codes "ra"
-
--- The argument for a limit of bytes: `-` for the standard limit, and otherwise its decimal digits.
-abbrev pub bytes_word : ℕ → List ℕ
-bytes_word bytes = if bytes == STANDARD_BYTES then codes "-" else decimal bytes
-
--- The replay's arguments for a configuration, with one worker.
-abbrev pub config_words : Config → List (List ℕ)
-config_words c = codes "--bytes" ∷ bytes_word c.limits.bytes ∷ codes "--sessions" ∷ decimal c.limits.sessions ∷ codes "--patterns" ∷ decimal c.limits.patterns
-    ∷ decimal c.shards ∷ codes "1" ∷ decimal c.timeout ∷ decimal c.interval ∷ decimal c.max_interval ∷ options_word c.ride c.anonymous ∷ decimal c.limits.events ∷ []
-
--- The line of a configuration: the replay's arguments for it, separated by spaces.
-abbrev pub config_text : Config → List ℕ
-config_text c = join_with_byte 32 (config_words c) ++ 10 ∷ []
 
 -- ---- Inputs
 

@@ -1,21 +1,21 @@
-//! The first line of a record, which describes how the server runs.
-ghost use Rattle.std.specs.Prelude.{◌≡◌, ◌∷◌, ◌++◌, IfOk, OnOk, decimal};
-ghost use Rattle.bx_record.specs.Record.{bytes_word, config_text, options_word};
+//! The first line of a record, which has the configuration of its server.
+ghost use Rattle.std.specs.Prelude.{◌≡◌, ◌∷◌, ◌++◌, IfOk, OnOk, decimal, map, option_map};
+ghost use Rattle.bx_advice.specs.Limits.{limit_name};
+ghost use Rattle.bx_record.specs.Configs.{config_in, config_text, first_in, limit_word, limits_in, options_at, options_word, setting, shards_in, time_at, value_in};
 
-use bx_advice::{Config, STANDARD_BYTES};
+use bx_advice::{Config, Limit, Options};
+use bx_message::{limit_in, number_of, time_in};
 use itoa::Buffer;
 use std::alloc::{AllocError, Global};
 
-/// Formats `config` as a line of arguments for the replay.
+/// Formats `config` as the first line of a record.
 ///
-/// The arguments are, in order:
+/// The line has words `name=value`, separated by single spaces. In order, they are:
 ///
-/// - `--bytes`, `--sessions` and `--patterns`, each followed by its limit; the standard limit of
-///   bytes is `-`
-/// - the number of shards, and 1 as the number of workers
-/// - the timeout, the interval and the longest interval, in milliseconds
-/// - the options: `-`, `r` (ride), `a` (anonymous) or `ra`
-/// - the number of events that may wait for a session
+/// - `shards`: the number of shards
+/// - `timeout`, `interval` and `max_interval`: times in milliseconds
+/// - `options`: `-`, `r` (ride), `a` (anonymous) or `ra`
+/// - each limit of [`Limit::ALL`], or `-` if it is beyond the limit's greatest value
 ///
 /// # Errors
 ///
@@ -24,24 +24,24 @@ pub fn config_text(alloc: Global, config: &Config) -> Result<Vec<u8>, AllocError
     ensures { IfOk result (λ text. text.items ≡ config_text config.now) }
 {
     let mut text = Vec::with_capacity(alloc, 128)?;
-    text.extend_from_slice(b"--bytes")?;
-    push_bytes(&mut text, config.limits.bytes)?;
-    push_word(&mut text, b"--sessions")?;
-    push_number(&mut text, config.limits.sessions as u64)?;
-    push_word(&mut text, b"--patterns")?;
-    push_number(&mut text, config.limits.patterns as u64)?;
+    text.extend_from_slice(b"shards=")?;
     push_number(&mut text, config.shards as u64)?;
-    push_word(&mut text, b"1")?;
-    push_time(&mut text, config.timeout)?;
-    push_time(&mut text, config.interval)?;
-    push_time(&mut text, config.max_interval)?;
-    push_word(&mut text, options_word(config.ride, config.anonymous))?;
-    push_number(&mut text, config.limits.events as u64)?;
+    push_time(&mut text, b"timeout", config.timeout)?;
+    push_time(&mut text, b"interval", config.interval)?;
+    push_time(&mut text, b"max_interval", config.max_interval)?;
+    push_setting(
+        &mut text,
+        b"options",
+        options_word(config.ride, config.anonymous),
+    )?;
+    for limit in &Limit::ALL {
+        push_limit(&mut text, *limit, config.limits.get(*limit))?;
+    }
     text.push(b'\n')?;
     Ok(text)
 }
 
-// Returns the argument for the options: `-`, `r`, `a` or `ra`.
+// Returns the value for the options: `-`, `r`, `a` or `ra`.
 fn options_word(ride: bool, anonymous: bool) -> &'static [u8]
     ensures { result.now ≡ options_word ride anonymous }
 {
@@ -53,36 +53,129 @@ fn options_word(ride: bool, anonymous: bool) -> &'static [u8]
     }
 }
 
-// Appends a space and the argument for a limit of `bytes`: `-` for the standard limit.
-fn push_bytes(text: &mut Vec<u8>, bytes: usize) -> Result<(), AllocError>
-    ensures { OnOk result (text.new.items ≡ text.old.items ++ 32 ∷ bytes_word bytes) }
+// Appends a space and the word for `limit` with the value `n`.
+fn push_limit(text: &mut Vec<u8>, limit: Limit, n: usize) -> Result<(), AllocError>
+    ensures { OnOk result (text.new.items ≡ text.old.items ++ 32 ∷ setting (limit_name limit) (limit_word limit n)) }
 {
-    if bytes == STANDARD_BYTES {
-        push_word(text, b"-")
+    let name = limit.name().as_bytes();
+    if n <= limit.greatest() {
+        push_setting(text, name, b"")?;
+        push_number(text, n as u64)
     } else {
-        push_number(text, bytes as u64)
+        push_setting(text, name, b"-")
     }
 }
 
-// Appends a space and `time`, in milliseconds.
-fn push_time(text: &mut Vec<u8>, time: u32) -> Result<(), AllocError>
-    ensures { OnOk result (text.new.items ≡ text.old.items ++ 32 ∷ decimal time) }
+// Appends a space and the word for the time `name`, which is `time` milliseconds.
+fn push_time(text: &mut Vec<u8>, name: &[u8], time: u32) -> Result<(), AllocError>
+    ensures { OnOk result (text.new.items ≡ text.old.items ++ 32 ∷ setting name.now (decimal time)) }
 {
+    push_setting(text, name, b"")?;
     push_number(text, u64::from(time))
 }
 
-// Appends a space and `number` in decimal digits.
-fn push_number(text: &mut Vec<u8>, number: u64) -> Result<(), AllocError>
-    ensures { OnOk result (text.new.items ≡ text.old.items ++ 32 ∷ decimal number) }
-{
-    let mut buffer = Buffer::new();
-    push_word(text, buffer.format(number).as_bytes())
-}
-
-// Appends a space and the argument `word`.
-fn push_word(text: &mut Vec<u8>, word: &[u8]) -> Result<(), AllocError>
-    ensures { OnOk result (text.new.items ≡ text.old.items ++ 32 ∷ word.now) }
+// Appends a space and the word `name=value`.
+fn push_setting(text: &mut Vec<u8>, name: &[u8], value: &[u8]) -> Result<(), AllocError>
+    ensures { OnOk result (text.new.items ≡ text.old.items ++ 32 ∷ setting name.now value.now) }
 {
     text.push(b' ')?;
-    text.extend_from_slice(word)
+    text.extend_from_slice(name)?;
+    text.push(b'=')?;
+    text.extend_from_slice(value)
+}
+
+// Appends the decimal digits of `number`.
+fn push_number(text: &mut Vec<u8>, number: u64) -> Result<(), AllocError>
+    ensures { OnOk result (text.new.items ≡ text.old.items ++ decimal number) }
+{
+    let mut buffer = Buffer::new();
+    text.extend_from_slice(buffer.format(number).as_bytes())
+}
+
+/// Parses `words`, those of the first line of a record, or returns `None` if one is wrong.
+///
+/// [`config_text`] describes the words.
+pub fn read_config(words: &[&[u8]]) -> Option<Config>
+    ensures { result ≡ config_in (map (λ word. word.now) words.now) }
+{
+    match words {
+        [
+            shards,
+            timeout,
+            interval,
+            max_interval,
+            options,
+            limits @ ..,
+        ] => {
+            let config = read_first(shards, timeout, interval, max_interval, options)?;
+            read_limits(config, &Limit::ALL, limits)
+        }
+        _ => None,
+    }
+}
+
+// Parses the words before those of the limits.
+fn read_first(
+    shards: &[u8],
+    timeout: &[u8],
+    interval: &[u8],
+    max_interval: &[u8],
+    options: &[u8],
+) -> Option<Config>
+    ensures { result ≡ first_in shards.now timeout.now interval.now max_interval.now options.now }
+{
+    let shards = read_shards(shards)?;
+    let timeout = read_time(b"timeout", timeout)?;
+    let interval = read_time(b"interval", interval)?;
+    let max_interval = read_time(b"max_interval", max_interval)?;
+    let options = read_options(options)?;
+    Some(Config::new(shards, timeout, interval, max_interval)?.with(options))
+}
+
+// Parses the word for the number of shards.
+fn read_shards(word: &[u8]) -> Option<usize>
+    ensures { result ≡ shards_in word.now }
+{
+    usize::try_from(number_of(value_in(b"shards", word)?)?).ok()
+}
+
+// Parses the word for the time `name`.
+fn read_time(name: &[u8], word: &[u8]) -> Option<u32>
+    ensures { result ≡ time_at name.now word.now }
+{
+    time_in(value_in(name, word)?)
+}
+
+// Parses the word for the options.
+fn read_options(word: &[u8]) -> Option<Options>
+    ensures { result ≡ options_at word.now }
+{
+    Options::read(value_in(b"options", word)?)
+}
+
+// Sets `limits` to the values in `words`, which has one word for each limit.
+//
+// Returns `None` if a word is wrong.
+fn read_limits(config: Config, limits: &[Limit], words: &[&[u8]]) -> Option<Config>
+    ensures { result ≡ limits_in limits.now (map (λ word. word.now) words.now) config }
+{
+    match limits {
+        [] if words.is_empty() => Some(config),
+        [] => None,
+        [limit, limits @ ..] => {
+            let [word, words @ ..] = words else {
+                return None;
+            };
+            let value = value_in(limit.name().as_bytes(), word)?;
+            let config = config.with_maximum(*limit, limit_in(*limit, value)?)?;
+            read_limits(config, limits, words)
+        }
+    }
+}
+
+// Returns the value in `word` if that is `name=value`.
+fn value_in<'a>(name: &[u8], word: &'a [u8]) -> Option<&'a [u8]>
+    ensures { option_map (λ value. value.now) result ≡ value_in name.now word.now }
+{
+    word.strip_prefix(name)?.strip_prefix(b"=")
 }

@@ -1,7 +1,7 @@
 //! The URL-encoded form that carries a request's documents, each in a parameter `message`.
 ghost use Rattle.std.specs.Prelude.{◌≡◌, ◌+◌, ◌<◌, ◌≤◌, ◌++◌, MatchOption, OnOk, length};
 ghost use Rattle.form_urlencoded.specs.Form.{byte_serialize, is_unchanged, serialize_byte};
-ghost use Rattle.bx_advice.specs.declared.config.TheConstants.{BODY_LIMIT};
+ghost use Rattle.bx_advice.specs.declared.limit.TheConstants.{BODY_LIMIT};
 ghost use Rattle.bx_cut.specs.Bodies.{texts_of};
 ghost use Rattle.bx_record.specs.Record.{form_of, parameter_of};
 

@@ -48,10 +48,9 @@ pub fn truncated_records_with_answers_read_back()
     ensures { AnswersBreakOff }
 {}
 
-/// Proves that the line of a configuration has 13 arguments, which describe the configuration.
+/// Proves that the line of a configuration gives this configuration.
 ///
-/// The arguments give every number and option of a configuration that can be set. Any text may
-/// follow the line.
+/// This holds for every configuration that can be set, and any text may follow the line.
 pub fn configs_read_back()
     ensures { ConfigsReadBack }
 {}

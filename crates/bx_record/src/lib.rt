@@ -21,7 +21,7 @@ mod writer;
 pub use answer_lines::TakenAnswerLines;
 pub use answer_log::WaitingAnswerLines;
 pub use chunk::{Chunk, TextPosition};
-pub use config::config_text;
+pub use config::{config_text, read_config};
 pub use counted::CountedFile;
 pub use laws::{
     answer_lines_are_skipped, answer_lines_change_nothing, configs_read_back, records_answer_alike,

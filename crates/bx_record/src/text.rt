@@ -1,7 +1,7 @@
 //! The lines of a record for a request and for a tick.
 ghost use Rattle.std.specs.Prelude.{◌≡◌, ◌≤◌, ◌<◌, ◌∷◌, ◌++◌, [], IfOk, IfSome, MatchOption, OnOk, Ok, codes, decimal, is_some, length, option_map};
 ghost use Rattle.std.specs.List.{list_any};
-ghost use Rattle.bx_advice.specs.declared.config.TheConstants.{BODY_LIMIT};
+ghost use Rattle.bx_advice.specs.declared.limit.TheConstants.{BODY_LIMIT};
 ghost use Rattle.bx_cut.specs.Bodies.{texts_of};
 ghost use Rattle.bx_entry.specs.Requests.{arrival_messages};
 ghost use Rattle.bx_entry.specs.declared.input.Input.TheVariants as inputs;

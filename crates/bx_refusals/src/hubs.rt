@@ -10,7 +10,7 @@ use crate::requests::{add_line, config};
 use crate::unlike::Unlike;
 use bx_advice::Config;
 use bx_entry::ByRemainder;
-use bx_hub::{Hub, OpenGate};
+use bx_hub::{Hub, HubKind, Kind, OpenGate};
 use bx_record::RecordFault;
 use bx_window::{EmptyWindow, LogId};
 use said::Said;
@@ -18,9 +18,6 @@ use std::alloc::{AllocGlobal, Global};
 use std::marker::Brand;
 use std::random::RandomSource;
 use std::sync::{Arc, Wait};
-
-/// A hub with the placing `ByRemainder` and a gate that never waits.
-pub type Served<L, R> = Hub<L, ByRemainder, OpenGate, R>;
 
 /// Runs two sessions and a tick over a hub of two shards, and then over a hub of one.
 ///
@@ -69,7 +66,9 @@ where
     requires placing { by_remainder ≡ L.placing }
 {
     let shards = config.shards;
-    let hub = Served::<L, &R>::new(alloc, rt, opened, config, placing, OpenGate)?;
+    let hub = Hub::<Kind<L, ByRemainder, OpenGate>, &R>::new(
+        alloc, rt, opened, config, placing, OpenGate,
+    )?;
     let hub = Arc::new(alloc, hub)?;
     let mut said = Said::new(alloc);
     if hub.start_record(rt, alloc).is_err() {
@@ -81,9 +80,9 @@ where
 }
 
 // Checks that the record of `hub` ends with the tick, or that it stopped because memory ran out.
-fn check_record<'a, L, R>(rt: &'a R, alloc: Global, hub: &Served<L, &'a R>) -> Result<(), Unlike>
+fn check_record<'a, L, R>(rt: &'a R, alloc: Global, hub: &Hub<L, &'a R>) -> Result<(), Unlike>
 where
-    L: LogId,
+    L: HubKind,
     R: Wait,
 {
     let Ok(taken) = hub.take_record(rt, Vec::new(alloc)) else {
@@ -99,12 +98,12 @@ where
 fn exchange<'a, L, R>(
     rt: &'a R,
     alloc: Global,
-    hub: &Arc<Served<L, &'a R>, Global>,
+    hub: &Arc<Hub<L, &'a R>, Global>,
     shards: usize,
     said: &mut Said,
 ) -> Result<(), Unlike>
 where
-    L: LogId,
+    L: HubKind,
     R: Wait + RandomSource + AllocGlobal,
 {
     if shards == 1 {

@@ -2,16 +2,14 @@
 ghost use Rattle.std.specs.Prelude.{IfOk};
 ghost use Rattle.bx_registry.specs.Standings.{LeadsTo};
 
-use crate::requests::{HANDSHAKE, add_line, arrival, config, reply};
+use crate::requests::{add_line, config, reply};
 use crate::unlike::Unlike;
+use bx_calls::arrival;
+use bx_calls::texts::{HANDSHAKE, SUBSCRIBE_OTHER};
 use bx_entry::{AdmitFault, AllFirst, Entry, EntryKind, Slot};
 use bx_message::Message;
 use bx_registry::{Plan, Registry};
 use std::alloc::Global;
-
-// A subscription of the second session to `/a/*`.
-const SUBSCRIBE: &str =
-    r#"[{"channel":"/meta/subscribe","clientId":"000000000000000000000000000000000000000000000002","subscription":"/a/*"}]"#;
 
 // A publish of the first session to `/a/b`.
 const PUBLISH: &str =
@@ -29,7 +27,7 @@ enum Deed {
 const DEEDS: [Deed; 6] = [
     Deed::Request(0, HANDSHAKE),
     Deed::Request(5, HANDSHAKE),
-    Deed::Request(5, SUBSCRIBE),
+    Deed::Request(5, SUBSCRIBE_OTHER),
     Deed::Tick(10_000),
     Deed::Tick(10_001),
     Deed::Request(10_001, PUBLISH),
@@ -146,14 +144,11 @@ fn planned_tick(alloc: Global, registry: &mut Registry, moment: u64) -> Result<P
     ensures { IfOk result (λ plan. LeadsTo registry.new plan.change plan.elements) }
 {
     let before = counts_of(registry);
-    match registry.plan_tick(alloc, moment) {
-        Ok(plan) => Ok(plan),
+    let plan = match registry.plan_tick(alloc, moment) {
         Err(AdmitFault::Memory) if counts_of(registry) == before => {
-            match registry.plan_tick(alloc, moment) {
-                Ok(plan) => Ok(plan),
-                Err(_) => Err(Unlike::Wrong("no tick is planned")),
-            }
+            registry.plan_tick(alloc, moment)
         }
-        Err(_) => Err(Unlike::Wrong("a refused tick changes the registry")),
-    }
+        plan => plan,
+    };
+    plan.map_err(|_| Unlike::Wrong("no tick is planned"))
 }

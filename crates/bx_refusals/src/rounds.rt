@@ -1,14 +1,13 @@
 //! The part `rounds`: rounds that start with two shards, which one worker advances.
 
-use crate::requests::{
-    ACK_HANDSHAKE, CONNECT, HANDSHAKE, HOLD_NONE, PUBLISH, SUBSCRIBE, add_line, arrival_at, config,
-    response,
-};
+use crate::requests::{add_line, config, response};
 use crate::unlike::Unlike;
-use bx_advice::{Options, ShardCount};
+use bx_advice::{Options, ShardCount, WorkerCount};
+use bx_calls::arrival;
+use bx_calls::texts::{ACK_CONNECT, ACK_HANDSHAKE, CONNECT, HANDSHAKE, PUBLISH, SUBSCRIBE};
 use bx_entry::{ByRemainder, Input};
 use bx_fanout::{Out, Round, RoundFault};
-use bx_shard::{OpenGate, WorkerCount};
+use bx_shard::OpenGate;
 use std::alloc::Global;
 use std::sync::Arc;
 use std::thread::Threads;
@@ -64,103 +63,92 @@ const SUBSCRIBE_BELOW: &str =
 const PUBLISH_BELOW: &str =
     r#"[{"channel":"/a/b/c","clientId":"000000000000000000000000000000000000000000000002","data":[1, 2]}]"#;
 
-// A run in which a publish answers a held connect.
-const ANSWERED: Worked = Worked {
-    first: &[
-        (0, HANDSHAKE),
-        (0, HANDSHAKE),
-        (0, SUBSCRIBE),
-        (10, CONNECT),
-        (20, PUBLISH),
-    ],
+// A run without requests, as a base for others.
+const NOTHING: Worked = Worked {
+    first: &[],
     shards: None,
     then: &[],
     ride: false,
-};
-
-// A run in which batches are sent again until they are acknowledged.
-const BATCHES: Worked = Worked {
-    first: &[
-        (0, ACK_HANDSHAKE),
-        (0, SUBSCRIBE_AND_PUBLISH),
-        (1, ACKNOWLEDGE_NONE),
-        (2, PUBLISH_TWO),
-        (3, ACKNOWLEDGE_NONE),
-        (4, UNSUBSCRIBE),
-        (5, ACKNOWLEDGE_NONE),
-        (6, ACKNOWLEDGE_FIRST),
-        (7, ACKNOWLEDGE_SECOND),
-    ],
-    shards: None,
-    then: &[],
-    ride: false,
-};
-
-// A run in which the first batch answers a held connect and is sent again. The connect that
-// acknowledges the batch is held until the end.
-const HELD_BATCHES: Worked = Worked {
-    first: &[
-        (0, ACK_HANDSHAKE),
-        (0, HANDSHAKE),
-        (0, SUBSCRIBE_BELOW),
-        (1, HOLD_NONE),
-        (2, PUBLISH_BELOW),
-        (3, HOLD_NONE),
-        (4, HOLD_FIRST),
-    ],
-    shards: None,
-    then: &[],
-    ride: false,
-};
-
-// A run in which sessions are redistributed to five shards while a connect is held.
-const DEALT_WHILE_HELD: Worked = Worked {
-    first: &[
-        (0, HANDSHAKE),
-        (0, HANDSHAKE),
-        (0, SUBSCRIBE),
-        (10, CONNECT),
-    ],
-    shards: Some(5),
-    then: &[(20, PUBLISH)],
-    ride: false,
-};
-
-// A run in which sessions are redistributed to one shard while a batch is not yet acknowledged.
-const DEALT_WITH_A_BATCH: Worked = Worked {
-    first: &[
-        (0, ACK_HANDSHAKE),
-        (0, SUBSCRIBE_AND_PUBLISH),
-        (1, ACKNOWLEDGE_NONE),
-    ],
-    shards: Some(1),
-    then: &[(2, ACKNOWLEDGE_NONE)],
-    ride: false,
-};
-
-// A run in which replies to publishes carry waiting events. In the fifth request, the first event
-// answers the held connect, and a reply carries the second event. The last reply carries no event.
-const RIDDEN: Worked = Worked {
-    first: &[
-        (0, HANDSHAKE),
-        (1, SUBSCRIBE_AND_PUBLISH),
-        (2, PUBLISH_TWO),
-        (3, CONNECT),
-        (4, PUBLISH_TWO),
-        (5, UNSUBSCRIBE),
-    ],
-    shards: None,
-    then: &[],
-    ride: true,
 };
 
 const WORKED: [Worked; 6] = [
-    ANSWERED,
-    BATCHES,
-    HELD_BATCHES,
-    DEALT_WHILE_HELD,
-    DEALT_WITH_A_BATCH,
-    RIDDEN,
+    // A publish answers a held connect.
+    Worked {
+        first: &[
+            (0, HANDSHAKE),
+            (0, HANDSHAKE),
+            (0, SUBSCRIBE),
+            (10, CONNECT),
+            (20, PUBLISH),
+        ],
+        ..NOTHING
+    },
+    // Batches are sent again until they are acknowledged.
+    Worked {
+        first: &[
+            (0, ACK_HANDSHAKE),
+            (0, SUBSCRIBE_AND_PUBLISH),
+            (1, ACKNOWLEDGE_NONE),
+            (2, PUBLISH_TWO),
+            (3, ACKNOWLEDGE_NONE),
+            (4, UNSUBSCRIBE),
+            (5, ACKNOWLEDGE_NONE),
+            (6, ACKNOWLEDGE_FIRST),
+            (7, ACKNOWLEDGE_SECOND),
+        ],
+        ..NOTHING
+    },
+    // The first batch answers a held connect and is sent again. The connect that acknowledges the
+    // batch is held until the end.
+    Worked {
+        first: &[
+            (0, ACK_HANDSHAKE),
+            (0, HANDSHAKE),
+            (0, SUBSCRIBE_BELOW),
+            (1, ACK_CONNECT),
+            (2, PUBLISH_BELOW),
+            (3, ACK_CONNECT),
+            (4, HOLD_FIRST),
+        ],
+        ..NOTHING
+    },
+    // Sessions are redistributed to five shards while a connect is held.
+    Worked {
+        first: &[
+            (0, HANDSHAKE),
+            (0, HANDSHAKE),
+            (0, SUBSCRIBE),
+            (10, CONNECT),
+        ],
+        shards: Some(5),
+        then: &[(20, PUBLISH)],
+        ..NOTHING
+    },
+    // Sessions are redistributed to one shard while a batch is not yet acknowledged.
+    Worked {
+        first: &[
+            (0, ACK_HANDSHAKE),
+            (0, SUBSCRIBE_AND_PUBLISH),
+            (1, ACKNOWLEDGE_NONE),
+        ],
+        shards: Some(1),
+        then: &[(2, ACKNOWLEDGE_NONE)],
+        ..NOTHING
+    },
+    // Replies to publishes carry waiting events. In the fifth request, the first event answers the
+    // held connect, and a reply carries the second event. The last reply carries no event.
+    Worked {
+        first: &[
+            (0, HANDSHAKE),
+            (1, SUBSCRIBE_AND_PUBLISH),
+            (2, PUBLISH_TWO),
+            (3, CONNECT),
+            (4, PUBLISH_TWO),
+            (5, UNSUBSCRIBE),
+        ],
+        ride: true,
+        ..NOTHING
+    },
 ];
 
 /// Makes all runs, and returns a line for each response.
@@ -297,7 +285,8 @@ fn deal<R: Threads + Sync>(
 fn inputs(alloc: Global, requests: Requests) -> Result<Vec<Input>, Unlike> {
     let mut inputs = Vec::new(alloc);
     for (moment, body) in requests {
-        let arrival = arrival_at(alloc, *moment, body)?;
+        let mut arrival = arrival(alloc, body)?;
+        arrival.moment = *moment;
         inputs.push(Input::Post(arrival))?;
     }
     Ok(inputs)

@@ -7,12 +7,11 @@ mod client;
 mod exchanges;
 mod list;
 
-use crate::hubs::Served;
 use crate::requests::config;
 use crate::unlike::Unlike;
 use bx_advice::Config;
 use bx_entry::{Access, ByRemainder};
-use bx_hub::OpenGate;
+use bx_hub::{Hub, Kind, OpenGate};
 use bx_service::{BayeuxService, Clock, HubBackend, Nonces};
 use bx_window::{EmptyWindow, LogId};
 use client::Client;
@@ -76,7 +75,9 @@ where
     requires config { config ≡ L.config }
     requires placing { by_remainder ≡ L.placing }
 {
-    let hub = Served::<L, R>::new(alloc, rt, opened, config, placing, OpenGate)?;
+    let hub = Hub::<Kind<L, ByRemainder, OpenGate>, R>::new(
+        alloc, rt, opened, config, placing, OpenGate,
+    )?;
     let hub = Arc::new(alloc, hub)?;
     let backend = HubBackend::new(
         rt,

@@ -33,73 +33,52 @@ enum Deed {
     Publish(&'static str, &'static str),
 }
 
-// The entries of a run in which a publish answers a held connect.
-const ANSWERED: [Deed; 5] = [
-    Deed::Open(1),
-    Deed::Open(2),
-    Deed::Subscribe(1, "/a/*"),
-    Deed::Connect(1),
-    Deed::Publish("/a/b", "7"),
-];
-
-// The entries of a run in which batches are sent again until they are acknowledged, even after new
-// events and an unsubscription.
-const BATCHES: [Deed; 11] = [
-    Deed::OpenAck(1),
-    Deed::Subscribe(1, "/a/*"),
-    Deed::Publish("/a/x", "1"),
-    Deed::Acknowledge(1, 0),
-    Deed::Publish("/a/y", "2"),
-    Deed::Publish("/a/z", "3"),
-    Deed::Acknowledge(1, 0),
-    Deed::Unsubscribe(1, "/a/*"),
-    Deed::Acknowledge(1, 0),
-    Deed::Acknowledge(1, 1),
-    Deed::Acknowledge(1, 2),
-];
-
 // Entries that open a session and subscribe it to `/a/b`.
-const HEARS: [Deed; 2] = [Deed::Open(1), Deed::Subscribe(1, "/a/b")];
+const HEARS: &[Deed] = &[Deed::Open(1), Deed::Subscribe(1, "/a/b")];
 
 const EVENT: Deed = Deed::Publish("/a/b", "1");
 
-// Entries to apply when the queue is full: an event at which the session overflows, a connect that
-// fails, and another event.
-const OVERFLOW: [Deed; 3] = [EVENT, Deed::ConnectAtOnce(1), EVENT];
-
-// Entries to apply when the queue is full: four connects, which get all events.
-const GIVEN: [Deed; 4] = [Deed::ConnectAtOnce(1); 4];
-
-// A run over a new shard: the entries `first`, then publishes that fill a queue if `is_filled`, and
-// at last the entries `then`.
-#[derive(Clone, Copy, Debug)]
-struct Worked {
-    first: &'static [Deed],
-    is_filled: bool,
-    then: &'static [Deed],
-}
+// A run over a new shard: the first entries, then publishes that fill a queue if the flag is set,
+// and at last the other entries.
+type Worked = (&'static [Deed], bool, &'static [Deed]);
 
 const WORKED: [Worked; 4] = [
-    Worked {
-        first: &ANSWERED,
-        is_filled: false,
-        then: &[],
-    },
-    Worked {
-        first: &BATCHES,
-        is_filled: false,
-        then: &[],
-    },
-    Worked {
-        first: &HEARS,
-        is_filled: true,
-        then: &OVERFLOW,
-    },
-    Worked {
-        first: &HEARS,
-        is_filled: true,
-        then: &GIVEN,
-    },
+    // A publish answers a held connect.
+    (
+        &[
+            Deed::Open(1),
+            Deed::Open(2),
+            Deed::Subscribe(1, "/a/*"),
+            Deed::Connect(1),
+            Deed::Publish("/a/b", "7"),
+        ],
+        false,
+        &[],
+    ),
+    // Batches are sent again until they are acknowledged, even after new events and an
+    // unsubscription.
+    (
+        &[
+            Deed::OpenAck(1),
+            Deed::Subscribe(1, "/a/*"),
+            Deed::Publish("/a/x", "1"),
+            Deed::Acknowledge(1, 0),
+            Deed::Publish("/a/y", "2"),
+            Deed::Publish("/a/z", "3"),
+            Deed::Acknowledge(1, 0),
+            Deed::Unsubscribe(1, "/a/*"),
+            Deed::Acknowledge(1, 0),
+            Deed::Acknowledge(1, 1),
+            Deed::Acknowledge(1, 2),
+        ],
+        false,
+        &[],
+    ),
+    // The queue is full: an event at which the session overflows, a connect that fails, and another
+    // event.
+    (HEARS, true, &[EVENT, Deed::ConnectAtOnce(1), EVENT]),
+    // The queue is full: four connects, which get all events.
+    (HEARS, true, &[Deed::ConnectAtOnce(1); 4]),
 ];
 
 /// Applies the entries of each run to a new shard, and returns a line for each answered connect.
@@ -113,33 +92,16 @@ const WORKED: [Worked; 4] = [
 /// second attempt, or if the first attempt changed the place of the shard.
 pub fn run(alloc: Global) -> Result<String, Unlike> {
     let mut text = String::new(alloc);
-    for worked in WORKED {
-        apply_to_new(alloc, worked, &mut text)?;
+    for (first, is_filled, then) in WORKED {
+        let placing = Arc::new(alloc, ByRemainder)?;
+        let mut shard = Shard::new(alloc, 0, config(1)?, placing);
+        apply_all(alloc, &mut shard, first, &mut text)?;
+        if is_filled {
+            fill(alloc, &mut shard)?;
+        }
+        apply_all(alloc, &mut shard, then, &mut text)?;
     }
     Ok(text)
-}
-
-fn apply_to_new(alloc: Global, worked: Worked, text: &mut String) -> Result<(), Unlike> {
-    let mut shard = shard(alloc)?;
-    apply_worked(alloc, &mut shard, worked, text)
-}
-
-fn apply_worked(
-    alloc: Global,
-    shard: &mut Shard<ByRemainder>,
-    worked: Worked,
-    text: &mut String,
-) -> Result<(), Unlike> {
-    apply_all(alloc, shard, worked.first, text)?;
-    if worked.is_filled {
-        fill(alloc, shard)?;
-    }
-    apply_all(alloc, shard, worked.then, text)
-}
-
-fn shard(alloc: Global) -> Result<Shard<ByRemainder>, Unlike> {
-    let placing = Arc::new(alloc, ByRemainder)?;
-    Ok(Shard::new(alloc, 0, config(1)?, placing))
 }
 
 // Applies the entries of `deeds`. When the last connect so far is answered, appends the line of the

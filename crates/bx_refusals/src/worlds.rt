@@ -1,9 +1,12 @@
 //! The part `world`: two shards that one worker advances.
-use crate::requests::{CONNECT, HANDSHAKE, PUBLISH, SUBSCRIBE, arrival, config, text_of};
+use crate::requests::{config, text_of};
 use crate::unlike::Unlike;
+use bx_advice::WorkerCount;
+use bx_calls::arrival;
+use bx_calls::texts::{CONNECT, HANDSHAKE, PUBLISH, SUBSCRIBE};
 use bx_entry::{AdmitFault, Admitted, ByRemainder, Slot, Ticket};
 use bx_message::Answer;
-use bx_shard::{OpenGate, WorkerCount};
+use bx_shard::OpenGate;
 use bx_world::{Applied, World};
 use std::alloc::Global;
 use std::sync::Arc;

@@ -1,5 +1,5 @@
 -- A list, followed by the elements of a plan: its live sessions and its entries.
-use Rattle.std.proofs.Common.{◌≡◌, ℕ, Bool, ◌≤◌, List, ◌++◌, length, sym, ap, ◌∙◌, subst}
+use Rattle.std.proofs.Common.{◌≡◌, ℕ, ◌≤◌, List, ◌++◌, length, sym, ap, ◌∙◌, subst}
 use Rattle.std.specs.Prelude.{fold}
 use Rattle.std.proofs.lemmas.{List.map-append, List.Sums.fold-append}
 use Rattle.bx_advice.specs.declared.config.Config.{Config}
@@ -12,9 +12,6 @@ use Rattle.bx_registry.specs.declared.plan.Plan.{Plan}
 use Rattle.bx_registry.proofs.Steps.{roll_judges_list_as_registry}
 
 -- ---- The length of the list
-
-pub roll_length : (config : Config) (list : List Listed) (roll : Roll) → roll ≡ roll_at config list → roll.length ≡ length list
-roll_length config list roll is = ap (λ (r : Roll). r.length) is ∙ judged_length config list
 
 -- ---- The longer list
 

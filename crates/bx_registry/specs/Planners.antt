@@ -28,12 +28,12 @@ abbrev pub roll_between : Config → Members → ℕ → ℕ → Roll
 roll_between config ms clock length = roll_with config ms NoneYet clock length
 
 -- Judging the elements of `list`, from place `first` on, gives `entries` and `slots`. It turns the
--- sessions `before` into `behind`, and the clock `clock` into `now`. The elements are whole
+-- sessions `before` into `later`, and the clock `clock` into `now`. The elements are whole
 -- requests or ticks. Afterwards, no more sessions were opened than the list has elements, and `now`
 -- is within its limit.
-pub record IsPlannedBy (setup : Setup) (before behind : Members) (clock first : ℕ) (list : List Listed) (entries : List Entry) (slots : List Slot) (now : ℕ) : Type 0 where
-  pub roll : after (roll_between setup.config before clock first) list ≡ roll_between setup.config behind now (first + length list)
+pub record IsPlannedBy (setup : Setup) (before later : Members) (clock first : ℕ) (list : List Listed) (entries : List Entry) (slots : List Slot) (now : ℕ) : Type 0 where
+  pub roll : after (roll_between setup.config before clock first) list ≡ roll_between setup.config later now (first + length list)
   pub listed : entries ≡ entries_in (found (roll_between setup.config before clock first) list)
   pub answers : slots ≡ slots_in setup (found (roll_between setup.config before clock first) list)
-  pub opened : behind.opened ≤ first + length list
+  pub opened : later.opened ≤ first + length list
   pub moment : now ≤ greatest_moment

@@ -3,6 +3,4 @@ pub mod Nonces
 pub mod Steps
 pub mod Ready
 pub mod Fronts
-mod ArgumentCounts
-pub mod Records
 mod FirstLines

@@ -3,4 +3,3 @@ pub mod Faults
 pub mod Kept
 pub mod Records
 pub mod Serving
-pub mod Settings

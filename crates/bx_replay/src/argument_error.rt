@@ -1,4 +1,5 @@
-//! The error for wrong arguments of a replay.
+//! The errors for wrong arguments of a replay, and for a wrong first line of a record.
+use bx_advice::Limit;
 use std::fmt::{self, Display, Formatter, Write};
 
 /// What is wrong with the arguments: their number, or the value of one.
@@ -21,14 +22,8 @@ pub enum ArgumentError {
     MaxInterval,
     /// The options are not `-`, `r`, `a` or `ra`.
     Options,
-    /// The number of events that may wait for a session is not 1 to 65,536.
-    Limit,
-    /// The limit of bytes of a session's waiting events is neither `-` nor 1 to 4,294,967,295.
-    Bytes,
-    /// The number of sessions that may be live is not 1 to 65,536.
-    Sessions,
-    /// The number of patterns that a session may have is not 1 to 1,024.
-    Patterns,
+    /// The limit has no such value.
+    Limit(Limit),
 }
 
 impl Display for ArgumentError {
@@ -43,10 +38,51 @@ impl Display for ArgumentError {
             ArgumentError::Interval => "interval: expected a number from 0 to 4294967295",
             ArgumentError::MaxInterval => "max_interval: expected a number from 0 to 4294967295",
             ArgumentError::Options => "options: expected -, r, a or ra",
-            ArgumentError::Limit => "limit: expected a number from 1 to 65536",
-            ArgumentError::Bytes => "bytes: expected - or a number from 1 to 4294967295",
-            ArgumentError::Sessions => "sessions: expected a number from 1 to 65536",
-            ArgumentError::Patterns => "patterns: expected a number from 1 to 1024",
+            ArgumentError::Limit(limit) => return write_limit(*limit, f),
         })
+    }
+}
+
+// Writes which values `limit` has.
+fn write_limit<W: Write>(limit: Limit, f: &mut Formatter<W>) -> fmt::Result {
+    let or_none = if limit.greatest() < limit.standard() {
+        "- or "
+    } else {
+        ""
+    };
+    write!(
+        f,
+        "{}: expected {or_none}a number from 1 to {}",
+        limit.name(),
+        limit.greatest()
+    )
+}
+
+/// What is wrong with the first line of a record.
+#[derive(Clone, Copy, Debug, PartialEq, Eq)]
+pub enum FirstLineError {
+    /// The line is that of version 0.1.0, which has another form.
+    Old,
+    /// The line is not that of a configuration.
+    Wrong,
+}
+
+impl Display for FirstLineError {
+    /// Writes what to do, or which line is valid instead.
+    fn fmt<W: Write>(&self, f: &mut Formatter<W>) -> fmt::Result {
+        match self {
+            FirstLineError::Old => f.write_str(
+                "the record was made by version 0.1.0, whose first line has another form; replay it with that version",
+            ),
+            FirstLineError::Wrong => {
+                f.write_str(
+                    "expected shards=.. timeout=.. interval=.. max_interval=.. options=..",
+                )?;
+                for limit in &Limit::ALL {
+                    write!(f, " {}=..", limit.name())?;
+                }
+                Ok(())
+            }
+        }
     }
 }

@@ -4,13 +4,11 @@
 mod argument_error;
 mod arguments;
 mod kept;
-mod laws;
 mod record;
 mod script;
 mod server;
 
-pub use argument_error::ArgumentError;
+pub use argument_error::{ArgumentError, FirstLineError};
 pub use arguments::Arguments;
-pub use laws::first_line_gives_config;
 pub use record::read_settings;
 pub use script::replay;

@@ -1,19 +1,21 @@
-//! The first line of a record, which has the arguments for its replay.
+//! The first line of a record, which has the configuration of its server.
 ghost use Rattle.std.specs.List.{slice_split};
-ghost use Rattle.std.specs.Prelude.{◌≡◌, IfOk, IfSome, OnOk, Some, map, position};
-ghost use Rattle.bx_replay.specs.Arguments.{valid_settings};
-ghost use Rattle.bx_replay.specs.Records.{recorded_settings};
+ghost use Rattle.std.specs.Prelude.{◌≡◌, IfOk, IfSome, OnOk, Some, map, option_map, position};
+ghost use Rattle.bx_record.specs.Configs.{config_in};
+ghost use Rattle.bx_replay.specs.Records.{recorded, recorded_in};
 ghost use Rattle.bx_script.specs.Words.{first_of, is_newline, is_space, rest_of};
 
-use crate::argument_error::ArgumentError;
+use crate::argument_error::FirstLineError;
 use crate::arguments::Arguments;
+use bx_advice::WorkerCount;
+use bx_record::read_config;
 use bx_script::ScriptFault;
 use std::alloc::{AllocError, Global};
 use std::io::BufRead;
 
-/// Reads the first line of a record and parses its arguments, separated by single spaces.
+/// Reads the first line of a record and parses its configuration, which one worker replays.
 ///
-/// The inner result is that of [`Arguments::read`]. `reader` is then at the next line.
+/// The inner result is the error for a wrong line. `reader` is then at the next line.
 ///
 /// # Errors
 ///
@@ -22,13 +24,34 @@ use std::io::BufRead;
 pub fn read_settings<R: BufRead>(
     alloc: Global,
     reader: &mut R,
-) -> Result<Result<Arguments, ArgumentError>, ScriptFault>
-    ensures settings { IfOk result (λ read. IfSome (R.remaining reader.old) (λ text. valid_settings read ≡ recorded_settings text)) }
+) -> Result<Result<Arguments, FirstLineError>, ScriptFault>
+    ensures settings { IfOk result (λ read. IfSome (R.remaining reader.old) (λ text. recorded read ≡ recorded_in text)) }
     ensures left { OnOk result (IfSome (R.remaining reader.old) (λ text. R.remaining reader.new ≡ Some (rest_of text))) }
 {
     let line = read_line(alloc, reader)?;
     let words = words_of(alloc, first_line(line.as_slice()))?;
-    Ok(Arguments::read(&words))
+    Ok(parse_words(&words))
+}
+
+// Parses the words of the first line.
+fn parse_words(words: &[&[u8]]) -> Result<Arguments, FirstLineError>
+    ensures { recorded result ≡ option_map (λ c. (c, 1)) (config_in (map (λ word. word.now) words.now)) }
+{
+    match read_config(words) {
+        Some(config) => Ok(Arguments {
+            config,
+            workers: WorkerCount::one(),
+        }),
+        None => Err(what_is_wrong(words)),
+    }
+}
+
+// Returns what is wrong with a first line. That of version 0.1.0 begins with `--bytes`.
+fn what_is_wrong(words: &[&[u8]]) -> FirstLineError {
+    match words {
+        [first, ..] if *first == b"--bytes".as_slice() => FirstLineError::Old,
+        _ => FirstLineError::Wrong,
+    }
 }
 
 // Reads the first line, with its newline if it has one.

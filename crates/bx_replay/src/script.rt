@@ -10,10 +10,9 @@ ghost use Rattle.bx_script.specs.Printing.{AppendsFront, Writes};
 
 use crate::kept::print_held;
 use crate::server::{ReplayServer, answer, new_server};
-use bx_advice::Config;
+use bx_advice::{Config, WorkerCount};
 use bx_entry::Placing;
 use bx_script::{Lines, Output, ScriptFault};
-use bx_shard::WorkerCount;
 use std::alloc::Global;
 use std::io::{BufRead, Write};
 use std::sync::Arc;

@@ -12,12 +12,12 @@ ghost use Rattle.bx_script.specs.Printing.{is_tick, numbered};
 ghost use Rattle.bx_script.specs.Replay.{nonce_left, with_nonce};
 
 use crate::kept::{PendingLine, print_outs};
-use bx_advice::{Config, ShardCount};
+use bx_advice::{Config, ShardCount, WorkerCount};
 use bx_entry::{Arrival, Input, Placing};
 use bx_fanout::{Round, RoundFault};
 use bx_history::History;
 use bx_script::{Line, Output, ScriptFault, write_bad, write_status};
-use bx_shard::{OpenGate, WorkerCount};
+use bx_shard::OpenGate;
 use std::alloc::Global;
 use std::collections::BTreeMap;
 use std::io::Write;

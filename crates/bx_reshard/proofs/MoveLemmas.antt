@@ -58,9 +58,6 @@ some_mapped o = grind arith
 pub unknown : (h : Option HeldConnect) (f : Option FiledAnswer) → (is_some h || is_some f) ≡ false → state_by h f ≡ None
 unknown h f e = grind arith
 
-or_twice : (c l : Option ConnectState) → option_or (option_or c l) l ≡ option_or c l
-or_twice c l = grind arith
-
 pub lent_at_both : (a b : Bool) (c l : Option ConnectState) → ((a || b) ≡ false → l ≡ None) → cond b (option_or (cond a (option_or c l) c) l) (cond a (option_or c l) c) ≡ option_or c l
 lent_at_both a b c l h = grind arith
 

@@ -93,11 +93,6 @@ abbrev pub lent_among : (ℕ → ℕ → ℕ) → ℕ → ℕ → List Sessions 
 lent_among placing count k [] p = None
 lent_among placing count k (s ∷ ss) p = option_or (lent_as placing count k (known_as (connect_at s.connects p))) (lent_among placing count k ss p)
 
--- `heirs` is `count` empty shards with the configuration `config`.
-pub record AreEmpty (config : Config) (count : ℕ) (heirs : List Sessions) : Type 0 where
-  pub many : length heirs ≡ count
-  pub all : All (IsEmptyOf config) heirs
-
 -- All sessions, patterns and connects of the old shards `olds` are reserved in the `count` new
 -- shards `heirs`, which have the configuration `config`.
 pub record AreLent (placing : ℕ → ℕ → ℕ) (count : ℕ) (olds : List Sessions) (config : Config) (heirs : List Sessions) : Type 0 where

@@ -13,7 +13,9 @@ use std::marker::Model;
 /// The earliest entry compares as the greatest, so that the heap returns it first.
 #[derive(Clone, Copy, PartialEq, Eq, PartialOrd, Ord)]
 pub(crate) struct Due {
-    /// The moment after which a tick looks at the entry: milliseconds since the server started.
+    /// The moment at which the session may be due: milliseconds since the server started.
+    ///
+    /// A tick looks at the entry if the tick's moment is later.
     pub(crate) moment: Reverse<u64>,
     pub(crate) number: u64,
 }

@@ -1,11 +1,11 @@
 //! Tests that run the examples in the doc comments of `World::run_schedule` and `Round::run`.
 //!
 //! `tests/documents/run` checks that a test has the lines of each example.
-use bx_advice::Config;
+use bx_advice::{Config, WorkerCount};
 use bx_cut::Bodies;
 use bx_entry::{Access, Arrival, ByRemainder, Input};
 use bx_fanout::Round;
-use bx_shard::{OpenGate, WorkerCount};
+use bx_shard::OpenGate;
 use bx_world::{Step, StepOut, World};
 use std::sync::Arc;
 use std::test::*;

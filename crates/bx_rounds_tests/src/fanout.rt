@@ -4,11 +4,11 @@
 ghost use Rattle.std.specs.Prelude.{◌≤◌};
 
 use crate::requests::request;
-use bx_advice::{Config, Options, ShardCount};
+use bx_advice::{Config, Options, ShardCount, WorkerCount};
 use bx_entry::{ByTable, Input};
 use bx_fanout::{Out, Round};
 use bx_message::body_text;
-use bx_shard::{Gate, OpenGate, WorkerCount};
+use bx_shard::{Gate, OpenGate};
 use std::alloc::{AllocError, Global};
 use std::hint;
 use std::process::Abort;

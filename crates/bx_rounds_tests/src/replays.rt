@@ -1,11 +1,10 @@
 //! Tests of replays with several placings, and with readers and writers that fail.
 //!
 //! `tests/rows` tests the program with other scripts.
-use bx_advice::Config;
+use bx_advice::{Config, WorkerCount};
 use bx_entry::{AllFirst, ByRemainder, ByTable, Placing};
 use bx_replay::replay;
 use bx_script::{Dialect, Lines, Output, ScriptFault};
-use bx_shard::WorkerCount;
 use std::alloc::Global;
 use std::io;
 use std::io::{BufRead, BufReader, ErrorKind, Read, Write};

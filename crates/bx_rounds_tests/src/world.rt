@@ -108,7 +108,7 @@ const APPLICATIONS: [Line; 15] = [
 const HELD: [Line; 16] = [
     (Deed::Apply(1), "level"),
     (Deed::Tick(4_611_686_018_427_387_905), "refused: BadMoment"),
-    (Deed::Post(0, "["), "refused: Body(NotJson)"),
+    (Deed::Post(0, "["), "refused: NotJson"),
     (Deed::Post(0, "[]"), "from 0:"),
     (Deed::Apply(1), "level"),
     (

@@ -1,6 +1,6 @@
 -- First parts of a text that is written.
 use Rattle.std.proofs.Common.{◌≡◌, ℕ, Option, List, [], ◌∷◌, ◌++◌, Result, Ok, Err, decimal, refl, sym, ap, ◌∙◌, subst, append-nil, append_assoc}
-use Rattle.std.specs.Prelude.{IsErr, OnErr, OnOk}
+use Rattle.std.specs.Prelude.{IsErr, OnOk}
 use Rattle.std.specs.Io.KnownBytes.{Appends, Keeps}
 use Rattle.std.proofs.KnownBytes.{Appends-kept, Appends-nil, Appends-trans}
 use Rattle.bx_script.specs.Words.{line_text, AppendsFront, Writes}
@@ -44,10 +44,6 @@ writes_all a b c (Err x) text h k = front_all a b c text h k
 pub writes_ok : {A E : Type 0} (a b : Option (List ℕ)) (r : Result A E) (text : List ℕ) → Writes a b r text → OnOk r (Appends a b text)
 writes_ok a b (Ok x) text w = w
 writes_ok a b (Err x) text w = tt
-
-pub writes_fault : {A E : Type 0} (a b : Option (List ℕ)) (r : Result A E) (text : List ℕ) → Writes a b r text → OnErr r (AppendsFront a b text)
-writes_fault a b (Ok x) text w = tt
-writes_fault a b (Err x) text w = w
 
 -- ---- Lines
 

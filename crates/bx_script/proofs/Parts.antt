@@ -1,6 +1,6 @@
 -- What reading a part of a line does to the known bytes.
 use Rattle.std.proofs.Common.{◌≡◌, ◌≢◌, ℕ, ◌+◌, ◌<◌, List, [], ◌∷◌, ◌++◌, fold, length, take, refl, sym, ap, subst, ◌∙◌, arith, Option, Some, None, OnSome, take_all, append_assoc, append-nil, length-append}
-use Rattle.std.specs.{List.before_first, List.position_or_len, Io.KnownBytes.Consumes, Io.KnownBytes.IsAtEnd, Io.KnownBytes.Keeps}
+use Rattle.std.specs.{List.before_first, List.position_or_len, Io.KnownBytes.Consumes, Io.KnownBytes.IsAtEnd}
 use Rattle.bx_script.specs.Words.{is_newline, kept_with, keep_byte, first_of, rest_of, IsCut, PartRead, ReadsPart}
 use Rattle.bx_script.specs.declared.kept.TheConstants.{KEPT_LIMIT}
 use Rattle.bx_script.specs.declared.part.ReadOutcome.{ReadOutcome}
@@ -57,8 +57,3 @@ pub reads_part : (step : ReadOutcome) (a c : Option (List ℕ)) (shown : List �
 reads_part step None c shown n used kept now cut e end is = tt
 reads_part step (Some x) None shown n used kept now cut e end is = absurd e
 reads_part step (Some x) (Some y) shown n used kept now cut e end is = part_read step x y shown n used kept now cut e end is
-
-pub reads_again : (a c : Option (List ℕ)) (kept : List ℕ) → Keeps a c → ReadsPart Again a c kept kept
-reads_again None c kept h = tt
-reads_again (Some x) None kept h = absurd h
-reads_again (Some x) (Some y) kept h = (h, refl)

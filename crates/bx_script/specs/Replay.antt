@@ -2,7 +2,7 @@
 use Rattle.std.specs.Prelude.{ℕ, ◌+◌, ◌==◌, ◌&&◌, Bool, List, [], ◌∷◌, ◌++◌, length, map, flat_map, fold, drop, nat_lt, nat_eq, nat_le, codes, decimal, if◌then◌else◌, Option, Some, None, is_some, slice_get, Result, Ok, Err}
 use Rattle.std.specs.{Char.is_ascii_hexdigit, List.starts_with, List.slice_split, List.before_first, List.after_first, List.list_all, Str.bytes_eq, Str.Parse.digits_value}
 use Rattle.bx_advice.specs.declared.config.Config.{Config}
-use Rattle.bx_advice.specs.declared.config.TheConstants.{BODY_LIMIT}
+use Rattle.bx_advice.specs.declared.limit.TheConstants.{BODY_LIMIT}
 use Rattle.bx_message.specs.declared.reply.Item.{Item}
 use Rattle.bx_message.specs.Fields.{number_of}
 use Rattle.bx_message.specs.Statuses.{code_of}
@@ -182,8 +182,9 @@ nonce_left nonce (Request moment other messages) = 0
 nonce_left nonce (Unread fault) = 0
 nonce_left nonce (Tick moment) = nonce
 
--- The nonce for the next request, after a line. A line that announces a nonce replaces it. Other
--- lines without an input leave it as it is.
+-- The nonce that the next request gets, after one more line is read. `nonce`: what the next request
+-- would get before that line. A line that announces a nonce replaces `nonce`. A line with an input
+-- results in `nonce_left`. Any other line changes nothing.
 abbrev pub nonce_after : ℕ → Line → ℕ
 nonce_after nonce (Announced other) = other
 nonce_after nonce (Accepted callback input) = nonce_left nonce input

@@ -4,20 +4,23 @@ ghost use Rattle.std.specs.IoError.{error_kind};
 ghost use Rattle.bx_script.specs.declared.error.ScriptFault.TheVariants.{Memory};
 
 use std::alloc::{AllocError, AllocFailed};
-use std::error::Error;
+use std::io;
 use std::io::ErrorKind;
-use std::{fmt, io};
+use thiserror::Error;
 
 /// Why a script cannot be read, or its results cannot be written.
-#[derive(Clone, Copy, Debug, PartialEq, Eq)]
+#[derive(Clone, Copy, Debug, PartialEq, Eq, Error)]
 pub enum ScriptFault {
     /// Memory ran out while a script was read or its results were written.
+    #[error("out of memory")]
     Memory,
     /// A read of the script failed, or there were [`MAX_READS`](crate::MAX_READS) reads.
+    #[error("read fault")]
     Read,
     /// A write of results failed, wrote nothing, or was interrupted too often.
     ///
     /// [`MAX_INTERRUPTIONS`](crate::MAX_INTERRUPTIONS) interruptions are allowed.
+    #[error("write fault")]
     Write,
 }
 
@@ -44,18 +47,6 @@ impl ScriptFault {
         }
     }
 }
-
-impl fmt::Display for ScriptFault {
-    fn fmt<W: fmt::Write>(&self, f: &mut fmt::Formatter<W>) -> fmt::Result {
-        f.write_str(match self {
-            ScriptFault::Memory => "out of memory",
-            ScriptFault::Read => "read fault",
-            ScriptFault::Write => "write fault",
-        })
-    }
-}
-
-impl Error for ScriptFault {}
 
 impl From<AllocError> for ScriptFault {
     ghost from_gives = { λ _ e. e ≡ Memory };

@@ -20,7 +20,8 @@ use tokio::net::TcpStream;
 /// A future that runs another future and drops its output.
 #[derive(Drop)]
 pub struct IgnoreOutput<F> {
-    inner: F,
+    /// The future to run.
+    pub inner: F,
 }
 
 impl<F: Future<Output = T>, T: Drop> Future for IgnoreOutput<F> {

@@ -19,7 +19,8 @@ use Rattle.bx_service.specs.declared.exchange.State.TheVariants.{Collecting, Ask
 use Rattle.bx_message.specs.declared.status.Status.TheVariants.{Unavailable}
 use Rattle.bx_service.specs.Responses.{IsAnswer, IsRefusal}
 use Rattle.bx_transport.specs.Statuses.{transport_status}
-use Rattle.bx_service.specs.Statuses.{body_status, post_status}
+use Rattle.bx_hub.specs.Faults.{fault_status}
+use Rattle.bx_service.specs.Statuses.{body_status}
 
 -- The type of a response as it is sent, with a body in pieces.
 abbrev pub Sent : Type 0
@@ -44,7 +45,7 @@ module _ {I : Type 0} (gives : I → Gathered → Type 0) where
   -- status of its fault.
   abbrev pub ForOutcome : Option (List ℕ) → Result I Declined → Sent → Type 0
   ForOutcome callback (Ok items) sent = ForFuture callback items sent
-  ForOutcome callback (Err declined) sent = IsRefusal (post_status declined.fault) sent
+  ForOutcome callback (Err declined) sent = IsRefusal (fault_status declined.fault) sent
 
   module _ (admits : Bodies → Result I Declined → Type 0) where
     -- `sent` is the response for some result that the backend may return for `documents`.

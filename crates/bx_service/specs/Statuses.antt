@@ -5,11 +5,8 @@ use Rattle.http_header.specs.FieldValue.{FieldValue}
 use Rattle.http_header.specs.HeaderMap.{Entries, get_all}
 use Rattle.bx_service.specs.declared.collect.CollectError.{CollectError}
 use Rattle.bx_service.specs.declared.collect.CollectError.TheVariants as bodies
-use Rattle.bx_entry.specs.Statuses.{refusal_status}
-use Rattle.bx_hub.specs.declared.fault.PostFault.{PostFault}
-use Rattle.bx_hub.specs.declared.fault.PostFault.TheVariants as posts
 use Rattle.bx_message.specs.declared.status.Status.{Status}
-use Rattle.bx_message.specs.declared.status.Status.TheVariants.{BadRequest, NotFound, MethodNotAllowed, NotImplemented, Unavailable}
+use Rattle.bx_message.specs.declared.status.Status.TheVariants.{BadRequest, NotFound, MethodNotAllowed, NotImplemented}
 use Rattle.bx_transport.specs.Statuses.{transport_status}
 use Rattle.bx_transport.specs.declared.error.TransportError.TheVariants as transports
 use Rattle.bx_service.specs.declared.route.Route.{Route}
@@ -41,9 +38,3 @@ abbrev pub body_status : CollectError → Status
 body_status bodies.TooLarge = transport_status transports.TooLarge
 body_status bodies.Failed = BadRequest
 body_status bodies.Memory = transport_status transports.Memory
-
--- The status of a request that the hub did not admit: that of its rejection, or 503 for other
--- faults.
-abbrev pub post_status : PostFault → Status
-post_status (posts.Refused refusal) = refusal_status refusal
-post_status _ = Unavailable

@@ -11,8 +11,8 @@ ghost use Rattle.bx_service.specs.declared.backend.Declined.{Declined};
 
 use crate::gathering::ItemsFuture;
 use bx_cut::Bodies;
-use bx_entry::{Access, Arrival, Placing};
-use bx_hub::{Gate, Hub, NoAnswer, PostFault};
+use bx_entry::{Access, Arrival};
+use bx_hub::{Hub, HubKind, NoAnswer, PostFault};
 use bx_message::Item;
 use bx_window::LogId;
 use futures::Future;
@@ -95,16 +95,16 @@ pub trait Backend: Drop {
 
 /// A [`Backend`] over a hub, for the requests of one listener.
 #[derive(Drop)]
-pub struct HubBackend<L: LogId, P: Placing, G: Gate + Drop, R: Wait + Drop, C, N> {
+pub struct HubBackend<L: HubKind, R: Wait + Drop, C, N> {
     rt: R,
     alloc: Global,
-    hub: Arc<Hub<L, P, G, R>, Global>,
+    hub: Arc<Hub<L, R>, Global>,
     access: Access,
     clock: C,
     nonces: N,
 }
 
-impl<L: LogId, P: Placing, G: Gate + Drop, R: Wait + Drop, C, N> HubBackend<L, P, G, R, C, N> {
+impl<L: HubKind, R: Wait + Drop, C, N> HubBackend<L, R, C, N> {
     /// Creates a backend that posts to `hub`.
     ///
     /// `access`: what the requests' listener allows. `clock` and `nonces`: the sources of each
@@ -112,11 +112,11 @@ impl<L: LogId, P: Placing, G: Gate + Drop, R: Wait + Drop, C, N> HubBackend<L, P
     pub fn new(
         rt: R,
         alloc: Global,
-        hub: Arc<Hub<L, P, G, R>, Global>,
+        hub: Arc<Hub<L, R>, Global>,
         access: Access,
         clock: C,
         nonces: N,
-    ) -> HubBackend<L, P, G, R, C, N>
+    ) -> HubBackend<L, R, C, N>
         ensures hub { arc_value result.hub ≡ arc_value hub }
         ensures others { (result.access ≡ access) × (result.clock ≡ clock) × (result.nonces ≡ nonces) }
     {
@@ -131,16 +131,14 @@ impl<L: LogId, P: Placing, G: Gate + Drop, R: Wait + Drop, C, N> HubBackend<L, P
     }
 }
 
-impl<L, P, G, R, C, N> Backend for HubBackend<L, P, G, R, C, N>
+impl<L, R, C, N> Backend for HubBackend<L, R, C, N>
 where
-    L: LogId,
-    P: Placing + Drop,
-    G: Gate + Drop,
+    L: HubKind,
     R: Wait + Copy + Drop,
     C: Clock + Drop,
     N: Nonces + Drop,
 {
-    type Items = ItemsFuture<L, P, G, R>;
+    type Items = ItemsFuture<L, R>;
 
     // Ghost: on success there are no items yet, and the slots and the place are those that a
     // single-threaded server gives. On error the documents are unchanged, and the hub rejected them
@@ -157,7 +155,7 @@ where
 
     // Clones the hub's handle before the post, so that no error follows an admission. Locks as
     // `Hub::post` does.
-    fn admit(&self, bodies: Bodies) -> Result<ItemsFuture<L, P, G, R>, Declined> {
+    fn admit(&self, bodies: Bodies) -> Result<ItemsFuture<L, R>, Declined> {
         let Ok(hub) = Arc::try_clone(&self.hub) else {
             return Err(Declined {
                 fault: PostFault::Memory,
@@ -187,7 +185,7 @@ where
         }
     }
 
-    fn place(&self, items: &ItemsFuture<L, P, G, R>) -> Option<u64> {
+    fn place(&self, items: &ItemsFuture<L, R>) -> Option<u64> {
         items.place()
     }
 }

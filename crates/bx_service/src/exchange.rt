@@ -18,13 +18,13 @@ ghost use Rattle.bx_service.specs.Exchanges.{ForAsked, ForCollected, ForDocument
 
 use crate::backend::{Backend, Unanswered};
 use crate::collect::{Collect, CollectError};
-use crate::limit::BodyLimit;
 use crate::observer::Observer;
 use crate::probe::RequestProbe;
 use crate::response::{answer, refusal};
 use crate::route::Route;
 use crate::service::ServiceFault;
-use crate::status::{body_status, post_status};
+use crate::status::body_status;
+use bx_advice::BodyLimit;
 use bx_cut::Bodies;
 use bx_message::{Item, Status, number_of};
 use bx_pieces::Pieces;
@@ -91,7 +91,7 @@ impl<I: Future, B: Body> State<I, B> {
         } = parts;
         match Route::of(&method, uri.path(), &headers) {
             Route::Refused(status) => State::Refused(status),
-            Route::Get if limit.is_passed_by(query_of(&uri).len() as u64) => State::too_large(),
+            Route::Get if query_of(&uri).len() > limit.get() => State::too_large(),
             Route::Get => State::Asked(uri),
             Route::Post if says_more(limit, headers.get(CONTENT_LENGTH)) => State::too_large(),
             Route::Post => State::Collecting {
@@ -123,7 +123,7 @@ fn says_more(limit: BodyLimit, length: Option<&HeaderValue>) -> bool
 {
     match length {
         Some(length) => match number_of(length.as_bytes()) {
-            Some(count) => limit.is_passed_by(count),
+            Some(count) => count > limit.get() as u64,
             None => false,
         },
         None => false,
@@ -156,7 +156,7 @@ where
         }
         Err(declined) => {
             probe.refuse(declined.fault);
-            State::Refused(post_status(declined.fault))
+            State::Refused(declined.fault.status())
         }
     }
 }

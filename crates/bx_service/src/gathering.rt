@@ -9,11 +9,10 @@ ghost use Rattle.bx_service.specs.Gatherings.{AreAll, AreBelow, IsBelow, are_bel
 ghost use Rattle.bx_window.specs.Steps.{list_of, setup_of};
 
 use crate::backend::Unanswered;
-use bx_entry::{Placing, Slot, Ticket};
+use bx_entry::{Slot, Ticket};
 use bx_held::PendingAnswer;
-use bx_hub::{Gate, Hub, Pass};
+use bx_hub::{Hub, HubKind, Pass};
 use bx_message::{Answer, Item, Reply, Sequence};
-use bx_window::LogId;
 use futures::Future;
 use futures::task::{Context, Poll};
 use std::alloc::{AllocError, Global};
@@ -26,10 +25,10 @@ use std::vec::IntoIter;
 /// It handles the slots in order, and waits for the answer to each connect or rider. Polling for an
 /// answer locks its shard.
 #[derive(Drop)]
-pub struct ItemsFuture<L: LogId, P: Placing, G: Gate + Drop, R: Wait + Drop> {
+pub struct ItemsFuture<L: HubKind, R: Wait + Drop> {
     rt: R,
     alloc: Global,
-    hub: Arc<Hub<L, P, G, R>, Global>,
+    hub: Arc<Hub<L, R>, Global>,
     pass: Pass<L>,
     items: Vec<Item>,
     held: Option<PendingAnswer<L>>,
@@ -39,18 +38,18 @@ pub struct ItemsFuture<L: LogId, P: Placing, G: Gate + Drop, R: Wait + Drop> {
     ghost within: { AreBelow (length (list_of pass)) (into_iter_items slots) } by { are_below-prop (length (list_of pass)) (into_iter_items slots) },
 }
 
-impl<L: LogId, P: Placing + Drop, G: Gate + Drop, R: Wait + Copy + Drop> ItemsFuture<L, P, G, R> {
+impl<L: HubKind, R: Wait + Copy + Drop> ItemsFuture<L, R> {
     /// Creates the future for `slots`, which the hub returned for a post that updated `pass`.
     ///
     /// `first`: the place of the request's first message.
     pub(crate) fn new(
         rt: R,
         alloc: Global,
-        hub: Arc<Hub<L, P, G, R>, Global>,
+        hub: Arc<Hub<L, R>, Global>,
         pass: Pass<L>,
         first: u64,
         slots: Sequence<Slot>,
-    ) -> ItemsFuture<L, P, G, R>
+    ) -> ItemsFuture<L, R>
         requires { AreBelow (length (list_of pass)) slots }
         ensures begins { (result.items.items ≡ []) × (result.held ≡ None) }
         ensures slots { (result.pass ≡ pass) × (into_iter_items result.slots ≡ slots) }
@@ -165,8 +164,7 @@ impl<L: LogId, P: Placing + Drop, G: Gate + Drop, R: Wait + Copy + Drop> ItemsFu
     }
 }
 
-impl<L: LogId, P: Placing + Drop, G: Gate + Drop, R: Wait + Copy + Drop> Future
-    for ItemsFuture<L, P, G, R> {
+impl<L: HubKind, R: Wait + Copy + Drop> Future for ItemsFuture<L, R> {
     type Output = Result<Vec<Item>, Unanswered>;
 
     // Ghost: what wakes the future is the source of the awaited answer.

@@ -1,15 +1,15 @@
 //! The HTTP service of each connection, for `hyper`.
 ghost use Rattle.std.specs.Prelude.{◌≡◌, IfOk, IfSome};
 ghost use Rattle.http.specs.Request.{head_of, body_of};
-ghost use Rattle.bx_advice.specs.declared.config.TheConstants.{BODY_LIMIT};
+ghost use Rattle.bx_advice.specs.declared.limit.TheConstants.{BODY_LIMIT};
 ghost use Rattle.bx_service.specs.Beginnings.{Begins};
 ghost use Rattle.std.specs.Arc.{arc_value};
 
 use crate::backend::{Backend, Unanswered};
 use crate::exchange::{Exchange, State};
-use crate::limit::BodyLimit;
 use crate::observer::Observer;
 use crate::probe::ConnectionProbe;
+use bx_advice::BodyLimit;
 use bx_message::Item;
 use bx_pieces::Pieces;
 use bytes::{Buf, Bytes};
@@ -18,24 +18,16 @@ use http::{Request, Response};
 use http_body::Body;
 use hyper::service::Service;
 use std::alloc::{AllocError, Global};
-use std::error::Error;
-use std::fmt;
 use std::sync::Arc;
+use thiserror::Error;
 
 /// Why a connection ends without a response.
-#[derive(Clone, Copy, Debug, PartialEq, Eq)]
+#[derive(Clone, Copy, Debug, PartialEq, Eq, Error)]
 pub enum ServiceFault {
     /// The connection ends, because memory ran out even for a response without a body.
+    #[error("out of memory")]
     Memory,
 }
-
-impl fmt::Display for ServiceFault {
-    fn fmt<W: fmt::Write>(&self, f: &mut fmt::Formatter<W>) -> fmt::Result {
-        f.write_str("out of memory")
-    }
-}
-
-impl Error for ServiceFault {}
 
 /// A service of Bayeux over HTTP, which creates an [`Exchange`] for each request.
 #[derive(Drop)]

@@ -1,10 +1,9 @@
 //! The statuses of requests that are not admitted.
 ghost use Rattle.std.specs.Prelude.{◌≡◌};
 ghost use Rattle.bx_message.specs.Statuses.{code_of};
-ghost use Rattle.bx_service.specs.Statuses.{body_status, post_status};
+ghost use Rattle.bx_service.specs.Statuses.{body_status};
 
 use crate::collect::CollectError;
-use bx_hub::PostFault;
 use bx_message::Status;
 use bx_transport::TransportError;
 use http::StatusCode;
@@ -31,24 +30,5 @@ pub(crate) fn body_status(fault: CollectError) -> Status
         CollectError::TooLarge => TransportError::TooLarge.status(),
         CollectError::Failed => Status::BadRequest,
         CollectError::Memory => TransportError::Memory.status(),
-    }
-}
-
-/// Returns the status of a request that the hub did not admit.
-///
-/// `Refused`: the status of its reason, for example 400 for a body that is not valid. All other
-/// faults: 503.
-///
-/// Policy of this server.
-pub(crate) fn post_status(fault: PostFault) -> Status
-    ensures { result ≡ post_status fault }
-{
-    match fault {
-        PostFault::Refused(refusal) => refusal.status(),
-        PostFault::Closed
-        | PostFault::Behind { .. }
-        | PostFault::Overrun { .. }
-        | PostFault::WrongShard { .. }
-        | PostFault::Memory => Status::Unavailable,
     }
 }

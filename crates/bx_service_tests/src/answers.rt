@@ -1,13 +1,13 @@
 //! Tests of responses that are written in several frames.
-use bx_message::{Event, Item, RawJson, SharedEvent, Text};
-use bx_names::ChannelName;
+use bx_calls::json_string;
+use bx_message::Item;
 use bx_pieces::Pieces;
 use bytes::{Buf, Bytes};
 use futures::task::Poll;
 use futures::test::MockTask;
 use http_body::Body;
 use http_body_util::BodyExt;
-use std::alloc::{AllocError, Global};
+use std::alloc::Global;
 use std::process::Abort;
 use std::test::*;
 
@@ -18,27 +18,14 @@ const LARGE: usize = 40_000;
 // Number of frames of a response with the events of `items`.
 const FRAMES: usize = 3;
 
-// Returns a JSON string of `count` times `sign`.
-fn data(alloc: Global, sign: &str, count: usize) -> Result<String, AllocError> {
-    let mut text = String::new(alloc);
-    text.push_str("\"")?;
-    for _ in 0..count {
-        text.push_str(sign)?;
-    }
-    text.push_str("\"")?;
-    Ok(text)
-}
-
 /// Creates an event on `/a/b` with a JSON string of `count` times `sign` as its data.
+///
+/// # Errors
+///
+/// An error if memory runs out.
 pub fn event(alloc: Global, sign: &str, count: usize) -> Result<Item, Fail> {
-    let name = ChannelName::read(alloc, "/a/b")?;
-    let payload = data(alloc, sign, count)?;
-    let event = Event {
-        channel: Text::new(alloc, "/a/b")?,
-        payload: RawJson::new(alloc, payload.as_str())?,
-        id: None,
-    };
-    Ok(Item::EventItem(SharedEvent::new(alloc, event, name)?))
+    let data = json_string(alloc, sign, count)?;
+    Ok(Item::EventItem(bx_calls::event(alloc, "/a/b", data.as_str())?))
 }
 
 // Returns three large events and, before the last of them, a small one.
@@ -63,7 +50,7 @@ fn wanted(alloc: Global, front: &str, sign: &str, back: &str) -> Result<String, 
         ("z", LARGE, "}"),
     ] {
         text.push_str("{\"channel\":\"/a/b\",\"data\":")?;
-        text.push_str(data(alloc, sign, count)?.as_str())?;
+        text.push_str(json_string(alloc, sign, count)?.as_str())?;
         text.push_str(behind)?;
     }
     text.push_str(back)?;

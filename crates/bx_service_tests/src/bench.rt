@@ -1,15 +1,9 @@
 //! A hub, and services that post to it, for tests of exchanges.
-use bx_entry::ByRemainder;
-use bx_hub::{Hub, OpenGate, Pass, Tick};
+use bx_calls::Tasks;
+use bx_hub::{Hub, HubKind, Pass};
 use bx_service::{BayeuxService, Clock, Nonces};
-use bx_window::LogId;
-use futures::test::MockTask;
 use std::alloc::Global;
 use std::sync::{Arc, Wait};
-use std::test::*;
-
-/// A hub for tests, which places sessions by remainder. Its gate is always open.
-pub type TestHub<L, H> = Hub<L, ByRemainder, OpenGate, H>;
 
 /// A clock fixed at a moment in milliseconds.
 #[derive(Clone, Copy)]
@@ -33,9 +27,9 @@ impl Nonces for Zeros {
 
 /// Four services that post to one hub, a caller's pass, and two tasks that poll exchanges.
 #[derive(Drop)]
-pub struct Bench<L: LogId, S: Drop, H: Wait + Drop> {
+pub struct Bench<L: HubKind, S: Drop, H: Wait + Drop> {
     pub alloc: Global,
-    pub hub: Arc<TestHub<L, H>, Global>,
+    pub hub: Arc<Hub<L, H>, Global>,
     pub pass: Pass<L>,
     /// The service at the publishers' listener.
     pub service: BayeuxService<S>,
@@ -45,20 +39,5 @@ pub struct Bench<L: LogId, S: Drop, H: Wait + Drop> {
     pub too_late: BayeuxService<S>,
     /// The service with a limit of 16 bytes on bodies and queries.
     pub small: BayeuxService<S>,
-    pub first: MockTask,
-    pub second: MockTask,
-}
-
-impl<L: LogId, S: Drop, H: Wait + Drop> Bench<L, S, H> {
-    /// Posts a tick at `moment`, in milliseconds.
-    ///
-    /// # Errors
-    ///
-    /// If the tick is not appended.
-    pub fn tick<W: Wait>(&mut self, rt: &W, moment: u64) -> Result<(), Fail> {
-        self.hub
-            .tick(rt, self.alloc, &mut self.pass, Tick::new(moment))
-            .map_err(|_| "refused")?;
-        Ok(())
-    }
+    pub tasks: Tasks,
 }

@@ -4,14 +4,13 @@ ghost use Rattle.bx_entry.specs.Placings.{by_remainder};
 
 mod bench;
 
-use crate::texts;
-use bench::{Bench, TICKET, Task, Want, check_poll};
+use bench::{Bench, TICKET, Want, check_poll};
 use bx_advice::Config;
+use bx_calls::{Task, Tasks, hold, post, texts, tick};
 use bx_entry::{ByRemainder, Ticket};
 use bx_held::PendingAnswer;
-use bx_hub::{Hub, HubFault, OpenGate};
+use bx_hub::{Hub, HubFault, HubKind, Kind, OpenGate};
 use bx_window::{EmptyWindow, LogId};
-use futures::test::MockTask;
 use std::alloc::Global;
 use std::marker::Brand;
 use std::process::Abort;
@@ -49,197 +48,175 @@ const HANDSHAKE: Step = Step::Post(texts::HANDSHAKE);
 // A step in which the second session publishes an event that the first one gets.
 const PUBLISH: Step = Step::Post(texts::PUBLISH);
 
-const EVENT: Want = Want::Answer(texts::CONNECTED_WITH_EVENT);
+const EVENT: Want = Want::Answer(texts::ANSWER);
 
 const GIVES_EVENT: Step = Step::Gives(Task::First, EVENT);
 
 const GIVES_NOTHING: Step = Step::Gives(Task::First, Want::None);
 
-// A publish answers the held connect with the published event.
-const PUBLISHED: [Step; 5] = [WAITS, HANDSHAKE, PUBLISH, IS_WOKEN, GIVES_EVENT];
-
-// A newer connect answers the held one.
-const SUPERSEDED: [Step; 4] = [
-    WAITS,
-    Step::Post(texts::CONNECT),
-    IS_WOKEN,
-    Step::Gives(Task::First, Want::Answer(texts::SUPERSEDED)),
-];
-
-// The session's disconnect answers its held connect.
-const DISCONNECTED: [Step; 4] = [
-    WAITS,
-    Step::Post(texts::DISCONNECT),
-    IS_WOKEN,
-    Step::Gives(Task::First, Want::Answer(texts::SESSION_ENDED)),
-];
-
-// A tick at the deadline answers the held connect. An earlier tick does not.
-const TIMED_OUT: [Step; 5] = [
-    Step::Tick(29_999),
-    WAITS,
-    Step::Tick(30_000),
-    IS_WOKEN,
-    Step::Gives(Task::First, Want::Answer(texts::CONNECTED)),
-];
-
-// Closing the hub wakes the task of the held connect, and a poll then returns a fault.
-const CLOSED: [Step; 4] = [
-    WAITS,
-    Step::Close,
-    IS_WOKEN,
-    Step::Gives(Task::First, Want::Fault(HubFault::Closed)),
-];
-
-// An answer filed before the hub closed can still be taken.
-const FILED_BEFORE: [Step; 4] = [HANDSHAKE, PUBLISH, Step::Close, GIVES_EVENT];
-
-// A ticket gives no answer if its answer was taken, if its place is that of another message, or if
-// its shard is unknown.
-const TAKEN: [Step; 6] = [
-    HANDSHAKE,
-    PUBLISH,
-    Step::Other(TICKET, EVENT),
-    GIVES_NOTHING,
-    Step::Other(Ticket { place: 1, shard: 1 }, Want::None),
-    Step::Other(Ticket { place: 2, shard: 2 }, Want::None),
-];
-
-// A swept answer cannot be taken.
-const SWEPT: [Step; 4] = [WAITS, Step::Tick(30_000), Step::Sweep, GIVES_NOTHING];
-
-// The held connect moves to the second task. Only the task that polled last is woken.
-const MOVED: [Step; 7] = [
-    WAITS,
-    Step::Waits(Task::Second),
-    HANDSHAKE,
-    PUBLISH,
-    Step::Woken(Task::Second, true),
-    Step::Woken(Task::First, false),
-    Step::Gives(Task::Second, EVENT),
-];
-
-// The held connect moves to the second task and back to the first, which is woken.
-const MOVED_BACK: [Step; 8] = [
-    WAITS,
-    Step::Waits(Task::Second),
-    WAITS,
-    HANDSHAKE,
-    PUBLISH,
-    IS_WOKEN,
-    Step::Woken(Task::Second, false),
-    GIVES_EVENT,
-];
-
-// Repeated polls do not wake the task, and a later event does.
-const POLLED_AGAIN: [Step; 8] = [
-    WAITS,
-    WAITS,
-    WAITS,
-    WAITS,
-    HANDSHAKE,
-    PUBLISH,
-    IS_WOKEN,
-    GIVES_EVENT,
-];
-
-// A paused shard does not answer a held connect, and a poll returns a fault.
-const PAUSED: [Step; 6] = [
-    WAITS,
-    Step::Pause,
-    HANDSHAKE,
-    PUBLISH,
-    Step::Woken(Task::First, false),
-    Step::Gives(Task::First, Want::Fault(HubFault::Paused)),
-];
-
 // All runs, each over its own hub, with the first session's connect held.
 const RUNS: [&[Step]; 12] = [
-    &PUBLISHED,
-    &SUPERSEDED,
-    &DISCONNECTED,
-    &TIMED_OUT,
-    &CLOSED,
-    &FILED_BEFORE,
-    &TAKEN,
-    &SWEPT,
-    &MOVED,
-    &MOVED_BACK,
-    &POLLED_AGAIN,
-    &PAUSED,
+    // A publish answers the held connect with the published event.
+    &[WAITS, HANDSHAKE, PUBLISH, IS_WOKEN, GIVES_EVENT],
+    // A newer connect answers the held one.
+    &[
+        WAITS,
+        Step::Post(texts::CONNECT),
+        IS_WOKEN,
+        Step::Gives(Task::First, Want::Answer(texts::SUPERSEDED)),
+    ],
+    // The session's disconnect answers its held connect.
+    &[
+        WAITS,
+        Step::Post(texts::DISCONNECT),
+        IS_WOKEN,
+        Step::Gives(Task::First, Want::Answer(texts::SESSION_ENDED)),
+    ],
+    // A tick at the deadline answers the held connect. An earlier tick does not.
+    &[
+        Step::Tick(29_999),
+        WAITS,
+        Step::Tick(30_000),
+        IS_WOKEN,
+        Step::Gives(Task::First, Want::Answer(texts::CONNECTED)),
+    ],
+    // Closing the hub wakes the task of the held connect, and a poll then returns a fault.
+    &[
+        WAITS,
+        Step::Close,
+        IS_WOKEN,
+        Step::Gives(Task::First, Want::Fault(HubFault::Closed)),
+    ],
+    // An answer filed before the hub closed can still be taken.
+    &[HANDSHAKE, PUBLISH, Step::Close, GIVES_EVENT],
+    // A ticket gives no answer if its answer was taken, if its place is that of another message, or
+    // if its shard is unknown.
+    &[
+        HANDSHAKE,
+        PUBLISH,
+        Step::Other(TICKET, EVENT),
+        GIVES_NOTHING,
+        Step::Other(Ticket { place: 1, shard: 1 }, Want::None),
+        Step::Other(Ticket { place: 2, shard: 2 }, Want::None),
+    ],
+    // A swept answer cannot be taken.
+    &[WAITS, Step::Tick(30_000), Step::Sweep, GIVES_NOTHING],
+    // The held connect moves to the second task. Only the task that polled last is woken.
+    &[
+        WAITS,
+        Step::Waits(Task::Second),
+        HANDSHAKE,
+        PUBLISH,
+        Step::Woken(Task::Second, true),
+        Step::Woken(Task::First, false),
+        Step::Gives(Task::Second, EVENT),
+    ],
+    // The held connect moves to the second task and back to the first, which is woken.
+    &[
+        WAITS,
+        Step::Waits(Task::Second),
+        WAITS,
+        HANDSHAKE,
+        PUBLISH,
+        IS_WOKEN,
+        Step::Woken(Task::Second, false),
+        GIVES_EVENT,
+    ],
+    // Repeated polls do not wake the task, and a later event does.
+    &[
+        WAITS,
+        WAITS,
+        WAITS,
+        WAITS,
+        HANDSHAKE,
+        PUBLISH,
+        IS_WOKEN,
+        GIVES_EVENT,
+    ],
+    // A paused shard does not answer a held connect, and a poll returns a fault.
+    &[
+        WAITS,
+        Step::Pause,
+        HANDSHAKE,
+        PUBLISH,
+        Step::Woken(Task::First, false),
+        Step::Gives(Task::First, Want::Fault(HubFault::Paused)),
+    ],
 ];
 
 // Checks that a poll of a new future of `ticket` returns `want`.
-fn other<L: LogId, H: Wait + Drop, Q: Wait + Copy + Drop, R: Abort>(
+fn other<L: HubKind, H: Wait + Drop, R: Wait + Abort>(
     rt: &R,
-    bench: &Bench<L, H, Q>,
+    bench: &Bench<L, H>,
     ticket: Ticket,
     want: Want,
 ) -> Result<(), Fail> {
     let mut held = bench.wait(ticket)?;
-    check_poll(rt, bench.alloc, &bench.poll(Task::First, &mut held), want)
+    check_poll(
+        rt,
+        bench.alloc,
+        bench.poll(rt, Task::First, &mut held),
+        want,
+    )
 }
 
 // Checks that a poll of `held` returns `want`, and that two more return no answer.
-fn gives<L: LogId, H: Wait + Drop, Q: Wait + Copy + Drop, R: Abort>(
+fn gives<L: HubKind, H: Wait + Drop, R: Wait + Abort>(
     rt: &R,
-    bench: &Bench<L, H, Q>,
+    bench: &Bench<L, H>,
     task: Task,
     held: &mut PendingAnswer<L>,
     want: Want,
 ) -> Result<(), Fail> {
-    check_poll(rt, bench.alloc, &bench.poll(task, held), want)?;
+    check_poll(rt, bench.alloc, bench.poll(rt, task, held), want)?;
     for _ in 0..2 {
-        check_poll(rt, bench.alloc, &bench.poll(task, held), Want::None)?;
+        check_poll(rt, bench.alloc, bench.poll(rt, task, held), Want::None)?;
     }
     Ok(())
 }
 
-fn take<L: LogId, H: Wait + Drop, Q: Wait + Copy + Drop, R: Abort>(
+fn take<L: HubKind, H: Wait + Drop, R: Wait + Abort>(
     rt: &R,
-    bench: &mut Bench<L, H, Q>,
+    bench: &mut Bench<L, H>,
     held: &mut PendingAnswer<L>,
     step: Step,
 ) -> Result<(), Fail> {
     match step {
         Step::Waits(task) => {
-            check_poll(rt, bench.alloc, &bench.poll(task, held), Want::Pending)?;
-            assert!(rt; !bench.task(task).is_woken(), "{step:?}");
+            check_poll(rt, bench.alloc, bench.poll(rt, task, held), Want::Pending)?;
+            assert!(rt; !bench.tasks.task(task).is_woken(), "{step:?}");
         }
         Step::Gives(task, want) => gives(rt, bench, task, held, want)?,
         Step::Other(ticket, want) => other(rt, bench, ticket, want)?,
-        Step::Woken(task, want) => assert_eq!(rt; bench.task(task).is_woken(), want, "{step:?}"),
-        Step::Post(body) => bench.post(body)?,
-        Step::Tick(moment) => bench.tick(moment)?,
-        Step::Close => {
-            bench.hub.close(&bench.rt);
+        Step::Woken(task, want) => assert_eq!(rt;
+            bench.tasks.task(task).is_woken(),
+            want,
+            "{step:?}"
+        ),
+        Step::Post(body) => {
+            post(rt, bench.alloc, &bench.hub, &mut bench.pass, body)?;
         }
-        Step::Pause => assert!(rt; bench.hub.pause(&bench.rt, TICKET.shard).is_some()),
-        Step::Sweep => assert_eq!(rt; bench.hub.sweep(&bench.rt, 1_000).dropped(), 1),
+        Step::Tick(moment) => {
+            tick(rt, bench.alloc, &bench.hub, &mut bench.pass, moment)?;
+        }
+        Step::Close => drop(bench.hub.close(rt)),
+        Step::Pause => assert!(rt; bench.hub.pause(rt, TICKET.shard).is_some()),
+        Step::Sweep => assert_eq!(rt; bench.hub.sweep(rt, 1_000).dropped(), 1),
     }
     Ok(())
 }
 
-fn take_all<L: LogId, H: Wait + Drop, Q: Wait + Copy + Drop, R: Abort>(
+fn run<L: HubKind, H: Wait + Drop, R: Wait + Abort>(
     rt: &R,
-    bench: &mut Bench<L, H, Q>,
-    held: &mut PendingAnswer<L>,
+    bench: &mut Bench<L, H>,
     steps: &[Step],
 ) -> Result<(), Fail> {
-    for step in steps {
-        take(rt, bench, held, *step)?;
-    }
-    Ok(())
-}
-
-fn run<L: LogId, H: Wait + Drop, Q: Wait + Copy + Drop, R: Abort>(
-    rt: &R,
-    bench: &mut Bench<L, H, Q>,
-    steps: &[Step],
-) -> Result<(), Fail> {
-    bench.hold()?;
+    hold(rt, bench.alloc, &bench.hub, &mut bench.pass)?;
     let mut held = bench.wait(TICKET)?;
-    take_all(rt, bench, &mut held, steps)
+    for step in steps {
+        take(rt, bench, &mut held, *step)?;
+    }
+    Ok(())
 }
 
 fn run_in_hub<L: LogId, R: Wait + Abort>(
@@ -248,26 +225,22 @@ fn run_in_hub<L: LogId, R: Wait + Abort>(
     opened: EmptyWindow,
     config: Config,
     placing: Arc<ByRemainder, Global>,
-    tasks: (MockTask, MockTask),
+    tasks: Tasks,
     steps: &[Step],
 ) -> Result<(), Fail>
     requires book { opened.seen.book ≡ L.book }
     requires config { config ≡ L.config }
     requires placing { by_remainder ≡ L.placing }
 {
-    let hub = Hub::<L, ByRemainder, OpenGate, &R>::new(
+    let hub = Hub::<Kind<L, ByRemainder, OpenGate>, &R>::new(
         alloc, rt, opened, config, placing, OpenGate,
     )?;
     let pass = hub.pass();
-    let hub = Arc::new(alloc, hub)?;
-    let (first, second) = tasks;
     let mut bench = Bench {
-        rt,
         alloc,
         hub,
         pass,
-        first,
-        second,
+        tasks,
     };
     run(rt, &mut bench, steps)
 }
@@ -279,19 +252,9 @@ fn held_connects(rt: HostRuntime) -> Result<(), Fail> {
     let config = Config::new(2, 30_000, 0, 10_000).ok_or("no configuration")?;
     for steps in RUNS {
         let placing = Arc::new(alloc, ByRemainder)?;
-        let tasks = (MockTask::new(&rt)?, MockTask::new(&rt)?);
-        // A new task counts as woken until its first poll.
-        tasks.0.enter(|_cx| ());
-        tasks.1.enter(|_cx| ());
-        run_in_hub::<Brand, _>(
-            &rt,
-            alloc,
-            EmptyWindow::new(),
-            config,
-            placing,
-            tasks,
-            steps,
-        )?;
+        let tasks = Tasks::new(&rt)?;
+        let opened = EmptyWindow::new();
+        run_in_hub::<Brand, _>(&rt, alloc, opened, config, placing, tasks, steps)?;
     }
     Ok(())
 }

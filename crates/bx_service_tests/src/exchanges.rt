@@ -2,14 +2,14 @@
 ghost use Rattle.std.specs.Prelude.{◌≡◌};
 ghost use Rattle.bx_entry.specs.Placings.{by_remainder};
 
-use crate::bench::{Bench, Still, TestHub, Zeros};
-use crate::requests::{Ask, Content, Given, POST, Want, check_given, check_pending};
-use crate::runs::{Held, RUNS, SMALL, Step};
-use bx_advice::{Config, Options};
+use crate::bench::{Bench, Still, Zeros};
+use crate::requests::{Ask, Given, Want, check_given, check_pending};
+use crate::runs::{COUNT, Held, SMALL, Step, run_at};
+use bx_advice::{BodyLimit, Config, Options};
+use bx_calls::{Tasks, tick};
 use bx_entry::{Access, ByRemainder};
-use bx_hub::{Hub, OpenGate};
-use bx_message::Item;
-use bx_service::{Backend, BayeuxService, BodyLimit, HubBackend, Unanswered};
+use bx_hub::{Hub, HubKind, Kind, OpenGate};
+use bx_service::{Backend, BayeuxService, HubBackend};
 use bx_window::{EmptyWindow, LogId};
 use futures::Future;
 use futures::test::MockTask;
@@ -21,141 +21,94 @@ use std::sync::{Arc, Wait};
 use std::test::*;
 
 // Checks that the first poll of the exchange for `ask` returns the response `want`.
-fn asks<S, I, R>(
+fn asks<S: Backend<Items: Drop>, R: Abort>(
     rt: &R,
     alloc: Global,
     service: &BayeuxService<S>,
     task: &MockTask,
-    ask: &Ask,
+    ask: Ask,
     want: Want,
-) -> Result<(), Fail>
-where
-    S: Backend<Items = I> + Drop,
-    I: Future<Output = Result<Vec<Item>, Unanswered>> + Drop,
-    R: Abort,
-{
+) -> Result<(), Fail> {
     let mut exchange = service.call(ask.request(alloc)?);
     check_given(rt, alloc, &mut exchange, task, want)
 }
 
 // Checks that the first poll of the exchange for a POST of `text` is pending. Then drops the
 // exchange.
-fn waits<S, I, R>(
+fn waits<S: Backend<Items: Drop>, R: Abort>(
     rt: &R,
     alloc: Global,
     service: &BayeuxService<S>,
     task: &MockTask,
     text: &'static str,
-) -> Result<(), Fail>
-where
-    S: Backend<Items = I> + Drop,
-    I: Future<Output = Result<Vec<Item>, Unanswered>> + Drop,
-    R: Abort,
-{
-    let mut exchange = service.call(Ask::post(Content::Whole(text)).request(alloc)?);
+) -> Result<(), Fail> {
+    let mut exchange = service.call(Ask::post(text).request(alloc)?);
     check_pending(rt, &mut exchange, task, false);
     Ok(())
 }
 
 // Checks that a POST gets 400 if its body fails after a prefix of `text`, for each prefix.
-fn breaks<S, I, R>(
+fn breaks<S: Backend<Items: Drop>, R: Abort>(
     rt: &R,
     alloc: Global,
     service: &BayeuxService<S>,
     task: &MockTask,
     text: &'static str,
-) -> Result<(), Fail>
-where
-    S: Backend<Items = I> + Drop,
-    I: Future<Output = Result<Vec<Item>, Unanswered>> + Drop,
-    R: Abort,
-{
+) -> Result<(), Fail> {
     for len in 0..=text.len() {
-        let ask = Ask::post(Content::Broken(text, len));
-        asks(rt, alloc, service, task, &ask, Want::Status(400))?;
+        let ask = Ask::Broken(text, len);
+        asks(rt, alloc, service, task, ask, Want::Status(400))?;
     }
     Ok(())
 }
 
-// Returns the request and the expected response of a step that sends one to `Bench::service`.
-// Returns `None` for a step of another kind, and for one with an exchange that waits or a body that
-// fails.
-fn asked(step: &Step) -> Option<(Ask, Want)> {
+// Returns the service, the request and the expected response of a step that sends a request. The
+// response must be ready at the first poll. Returns `None` for a step of another kind.
+fn asked<L: HubKind, S: Drop, H: Wait + Drop>(
+    bench: &Bench<L, S, H>,
+    step: Step,
+) -> Option<(&BayeuxService<S>, Ask, Want)> {
     match step {
-        Step::Post(text, want) => Some((Ask::post(Content::Whole(*text)), Want::Json(*want))),
-        Step::Body(kind, text, want) => Some((
-            Ask {
-                kind: *kind,
-                ..Ask::post(Content::Whole(*text))
-            },
-            *want,
-        )),
-        Step::Coded(codings, want) => Some((
-            Ask {
-                codings: *codings,
-                ..Ask::post(Content::Whole("[]"))
-            },
-            *want,
-        )),
-        Step::Target(method, target, want) => Some((
-            Ask {
-                method: *method,
-                target: *target,
-                ..POST
-            },
-            *want,
-        )),
-        Step::Ask(ask, want) => Some((*ask, *want)),
+        Step::Post(text, json) => Some((&bench.service, Ask::post(text), Want::Json(json))),
+        Step::Ask(ask, want) => Some((&bench.service, ask, want)),
+        Step::Small(ask, want) => Some((&bench.small, ask, want)),
+        Step::Read(ask, want) => Some((&bench.readers, ask, want)),
+        Step::ReadText(text, want) => Some((&bench.readers, Ask::post(text), want)),
+        Step::TooLate(text, want) => Some((&bench.too_late, Ask::post(text), want)),
         _ => None,
     }
 }
 
-fn take<L, S, I, H, R>(rt: &R, bench: &mut Bench<L, S, H>, step: &Step) -> Result<(), Fail>
-where
-    L: LogId,
-    S: Backend<Items = I> + Drop,
-    I: Future<Output = Result<Vec<Item>, Unanswered>> + Drop,
-    H: Wait + Drop,
-    R: Abort + Wait,
-{
-    let (alloc, service, task) = (bench.alloc, &bench.service, &bench.second);
-    if let Some((ask, want)) = asked(step) {
-        return asks(rt, alloc, service, task, &ask, want);
+fn take<L: HubKind, S: Backend<Items: Drop>, H: Wait + Drop, R: Abort + Wait>(
+    rt: &R,
+    bench: &mut Bench<L, S, H>,
+    step: Step,
+) -> Result<(), Fail> {
+    if let Some((service, ask, want)) = asked(bench, step) {
+        return asks(rt, bench.alloc, service, &bench.tasks.second, ask, want);
     }
+    let (alloc, service, task) = (bench.alloc, &bench.service, &bench.tasks.second);
     match step {
-        Step::TooLate(text, want) => {
-            let ask = Ask::post(Content::Whole(*text));
-            asks(rt, alloc, &bench.too_late, task, &ask, *want)?;
+        Step::Wait(text) => waits(rt, alloc, service, task, text)?,
+        Step::Break(text) => breaks(rt, alloc, service, task, text)?,
+        Step::Tick(moment) => {
+            tick(rt, alloc, &bench.hub, &mut bench.pass, moment)?;
         }
-        Step::Small(ask, want) => asks(rt, alloc, &bench.small, task, ask, *want)?,
-        Step::Read(ask, want) => asks(rt, alloc, &bench.readers, task, ask, *want)?,
-        Step::ReadText(text, want) => {
-            let ask = Ask::post(Content::Whole(*text));
-            asks(rt, alloc, &bench.readers, task, &ask, *want)?;
-        }
-        Step::Wait(text) => waits(rt, alloc, service, task, *text)?,
-        Step::Break(text) => breaks(rt, alloc, service, task, *text)?,
-        Step::Tick(moment) => bench.tick(rt, *moment)?,
-        Step::Close => {
-            bench.hub.close(rt);
-        }
+        Step::Close => drop(bench.hub.close(rt)),
         Step::Pause => assert!(rt; bench.hub.pause(rt, 1).is_some()),
-        Step::Sweep(count) => assert_eq!(rt; bench.hub.sweep(rt, 5).dropped(), *count),
+        Step::Sweep(count) => assert_eq!(rt; bench.hub.sweep(rt, 5).dropped(), count),
         _ => (),
     }
     Ok(())
 }
 
-fn take_all<L, S, I, H, R>(rt: &R, bench: &mut Bench<L, S, H>, steps: &[Step]) -> Result<(), Fail>
-where
-    L: LogId,
-    S: Backend<Items = I> + Drop,
-    I: Future<Output = Result<Vec<Item>, Unanswered>> + Drop,
-    H: Wait + Drop,
-    R: Abort + Wait,
-{
+fn take_all<L: HubKind, S: Backend<Items: Drop>, H: Wait + Drop, R: Abort + Wait>(
+    rt: &R,
+    bench: &mut Bench<L, S, H>,
+    steps: &[Step],
+) -> Result<(), Fail> {
     for step in steps {
-        take(rt, bench, step)?;
+        take(rt, bench, *step)?;
     }
     Ok(())
 }
@@ -163,59 +116,46 @@ where
 // Polls `exchange`, and checks that it is pending, also after the steps `held.before`. Then takes
 // the steps `held.then`. If `held.gives` is given, checks whether those woke the first task, and
 // what the next poll returns.
-fn watch<F, L, S, I, H, R>(
-    rt: &R,
-    bench: &mut Bench<L, S, H>,
-    exchange: &mut F,
-    held: &Held,
-) -> Result<(), Fail>
-where
+fn watch<
     F: Future<Output = Given>,
-    L: LogId,
-    S: Backend<Items = I> + Drop,
-    I: Future<Output = Result<Vec<Item>, Unanswered>> + Drop,
+    L: HubKind,
+    S: Backend<Items: Drop>,
     H: Wait + Drop,
     R: Abort + Wait,
+>(rt: &R, bench: &mut Bench<L, S, H>, exchange: &mut F, held: &Held) -> Result<(), Fail>
     requires { F.can_poll exchange.old }
 {
-    check_pending(rt, exchange, &bench.first, held.is_late);
+    check_pending(rt, exchange, &bench.tasks.first, held.is_late);
     take_all(rt, bench, held.before)?;
     if !held.before.is_empty() {
-        check_pending(rt, exchange, &bench.first, false);
+        check_pending(rt, exchange, &bench.tasks.first, false);
     }
     take_all(rt, bench, held.then)?;
     if let Some((is_woken, want)) = held.gives {
-        assert_eq!(rt; bench.first.is_woken(), is_woken);
-        check_given(rt, bench.alloc, exchange, &bench.first, want)?;
+        assert_eq!(rt; bench.tasks.first.is_woken(), is_woken);
+        check_given(rt, bench.alloc, exchange, &bench.tasks.first, want)?;
     }
     Ok(())
 }
 
-// Starts the exchange for a POST of `held.content`. Checks that it is pending until the steps
-// `held.then`, and its response after them, if `held.gives` has one.
-fn hold<L, S, I, H, R>(rt: &R, bench: &mut Bench<L, S, H>, held: &Held) -> Result<(), Fail>
-where
-    L: LogId,
-    S: Backend<Items = I> + Drop,
-    I: Future<Output = Result<Vec<Item>, Unanswered>> + Drop,
-    H: Wait + Drop,
-    R: Abort + Wait,
-{
-    let request = Ask::post(held.content).request(bench.alloc)?;
-    let mut exchange = bench.service.call(request);
+// Starts the exchange for `held.ask`. Checks that it is pending until the steps `held.then`, and
+// its response after them, if `held.gives` has one.
+fn hold<L: HubKind, S: Backend<Items: Drop>, H: Wait + Drop, R: Abort + Wait>(
+    rt: &R,
+    bench: &mut Bench<L, S, H>,
+    held: &Held,
+) -> Result<(), Fail> {
+    let mut exchange = bench.service.call(held.ask.request(bench.alloc)?);
     watch(rt, bench, &mut exchange, held)
 }
 
-// Executes the run at index `number` of `RUNS`, and checks its responses.
-fn run<L, S, I, H, R>(rt: &R, bench: &mut Bench<L, S, H>, number: usize) -> Result<(), Fail>
-where
-    L: LogId,
-    S: Backend<Items = I> + Drop,
-    I: Future<Output = Result<Vec<Item>, Unanswered>> + Drop,
-    H: Wait + Drop,
-    R: Abort + Wait,
-{
-    let run = RUNS.get(number).ok_or("no such run")?;
+// Executes the run with index `number`, and checks its responses.
+fn execute<L: HubKind, S: Backend<Items: Drop>, H: Wait + Drop, R: Abort + Wait>(
+    rt: &R,
+    bench: &mut Bench<L, S, H>,
+    number: usize,
+) -> Result<(), Fail> {
+    let run = run_at(number).ok_or("no such run")?;
     take_all(rt, bench, run.first)?;
     if let Some(held) = &run.held {
         hold(rt, bench, held)?;
@@ -225,13 +165,13 @@ where
 
 // Creates a backend of `hub` with `access`. Its clock is fixed at `moment`, in milliseconds, and
 // its nonces are 0.
-fn backend_of<'a, L: LogId, R: Wait>(
+fn backend_of<'a, L: HubKind, R: Wait>(
     rt: &'a R,
     alloc: Global,
-    hub: &Arc<TestHub<L, &'a R>, Global>,
+    hub: &Arc<Hub<L, &'a R>, Global>,
     access: Access,
     moment: u64,
-) -> Result<HubBackend<L, ByRemainder, OpenGate, &'a R, Still, Zeros>, Fail> {
+) -> Result<HubBackend<L, &'a R, Still, Zeros>, Fail> {
     let hub = Arc::try_clone(hub)?;
     Ok(HubBackend::new(rt, alloc, hub, access, Still(moment), Zeros))
 }
@@ -242,14 +182,14 @@ fn run_in_hub<L: LogId, R: Wait + Abort>(
     opened: EmptyWindow,
     config: Config,
     placing: Arc<ByRemainder, Global>,
-    tasks: (MockTask, MockTask),
+    tasks: Tasks,
     number: usize,
 ) -> Result<(), Fail>
     requires book { opened.seen.book ≡ L.book }
     requires config { config ≡ L.config }
     requires placing { by_remainder ≡ L.placing }
 {
-    let hub = Hub::<L, ByRemainder, OpenGate, &R>::new(
+    let hub = Hub::<Kind<L, ByRemainder, OpenGate>, &R>::new(
         alloc, rt, opened, config, placing, OpenGate,
     )?;
     let pass = hub.pass();
@@ -259,7 +199,6 @@ fn run_in_hub<L: LogId, R: Wait + Abort>(
     let too_late = backend_of(rt, alloc, &hub, Access::ReadWrite, (1 << 62) + 1)?;
     let small = backend_of(rt, alloc, &hub, Access::ReadWrite, 0)?;
     let limit = BodyLimit::new(SMALL).ok_or("no such limit")?;
-    let (first, second) = tasks;
     let mut bench = Bench {
         alloc,
         hub,
@@ -268,36 +207,26 @@ fn run_in_hub<L: LogId, R: Wait + Abort>(
         readers: BayeuxService::new(alloc, readers)?,
         too_late: BayeuxService::new(alloc, too_late)?,
         small: BayeuxService::new(alloc, small)?.with_limit(limit),
-        first,
-        second,
+        tasks,
     };
-    run(rt, &mut bench, number)
+    execute(rt, &mut bench, number)
 }
 
-// Checks the responses of all runs in `RUNS`, each over a new hub of two shards.
+// Checks the responses of all runs, each over a new hub of two shards.
 #[test]
 fn exchanges(rt: HostRuntime) -> Result<(), Fail> {
     let alloc = rt.alloc();
     let config = Config::new(2, 30_000, 0, 10_000).ok_or("no configuration")?;
-    for number in 0..RUNS.len() {
+    for number in 0..COUNT {
+        let run = run_at(number).ok_or("no such run")?;
         let config = config.with(Options {
-            ride: RUNS[number].ride,
+            ride: run.ride,
             anonymous: false,
         });
         let placing = Arc::new(alloc, ByRemainder)?;
-        let tasks = (MockTask::new(&rt)?, MockTask::new(&rt)?);
-        // A new task counts as woken until its first poll.
-        tasks.0.enter(|_cx| ());
-        tasks.1.enter(|_cx| ());
-        run_in_hub::<Brand, _>(
-            &rt,
-            alloc,
-            EmptyWindow::new(),
-            config,
-            placing,
-            tasks,
-            number,
-        )?;
+        let tasks = Tasks::new(&rt)?;
+        let opened = EmptyWindow::new();
+        run_in_hub::<Brand, _>(&rt, alloc, opened, config, placing, tasks, number)?;
     }
     Ok(())
 }

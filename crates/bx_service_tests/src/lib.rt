@@ -19,5 +19,3 @@ mod pieces;
 mod requests;
 #[cfg(test)]
 mod runs;
-#[cfg(test)]
-mod texts;

@@ -1,6 +1,6 @@
 //! Tests of observers: the events that a service reports, with a backend of fixed outcomes.
 use crate::answers::event;
-use crate::requests::{Ask, Content, POST};
+use crate::requests::Ask;
 use bx_cut::Bodies;
 use bx_entry::Refusal;
 use bx_hub::PostFault;
@@ -117,11 +117,8 @@ impl Future for Given {
 fn observers_are_told(rt: HostRuntime) -> Result<(), Fail> {
     let alloc = rt.alloc();
     let task = MockTask::new(&rt)?;
-    let post = Ask::post(Content::Whole("[]"));
-    let put = Ask {
-        method: "PUT",
-        ..POST
-    };
+    let post = Ask::post("[]");
+    let put = Ask::To("PUT", "/cometd", "");
     for (said, ask, digits) in [
         (Said::Items, post, 0x1_3468_c2),
         (Said::NoItems, post, 0x1_3479_c2),

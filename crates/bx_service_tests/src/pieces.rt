@@ -2,7 +2,6 @@
 use bytes::Bytes;
 use futures::task::{Context, Poll};
 use http_body::{Body, Frame};
-use std::alloc::{AllocError, Global};
 
 /// The error of a body that breaks off.
 #[derive(Clone, Copy, Debug)]
@@ -11,50 +10,12 @@ pub struct Broken;
 /// A body of one frame, followed by its end or an error.
 #[derive(Drop)]
 pub struct Pieces {
-    is_late: bool,
-    data: Option<Bytes>,
-    is_broken: bool,
-}
-
-impl Pieces {
-    /// Creates a body of `text` that is ready at the first poll.
-    ///
-    /// # Errors
-    ///
-    /// `AllocError` if memory runs out.
-    pub fn whole(alloc: Global, text: &[u8]) -> Result<Pieces, AllocError> {
-        Ok(Pieces {
-            is_late: false,
-            data: Some(Bytes::copy_from_slice(alloc, text)?),
-            is_broken: false,
-        })
-    }
-
-    /// Creates a body of `text` that is pending at the first poll and ready at the second.
-    ///
-    /// # Errors
-    ///
-    /// `AllocError` if memory runs out.
-    pub fn late(alloc: Global, text: &[u8]) -> Result<Pieces, AllocError> {
-        let pieces = Pieces::whole(alloc, text)?;
-        Ok(Pieces {
-            is_late: true,
-            ..pieces
-        })
-    }
-
-    /// Creates a body that fails after `text`.
-    ///
-    /// # Errors
-    ///
-    /// `AllocError` if memory runs out.
-    pub fn broken(alloc: Global, text: &[u8]) -> Result<Pieces, AllocError> {
-        let pieces = Pieces::whole(alloc, text)?;
-        Ok(Pieces {
-            is_broken: true,
-            ..pieces
-        })
-    }
+    /// Whether the first poll is pending.
+    pub is_late: bool,
+    /// The data of the frame, until it is read.
+    pub data: Option<Bytes>,
+    /// Whether an error follows the frame.
+    pub is_broken: bool,
 }
 
 impl Body for Pieces {

@@ -20,61 +20,90 @@ pub const FORM: &str = "application/x-www-form-urlencoded";
 /// The output of an HTTP exchange: a response, or a fault of the service.
 pub type Given = Result<Response<bx_pieces::Pieces<Bytes>>, ServiceFault>;
 
-/// The body of a request that a test sends.
-#[derive(Clone, Copy, Debug)]
-pub enum Content {
-    /// A body of this text, ready at the first poll.
-    Whole(&'static str),
-    /// A body of this text, ready at the second poll. The first poll is pending.
-    Late(&'static str),
-    /// A body of the first bytes of this text, followed by an error. The number is how many bytes.
-    Broken(&'static str, usize),
-    /// A body of this text, padded with spaces to this number of bytes.
-    Padded(&'static str, usize),
-}
-
 /// A request to the service, as the tests describe it.
+///
+/// Its target is `/cometd` and its content is JSON, unless a variant says otherwise.
 #[derive(Clone, Copy, Debug)]
-pub struct Ask {
-    pub method: &'static str,
-    pub target: &'static str,
-    pub kind: &'static str,
-    /// The value of `Content-Length`, in bytes, if the request has one.
-    pub said: Option<u64>,
-    /// The values of `Transfer-Encoding` of a request, one for each header line.
-    pub codings: &'static [&'static str],
-    pub content: Content,
+pub enum Ask {
+    /// A POST of this media type and text.
+    Body(&'static str, &'static str),
+    /// A POST of this media type and text, padded with spaces to this number of bytes.
+    Padded(&'static str, &'static str, usize),
+    /// A POST of this text, which is ready at the second poll. The first poll is pending.
+    Late(&'static str),
+    /// A POST of the first bytes of this text, followed by an error. The number is how many bytes.
+    Broken(&'static str, usize),
+    /// A POST of `[]` with this `Content-Length` and a body that is pending at its first poll.
+    Said(u64),
+    /// A POST of `[]`, padded with spaces to this number of bytes, which is its `Content-Length`.
+    Exact(usize),
+    /// A POST of `[]` with these header lines of `Transfer-Encoding`.
+    Coded(&'static [&'static str]),
+    /// A request with this method and target, an empty body, and the coding `gzip, chunked`. If a
+    /// number is given, it is the `Content-Length`.
+    Gzip(&'static str, &'static str, Option<u64>),
+    /// A request with this method, target and text.
+    To(&'static str, &'static str, &'static str),
+    /// A GET of this target, with an empty body.
+    Get(&'static str),
 }
-
-/// A POST of an empty JSON body to `/cometd`, as a base for others.
-pub const POST: Ask = Ask {
-    method: "POST",
-    target: "/cometd",
-    kind: JSON,
-    said: None,
-    codings: &[],
-    content: Content::Whole(""),
-};
 
 impl Ask {
-    /// Creates a JSON POST of `content` to `/cometd`.
-    pub fn post(content: Content) -> Ask {
-        Ask { content, ..POST }
+    /// Creates a JSON POST of `text` to `/cometd`.
+    pub fn post(text: &'static str) -> Ask {
+        Ask::Body(JSON, text)
     }
 
-    fn body(&self, alloc: Global) -> Result<Pieces, Fail> {
-        match self.content {
-            Content::Whole(text) => Ok(Pieces::whole(alloc, text.as_bytes())?),
-            Content::Late(text) => Ok(Pieces::late(alloc, text.as_bytes())?),
-            Content::Broken(text, len) => {
-                let front = text.as_bytes().get(..len).ok_or("no such front")?;
-                Ok(Pieces::broken(alloc, front)?)
-            }
-            Content::Padded(text, len) => {
-                let mut bytes = text.as_bytes().to_vec(alloc)?;
-                bytes.resize(len, b' ')?;
-                Ok(Pieces::whole(alloc, bytes.as_slice())?)
-            }
+    fn text(self) -> &'static str {
+        match self {
+            Ask::Body(_, text) | Ask::Padded(_, text, _) | Ask::To(_, _, text) => text,
+            Ask::Late(text) | Ask::Broken(text, _) => text,
+            Ask::Said(_) | Ask::Exact(_) | Ask::Coded(_) => "[]",
+            Ask::Gzip(..) | Ask::Get(_) => "",
+        }
+    }
+
+    fn body(self, alloc: Global) -> Result<Pieces, Fail> {
+        let mut bytes = self.text().as_bytes().to_vec(alloc)?;
+        if let Ask::Padded(_, _, len) | Ask::Broken(_, len) | Ask::Exact(len) = self {
+            bytes.resize(len, b' ')?;
+        }
+        Ok(Pieces {
+            is_late: matches!(self, Ask::Late(_) | Ask::Said(_)),
+            data: Some(Bytes::copy_from_slice(alloc, bytes.as_slice())?),
+            is_broken: matches!(self, Ask::Broken(..)),
+        })
+    }
+
+    fn line(self) -> (&'static str, &'static str) {
+        match self {
+            Ask::To(method, target, _) | Ask::Gzip(method, target, _) => (method, target),
+            Ask::Get(target) => ("GET", target),
+            _ => ("POST", "/cometd"),
+        }
+    }
+
+    fn kind(self) -> &'static str {
+        match self {
+            Ask::Body(kind, _) | Ask::Padded(kind, _, _) => kind,
+            _ => JSON,
+        }
+    }
+
+    fn length(self) -> Option<u64> {
+        match self {
+            Ask::Said(length) => Some(length),
+            Ask::Exact(length) => Some(length as u64),
+            Ask::Gzip(_, _, length) => length,
+            _ => None,
+        }
+    }
+
+    fn codings(self) -> &'static [&'static str] {
+        match self {
+            Ask::Coded(codings) => codings,
+            Ask::Gzip(..) => &["gzip, chunked"],
+            _ => &[],
         }
     }
 
@@ -83,16 +112,17 @@ impl Ask {
     /// # Errors
     ///
     /// If memory runs out or a part of the request is not valid.
-    pub fn request(&self, alloc: Global) -> Result<Request<Pieces>, Fail> {
+    pub fn request(self, alloc: Global) -> Result<Request<Pieces>, Fail> {
         let body = self.body(alloc)?;
+        let (method, target) = self.line();
         let mut builder = Request::builder(alloc)
-            .method(self.method)
-            .uri(self.target)
-            .header(CONTENT_TYPE, self.kind);
-        if let Some(said) = self.said {
-            builder = builder.header(CONTENT_LENGTH, said);
+            .method(method)
+            .uri(target)
+            .header(CONTENT_TYPE, self.kind());
+        if let Some(length) = self.length() {
+            builder = builder.header(CONTENT_LENGTH, length);
         }
-        for coding in self.codings {
+        for coding in self.codings() {
             builder = builder.header(TRANSFER_ENCODING, *coding);
         }
         Ok(builder.body(body).map_err(|_| "no request")?)

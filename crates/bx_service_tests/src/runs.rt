@@ -1,21 +1,15 @@
 //! The runs of the exchange tests: requests and expected responses.
 mod readers;
 
-use crate::requests::{Ask, Content, FORM, JSON, POST, Want};
-use crate::texts;
+use crate::requests::{Ask, FORM, JSON, Want};
 use bx_advice::BODY_LIMIT;
+use bx_calls::texts;
 
 /// A step of a run. If it sends a request, the second task polls the exchange.
 #[derive(Clone, Copy, Debug)]
 pub enum Step {
     /// Checks that a POST of the first JSON gets status 200 with the second.
     Post(&'static str, &'static str),
-    /// Checks that a POST of this media type and text gets `Want`.
-    Body(&'static str, &'static str, Want),
-    /// Checks that a request with this method and target, and an empty body, gets `Want`.
-    Target(&'static str, &'static str, Want),
-    /// Checks that a POST of `[]` with these lines of `Transfer-Encoding` gets `Want`.
-    Coded(&'static [&'static str], Want),
     /// Checks that a request to the publishers' listener gets `Want`.
     Ask(Ask, Want),
     /// Checks that a request to a service with a limit of [`SMALL`] bytes gets `Want`.
@@ -38,10 +32,10 @@ pub enum Step {
     Sweep(usize),
 }
 
-/// An exchange for a POST that waits during other steps. The first task polls it.
+/// An exchange that waits during other steps. The first task polls it.
 #[derive(Clone, Copy, Debug)]
 pub struct Held {
-    pub content: Content,
+    pub ask: Ask,
     /// Whether the exchange's first poll waits for the request's body, and so wakes the task.
     pub is_late: bool,
     /// The steps after which the exchange still waits.
@@ -62,27 +56,52 @@ pub struct Run {
     pub ride: bool,
 }
 
-// Opens and subscribes the first session, and opens the second.
-const OPENED: [Step; 3] = [
-    Step::Post(texts::HANDSHAKE, texts::HANDSHAKEN),
-    Step::Post(texts::HANDSHAKE, texts::SECOND_HANDSHAKEN),
-    Step::Post(texts::SUBSCRIBE, texts::SUBSCRIBED),
-];
+// A run without steps, as a base for others.
+const NOTHING: Run = Run {
+    first: &[],
+    held: None,
+    last: &[],
+    ride: false,
+};
 
-// Opens and subscribes the first session, which acknowledges batches, and opens the second.
-const OPENED_WITH_ACK: [Step; 3] = [
-    Step::Post(texts::ACK_HANDSHAKE, texts::ACK_HANDSHAKEN),
-    Step::Post(texts::HANDSHAKE, texts::SECOND_HANDSHAKEN),
-    Step::Post(texts::SUBSCRIBE, texts::SUBSCRIBED),
-];
+// A run that opens and subscribes the first session, and opens the second, as a base for others.
+const OPEN: Run = Run {
+    first: &[
+        Step::Post(texts::HANDSHAKE, texts::HANDSHAKEN),
+        Step::Post(texts::HANDSHAKE, texts::SECOND_HANDSHAKEN),
+        Step::Post(texts::SUBSCRIBE, texts::SUBSCRIBED),
+    ],
+    ..NOTHING
+};
+
+// A connect of the first session that waits and is dropped, as a base for others.
+const CONNECT: Held = Held {
+    ask: Ask::Body(JSON, texts::CONNECT),
+    is_late: false,
+    before: &[],
+    then: &[],
+    gives: None,
+};
 
 const PUBLISH: Step = Step::Post(texts::PUBLISH, texts::PUBLISHED);
 
+const OK: Want = Want::Json("[]");
+
+const CALLED: Want = Want::Script("jsonpcallback([])");
+
 const BAD: Want = Want::Status(400);
+
+const FORBIDDEN: Want = Want::Status(403);
+
+const MISSING: Want = Want::Status(404);
+
+const NOT_ALLOWED: Want = Want::Status(405);
 
 const TOO_LARGE: Want = Want::Status(413);
 
 const CODED: Want = Want::Status(501);
+
+const UNAVAILABLE: Want = Want::Status(503);
 
 /// The limit of `Bench::small` on a body or query, in bytes.
 pub const SMALL: usize = 16;
@@ -91,109 +110,33 @@ pub const SMALL: usize = 16;
 // `Content-Length` above this limit, a request gets 413 before any of the body has arrived.
 const SMALL_LIMIT: Run = Run {
     first: &[
-        Step::Small(
-            Ask {
-                content: Content::Padded("[]", SMALL),
-                ..POST
-            },
-            Want::Json("[]"),
-        ),
-        Step::Small(
-            Ask {
-                content: Content::Padded("[]", SMALL + 1),
-                ..POST
-            },
-            TOO_LARGE,
-        ),
-        Step::Small(
-            Ask {
-                kind: FORM,
-                content: Content::Padded("message=[]", SMALL),
-                ..POST
-            },
-            Want::Json("[]"),
-        ),
-        Step::Small(
-            Ask {
-                kind: FORM,
-                content: Content::Padded("message=[]", SMALL + 1),
-                ..POST
-            },
-            TOO_LARGE,
-        ),
-        Step::Small(
-            Ask {
-                said: Some(SMALL as u64),
-                content: Content::Padded("[]", SMALL),
-                ..POST
-            },
-            Want::Json("[]"),
-        ),
-        Step::Small(
-            Ask {
-                said: Some((SMALL + 1) as u64),
-                content: Content::Late("[]"),
-                ..POST
-            },
-            TOO_LARGE,
-        ),
-        Step::Small(
-            Ask {
-                said: Some(u64::MAX),
-                content: Content::Late("[]"),
-                ..POST
-            },
-            TOO_LARGE,
-        ),
-        Step::Small(
-            Ask {
-                method: "GET",
-                target: "/cometd?message=[]&x=123",
-                ..POST
-            },
-            Want::Script("jsonpcallback([])"),
-        ),
-        Step::Small(
-            Ask {
-                method: "GET",
-                target: "/cometd?message=[]&x=1234",
-                ..POST
-            },
-            TOO_LARGE,
-        ),
-        Step::Small(
-            Ask {
-                method: "GET",
-                target: "/cometd?jsonp=a(&message=[",
-                ..POST
-            },
-            TOO_LARGE,
-        ),
+        Step::Small(Ask::Padded(JSON, "[]", SMALL), OK),
+        Step::Small(Ask::Padded(JSON, "[]", SMALL + 1), TOO_LARGE),
+        Step::Small(Ask::Padded(FORM, "message=[]", SMALL), OK),
+        Step::Small(Ask::Padded(FORM, "message=[]", SMALL + 1), TOO_LARGE),
+        Step::Small(Ask::Exact(SMALL), OK),
+        Step::Small(Ask::Said((SMALL + 1) as u64), TOO_LARGE),
+        Step::Small(Ask::Said(u64::MAX), TOO_LARGE),
+        Step::Small(Ask::Get("/cometd?message=[]&x=123"), CALLED),
+        Step::Small(Ask::Get("/cometd?message=[]&x=1234"), TOO_LARGE),
+        Step::Small(Ask::Get("/cometd?jsonp=a(&message=["), TOO_LARGE),
     ],
-    held: None,
-    last: &[],
-    ride: false,
+    ..NOTHING
 };
 
 // A POST to a path below `/cometd` is answered. So is a POST if its body arrives late.
 const ANSWERED: Run = Run {
     first: &[Step::Ask(
-        Ask {
-            target: "/cometd/handshake",
-            content: Content::Whole(texts::HANDSHAKE),
-            ..POST
-        },
+        Ask::To("POST", "/cometd/handshake", texts::HANDSHAKE),
         Want::Json(texts::HANDSHAKEN),
     )],
     held: Some(Held {
-        content: Content::Late(texts::HANDSHAKE),
+        ask: Ask::Late(texts::HANDSHAKE),
         is_late: true,
-        before: &[],
-        then: &[],
         gives: Some((true, Want::Json(texts::SECOND_HANDSHAKEN))),
+        ..CONNECT
     }),
-    last: &[],
-    ride: false,
+    ..NOTHING
 };
 
 // Requests are rejected because of their path, method, transfer coding, documents, length or
@@ -201,239 +144,128 @@ const ANSWERED: Run = Run {
 // before its body arrives.
 const REFUSED: Run = Run {
     first: &[
-        Step::Target("POST", "/cometdx", Want::Status(404)),
-        Step::Target("GET", "/comet", Want::Status(404)),
-        Step::Target("POST", "/", Want::Status(404)),
-        Step::Target("PUT", "/cometdx", Want::Status(404)),
-        Step::Target("PUT", "/cometd", Want::Status(405)),
-        Step::Target("DELETE", "/cometd/connect", Want::Status(405)),
-        Step::Coded(&["chunked"], Want::Json("[]")),
-        Step::Coded(&["CHUNKed"], Want::Json("[]")),
-        Step::Coded(&["gzip, chunked"], CODED),
-        Step::Coded(&["gzip"], CODED),
-        Step::Coded(&["identity"], CODED),
-        Step::Coded(&["chunke"], CODED),
-        Step::Coded(&[""], CODED),
-        Step::Coded(&["gzip", "chunked"], CODED),
-        Step::Coded(&["chunked", "gzip"], CODED),
-        Step::Coded(&["chunked", "chunked"], CODED),
-        Step::Coded(&["gzip", "br", "chunked"], CODED),
-        Step::Ask(
-            Ask {
-                method: "GET",
-                target: "/cometd?message=[]",
-                codings: &["gzip, chunked"],
-                ..POST
-            },
-            CODED,
-        ),
-        Step::Ask(
-            Ask {
-                target: "/cometdx",
-                codings: &["gzip, chunked"],
-                ..POST
-            },
-            Want::Status(404),
-        ),
-        Step::Ask(
-            Ask {
-                method: "PUT",
-                codings: &["gzip, chunked"],
-                ..POST
-            },
-            Want::Status(405),
-        ),
-        Step::Ask(
-            Ask {
-                said: Some(BODY_LIMIT as u64 + 1),
-                codings: &["gzip, chunked"],
-                ..POST
-            },
-            CODED,
-        ),
-        Step::Target("GET", "/cometd", BAD),
-        Step::Target("GET", "/cometd?jsonp=cb", BAD),
-        Step::Target("GET", "/cometd?message=[]&jsonp=a(b", BAD),
-        Step::Target("GET", "/cometd/?message=[", BAD),
-        Step::Body(JSON, "", BAD),
-        Step::Body(JSON, "[", BAD),
-        Step::Body(JSON, "[1]", BAD),
-        Step::Body(JSON, r#"[{"channel":1}]"#, BAD),
-        Step::Body(JSON, "message=[]", BAD),
-        Step::Body(FORM, "", BAD),
-        Step::Body(FORM, "jsonp=cb", BAD),
-        Step::Body(FORM, "message=[", BAD),
-        Step::Body(FORM, "message=[]", Want::Json("[]")),
-        Step::Body(JSON, "[]", Want::Json("[]")),
-        Step::Ask(
-            Ask {
-                content: Content::Padded("[]", BODY_LIMIT),
-                ..POST
-            },
-            Want::Json("[]"),
-        ),
-        Step::Ask(
-            Ask {
-                content: Content::Padded("[]", BODY_LIMIT + 1),
-                ..POST
-            },
-            TOO_LARGE,
-        ),
-        Step::Ask(
-            Ask {
-                said: Some((BODY_LIMIT + 1) as u64),
-                content: Content::Late("[]"),
-                ..POST
-            },
-            TOO_LARGE,
-        ),
+        Step::Ask(Ask::To("POST", "/cometdx", ""), MISSING),
+        Step::Ask(Ask::Get("/comet"), MISSING),
+        Step::Ask(Ask::To("POST", "/", ""), MISSING),
+        Step::Ask(Ask::To("PUT", "/cometdx", ""), MISSING),
+        Step::Ask(Ask::To("PUT", "/cometd", ""), NOT_ALLOWED),
+        Step::Ask(Ask::To("DELETE", "/cometd/connect", ""), NOT_ALLOWED),
+        Step::Ask(Ask::Coded(&["chunked"]), OK),
+        Step::Ask(Ask::Coded(&["CHUNKed"]), OK),
+        Step::Ask(Ask::Coded(&["gzip, chunked"]), CODED),
+        Step::Ask(Ask::Coded(&["gzip"]), CODED),
+        Step::Ask(Ask::Coded(&["identity"]), CODED),
+        Step::Ask(Ask::Coded(&["chunke"]), CODED),
+        Step::Ask(Ask::Coded(&[""]), CODED),
+        Step::Ask(Ask::Coded(&["gzip", "chunked"]), CODED),
+        Step::Ask(Ask::Coded(&["chunked", "gzip"]), CODED),
+        Step::Ask(Ask::Coded(&["chunked", "chunked"]), CODED),
+        Step::Ask(Ask::Coded(&["gzip", "br", "chunked"]), CODED),
+        Step::Ask(Ask::Gzip("GET", "/cometd?message=[]", None), CODED),
+        Step::Ask(Ask::Gzip("POST", "/cometdx", None), MISSING),
+        Step::Ask(Ask::Gzip("PUT", "/cometd", None), NOT_ALLOWED),
+        Step::Ask(Ask::Gzip("POST", "/cometd", Some(TOO_LONG)), CODED),
+        Step::Ask(Ask::Get("/cometd"), BAD),
+        Step::Ask(Ask::Get("/cometd?jsonp=cb"), BAD),
+        Step::Ask(Ask::Get("/cometd?message=[]&jsonp=a(b"), BAD),
+        Step::Ask(Ask::Get("/cometd/?message=["), BAD),
+        Step::Ask(Ask::Body(JSON, ""), BAD),
+        Step::Ask(Ask::Body(JSON, "["), BAD),
+        Step::Ask(Ask::Body(JSON, "[1]"), BAD),
+        Step::Ask(Ask::Body(JSON, r#"[{"channel":1}]"#), BAD),
+        Step::Ask(Ask::Body(JSON, "message=[]"), BAD),
+        Step::Ask(Ask::Body(FORM, ""), BAD),
+        Step::Ask(Ask::Body(FORM, "jsonp=cb"), BAD),
+        Step::Ask(Ask::Body(FORM, "message=["), BAD),
+        Step::Ask(Ask::Body(FORM, "message=[]"), OK),
+        Step::Ask(Ask::Body(JSON, "[]"), OK),
+        Step::Ask(Ask::Padded(JSON, "[]", BODY_LIMIT), OK),
+        Step::Ask(Ask::Padded(JSON, "[]", BODY_LIMIT + 1), TOO_LARGE),
+        Step::Ask(Ask::Said(TOO_LONG), TOO_LARGE),
         Step::TooLate(texts::HANDSHAKE, BAD),
         Step::Post(texts::HANDSHAKE, texts::HANDSHAKEN),
     ],
-    held: None,
-    last: &[],
-    ride: false,
+    ..NOTHING
 };
+
+// The least length of a body that is rejected, in bytes.
+const TOO_LONG: u64 = BODY_LIMIT as u64 + 1;
 
 // A request to a closed hub gets 503.
 const CLOSED: Run = Run {
     first: &[
         Step::Close,
-        Step::Body(JSON, texts::HANDSHAKE, Want::Status(503)),
+        Step::Ask(Ask::Body(JSON, texts::HANDSHAKE), UNAVAILABLE),
     ],
-    held: None,
-    last: &[],
-    ride: false,
+    ..NOTHING
 };
 
 // A form of two documents is answered with JSON, and queries with scripts.
 const OTHER_FORMS: Run = Run {
     first: &[
         Step::Post(texts::HANDSHAKE, texts::HANDSHAKEN),
-        Step::Body(
-            FORM,
-            texts::FORM_OF_TWO,
+        Step::Ask(
+            Ask::Body(FORM, texts::FORM_OF_TWO),
             Want::Json(texts::BOTH_OF_THE_FORM),
         ),
         Step::Post(texts::CONNECT_AT_ONCE, texts::CONNECTED_BY_THE_FORM),
-        Step::Target(
-            "GET",
-            texts::QUERY_PUBLISH,
+        Step::Ask(
+            Ask::Get(texts::QUERY_PUBLISH),
             Want::Script(texts::SCRIPT_PUBLISHED),
         ),
-        Step::Target(
-            "GET",
-            texts::QUERY_CONNECT,
+        Step::Ask(
+            Ask::Get(texts::QUERY_CONNECT),
             Want::Script(texts::SCRIPT_CONNECTED),
         ),
-        Step::Target(
-            "GET",
-            "/cometd?message=[]",
-            Want::Script("jsonpcallback([])"),
-        ),
+        Step::Ask(Ask::Get("/cometd?message=[]"), CALLED),
     ],
-    held: None,
-    last: &[],
-    ride: false,
+    ..NOTHING
 };
 
-// A publish answers a held connect with its event.
-const PUBLISHED: Run = Run {
-    first: &OPENED,
-    held: Some(Held {
-        content: Content::Whole(texts::CONNECT),
-        is_late: false,
-        before: &[],
-        then: &[PUBLISH],
-        gives: Some((true, Want::Json(texts::CONNECTED_WITH_EVENT))),
-    }),
-    last: &[],
-    ride: false,
-};
+// The steps after which the first session's connect still waits, the steps that then wake its task,
+// and the response to the connect.
+const ENDS: [(&[Step], &[Step], Want); 5] = [
+    // A publish answers a held connect with its event.
+    (&[], &[PUBLISH], Want::Json(texts::ANSWER)),
+    // A newer connect answers the held one.
+    (
+        &[],
+        &[Step::Wait(texts::CONNECT)],
+        Want::Json(texts::SUPERSEDED),
+    ),
+    // The session's disconnect answers the held connect.
+    (&[], &[DISCONNECT], Want::Json(texts::SESSION_ENDED)),
+    // A tick at the deadline answers the held connect. An earlier one does not.
+    (&[Step::Tick(29_999)], &[Step::Tick(30_000)], CONNECTED),
+    // Closing the hub answers the held connect with 503.
+    (&[], &[Step::Close], UNAVAILABLE),
+];
 
-// A newer connect answers the held one.
-const SUPERSEDED: Run = Run {
-    first: &OPENED,
-    held: Some(Held {
-        content: Content::Whole(texts::CONNECT),
-        is_late: false,
-        before: &[],
-        then: &[Step::Wait(texts::CONNECT)],
-        gives: Some((true, Want::Json(texts::SUPERSEDED))),
-    }),
-    last: &[],
-    ride: false,
-};
+// A step in which the first session disconnects.
+const DISCONNECT: Step = Step::Post(texts::DISCONNECT, texts::DISCONNECTED);
 
-// The session's disconnect answers the held connect.
-const DISCONNECTED: Run = Run {
-    first: &OPENED,
-    held: Some(Held {
-        content: Content::Whole(texts::CONNECT),
-        is_late: false,
-        before: &[],
-        then: &[Step::Post(texts::DISCONNECT, texts::DISCONNECTED)],
-        gives: Some((true, Want::Json(texts::SESSION_ENDED))),
-    }),
-    last: &[],
-    ride: false,
-};
-
-// A tick at the deadline answers the held connect. An earlier one does not.
-const TIMED_OUT: Run = Run {
-    first: &OPENED,
-    held: Some(Held {
-        content: Content::Whole(texts::CONNECT),
-        is_late: false,
-        before: &[Step::Tick(29_999)],
-        then: &[Step::Tick(30_000)],
-        gives: Some((true, Want::Json(texts::CONNECTED))),
-    }),
-    last: &[],
-    ride: false,
-};
-
-// Closing the hub answers the held connect with 503.
-const SHUT: Run = Run {
-    first: &OPENED,
-    held: Some(Held {
-        content: Content::Whole(texts::CONNECT),
-        is_late: false,
-        before: &[],
-        then: &[Step::Close],
-        gives: Some((true, Want::Status(503))),
-    }),
-    last: &[],
-    ride: false,
-};
+const CONNECTED: Want = Want::Json(texts::CONNECTED);
 
 // Pausing the shard of a held connect does not wake the task, but the next poll gets 503.
 const PAUSED: Run = Run {
-    first: &OPENED,
     held: Some(Held {
-        content: Content::Whole(texts::CONNECT),
-        is_late: false,
-        before: &[],
         then: &[Step::Pause],
-        gives: Some((false, Want::Status(503))),
+        gives: Some((false, UNAVAILABLE)),
+        ..CONNECT
     }),
-    last: &[],
-    ride: false,
+    ..OPEN
 };
 
 // Closing the hub also answers the second session's connect, in another shard than the first
 // session, with 503.
 const FIRST_SHARD_SHUT: Run = Run {
-    first: &OPENED,
     held: Some(Held {
-        content: Content::Whole(texts::SECOND_CONNECT),
-        is_late: false,
-        before: &[],
+        ask: Ask::Body(JSON, texts::CONNECT_OTHER),
         then: &[Step::Close],
-        gives: Some((true, Want::Status(503))),
+        gives: Some((true, UNAVAILABLE)),
+        ..CONNECT
     }),
-    last: &[],
-    ride: false,
+    ..OPEN
 };
 
 // While the first session's shard is paused, only requests that need its answer get 503.
@@ -444,13 +276,11 @@ const OTHERS_GO_ON: Run = Run {
         Step::Post(texts::HANDSHAKE, texts::SECOND_HANDSHAKEN),
         Step::Post(texts::SUBSCRIBE, texts::SUBSCRIBED),
         PUBLISH,
-        Step::Body(JSON, texts::CONNECT_AT_ONCE, Want::Status(503)),
+        Step::Ask(Ask::Body(JSON, texts::CONNECT_AT_ONCE), UNAVAILABLE),
         PUBLISH,
         Step::Post("[]", "[]"),
     ],
-    held: None,
-    last: &[],
-    ride: false,
+    ..NOTHING
 };
 
 // A request gets 400 and opens no session if its body fails.
@@ -459,21 +289,20 @@ const BROKEN_OFF: Run = Run {
         Step::Break(texts::HANDSHAKE),
         Step::Post(texts::HANDSHAKE, texts::HANDSHAKEN),
     ],
-    held: None,
-    last: &[],
-    ride: false,
+    ..NOTHING
 };
 
 // The exchange of a held connect is dropped, in a session that acknowledges batches. The session's
 // next connect gets the event published meanwhile. The answer that nobody took is swept, once.
 const GIVEN_UP: Run = Run {
-    first: &OPENED_WITH_ACK,
+    first: &[
+        Step::Post(texts::ACK_HANDSHAKE, texts::ACK_HANDSHAKEN),
+        Step::Post(texts::HANDSHAKE, texts::SECOND_HANDSHAKEN),
+        Step::Post(texts::SUBSCRIBE, texts::SUBSCRIBED),
+    ],
     held: Some(Held {
-        content: Content::Whole(texts::ACK_CONNECT),
-        is_late: false,
-        before: &[],
-        then: &[],
-        gives: None,
+        ask: Ask::Body(JSON, texts::ACK_CONNECT),
+        ..CONNECT
     }),
     last: &[
         PUBLISH,
@@ -481,25 +310,18 @@ const GIVEN_UP: Run = Run {
         Step::Sweep(1),
         Step::Sweep(0),
     ],
-    ride: false,
+    ..NOTHING
 };
 
 // The exchange of a held connect is dropped, in a session without acknowledgements. The event in
 // the connect's answer is lost.
 const LOST: Run = Run {
-    first: &OPENED,
-    held: Some(Held {
-        content: Content::Whole(texts::CONNECT),
-        is_late: false,
-        before: &[],
-        then: &[],
-        gives: None,
-    }),
+    held: Some(CONNECT),
     last: &[
         PUBLISH,
         Step::Post(texts::CONNECT_AT_ONCE, texts::CONNECTED),
     ],
-    ride: false,
+    ..OPEN
 };
 
 // The reply to a session's publish, also by a query, carries its waiting events. If the session
@@ -511,39 +333,30 @@ const RIDDEN: Run = Run {
         Step::Post(texts::HANDSHAKE, texts::SECOND_HANDSHAKEN),
         Step::Post(texts::SUBSCRIBE, texts::SUBSCRIBED),
         PUBLISH,
-        Step::Post(texts::PUBLISH_OWN, texts::OWN_RIDDEN),
-        Step::Target(
-            "GET",
-            texts::QUERY_PUBLISH,
+        Step::Post(texts::PUBLISH_OWN, texts::RIDDEN),
+        Step::Ask(
+            Ask::Get(texts::QUERY_PUBLISH),
             Want::Script(texts::SCRIPT_RIDDEN),
         ),
     ],
     held: Some(Held {
-        content: Content::Whole(texts::CONNECT),
-        is_late: false,
-        before: &[],
         then: &[Step::Post(texts::PUBLISH_TWO, texts::SECOND_RIDDEN)],
         gives: Some((true, Want::Json(texts::CONNECTED_WITH_OWN))),
+        ..CONNECT
     }),
     last: &[
         Step::Pause,
-        Step::Body(JSON, texts::PUBLISH_OWN, Want::Status(503)),
+        Step::Ask(Ask::Body(JSON, texts::PUBLISH_OWN), UNAVAILABLE),
     ],
     ride: true,
 };
 
-/// All runs of the exchange tests, each over its own hub.
-pub const RUNS: [Run; 20] = [
+const RUNS: [Run; 15] = [
     ANSWERED,
     REFUSED,
     SMALL_LIMIT,
     CLOSED,
     OTHER_FORMS,
-    PUBLISHED,
-    SUPERSEDED,
-    DISCONNECTED,
-    TIMED_OUT,
-    SHUT,
     FIRST_SHARD_SHUT,
     PAUSED,
     OTHERS_GO_ON,
@@ -555,3 +368,26 @@ pub const RUNS: [Run; 20] = [
     readers::HEAR,
     readers::RIDE,
 ];
+
+/// The number of runs of the exchange tests.
+pub const COUNT: usize = RUNS.len() + ENDS.len();
+
+/// Returns the run with index `number` of the exchange tests, or `None` if there are fewer runs.
+///
+/// The runs of `RUNS` come first, and then one for each row of `ENDS`.
+pub fn run_at(number: usize) -> Option<Run> {
+    if let Some(run) = RUNS.get(number) {
+        return Some(*run);
+    }
+    let (before, then, want) = ENDS.get(number.checked_sub(RUNS.len())?)?;
+    let held = Held {
+        before: *before,
+        then: *then,
+        gives: Some((true, *want)),
+        ..CONNECT
+    };
+    Some(Run {
+        held: Some(held),
+        ..OPEN
+    })
+}

@@ -505,17 +505,17 @@ impl Session {
     }
 }
 
-// Clones at most `count` of `events`, after skipping the first `behind`.
+// Clones at most `count` of `events`, after the first `skipped`.
 fn clone_part(
     alloc: Global,
     events: Iter<'_, SharedEvent>,
-    behind: usize,
+    skipped: usize,
     count: usize,
 ) -> Result<Vec<SharedEvent>, AllocError>
-    ensures { IfOk result (λ part. part.items ≡ take count (drop behind (deque_iter_rest events.entry))) }
+    ensures { IfOk result (λ part. part.items ≡ take count (drop skipped (deque_iter_rest events.entry))) }
 {
     let mut part = Vec::with_capacity(alloc, count)?;
-    for event in events.skip(behind).take(count) {
+    for event in events.skip(skipped).take(count) {
         part.push(event.clone()?)?;
     }
     Ok(part)

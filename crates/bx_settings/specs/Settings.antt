@@ -1,37 +1,23 @@
 -- The settings that positional arguments of the daemon give.
-use Rattle.std.specs.Prelude.{◌≡◌, ℕ, ◌^◌, ◌&&◌, nat_le, nat_lt, if◌then◌else◌, Bool, false, List, [], ◌∷◌, codes, Option, Some, None, option_and_then, option_map}
+use Rattle.std.specs.Prelude.{◌≡◌, ℕ, Bool, false, List, [], ◌∷◌, codes, Option, Some, None, option_map}
 use Rattle.std.specs.Net.Grammar.{IsSocketText}
 use Rattle.std.specs.declared.net.socket_addr.SocketAddr.{SocketAddr}
 use Rattle.bx_advice.specs.Options.{options_in}
 use Rattle.bx_advice.specs.declared.config.Config.{Config}
-use Rattle.bx_advice.specs.declared.config.TheConstants.{BODY_LIMIT, STANDARD_BATCH, STANDARD_BYTES, STANDARD_PATTERNS, STANDARD_SESSIONS, STANDARD_TEXTS}
+use Rattle.bx_advice.specs.declared.limit.Limit.TheVariants.{Events}
+use Rattle.bx_advice.specs.declared.limit.TheConstants.{BODY_LIMIT, MAX_SHARDS}
+use Rattle.bx_advice.specs.Configs.{new_config, with_maximum, with_options}
 use Rattle.bx_message.specs.Fields.{number_of}
-use Rattle.bx_settings.specs.Seed.{◌>>=◌, seed_in}
+use Rattle.bx_message.specs.Numbers.{◌>>=◌, count_in, limit_in, time_in}
+use Rattle.bx_settings.specs.Seed.{seed_in}
 use Rattle.bx_settings.specs.declared.settings.{Seed.Seed, Settings.Settings}
 use Rattle.bx_settings.specs.declared.settings.Seed.TheVariants.{FromArguments}
-
--- A configuration, with times in milliseconds. `events` and `bytes` limit a session's waiting
--- events, `patterns` its active patterns, `batch` the events of an answer, `sessions` the live
--- sessions, and `texts` the strings in a `subscription`.
-pub record PlainConfig : Type 0 where
-  pub shards : ℕ
-  pub timeout : ℕ
-  pub interval : ℕ
-  pub max_interval : ℕ
-  pub ride : Bool
-  pub anonymous : Bool
-  pub events : ℕ
-  pub bytes : ℕ
-  pub patterns : ℕ
-  pub batch : ℕ
-  pub sessions : ℕ
-  pub texts : ℕ
 
 -- Settings of the daemon, with addresses and names of files as bytes.
 pub record PlainSettings : Type 0 where
   pub listen : List ℕ
   pub read_only_listen : Option (List ℕ)
-  pub config : PlainConfig
+  pub config : Config
   pub body : ℕ
   pub seed : Seed
   pub connections : ℕ
@@ -42,29 +28,12 @@ pub record PlainSettings : Type 0 where
 
 -- ---- Values as plain data
 
--- The shards, times, options and limits of a `Config`, as numbers and truth values.
-abbrev pub plain_config : Config → PlainConfig
-plain_config config = record {
-  shards = config.shards;
-  timeout = config.timeout;
-  interval = config.interval;
-  max_interval = config.max_interval;
-  ride = config.ride;
-  anonymous = config.anonymous;
-  events = config.limits.events;
-  bytes = config.limits.bytes;
-  patterns = config.limits.patterns;
-  batch = config.limits.batch;
-  sessions = config.limits.sessions;
-  texts = config.limits.texts;
-}
-
--- The settings with each text as its bytes, and the configuration as numbers and truth values.
+-- The settings with each text as its bytes.
 abbrev pub plain : Settings → PlainSettings
 plain settings = record {
   listen = settings.listen.now;
   read_only_listen = option_map (λ address. address.now) settings.read_only_listen;
-  config = plain_config settings.config;
+  config = settings.config;
   body = settings.body;
   seed = settings.seed;
   connections = settings.connections;
@@ -76,26 +45,19 @@ plain settings = record {
 
 -- ---- Arguments
 
--- The number that digits give, if it is from 1 to a limit.
-abbrev pub count_in : ℕ → List ℕ → Option ℕ
-count_in limit digits = option_and_then (λ n. if nat_le 1 n && nat_le n limit then Some n else None) (number_of digits)
-
--- The number that digits give, if it has at most 32 bits.
-abbrev pub time_in : List ℕ → Option ℕ
-time_in digits = option_and_then (λ n. if nat_lt n (2 ^ 32) then Some n else None) (number_of digits)
-
 -- The configuration that six positional arguments give, if all of them are valid. They are the
 -- number of shards, `timeout`, `interval`, `max_interval`, the options and the limit of waiting
--- events. All other limits are the standard ones.
-abbrev pub config_in : List ℕ → List ℕ → List ℕ → List ℕ → List ℕ → List ℕ → Option PlainConfig
+-- events. All other limits are the default ones.
+abbrev pub config_in : List ℕ → List ℕ → List ℕ → List ℕ → List ℕ → List ℕ → Option Config
 config_in shards timeout interval max_interval options limit = do
-  s ← count_in 64 shards
+  s ← count_in MAX_SHARDS shards
   t ← time_in timeout
   i ← time_in interval
   m ← time_in max_interval
+  c ← new_config s t i m
   o ← options_in options
-  l ← count_in 65536 limit
-  Some (record { shards = s; timeout = t; interval = i; max_interval = m; ride = o.ride; anonymous = o.anonymous; events = l; bytes = STANDARD_BYTES; patterns = STANDARD_PATTERNS; batch = STANDARD_BATCH; sessions = STANDARD_SESSIONS; texts = STANDARD_TEXTS })
+  n ← limit_in Events limit
+  with_maximum Events n (with_options o c)
 
 -- The options and the limit of waiting events among the optional arguments. The options default to
 -- `-`, and the limit to 1024. The result is `None` if there are more than two arguments.

@@ -1,12 +1,11 @@
 //! Positional arguments of `bayeuxd`.
 ghost use Rattle.std.specs.Prelude.{◌≡◌, IfNone, IfSome, map, option_map, string_bytes};
-ghost use Rattle.bx_settings.specs.Settings.{config_in, Give, optional_in, plain, plain_config, PlainSettings, settings_in};
+ghost use Rattle.bx_settings.specs.Settings.{config_in, Give, optional_in, plain, PlainSettings, settings_in};
 
 use crate::seed::read_digits;
 use crate::settings::{Seed, Settings};
-use crate::time::time_in;
-use bx_advice::{BODY_LIMIT, Config, Options};
-use bx_message::number_of;
+use bx_advice::{BodyLimit, Config, Limit, MAX_SHARDS, Options};
+use bx_message::{count_in, limit_in, number_of, time_in};
 use std::net::SocketAddr;
 
 /// Parses the positional arguments of `bayeuxd`, or returns `None` if they are wrong.
@@ -26,10 +25,9 @@ pub fn parse_args(args: &[String]) -> Option<Settings<'_>>
     ensures some { IfSome result (λ s. Give (map string_bytes args.now) (plain s)) }
     ensures none { IfNone result ((s : PlainSettings) → ¬ (Give (map string_bytes args.now) s)) }
 {
-    let settings = settings_in(args)?;
-    match settings.listen.parse::<SocketAddr>() {
-        Ok(_) => Some(settings),
-        Err(_) => None,
+    match settings_in(args) {
+        Some(settings) if settings.listen.parse::<SocketAddr>().is_ok() => Some(settings),
+        _ => None,
     }
 }
 
@@ -65,7 +63,7 @@ fn settings_in(args: &[String]) -> Option<Settings<'_>>
         listen: listen.as_str(),
         read_only_listen: None,
         config,
-        body: BODY_LIMIT,
+        body: BodyLimit::greatest(),
         seed: Seed::FromArguments(read_digits(seed.as_bytes())?),
         connections: number_of(connections.as_bytes())?,
         metrics: None,
@@ -102,16 +100,16 @@ fn config_in(
     options: &[u8],
     limit: &[u8],
 ) -> Option<Config>
-    ensures { option_map plain_config result
+    ensures { result
         ≡ config_in shards.now timeout.now interval.now max_interval.now options.now limit.now }
 {
     let config = Config::new(
-        usize::try_from(number_of(shards)?).ok()?,
+        count_in(MAX_SHARDS, shards)?,
         time_in(timeout)?,
         time_in(interval)?,
         time_in(max_interval)?,
     )?;
     config
         .with(Options::read(options)?)
-        .with_limit(time_in(limit)?)
+        .with_maximum(Limit::Events, limit_in(Limit::Events, limit)?)
 }

@@ -1,11 +1,8 @@
 //! Command-line flags of `bayeuxd`.
-ghost use Rattle.std.specs.Prelude.{◌≤◌, IfSome};
-ghost use Rattle.bx_advice.specs.declared.config.TheConstants.{BODY_LIMIT};
-
 use crate::settings::{Seed, Settings};
 use crate::time::milliseconds;
-use bx_advice::{BODY_LIMIT, Config, MAX_SHARDS, Options};
-use bx_message::number_of;
+use bx_advice::{BODY_LIMIT, BodyLimit, Config, Limit, MAX_SHARDS, Options};
+use bx_message::{count_in, number_of};
 use clap::error::ErrorKind;
 use clap::{Arg, ArgAction, ArgMatches, Command, Error};
 use std::alloc::{AllocError, Global};
@@ -13,21 +10,8 @@ use std::alloc::{AllocError, Global};
 /// The version that `--version` prints.
 pub const VERSION: &str = "0.1.0";
 
-// What `--shards` accepts, in words for an error message. The constants below are for other flags.
-const SHARDS: &str = "a number from 1 to 64";
-
+// What a flag for a time accepts, in words for an error message.
 const TIME: &str = "a number of milliseconds up to 4294967295, or of seconds such as 30s";
-
-// What `--limit` and `--sessions` accept, in words for an error message.
-const LIMIT: &str = "a number from 1 to 65536";
-
-const BYTES: &str = "a number from 1 to 4294967295";
-
-const PATTERNS: &str = "a number from 1 to 1024";
-
-const BODY: &str = "a number from 1 to 1048576";
-
-const CONNECTIONS: &str = "a number";
 
 /// Parses the command-line flags of `bayeuxd`.
 ///
@@ -48,17 +32,22 @@ pub fn read_flags<'a>(
     let mut command = command(alloc)?;
     let matches = command.try_get_matches_from_mut(args)?;
     let config = read_config(alloc, &mut command, &matches, processors)?;
-    let Some(body) = body_of(&matches) else {
-        return Err(wrong(alloc, &mut command, &matches, "body", BODY)?);
-    };
+    let body = read_number(
+        alloc,
+        &mut command,
+        &matches,
+        "body",
+        BODY_LIMIT,
+        BODY_LIMIT,
+    )?;
     let Some(connections) = number_of(value_of(&matches, "connections", "0").as_bytes()) else {
-        return Err(wrong(alloc, &mut command, &matches, "connections", CONNECTIONS)?);
+        return Err(wrong(alloc, &mut command, &matches, "connections", "a number")?);
     };
     Ok(Settings {
         listen: value_of(&matches, "listen", "127.0.0.1:8087"),
         read_only_listen: matches.get_str("readers"),
         config,
-        body,
+        body: BodyLimit::new(body).unwrap_or(BodyLimit::greatest()),
         seed: match matches.get_str("seed-file") {
             Some(path) => Seed::File(path),
             None => Seed::FromSystem,
@@ -83,78 +72,47 @@ fn read_config(
     let timeout = read_time(alloc, command, matches, "timeout", "30s")?;
     let interval = read_time(alloc, command, matches, "interval", "0")?;
     let max_interval = read_time(alloc, command, matches, "max-interval", "10s")?;
-    let Some(config) = config_of(matches, processors, timeout, interval, max_interval) else {
-        return Err(wrong(alloc, command, matches, "shards", SHARDS)?);
-    };
+    let most = processors.clamp(1, MAX_SHARDS);
+    let shards = read_number(alloc, command, matches, "shards", MAX_SHARDS, most)?;
     let options = Options {
         ride: matches.get_flag("ride"),
         anonymous: matches.get_flag("anonymous"),
     };
-    let config = config.with(options);
-    let Some(config) = with_number(config, matches, "limit", |it, n| it.with_limit(n)) else {
-        return Err(wrong(alloc, command, matches, "limit", LIMIT)?);
-    };
-    let Some(config) = with_number(config, matches, "bytes", |it, n| it.with_bytes(n)) else {
-        return Err(wrong(alloc, command, matches, "bytes", BYTES)?);
-    };
-    let Some(config) = with_number(config, matches, "patterns", |it, n| it.with_patterns(n)) else {
-        return Err(wrong(alloc, command, matches, "patterns", PATTERNS)?);
-    };
-    match with_number(config, matches, "sessions", |it, n| it.with_sessions(n)) {
+    let config = Config::new(shards, timeout, interval, max_interval);
+    let mut config = config.map(|config| config.with(options));
+    for limit in &Limit::ALL {
+        let (name, greatest, standard) = (limit.name(), limit.greatest(), limit.standard());
+        let n = read_number(alloc, command, matches, name, greatest, standard)?;
+        config = config.and_then(|config| config.with_maximum(*limit, n));
+    }
+    match config {
         Some(config) => Ok(config),
-        None => Err(wrong(alloc, command, matches, "sessions", LIMIT)?),
+        None => Err(wrong(alloc, command, matches, "shards", "a configuration")?),
     }
 }
 
-// Creates a configuration with these times in milliseconds, and the number of shards of `--shards`.
+// Returns the number that flag `name` gives, from 1 to `greatest`. Without the flag, it is
+// `standard`.
 //
-// Without the flag there is one shard for each of `processors`, but at least 1 and at most 64.
-// Returns `None` if the value of `--shards` is wrong.
-fn config_of(
-    matches: &ArgMatches<'_>,
-    processors: usize,
-    timeout: u32,
-    interval: u32,
-    max_interval: u32,
-) -> Option<Config> {
-    let shards = match matches.get_str("shards") {
-        Some(text) => usize::try_from(number_of(text.as_bytes())?).ok()?,
-        None => processors.clamp(1, MAX_SHARDS),
-    };
-    Config::new(shards, timeout, interval, max_interval)
-}
-
-// Returns what `with` returns for `config` and the number that flag `name` gives.
-//
-// Returns `config` if the flag is missing, and `None` if its value is not a number below 2^32.
-fn with_number<F: FnOnce(Config, u32) -> Option<Config>>(
-    config: Config,
+// Returns the error for the user if the value is wrong.
+fn read_number(
+    alloc: Global,
+    command: &mut Command<'_>,
     matches: &ArgMatches<'_>,
     name: &str,
-    with: F,
-) -> Option<Config>
-    requires { F.IsAlwaysCallable with }
-{
-    match matches.get_str(name) {
-        Some(text) => with(config, u32::try_from(number_of(text.as_bytes())?).ok()?),
-        None => Some(config),
-    }
-}
-
-// Returns the greatest length of a body in bytes from `--body`, by default `BODY_LIMIT`.
-//
-// Returns `None` if the value is not a number from 1 to `BODY_LIMIT`.
-fn body_of(matches: &ArgMatches<'_>) -> Option<usize>
-    ensures { IfSome result (λ bytes. (1 ≤ bytes) × (bytes ≤ BODY_LIMIT)) }
-{
-    let bytes = match matches.get_str("body") {
-        Some(text) => usize::try_from(number_of(text.as_bytes())?).ok()?,
-        None => BODY_LIMIT,
+    greatest: usize,
+    standard: usize,
+) -> Result<usize, Error> {
+    let Some(text) = matches.get_str(name) else {
+        return Ok(standard);
     };
-    if bytes < 1 || bytes > BODY_LIMIT {
-        return None;
+    match count_in(greatest, text.as_bytes()) {
+        Some(number) => Ok(number),
+        None => {
+            let right = format!(in alloc; "a number from 1 to {greatest}")?;
+            Err(wrong(alloc, command, matches, name, right.as_str())?)
+        }
     }
-    Some(bytes)
 }
 
 // Returns the time that flag `name` gives, in milliseconds. Without the flag, it is `standard`.
@@ -255,41 +213,43 @@ fn with_times<'a>(alloc: Global, command: Command<'a>) -> Result<Command<'a>, Al
         ))
 }
 
-// Adds the flags for limits to `command`.
-//
-// They are `--limit`, `--bytes`, `--patterns`, `--sessions` and `--body`.
+// Adds the flags for limits to `command`: those of [`Limit::ALL`], and `--body`.
 fn with_limits<'a>(alloc: Global, command: Command<'a>) -> Result<Command<'a>, AllocError> {
-    command
-        .arg(value(
-            alloc,
-            "limit",
-            "N",
-            "Allow at most N waiting events per session, 1 to 65536 [default: 1024]",
-        ))?
-        .arg(value(
-            alloc,
-            "bytes",
-            "N",
+    let mut command = command;
+    for limit in &Limit::ALL {
+        command = with_limit(alloc, command, *limit)?;
+    }
+    command.arg(value(
+        alloc,
+        "body",
+        "N",
+        "Allow at most N bytes in the body or query of a request, 1 to 1048576 [default: 1048576]",
+    ))
+}
+
+// Adds the flag for `limit` to `command`.
+fn with_limit<'a>(
+    alloc: Global,
+    command: Command<'a>,
+    limit: Limit,
+) -> Result<Command<'a>, AllocError> {
+    command.arg(value(alloc, name_of(limit), "N", help_of(limit)))
+}
+
+// Returns the name of the flag for `limit`.
+fn name_of<'a>(limit: Limit) -> &'a str {
+    limit.name()
+}
+
+// Returns the help text of the flag for `limit`.
+fn help_of<'a>(limit: Limit) -> &'a str {
+    match limit {
+        Limit::Bytes =>
             "Allow at most N bytes of waiting events per session, 1 to 4294967295 [default: no limit]",
-        ))?
-        .arg(value(
-            alloc,
-            "patterns",
-            "N",
-            "Allow at most N active patterns per session, 1 to 1024 [default: 1024]",
-        ))?
-        .arg(value(
-            alloc,
-            "sessions",
-            "N",
-            "Allow at most N live sessions, 1 to 65536 [default: 65536]",
-        ))?
-        .arg(value(
-            alloc,
-            "body",
-            "N",
-            "Allow at most N bytes in the body or query of a request, 1 to 1048576 [default: 1048576]",
-        ))
+        Limit::Sessions => "Allow at most N live sessions, 1 to 65536 [default: 65536]",
+        Limit::Patterns => "Allow at most N active patterns per session, 1 to 1024 [default: 1024]",
+        Limit::Events => "Allow at most N waiting events per session, 1 to 65536 [default: 1024]",
+    }
 }
 
 // Adds the flags for options of the protocol to `command`: `--ride` and `--anonymous`.

@@ -1,10 +1,14 @@
 //! The seed of the generator of nonces.
-ghost use Rattle.std.specs.Prelude.{◌≡◌, ◌<◌, IfSome};
-ghost use Rattle.bx_settings.specs.Seed.{byte_in, digit_in, seed_in};
+ghost use Rattle.std.specs.Prelude.{◌≡◌};
+ghost use Rattle.bx_settings.specs.Seed.{seed_in};
 
+use hex::FromHex;
 use std::io::{ErrorKind, Read};
 use std::rt::Files;
 use std::{fs, io};
+
+// The greatest length of a seed file in bytes.
+const MAX_FILE_BYTES: u64 = 1024;
 
 /// Parses a seed of 64 hexadecimal digits, or returns `None` if `digits` are anything else.
 ///
@@ -12,47 +16,24 @@ use std::{fs, io};
 pub fn read_digits(digits: &[u8]) -> Option<[u8; 32]>
     ensures { result ≡ seed_in digits.now }
 {
-    if digits.len() != 64 {
-        return None;
-    }
-    let mut seed = [0; 32];
-    for at in 0..32 {
-        seed[at] = byte_of(digits[2 * at], digits[2 * at + 1])?;
-    }
-    Some(seed)
+    <[u8; 32] as FromHex>::from_hex(digits).ok()
 }
 
-// Returns the byte of two hexadecimal digits, or `None` if one of them is anything else.
-fn byte_of(high: u8, low: u8) -> Option<u8>
-    ensures { result ≡ byte_in high low }
-{
-    Some(digit_of(high)? * 16 + digit_of(low)?)
-}
-
-// Returns the value of a hexadecimal digit, or `None` if `digit` is anything else.
-fn digit_of(digit: u8) -> Option<u8>
-    ensures value { result ≡ digit_in digit }
-    ensures in_range { IfSome result (λ d. d < 16) }
-{
-    match digit {
-        b'0'..=b'9' => Some(digit - b'0'),
-        b'a'..=b'f' => Some(digit - b'a' + 10),
-        b'A'..=b'F' => Some(digit - b'A' + 10),
-        _ => None,
-    }
-}
-
-/// Reads the seed from the file at `path`, which must begin with its 64 hexadecimal digits.
+/// Reads the seed from the file at `path`: 64 hexadecimal digits, which white space may follow.
 ///
 /// # Errors
 ///
-/// The error of the file if it cannot be opened, or 64 bytes cannot be read; `InvalidData` if these
-/// are not hexadecimal digits.
-pub fn read_seed<R: Files>(rt: &R, path: &str) -> io::Result<[u8; 32]> {
-    let mut file = fs::open(rt, path)?;
-    let mut digits = [0; 64];
-    file.read_exact(&mut digits)?;
-    match read_digits(&digits) {
+/// The error of the file if it cannot be opened or read; `InvalidData` if it has anything else, or
+/// more than 1024 bytes.
+pub fn read_seed<R: Files + Alloc>(rt: &R, path: &str) -> io::Result<[u8; 32]> {
+    let mut text = Vec::new(rt.alloc());
+    fs::open(rt, path)?
+        .take(MAX_FILE_BYTES + 1)
+        .read_to_end(&mut text)?;
+    if text.len() as u64 > MAX_FILE_BYTES {
+        return Err(ErrorKind::InvalidData.into());
+    }
+    match read_digits(text.trim_ascii_end()) {
         Some(seed) => Ok(seed),
         None => Err(ErrorKind::InvalidData.into()),
     }

@@ -1,8 +1,5 @@
 //! The settings of `bayeuxd`, and where its seed is from.
-ghost use Rattle.std.specs.Prelude.{◌≤◌};
-ghost use Rattle.bx_advice.specs.declared.config.TheConstants.{BODY_LIMIT};
-
-use bx_advice::Config;
+use bx_advice::{BodyLimit, Config};
 
 /// The source of the seed of the generator of nonces.
 #[derive(Clone, Copy, Debug, PartialEq, Eq)]
@@ -28,8 +25,8 @@ pub struct Settings<'a> {
     pub read_only_listen: Option<&'a str>,
     /// The server's number of shards, times in milliseconds, limits and options.
     pub config: Config,
-    /// The greatest length in bytes of a request's body or query: 1 to [`bx_advice::BODY_LIMIT`].
-    pub body: usize,
+    /// The greatest length in bytes of a request's body or query.
+    pub body: BodyLimit,
     /// The source of the seed of the generator of nonces.
     pub seed: Seed<'a>,
     /// The number of connections after which the server ends, or 0 if it serves any number.
@@ -42,6 +39,4 @@ pub struct Settings<'a> {
     pub record_answers: bool,
     /// Whether the server ends at the end of standard input.
     pub until_eof: bool,
-    pub ghost some_body: { 1 ≤ body },
-    pub ghost body_in_range: { body ≤ BODY_LIMIT },
 }

@@ -1,8 +1,5 @@
-//! Numbers in arguments, and times such as `30s`.
-ghost use Rattle.std.specs.Prelude.{◌≡◌};
-ghost use Rattle.bx_settings.specs.Settings.{time_in};
-
-use bx_message::number_of;
+//! Times such as `30s`.
+use bx_message::time_in;
 
 /// Converts a text such as `30s`, `500ms` or `500` to milliseconds.
 ///
@@ -15,11 +12,4 @@ pub(crate) fn milliseconds(text: &str) -> Option<u32> {
         },
         None => time_in(text.as_bytes()),
     }
-}
-
-/// Parses a decimal number, or returns `None` if `digits` are not a number below 2^32.
-pub(crate) fn time_in(digits: &[u8]) -> Option<u32>
-    ensures { result ≡ time_in digits.now }
-{
-    u32::try_from(number_of(digits)?).ok()
 }

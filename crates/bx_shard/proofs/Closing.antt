@@ -5,19 +5,13 @@ use Rattle.std.proofs.lemmas.List.Folds.{list_any_more}
 use Rattle.bx_entry.specs.Keeping.{Kept}
 use Rattle.bx_connects.specs.declared.connects.ConnectState.{ConnectState}
 use Rattle.bx_connects.specs.declared.connects.ConnectState.TheVariants.{Held, Filed}
-use Rattle.bx_shard.specs.Words.{forgetting, held_in, held_until, dropped_by}
+use Rattle.bx_shard.specs.Words.{forgetting, held_in, dropped_by}
 use Rattle.bx_shard.proofs.Ties.{Agree}
 
 abbrev pub parted_from : ℕ → Option ConnectState → Option ConnectState
 parted_from m None = None
 parted_from m (Some (Held session deadline waker)) = cond (nat_eq m session) None (Some (Held session deadline waker))
 parted_from m (Some (Filed session place answer)) = Some (Filed session place answer)
-
-parted_own : (m : ℕ) (o : Option ConnectState) (deadline : Option ℕ) → held_until o m ≡ Some deadline → None ≡ parted_from m o
-parted_own m o deadline h = grind arith
-
-parted_other : (m : ℕ) (o : Option ConnectState) → held_until o m ≡ None → o ≡ parted_from m o
-parted_other m o h = grind arith
 
 pub closing_parts : (C : ℕ → Option ConnectState) (S : ℕ → Option Kept) (m : ℕ) → Agree C S
     → (p : ℕ) → forgetting (held_in (S m)) C p ≡ parted_from m (C p)

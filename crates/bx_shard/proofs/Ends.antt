@@ -7,7 +7,7 @@ use Rattle.bx_advice.specs.declared.advice.Outcome.TheVariants.{Disconnected, Fa
 use Rattle.bx_advice.specs.declared.error.Error.TheVariants.{QueueOverflow}
 use Rattle.bx_message.specs.declared.reply.Answer.{Answer}
 use Rattle.bx_entry.specs.Words.{Kept, after, kept, resumed}
-use Rattle.bx_entry.specs.Sessions.{Pending, Publication, Session, acknowledged, admitted, answered, answered_or_held, delivered_to, expired, expired_from, given, gives, received, released, released_from, with_event}
+use Rattle.bx_entry.specs.Sessions.{Pending, Publication, Session, acknowledged, admitted, answered, answered_or_held, expired, expired_from, given, received, released, released_from}
 use Rattle.bx_session.specs.declared.answered.Answered.{Answered}
 use Rattle.bx_session.specs.Views.{answered_of, deadline_of}
 use Rattle.bx_connects.specs.declared.connects.ConnectState.{ConnectState}
@@ -118,9 +118,6 @@ expired_from_e config place moment k held e = grind (arith, common_steps)
 pub expired_e : (config : Config) (place moment : ℕ) (k : Kept) → From k (expired config place moment (resumed k))
 expired_e config place moment k = expired_from_e config place moment k k.held refl
 
-delivered_e : (config : Config) (e : Publication) (k : Kept) (held : Option Pending) → k.held ≡ held → From k (delivered_to config e (with_event e (resumed k)) held)
-delivered_e config e k held h = grind (arith, common_steps)
-
 pub received_e : (config : Config) (e : Publication) (k : Kept) → From k (received config e (resumed k))
 received_e config e k = grind (arith, common_steps)
 
@@ -132,9 +129,6 @@ record Quiet (s t : Session) : Type 0 where
 
 acknowledged_q : (acked : Option ℕ) (s : Session) → Quiet s (acknowledged acked s)
 acknowledged_q acked s = grind (arith, common_steps)
-
-gives_q : (config : Config) (s : Session) → Quiet s (gives config s)
-gives_q config s = grind (arith, common_steps)
 
 abbrev pub with_hold : Pending → Kept → Kept
 with_hold p k = record k { held = Some p }

@@ -3,6 +3,7 @@ use Rattle.std.proofs.Common.{Bool, ◌≡◌, ℕ, suc, ◌<◌, false, cond, O
 use Rattle.std.proofs.lemmas.{List.Folds.find-append, List.Kept.AllPairs-from_increasing}
 use Rattle.std.proofs.lemmas.List.Elements.{All-cons, All-nil, Contains-append_left, Contains-append_right}
 use Rattle.std.specs.{List.All, List.AllPairs, List.Contains, List.Sorted.IsStrictlyIncreasing, Option.option_or}
+use Rattle.bx_history.proofs.Ascending.{AllAbove, Ascends}
 use Rattle.bx_advice.specs.declared.config.Config.{Config}
 use Rattle.bx_entry.specs.declared.entry.Entry.{Entry}
 use Rattle.bx_entry.specs.Words.{PlacedAnswer, answer_of, Kept, kept_step, Filed, is_live}
@@ -14,23 +15,15 @@ use Rattle.bx_shard.proofs.{Cases.by_option, Untaken.find_of}
 
 -- ---- numbers
 
-abbrev pub Above : ℕ → List ℕ → Type 0
-Above n [] = Unit {0}
-Above n (m ∷ ms) = (n < m) × Above n ms
-
-abbrev pub Apart : List ℕ → Type 0
-Apart [] = Unit {0}
-Apart (n ∷ ns) = Above n ns × Apart ns
-
-above_of : (n : ℕ) (ns : List ℕ) → All (λ m. n < m) ns → Above n ns
+above_of : (n : ℕ) (ns : List ℕ) → All (λ m. n < m) ns → AllAbove n ns
 above_of n [] h = tt
 above_of n (m ∷ ms) h = (h 0 m (omega arith), above_of n ms (λ k d l. h (suc k) d (omega arith)))
 
-apart_of : (ns : List ℕ) → AllPairs (λ x y. x < y) ns → Apart ns
+apart_of : (ns : List ℕ) → AllPairs (λ x y. x < y) ns → Ascends ns
 apart_of [] h = tt
 apart_of (n ∷ ns) h = (above_of n ns (λ k d l. h 0 (suc k) d (omega arith) (omega arith)), apart_of ns (λ i j d a b. h (suc i) (suc j) d (omega arith) (omega arith)))
 
-pub apart : (ns : List ℕ) → IsStrictlyIncreasing ns → Apart ns
+pub apart : (ns : List ℕ) → IsStrictlyIncreasing ns → Ascends ns
 apart ns h = apart_of ns (AllPairs-from_increasing ns h)
 
 abbrev pub numbers_of : List Kept → List ℕ
@@ -41,7 +34,7 @@ numbers_of ks = map (λ (k : Kept). k.number) ks
 abbrev pub find_kept : ℕ → List Kept → Option Kept
 find_kept m ks = find (λ (k : Kept). k.number == m) ks
 
-none_above : (m : ℕ) (ks : List Kept) → Above m (numbers_of ks) → find_kept m ks ≡ None
+none_above : (m : ℕ) (ks : List Kept) → AllAbove m (numbers_of ks) → find_kept m ks ≡ None
 none_above m [] h = refl
 none_above m (k ∷ ks) h = grind (arith, none_above m ks h.1, h.0)
 
@@ -61,10 +54,10 @@ abbrev live_then : (Kept → Kept) → Option Kept → Option Kept
 live_then F None = None
 live_then F (Some k) = cond (is_live (F k).stage) (Some (F k)) None
 
-live_found : (F : Kept → Kept) (m : ℕ) (ks : List Kept) → Apart (numbers_of ks) → All (λ k. (F k).number ≡ k.number) ks → find_kept m (live_of F ks) ≡ live_then F (find_kept m ks)
+live_found : (F : Kept → Kept) (m : ℕ) (ks : List Kept) → Ascends (numbers_of ks) → All (λ k. (F k).number ≡ k.number) ks → find_kept m (live_of F ks) ≡ live_then F (find_kept m ks)
 live_found F m [] d h = refl
 live_found F m (k ∷ ks) d h =
-    let absent : k.number ≡ m → find_kept m ks ≡ None = λ same. none_above m ks (subst (λ (n : ℕ). Above n (numbers_of ks)) same d.0) in
+    let absent : k.number ≡ m → find_kept m ks ≡ None = λ same. none_above m ks (subst (λ (n : ℕ). AllAbove n (numbers_of ks)) same d.0) in
     grind (arith, h 0 k (omega arith), absent, live_found F m ks d.1 (λ i b a. h (suc i) b (omega arith)))
 
 abbrev pub steps : Config → Entry → List Kept → List Kept
@@ -73,7 +66,7 @@ steps config e ks = live_of (λ (k : Kept). kept_step config k e) ks
 abbrev pub next : Config → Entry → Option Kept → Option Kept
 next config e o = live_then (λ (k : Kept). kept_step config k e) o
 
-pub steps_found : (config : Config) (e : Entry) (m : ℕ) (ks : List Kept) → Apart (numbers_of ks) → All (λ k. (kept_step config k e).number ≡ k.number) ks → find_kept m (steps config e ks) ≡ next config e (find_kept m ks)
+pub steps_found : (config : Config) (e : Entry) (m : ℕ) (ks : List Kept) → Ascends (numbers_of ks) → All (λ k. (kept_step config k e).number ≡ k.number) ks → find_kept m (steps config e ks) ≡ next config e (find_kept m ks)
 steps_found config e m ks d h = live_found (λ (k : Kept). kept_step config k e) m ks d h
 
 -- ---- answers
@@ -96,13 +89,13 @@ pub record GivenBy (A : Kept → List Filed) (ks : List Kept) (p : ℕ) (f : Fil
   pub found : find_kept one.number ks ≡ Some one
   pub gives : find_of p (A one) ≡ Some f
 
-pub given_by : (A : Kept → List Filed) (ks : List Kept) (p : ℕ) (f : Filed) → Apart (numbers_of ks) → find_of p (flat_map A ks) ≡ Some f → GivenBy A ks p f
+pub given_by : (A : Kept → List Filed) (ks : List Kept) (p : ℕ) (f : Filed) → Ascends (numbers_of ks) → find_of p (flat_map A ks) ≡ Some f → GivenBy A ks p f
 given_by A [] p f d h = absurd (let no : None ≡ Some f = h in cc)
 given_by A (k ∷ ks) p f d h =
     by_option (λ o. option_or o (find_of p (flat_map A ks)) ≡ Some f → GivenBy A (k ∷ ks) p f) (find_of p (A k))
     (λ a b.
     let g : GivenBy A ks p f = given_by A ks p f d.1 b in
-    let absent : k.number ≡ g.one.number → find_kept g.one.number ks ≡ None = λ same. none_above g.one.number ks (subst (λ (n : ℕ). Above n (numbers_of ks)) same d.0) in
+    let absent : k.number ≡ g.one.number → find_kept g.one.number ks ≡ None = λ same. none_above g.one.number ks (subst (λ (n : ℕ). AllAbove n (numbers_of ks)) same d.0) in
     record { one = g.one; found = grind (arith, absent, g.found); gives = g.gives })
     (λ g a b. record { one = k; found = grind arith; gives = a ∙ b })
     (sym (find-append (λ (g : Filed). g.connect == p) (A k) (flat_map A ks)) ∙ h)

@@ -7,7 +7,7 @@ use Rattle.bx_advice.specs.declared.advice.Outcome.TheVariants.{Disconnected}
 use Rattle.bx_message.specs.declared.event.Event.{Event}
 use Rattle.bx_entry.specs.declared.entry.{Entry.Entry, EntryKind.EntryKind}
 use Rattle.bx_entry.specs.declared.entry.EntryKind.TheVariants as kinds
-use Rattle.bx_entry.specs.Words.{Kept, after, kept, resumed, Live, Pending, Session, Stage, begun, closed_by, connected, disconnected, ended, expired, is_live, published, released, step, subscribed, unopened, unsubscribed}
+use Rattle.bx_entry.specs.Words.{Kept, after, kept, resumed, Live, Pending, Session, Stage, begun, closed_by, connected, disconnected, ended, expired, is_live, published, released, step}
 use Rattle.bx_session.specs.declared.answered.Answered.{Answered}
 use Rattle.bx_session.specs.Views.{answered_of, deadline_of, pending}
 use Rattle.bx_connects.specs.declared.connects.ConnectState.{ConnectState}
@@ -20,7 +20,7 @@ use Rattle.bx_shard.specs.Sessions.{AreCounted, AreHeld, IsCounted, IsOwn, kept_
 use Rattle.bx_shard.specs.States as states
 use Rattle.bx_shard.proofs.Beginnings.{both_answers, filing_more, is_own, is_superseded, others_superseded, own_answers, superseded, to_itself}
 use Rattle.bx_theory.proofs.Keeps.{Keeps, connected_k, expired_from_k, released_from_k}
-use Rattle.bx_shard.proofs.{Counts.published_stage, Counts.subscribed_l, Counts.subscribed_quiet, Singles.nowhere}
+use Rattle.bx_shard.proofs.{Counts.published_stage, Singles.nowhere}
 use Rattle.bx_shard.proofs.Ends.{IsTo, filed_only, filed_to, held_to, is_to, release_settles}
 use Rattle.bx_shard.proofs.Keeps.{AreElsewhere, filing_each_session, held_session, dropped_by_session, unfiled}
 
@@ -95,35 +95,6 @@ module _ (stands : Bool) (e : Entry) (m : ℕ) (old : Sessions) (counted : AreCo
 
 -- ---- a handshake
 
-pub followed_opened_here : (stands : Bool) (e : Entry) (m : ℕ) (ack : Bool) (old new : Sessions) → e.kind ≡ kinds.Opened m ack → stands ≡ true → kept_in old m ≡ None
-    → ((n : ℕ) → kept_in new n ≡ cond (nat_eq m n) (Some (after (λ s. begun ack s s.stage) (kept (unopened m)))) (kept_in old n))
-    → (new.config ≡ old.config) × (new.tree ≡ old.tree) × (new.connects ≡ old.connects)
-    → (kept_in old m ≡ None → AreCounted old → AreCounted new) → (kept_in old m ≡ None → AreHeld old → AreHeld new)
-    → AreCounted old → AreHeld old → Followed stands (alone e) old new
-followed_opened_here stands e m ack old new kind here gone sessions others counts holds counted held = of_kind stands e (kinds.Opened m ack) old new kind (record {
-  config = others.0;
-  sessions = λ n. sessions n ∙ by n (kept_in old n) refl (counted n);
-  connects = record {
-    given = λ n a g. absurd (nowhere a (rw (none n (kept_in old n)) at g));
-    kept = λ p never. ap (λ c. connect_at c p) others.2;
-  };
-  known = λ p n k. inl (sym (ap (λ c. session_at (connect_at c p)) others.2) ∙ k);
-  counted = counts gone counted;
-  held = holds gone held;
-})
-  where
-    follows : Entry
-    follows = record e { kind = kinds.Opened m ack; rides = None }
-
-    opened : Kept
-    opened = after (λ s. begun ack s s.stage) (kept (unopened m))
-
-    by : (n : ℕ) (o : Option Kept) → kept_in old n ≡ o → IsCounted n o (patterns_in old n) → cond (nat_eq m n) (Some opened) o ≡ session_after old.config stands follows n o
-    by n o is c = grind (arith, gone)
-
-    none : (n : ℕ) (o : Option Kept) → answers_by (λ s. step old.config s follows) o ≡ []
-    none n o = grind arith
-
 unchanged : (stands : Bool) (e : Entry) (s : Sessions) (kind : EntryKind) → e.kind ≡ kind → ((n : ℕ) → kept_in s n ≡ session_after s.config stands (record e { kind = kind; rides = None }) n (kept_in s n))
     → ((n : ℕ) → answers_by (λ t. step s.config t (record e { kind = kind; rides = None })) (kept_in s n) ≡ [])
     → ((p : ℕ) → connect_at s.connects p ≡ states.begun (kept_in s) (connect_at s.connects) (record e { kind = kind; rides = None }) kind p) → AreCounted s → AreHeld s → Followed stands (alone e) s s
@@ -135,20 +106,6 @@ unchanged stands e s kind is sessions none connects counted held = of_kind stand
   counted = counted;
   held = held;
 })
-
-pub followed_opened_elsewhere : (stands : Bool) (e : Entry) (m : ℕ) (ack : Bool) (old new : Sessions) → e.kind ≡ kinds.Opened m ack → (stands ≡ false) ⊎ (is_some (kept_in old m) ≡ true) → new ≡ old
-    → AreCounted old → AreHeld old → Followed stands (alone e) old new
-followed_opened_elsewhere stands e m ack old new kind elsewhere same counted held =
-    subst (Followed stands (alone e) old) (sym same) (unchanged stands e old (kinds.Opened m ack) kind (λ n. by n (kept_in old n) refl (counted n)) (λ n. none (kept_in old n)) (λ p. refl) counted held)
-  where
-    follows : Entry
-    follows = record e { kind = kinds.Opened m ack; rides = None }
-
-    by : (n : ℕ) (o : Option Kept) → kept_in old n ≡ o → IsCounted n o (patterns_in old n) → o ≡ session_after old.config stands follows n o
-    by n o here c = grind (arith, elsewhere)
-
-    none : (o : Option Kept) → answers_by (λ s. step old.config s follows) o ≡ []
-    none o = grind arith
 
 -- ---- a connect
 
@@ -263,30 +220,6 @@ followed_connect stands e m client id acked hold connect old new kind is fresh s
     (λ p. connects p ∙ ap (λ (c : Pending). connect_filing m c (connected old.config c acked) (kept_in old m) (connect_at old.connects) p) is)
     others.0 counts holds counted held
 
-pub followed_connect_elsewhere : (stands : Bool) (e : Entry) (m : ℕ) (client : List ℕ) (id : Option (List ℕ)) (acked : Option ℕ) (hold : ℕ) (old new : Sessions)
-    → e.kind ≡ kinds.Connect m client id acked hold → kept_in old m ≡ None → new ≡ old → AreCounted old → AreHeld old → Followed stands (alone e) old new
-followed_connect_elsewhere stands e m client id acked hold old new kind gone same counted held =
-    subst (Followed stands (alone e) old) (sym same)
-    (unchanged stands e old (kinds.Connect m client id acked hold) kind
-    (λ n. away n (nat_eq m n) refl ∙ one_stepped stands e m old counted (kinds.Connect m client id acked hold) change (λ s. refl) (λ n. refl) (λ n k here. (connected_k old.config connect acked (resumed k)).stage) n)
-    none (λ p. rw gone) counted held)
-  where
-    connect : Pending
-    connect = pending e.place client id e.moment hold
-
-    change : Session → Session
-    change = connected old.config connect acked
-
-    away : (n : ℕ) (b : Bool) → nat_eq m n ≡ b → kept_in old n ≡ cond b (option_map (after change) (kept_in old m)) (kept_in old n)
-    away n b is = grind arith
-
-    none : (n : ℕ) → answers_by (λ s. step old.config s (record e { kind = kinds.Connect m client id acked hold; rides = None })) (kept_in old n) ≡ []
-    none n = one_answered stands e m old counted (kinds.Connect m client id acked hold) change (λ s. refl) n ∙ away_answers (nat_eq m n) refl
-      where
-        away_answers : (b : Bool) → nat_eq m n ≡ b → cond b (answers_by change (kept_in old n)) [] ≡ []
-        away_answers true is = rw (← eqb-true m n is, gone)
-        away_answers false is = refl
-
 -- ---- a disconnect
 
 pub followed_disconnect : (stands : Bool) (e : Entry) (m : ℕ) (old new : Sessions) → e.kind ≡ kinds.Disconnect m
@@ -326,53 +259,7 @@ followed_disconnect stands e m old new kind sessions connects config counts hold
 
 -- ---- a rejected message
 
-pub followed_refused : (stands : Bool) (e : Entry) (s : Sessions) → e.kind ≡ kinds.Refused → AreCounted s → AreHeld s → Followed stands (alone e) s s
-followed_refused stands e s is counted held = unchanged stands e s kinds.Refused is (λ n. by n (kept_in s n) (counted n)) (λ n. none (kept_in s n)) (λ p. refl) counted held
-  where
-    by : (n : ℕ) (o : Option Kept) → IsCounted n o (patterns_in s n) → o ≡ session_after s.config stands (record e { kind = kinds.Refused; rides = None }) n o
-    by n o c = grind arith
-
-    none : (o : Option Kept) → answers_by (λ t. step s.config t (record e { kind = kinds.Refused; rides = None })) o ≡ []
-    none o = grind arith
-
 -- ---- patterns
-
-followed_quiet : (stands : Bool) (e : Entry) (m : ℕ) (kind : EntryKind) (change : Session → Session) (old new : Sessions) → e.kind ≡ kind
-    → ((s : Session) → step old.config s (record e { kind = kind; rides = None }) ≡ cond (m == s.number) (change s) s) → ((n : ℕ) → states.opening stands kind n ≡ None)
-    → ((n : ℕ) (k : Kept) → kept_in old n ≡ Some k → (change (resumed k)).stage ≡ k.stage) → ((k : Kept) → (change (resumed k)).answers ≡ [])
-    → ((p : ℕ) → connect_at old.connects p ≡ states.begun (kept_in old) (connect_at old.connects) (record e { kind = kind; rides = None }) kind p)
-    → ((n : ℕ) → kept_in new n ≡ with_one m change (kept_in old) n)
-    → new.config ≡ old.config → new.connects ≡ old.connects → AreCounted old → AreCounted new → AreHeld new → Followed stands (alone e) old new
-followed_quiet stands e m kind change old new is steps opens stage quiet begins sessions config connects before counted held = of_kind stands e kind old new is (record {
-  config = config;
-  sessions = λ n. sessions n ∙ one_stepped stands e m old before kind change steps opens stage n;
-  connects = record {
-    given = λ n a g. absurd (nowhere a (rw (none (kept_in old m)) at (one_given stands e m old before kind change steps n a g).1));
-    kept = λ p never. ap (λ c. connect_at c p) connects ∙ begins p;
-  };
-  known = λ p n k. inl (sym (ap (λ c. session_at (connect_at c p)) connects) ∙ k);
-  counted = counted;
-  held = held;
-})
-  where
-    none : (o : Option Kept) → answers_by change o ≡ []
-    none None = refl
-    none (Some k) = ap (map answered_of) (quiet k)
-
-pub followed_subscribe : (stands : Bool) (e : Entry) (m : ℕ) (patterns : List Glob) (old new : Sessions) → e.kind ≡ kinds.Subscribe m patterns
-    → ((n : ℕ) → kept_in new n ≡ with_one m (subscribed old.config patterns) (kept_in old) n)
-    → new.config ≡ old.config → new.connects ≡ old.connects → AreCounted old → AreCounted new → AreHeld new → Followed stands (alone e) old new
-followed_subscribe stands e m patterns old new is sessions config connects before counted held =
-    followed_quiet stands e m (kinds.Subscribe m patterns) (subscribed old.config patterns) old new is (λ s. refl) (λ n. refl) stage (λ k. subscribed_quiet k old.config patterns) (λ p. refl) sessions config connects before counted held
-  where
-    stage : (n : ℕ) (k : Kept) → kept_in old n ≡ Some k → (subscribed old.config patterns (resumed k)).stage ≡ k.stage
-    stage n k here = let own : IsOwn n k (patterns_in old n) = subst (λ o. IsCounted n o (patterns_in old n)) here (before n) in (subscribed_l old.config patterns k (λ h. own.patterns_are ∙ own.emptied h)).stage
-
-pub followed_unsubscribe : (stands : Bool) (e : Entry) (m : ℕ) (patterns : List Glob) (old new : Sessions) → e.kind ≡ kinds.Unsubscribe m patterns
-    → ((n : ℕ) → kept_in new n ≡ with_one m (unsubscribed patterns) (kept_in old) n)
-    → new.config ≡ old.config → new.connects ≡ old.connects → AreCounted old → AreCounted new → AreHeld new → Followed stands (alone e) old new
-followed_unsubscribe stands e m patterns old new is sessions config connects before counted held =
-    followed_quiet stands e m (kinds.Unsubscribe m patterns) (unsubscribed patterns) old new is (λ s. refl) (λ n. refl) (λ n k here. refl) (λ k. refl) (λ p. refl) sessions config connects before counted held
 
 -- ---- a publish
 

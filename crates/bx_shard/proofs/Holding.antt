@@ -5,7 +5,7 @@ use Rattle.bx_advice.specs.declared.config.Config.{Config}
 use Rattle.bx_entry.specs.Words.{Listed, answer_of, Kept, kept, Registry, Registered, Judged, registry, entries_of, Session, Filed, session}
 use Rattle.bx_theory.proofs.{Lists.judged_length, Lists.slice_get_less, Verdicts.found_from, Verdicts.judged_after}
 use Rattle.bx_connects.specs.Connects.{session_at}
-use Rattle.bx_shard.specs.Words.{Setup, filed_among, live_among, is_placed_in, RefinesAtFirst, RefinesLonger, RefinesStill, IsConnectOf, filed_with_place}
+use Rattle.bx_shard.specs.Words.{Setup, filed_among, live_among, is_placed_in, RefinesAtFirst, RefinesLonger, RefinesStill, Refines, State, IsSound, IsConnectOf, connect_in, session_in, filed_with_place}
 use Rattle.bx_shard.proofs.Taking.{waits_later}
 
 -- ---- at first, and after a call that changed nothing
@@ -24,19 +24,27 @@ refines_when_new setup shard s setup_is index_is place_is sound none_here none_k
   owned = λ p m k. absurd (let no : None ≡ Some m = sym (ap session_at (none_known p)) ∙ k in cc);
 }
 
-pub refines_unchanged : RefinesStill
-refines_unchanged setup list taken shard n old new h b sound = record {
-  setup_is = b.setup ∙ h.setup_is;
-  index_is = b.index ∙ h.index_is;
-  place_is = b.place ∙ h.place_is;
+pub refines_same : (setup : Setup) (list : List Listed) (taken : List ℕ) (shard n : ℕ) (old new : State) → Refines setup list taken shard n old →
+    (new.setup ≡ old.setup) × (new.index ≡ old.index) × (new.place ≡ old.place) → IsSound new → ((m : ℕ) → session_in new m ≡ session_in old m) →
+    ((p : ℕ) → filed_with_place (connect_in new p) ≡ filed_with_place (connect_in old p)) → ((p : ℕ) → connect_in old p ≡ None → connect_in new p ≡ None) →
+    ((p : ℕ) → session_at (connect_in new p) ≡ session_at (connect_in old p)) → Refines setup list taken shard n new
+refines_same setup list taken shard n old new h same sound sessions filed gone owners = record {
+  setup_is = same.0 ∙ h.setup_is;
+  index_is = same.1 ∙ h.index_is;
+  place_is = same.2 ∙ h.place_is;
   within = h.within;
   sound = sound;
-  sessions = λ m. b.sessions m ∙ h.sessions m;
-  filed = λ p. ap filed_with_place (b.connects p) ∙ h.filed p;
+  sessions = λ m. sessions m ∙ h.sessions m;
+  filed = λ p. filed p ∙ h.filed p;
   known = h.known;
-  gone = λ p t c. let g = h.gone p t c in (g.0, b.connects p ∙ g.1);
-  owned = λ p m k. h.owned p m (sym (ap session_at (b.connects p)) ∙ k);
+  gone = λ p t c. let g = h.gone p t c in (g.0, gone p g.1);
+  owned = λ p m k. h.owned p m (sym (owners p) ∙ k);
 }
+
+pub refines_unchanged : RefinesStill
+refines_unchanged setup list taken shard n old new h b sound =
+    refines_same setup list taken shard n old new h (b.setup, b.index, b.place) sound b.sessions
+    (λ p. ap filed_with_place (b.connects p)) (λ p none. b.connects p ∙ none) (λ p. ap session_at (b.connects p))
 
 -- ---- a longer list
 

@@ -6,12 +6,9 @@ use Rattle.futures.specs.declared.task.waker.Waker.{Waker}
 use Rattle.bx_session.specs.declared.answered.Answered.{Answered}
 use Rattle.bx_connects.specs.declared.connects.ConnectState.{ConnectState}
 use Rattle.bx_connects.specs.declared.connects.ConnectState.TheVariants.{Filed}
-use Rattle.bx_connects.specs.Connects.{filed_as, filing, session_at, unswept, unwatched, with_waker}
+use Rattle.bx_connects.specs.Connects.{filed_as, filing, session_at, unwatched, with_waker}
 use Rattle.bx_shard.specs.Words.{filing_each, held_until, dropped_by}
 use Rattle.bx_shard.proofs.Singles.{the_one}
-
-filed_session : (place : ℕ) (answer : Answer) (o : Option ConnectState) → session_at (filed_as place answer o) ≡ session_at o
-filed_session place answer o = grind arith
 
 pub filing_session : (place : ℕ) (o : Option Answered) (C : ℕ → Option ConnectState) (p : ℕ) → session_at (filing place o C p) ≡ session_at (C p)
 filing_session place o C p = grind arith
@@ -37,9 +34,6 @@ held_session o n deadline h = grind arith
 
 pub filed_known : (place n : ℕ) (answer : Answer) (o : Option ConnectState) → session_at o ≡ Some n → filed_as place answer o ≡ Some (Filed n place answer)
 filed_known place n answer o h = grind arith
-
-pub unswept_session : (before : ℕ) (o : Option ConnectState) (m : ℕ) → session_at (unswept before o) ≡ Some m → session_at o ≡ Some m
-unswept_session before o m h = grind arith
 
 pub watched_session : (shut : Bool) (waker : Waker) (o : Option ConnectState) → session_at (with_waker shut waker o) ≡ session_at o
 watched_session shut waker o = grind arith

@@ -17,7 +17,6 @@ pub mod Holdings
 pub mod Keeps
 pub mod Counts
 pub mod Onwards
-pub mod Ready
 pub mod Singles
 pub mod Stepping
 pub mod Sweeping

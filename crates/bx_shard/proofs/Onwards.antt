@@ -4,6 +4,7 @@ use Rattle.std.proofs.lemmas.Bool.{both_ways}
 use Rattle.std.proofs.lemmas.{Grind.common_steps, List.length_push, List.map-append, List.Elements.All-map, List.Elements.filter-append, List.Folds.find-append}
 use Rattle.std.specs.{List.All, List.Contains, Option.option_and_then, Option.option_or}
 use Rattle.bx_history.proofs.{Elements.or_none, Tests.either}
+use Rattle.bx_history.proofs.Ascending.{Ascends}
 use Rattle.bx_advice.specs.declared.config.Config.{Config}
 use Rattle.bx_entry.specs.declared.entry.{Entry.Entry, EntryKind.EntryKind, Rider.Rider}
 use Rattle.bx_entry.specs.Words.{answer_of, Listed, Kept, kept, kept_answers, kept_step, resumed, entries, registry, Filed, Live, Session, is_live, step, unopened}
@@ -19,7 +20,7 @@ use Rattle.bx_shard.specs.Words.{IsReached, Setup, is_taken, sessions_in, shard_
 use Rattle.bx_shard.specs.Refining.{Refines, RefinesOnwards, IsConnectOf, IsOwn, filed_with_place, placed}
 use Rattle.bx_shard.specs.Steps.{answers_by, opening_by, stepped}
 use Rattle.bx_shard.proofs.{Cases.by_option, Elements.Met, Elements.met, Filings.entry_determines_filed_answers, Singles.nowhere, Stepping.entry_determines_sessions, Untaken.find_of}
-use Rattle.bx_shard.proofs.Finding.{Apart, GivenBy, apart, contains_found, each_none, find_kept, found_each, given_by, next, none_there, numbers_of, placed_found, steps, steps_found}
+use Rattle.bx_shard.proofs.Finding.{GivenBy, apart, contains_found, each_none, find_kept, found_each, given_by, next, none_there, numbers_of, placed_found, steps, steps_found}
 use Rattle.bx_shard.proofs.Gives.{Unanswered, all_contains, given_unanswered}
 use Rattle.bx_shard.proofs.Holdings.{holds_reached, holds_stand, sessions_ascend}
 use Rattle.bx_shard.proofs.Taking.{connect_of_filed, none_taken}
@@ -48,7 +49,7 @@ onward_first : (config : Config) (stands : Bool) (place moment : ℕ) (rides : O
     option_or (onward config (entry place moment rides kind) k) (option_and_then (onward config (entry place moment rides kind)) (opening stands kind m)) ≡ onward config (entry place moment rides kind) k
 onward_first config stands place moment rides m k kind live = grind arith
 
-found_stepped : (setup : Setup) (index : ℕ) (e : Entry) (ks : List Kept) (m : ℕ) → Apart (numbers_of ks) → find_kept m (stepped setup index e ks)
+found_stepped : (setup : Setup) (index : ℕ) (e : Entry) (ks : List Kept) (m : ℕ) → Ascends (numbers_of ks) → find_kept m (stepped setup index e ks)
     ≡ option_or (option_and_then (onward setup.config e) (find_kept m ks)) (option_and_then (onward setup.config e) (opening (opens_in setup index e.kind) e.kind m))
 found_stepped setup index e ks m d =
     let config : Config = setup.config in
@@ -67,7 +68,7 @@ Knows s ks = (m : ℕ) → session_in s m ≡ find_kept m ks
 abbrev AllReached : Entry → List Kept → Type 0
 AllReached e ks = All (IsReached e.place) ks
 
-sessions_next : (s : State) (e : Entry) (ks : List Kept) (m : ℕ) → AllReached e ks → Apart (numbers_of ks) → Knows s ks →
+sessions_next : (s : State) (e : Entry) (ks : List Kept) (m : ℕ) → AllReached e ks → Ascends (numbers_of ks) → Knows s ks →
     session_after s.setup.config (opens_in s.setup s.index e.kind) e m (session_in s m) ≡ find_kept m (stepped s.setup s.index e ks)
 sessions_next s e ks m reached d known =
     let config : Config = s.setup.config in
@@ -102,7 +103,7 @@ record Gave (s : State) (e : Entry) (p : ℕ) (f : Filed) : Type 0 where
   answer : answer_of f ≡ placed e.place (answered_of f).answer
   connect : f.connect ≡ p
 
-gave : (s : State) (e : Entry) (ks : List Kept) (p : ℕ) (f : Filed) → Apart (numbers_of ks) → Knows s ks → find_of p (answers_by s.setup.config e ks) ≡ Some f → Gave s e p f
+gave : (s : State) (e : Entry) (ks : List Kept) (p : ℕ) (f : Filed) → Ascends (numbers_of ks) → Knows s ks → find_of p (answers_by s.setup.config e ks) ≡ Some f → Gave s e p f
 gave s e ks p f d known found =
     let config : Config = s.setup.config in
     let b : GivenBy (λ k. kept_answers config k e) ks p f = given_by (λ k. kept_answers config k e) ks p f d found in
@@ -116,9 +117,6 @@ gave s e ks p f d known found =
     }
 
 -- ---- the connects before any is answered
-
-dropped_by_filed : (numbers : List ℕ) (o : Option ConnectState) → filed_with_place (dropped_by numbers o) ≡ filed_with_place o
-dropped_by_filed numbers o = grind arith
 
 dropped_by_none : (numbers : List ℕ) (o : Option ConnectState) → o ≡ None → dropped_by numbers o ≡ None
 dropped_by_none numbers o h = grind arith
@@ -137,7 +135,7 @@ record Before (list : List Listed) (taken : List ℕ) (n : ℕ) (e : Entry) (s :
   holds : Refines s.setup list taken s.index n s
   place : e.place ≡ n
   reached : AllReached e (shard_at s.setup list taken s.index n).sessions
-  apart : Apart (numbers_of (shard_at s.setup list taken s.index n).sessions)
+  apart : Ascends (numbers_of (shard_at s.setup list taken s.index n).sessions)
   fresh : connect_in s e.place ≡ None
 
 before : (list : List Listed) (taken : List ℕ) (n : ℕ) (e : Entry) (s : State) → 0 < s.setup.config.limits.batch → slice_get (entries s.setup.config list) n ≡ Some e → Refines s.setup list taken s.index n s → Before list taken n e s

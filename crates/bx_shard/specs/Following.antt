@@ -43,12 +43,12 @@ completed_by config (Some k) state = completed (events_of (take (ride_portion co
 
 -- ---- Entries
 
--- `new` is the sessions and connects of a shard after entry `e` is applied to `old`. `stands`:
+-- `new` is the sessions and connects of a shard after entry `e` is applied to `old`. `belongs`:
 -- whether a session that `e` opens is placed in the shard. In `new`, the tree has exactly the
 -- patterns of the sessions, which are live. A connect is held if and only if its session holds it.
-pub record Followed (stands : Bool) (e : Entry) (old new : Sessions) : Type 0 where
+pub record Followed (belongs : Bool) (e : Entry) (old new : Sessions) : Type 0 where
   pub config : new.config ≡ old.config
-  pub sessions : (n : ℕ) → kept_in new n ≡ session_after old.config stands e n (kept_in old n)
+  pub sessions : (n : ℕ) → kept_in new n ≡ session_after old.config belongs e n (kept_in old n)
   pub connects : Files e.place (IsGiven old.config (kept_in old) e) (begun (kept_in old) (connect_at old.connects) e e.kind) (connect_at new.connects)
   pub known : KeepsSessions (kept_in old) e (connect_at old.connects) (connect_at new.connects)
   pub counted : AreCounted new

@@ -37,20 +37,20 @@ session_in s number = kept_in s.sessions number
 -- ---- Sessions
 
 -- Session `n` as it is before it opens, if an entry of the given kind opens it in the shard, and
--- otherwise `None`. `stands`: whether the session is placed in the shard.
+-- otherwise `None`. `belongs`: whether the session is placed in the shard.
 abbrev pub opening : Bool → EntryKind → ℕ → Option Kept
-opening stands (Opened m ack) n = if (m == n) && stands then Some (kept (unopened m)) else None
-opening stands _ n = None
+opening belongs (Opened m ack) n = if (m == n) && belongs then Some (kept (unopened m)) else None
+opening belongs _ n = None
 
 -- A session if it is live, and otherwise `None`.
 abbrev pub if_live : Kept → Option Kept
 if_live k = if is_live k.stage then Some k else None
 
--- Session `n` of a shard after entry `e`, which may open the session. `stands`: whether a session
+-- Session `n` of a shard after entry `e`, which may open the session. `belongs`: whether a session
 -- that `e` opens is placed in the shard. The result is `None` if the session is closed or not in
 -- the shard.
 abbrev pub session_after : Config → Bool → Entry → ℕ → Option Kept → Option Kept
-session_after config stands e n o = option_and_then (λ k. if_live (kept_step config k e)) (option_or o (opening stands e.kind n))
+session_after config belongs e n o = option_and_then (λ k. if_live (kept_step config k e)) (option_or o (opening belongs e.kind n))
 
 -- ---- Connects
 

@@ -15,21 +15,21 @@ use std::alloc::{AllocError, Global};
 impl Sessions {
     /// Applies `entry`, and answers its rider last.
     ///
-    /// `stands`: whether a session that `entry` opens belongs to this shard. If `entry` answers or
+    /// `belongs`: whether a session that `entry` opens belongs to this shard. If `entry` answers or
     /// removes held connects, their wakers move to `wakers`. On error, no session or connect has
     /// changed.
     pub(crate) fn follow(
         &mut self,
         alloc: Global,
         entry: &Entry,
-        stands: bool,
+        belongs: bool,
         wakers: &mut Wakers,
     ) -> Result<(), AllocError>
         requires fresh { connect_at self.old.connects entry.now.place ≡ None }
         requires counted { AreCounted self.old }
         requires held { AreHeld self.old }
         requires countable { AreCountable self.old }
-        ensures done { OnOk result (Followed stands entry.now self.old self.new) }
+        ensures done { OnOk result (Followed belongs entry.now self.old self.new) }
         ensures refused { OnErr result (((n : ℕ) → kept_in self.new n ≡ kept_in self.old n)
             × ((p : ℕ) → connect_at self.new.connects p ≡ connect_at self.old.connects p)) }
         ensures woken { AreWoken (connect_at self.old.connects) (connect_at self.new.connects) wakers.old wakers.new }
@@ -39,10 +39,10 @@ impl Sessions {
         ensures config { self.new.config ≡ self.old.config }
     {
         let Some(rider) = self.rider_here(entry) else {
-            return self.follow_alone(alloc, entry, stands, wakers);
+            return self.follow_alone(alloc, entry, belongs, wakers);
         };
         let room = self.prepare_ride(alloc, entry.place, rider)?;
-        if let Err(error) = self.follow_alone(alloc, entry, stands, wakers) {
+        if let Err(error) = self.follow_alone(alloc, entry, belongs, wakers) {
             self.connects.forget(entry.place, wakers);
             return Err(error);
         }
@@ -50,21 +50,21 @@ impl Sessions {
         Ok(())
     }
 
-    // Applies `entry` without its rider. `stands`: whether a session that `entry` opens belongs to
+    // Applies `entry` without its rider. `belongs`: whether a session that `entry` opens belongs to
     // this shard. If `entry` answers or removes held connects, their wakers move to `wakers`. On
     // error, no session or connect has changed.
     fn follow_alone(
         &mut self,
         alloc: Global,
         entry: &Entry,
-        stands: bool,
+        belongs: bool,
         wakers: &mut Wakers,
     ) -> Result<(), AllocError>
         requires fresh { rides_of entry.now ≡ None → connect_at self.old.connects entry.now.place ≡ None }
         requires counted { AreCounted self.old }
         requires held { AreHeld self.old }
         requires countable { AreCountable self.old }
-        ensures done { OnOk result (Followed stands (alone entry.now) self.old self.new) }
+        ensures done { OnOk result (Followed belongs (alone entry.now) self.old self.new) }
         ensures refused { OnErr result (((n : ℕ) → kept_in self.new n ≡ kept_in self.old n)
             × ((p : ℕ) → connect_at self.new.connects p ≡ connect_at self.old.connects p)) }
         ensures woken { AreWoken (connect_at self.old.connects) (connect_at self.new.connects) wakers.old wakers.new }
@@ -75,7 +75,7 @@ impl Sessions {
     {
         match &entry.kind {
             EntryKind::Opened { session, ack } => {
-                if stands && !self.has(*session) {
+                if belongs && !self.has(*session) {
                     self.open(alloc, *session, *ack)?;
                 }
             }

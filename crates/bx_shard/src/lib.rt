@@ -1,4 +1,4 @@
-//! Shards: sessions with their patterns, connects and answers, and workers that advance many shards.
+//! Shards of sessions with their patterns, connects and answers, and workers that advance shards.
 #![tactic(auto)]
 
 mod follow;
@@ -11,7 +11,6 @@ mod sessions;
 mod shard;
 mod tick;
 mod upward;
-mod worker_count;
 
 pub use bx_connects::{TakenAnswer, Wakers, Watch};
 pub use gate::{Gate, OpenGate};
@@ -24,4 +23,3 @@ pub use laws::{
 pub use sessions::Sessions;
 pub use shard::Shard;
 pub use upward::bring_up;
-pub use worker_count::{MAX_WORKERS, WorkerCount};

@@ -17,9 +17,12 @@ use bx_session::Delivery;
 use std::alloc::{AllocError, Global};
 
 impl Sessions {
-    /// Adds `patterns` to session `number`, if it is in this shard and has not overflowed.
+    /// Adds `patterns` to the active patterns of session `number`.
     ///
-    /// If the session overflows, removes all its patterns. On error, no session has changed.
+    /// Does nothing if the session is not in this shard or has overflowed already. If it then has
+    /// more patterns than it may have, it overflows, and all its patterns are removed.
+    ///
+    /// On error, no session has changed.
     pub(crate) fn subscribe(
         &mut self,
         alloc: Global,

@@ -115,8 +115,8 @@ impl<P: Placing> Shard<P> {
         ensures woken { AreWoken (connect_in (state P.place_of self.old)) (connect_in (state P.place_of self.new)) wakers.old wakers.new }
         ensures sound { IsSound (state P.place_of self.new) }
     {
-        let stands = self.opens_here(&entry.kind);
-        self.sessions.follow(alloc, entry, stands, wakers)?;
+        let belongs = self.opens_here(&entry.kind);
+        self.sessions.follow(alloc, entry, belongs, wakers)?;
         self.place += 1;
         Ok(())
     }

@@ -5,7 +5,7 @@ ghost use Rattle.bx_shard.specs.Upward.{AreConsecutive, AreWithin, BroughtUp, Is
 
 use crate::gate::Gate;
 use crate::shard::Shard;
-use crate::worker_count::WorkerCount;
+use bx_advice::WorkerCount;
 use bx_connects::Wakers;
 use bx_entry::{Entry, Placing};
 use std::alloc::{AllocError, Global};

@@ -9,8 +9,9 @@ use bx_names::{ChannelName, Pattern};
 use bx_shard::{Shard, Wakers, Watch};
 use futures::task::{Poll, Source, Waker};
 use futures::test::MockTask;
-use std::alloc::{AllocError, Global};
+use std::alloc::{AllocError, AllocGlobal, Global};
 use std::process::Abort;
+use std::random::RandomSource;
 use std::sync::Arc;
 use std::test::Fail;
 
@@ -154,6 +155,27 @@ fn shard(alloc: Global, deeds: &[Deed]) -> Result<Shard<ByRemainder>, Fail> {
     Ok(shard)
 }
 
+// The only shard of a server, and two tasks. The shard may store wakers of them.
+#[derive(Drop)]
+struct Scene {
+    shard: Shard<ByRemainder>,
+    first: MockTask,
+    second: MockTask,
+}
+
+// Creates a scene in which the shard has applied entries that do `deeds`.
+fn new_scene<R: RandomSource + AllocGlobal>(
+    rt: &R,
+    alloc: Global,
+    deeds: &[Deed],
+) -> Result<Scene, Fail> {
+    Ok(Scene {
+        shard: shard(alloc, deeds)?,
+        first: MockTask::new(rt)?,
+        second: MockTask::new(rt)?,
+    })
+}
+
 // Returns the ticket of the connect at `place` in shard 0.
 fn ticket(place: u64) -> Ticket {
     Ticket { place, shard: 0 }
@@ -227,12 +249,8 @@ fn taken(
 
 // Checks that the connect at place 3 has no answer while it is held, and that its waker is stored.
 // After the answer, checks that the waker and the answer are each returned once.
-fn check_answered<R: Abort>(
-    rt: &R,
-    alloc: Global,
-    shard: &mut Shard<ByRemainder>,
-    task: &MockTask,
-) -> Result<(), Fail> {
+fn check_answered<R: Abort>(rt: &R, alloc: Global, scene: &mut Scene) -> Result<(), Fail> {
+    let (shard, task) = (&mut scene.shard, &scene.first);
     assert!(rt; shard.take(ticket(3)).is_none());
     check_stored(rt, shard, 3, task)?;
     let wakers = apply(alloc, shard, &[Deed::Publish("/a/b")])?;
@@ -265,12 +283,8 @@ const RIDE: &str =
 // once.
 //
 // A connect at place 4 must then be held.
-fn check_ridden<R: Abort>(
-    rt: &R,
-    alloc: Global,
-    shard: &mut Shard<ByRemainder>,
-    task: &MockTask,
-) -> Result<(), Fail> {
+fn check_ridden<R: Abort>(rt: &R, alloc: Global, scene: &mut Scene) -> Result<(), Fail> {
+    let (shard, task) = (&mut scene.shard, &scene.first);
     assert!(rt; matches!(watch(shard, 3, task)?, Watch::Ready(_)));
     let answer = taken(alloc, shard, 3)?.ok_or("no answer")?;
     assert_eq!(rt; answer.as_slice(), RIDE.as_bytes());
@@ -282,27 +296,20 @@ fn check_ridden<R: Abort>(
 #[test]
 fn a_rider_is_given_what_waits(rt: HostRuntime) -> Result<(), Fail> {
     let alloc = rt.alloc();
-    let task = MockTask::new(&rt)?;
-    check_ridden(&rt, alloc, &mut shard(alloc, &RIDDEN)?, &task)
+    check_ridden(&rt, alloc, &mut new_scene(&rt, alloc, &RIDDEN)?)
 }
 
 #[test]
 fn an_answer_wakes_who_waits_for_it(rt: HostRuntime) -> Result<(), Fail> {
     let alloc = rt.alloc();
-    let task = MockTask::new(&rt)?;
-    check_answered(&rt, alloc, &mut shard(alloc, &HELD)?, &task)
+    check_answered(&rt, alloc, &mut new_scene(&rt, alloc, &HELD)?)
 }
 
 // Checks that answers to two connects wake both tasks when the wakers are dropped, and not before.
 //
 // The connects are at places 4 and 5.
-fn check_both<R: Abort>(
-    rt: &R,
-    alloc: Global,
-    shard: &mut Shard<ByRemainder>,
-    first: &MockTask,
-    second: &MockTask,
-) -> Result<(), Fail> {
+fn check_both<R: Abort>(rt: &R, alloc: Global, scene: &mut Scene) -> Result<(), Fail> {
+    let (shard, first, second) = (&mut scene.shard, &scene.first, &scene.second);
     check_stored(rt, shard, 4, first)?;
     check_stored(rt, shard, 5, second)?;
     let wakers = apply(alloc, shard, &ANSWERS)?;
@@ -313,19 +320,13 @@ fn check_both<R: Abort>(
 #[test]
 fn several_answers_wake_all_who_wait(rt: HostRuntime) -> Result<(), Fail> {
     let alloc = rt.alloc();
-    let (first, second) = (MockTask::new(&rt)?, MockTask::new(&rt)?);
-    check_both(&rt, alloc, &mut shard(alloc, &BOTH_HELD)?, &first, &second)
+    check_both(&rt, alloc, &mut new_scene(&rt, alloc, &BOTH_HELD)?)
 }
 
 // Checks that a second waker for the connect at place 3 replaces the first. Dropping the first must
 // wake its task, `older`. The answer must then wake only `newer`.
-fn check_replaced<R: Abort>(
-    rt: &R,
-    alloc: Global,
-    shard: &mut Shard<ByRemainder>,
-    older: &MockTask,
-    newer: &MockTask,
-) -> Result<(), Fail> {
+fn check_replaced<R: Abort>(rt: &R, alloc: Global, scene: &mut Scene) -> Result<(), Fail> {
+    let (shard, older, newer) = (&mut scene.shard, &scene.first, &scene.second);
     check_stored(rt, shard, 3, older)?;
     let Watch::Stored(Some(replaced)) = watch(shard, 3, newer)? else {
         return Err(Fail::from("no older waker"));
@@ -345,19 +346,13 @@ fn check_replaced<R: Abort>(
 #[test]
 fn a_newer_waker_replaces_an_older_one(rt: HostRuntime) -> Result<(), Fail> {
     let alloc = rt.alloc();
-    let (older, newer) = (MockTask::new(&rt)?, MockTask::new(&rt)?);
-    check_replaced(&rt, alloc, &mut shard(alloc, &HELD)?, &older, &newer)
+    check_replaced(&rt, alloc, &mut new_scene(&rt, alloc, &HELD)?)
 }
 
 // Checks that shutting the shard wakes both waiting tasks, and that it then stores no waker. Later
 // answers must wake no task, and can be taken.
-fn check_shut<R: Abort>(
-    rt: &R,
-    alloc: Global,
-    shard: &mut Shard<ByRemainder>,
-    first: &MockTask,
-    second: &MockTask,
-) -> Result<(), Fail> {
+fn check_shut<R: Abort>(rt: &R, alloc: Global, scene: &mut Scene) -> Result<(), Fail> {
+    let (shard, first, second) = (&mut scene.shard, &scene.first, &scene.second);
     check_stored(rt, shard, 4, first)?;
     check_stored(rt, shard, 5, second)?;
     shard.shut();
@@ -381,8 +376,7 @@ fn check_shut<R: Abort>(
 #[test]
 fn a_shard_that_is_shut_wakes_all(rt: HostRuntime) -> Result<(), Fail> {
     let alloc = rt.alloc();
-    let (first, second) = (MockTask::new(&rt)?, MockTask::new(&rt)?);
-    check_shut(&rt, alloc, &mut shard(alloc, &BOTH_HELD)?, &first, &second)
+    check_shut(&rt, alloc, &mut new_scene(&rt, alloc, &BOTH_HELD)?)
 }
 
 // Sweeps below each place in `sweeps`, and checks the number of answers that each sweep drops.
@@ -396,11 +390,8 @@ fn check_sweeps<R: Abort>(rt: &R, shard: &mut Shard<ByRemainder>, sweeps: &[(u64
 //
 // The answer filed at place 6 is dropped. The answer filed at place 7 stays until it is taken. The
 // connect at place 8 stays held.
-fn check_kept<R: Abort>(
-    rt: &R,
-    shard: &mut Shard<ByRemainder>,
-    task: &MockTask,
-) -> Result<(), Fail> {
+fn check_kept<R: Abort>(rt: &R, scene: &mut Scene) -> Result<(), Fail> {
+    let (shard, task) = (&mut scene.shard, &scene.first);
     check_sweeps(rt, shard, &[(0, 0), (6, 0), (7, 1), (7, 0)]);
     assert!(rt; shard.take(ticket(4)).is_none());
     assert!(rt; shard.take(ticket(5)).is_some());
@@ -411,10 +402,9 @@ fn check_kept<R: Abort>(
 #[test]
 fn a_sweep_drops_what_was_filed_before(rt: HostRuntime) -> Result<(), Fail> {
     let alloc = rt.alloc();
-    let task = MockTask::new(&rt)?;
-    let mut filed = shard(alloc, &BOTH_HELD)?;
-    drop(apply(alloc, &mut filed, &ANSWERS)?);
-    check_kept(&rt, &mut filed, &task)
+    let mut filed = new_scene(&rt, alloc, &BOTH_HELD)?;
+    drop(apply(alloc, &mut filed.shard, &ANSWERS)?);
+    check_kept(&rt, &mut filed)
 }
 
 #[test]
@@ -432,11 +422,8 @@ fn a_sweep_counts_what_it_drops(rt: HostRuntime) -> Result<(), Fail> {
 // Checks that no waker is stored for a ticket without a connect in this shard.
 //
 // One ticket is of another shard, one of an entry that is no connect, and one after the last entry.
-fn check_unknown<R: Abort>(
-    rt: &R,
-    shard: &mut Shard<ByRemainder>,
-    task: &MockTask,
-) -> Result<(), Fail> {
+fn check_unknown<R: Abort>(rt: &R, scene: &mut Scene) -> Result<(), Fail> {
+    let (shard, task) = (&mut scene.shard, &scene.first);
     for (place, index) in [(3, 1), (2, 0), (4, 0)] {
         let ticket = Ticket {
             place,
@@ -453,7 +440,5 @@ fn check_unknown<R: Abort>(
 
 #[test]
 fn only_a_connect_of_the_shard_is_waited_for(rt: HostRuntime) -> Result<(), Fail> {
-    let alloc = rt.alloc();
-    let task = MockTask::new(&rt)?;
-    check_unknown(&rt, &mut shard(alloc, &HELD)?, &task)
+    check_unknown(&rt, &mut new_scene(&rt, rt.alloc(), &HELD)?)
 }

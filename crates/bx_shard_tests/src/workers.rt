@@ -4,9 +4,9 @@ ghost use Rattle.bx_entry.specs.Placings.{all_first};
 ghost use Rattle.bx_shard_tests.specs.Numbered.{AreFresh, AreNumbered};
 
 use crate::tests::{Deed, kind};
-use bx_advice::Config;
+use bx_advice::{Config, WorkerCount};
 use bx_entry::{ByRemainder, Entry, EntryKind, Placing, Ticket};
-use bx_shard::{Gate, OpenGate, Shard, WorkerCount, bring_up};
+use bx_shard::{Gate, OpenGate, Shard, bring_up};
 use std::alloc::{AllocError, Global};
 use std::hint;
 use std::sync::Arc;

@@ -2,8 +2,7 @@
 use crate::same::same;
 use bx_cut::Bodies;
 use bx_entry::{
-    Access, AdmitFault, AllFirst, Arrival, BodyError, ByRemainder, ByTable, Placing, Refusal,
-    read_messages,
+    Access, AdmitFault, AllFirst, Arrival, ByRemainder, ByTable, Placing, Refusal, read_messages,
 };
 use bx_message::Message;
 use std::alloc::{AllocError, Global};
@@ -29,19 +28,18 @@ fn channels(alloc: Global, messages: &[Message]) -> Result<String, AllocError> {
     Ok(found)
 }
 
-// What reading a request returns: the number of its messages, or the fault of its bodies.
+// What reading a request returns: the number of its messages, or why it is rejected.
 #[derive(Clone, Copy, Debug, PartialEq, Eq)]
 enum Found {
     // The request was read. The field is the number of its messages.
     Messages(usize),
-    Fault(BodyError),
+    Fault(Refusal),
 }
 
 fn found_in(messages: &Result<Vec<Message>, AdmitFault>) -> Result<Found, Fail> {
     match messages {
         Ok(messages) => Ok(Found::Messages(messages.len())),
-        Err(AdmitFault::Refused(Refusal::Body(fault))) => Ok(Found::Fault(*fault)),
-        Err(AdmitFault::Refused(_)) => Err(Fail::from("no fault of a body")),
+        Err(AdmitFault::Refused(refusal)) => Ok(Found::Fault(*refusal)),
         Err(AdmitFault::Memory) => Err(Fail::from("out of memory")),
     }
 }
@@ -76,14 +74,14 @@ fn messages_come_in_order(rt: HostRuntime) -> Result<(), Fail> {
     Ok(())
 }
 
-const FAULTS: [(&str, &str, BodyError); 4] = [
-    ("[1]", "{", BodyError::NotJson),
-    ("[{}]", "7", BodyError::NotObject),
-    ("[{}]", "[]", BodyError::NoChannel),
+const FAULTS: [(&str, &str, Refusal); 4] = [
+    ("[1]", "{", Refusal::NotJson),
+    ("[{}]", "7", Refusal::NotObject),
+    ("[{}]", "[]", Refusal::NoChannel),
     (
         "{\"channel\":7}",
         "{\"channel\":\"/a\"}",
-        BodyError::NoChannel,
+        Refusal::NoChannel,
     ),
 ];
 
@@ -120,8 +118,8 @@ fn found_in_two(alloc: Global, first: usize, second: usize) -> Result<Found, Fai
 
 const COUNTS: [(usize, usize, Found); 3] = [
     (200, 56, Found::Messages(256)),
-    (200, 57, Found::Fault(BodyError::TooMany)),
-    (257, 0, Found::Fault(BodyError::TooMany)),
+    (200, 57, Found::Fault(Refusal::TooMany)),
+    (257, 0, Found::Fault(Refusal::TooMany)),
 ];
 
 // Checks that the limit of messages applies to all documents of a request together.
@@ -134,7 +132,7 @@ fn messages_are_counted_over_all_documents(rt: HostRuntime) -> Result<(), Fail> 
     Ok(())
 }
 
-const FORBIDDEN: Found = Found::Fault(BodyError::Forbidden);
+const FORBIDDEN: Found = Found::Fault(Refusal::Forbidden);
 
 // Channels as written in JSON, each with the result of reading a message to it on the read-only
 // listener.
@@ -207,11 +205,11 @@ const REQUESTS: [(&str, &str, Found, Found); 18] = [
     ("{\"channel\":7}", PUBLISH, NO_CHANNEL, NO_CHANNEL),
 ];
 
-const NOT_JSON: Found = Found::Fault(BodyError::NotJson);
+const NOT_JSON: Found = Found::Fault(Refusal::NotJson);
 
-const NOT_OBJECT: Found = Found::Fault(BodyError::NotObject);
+const NOT_OBJECT: Found = Found::Fault(Refusal::NotObject);
 
-const NO_CHANNEL: Found = Found::Fault(BodyError::NoChannel);
+const NO_CHANNEL: Found = Found::Fault(Refusal::NoChannel);
 
 const CONNECT: &str = "{\"channel\":\"/meta/connect\"}";
 
@@ -248,7 +246,7 @@ fn readers_publish_nothing(rt: HostRuntime) -> Result<(), Fail> {
 
 // Numbers of publishes in a request: the limit, and one more. Each has the result of the request on
 // the read-only listener.
-const PUBLISHES: [(usize, Found); 2] = [(256, FORBIDDEN), (257, Found::Fault(BodyError::TooMany))];
+const PUBLISHES: [(usize, Found); 2] = [(256, FORBIDDEN), (257, Found::Fault(Refusal::TooMany))];
 
 // Checks that too many publishes on the read-only listener get `TooMany`, not `Forbidden`.
 #[test]

@@ -369,7 +369,8 @@ fn assert_agree(rt: &impl Abort, alloc: Global, both: &mut Both) -> Result<(), F
     Ok(())
 }
 
-// Checks that the tree finds what a plain list finds.
+// Checks that a tree and a plain list of patterns find the same sessions for random names. Both get
+// the same random changes.
 #[test]
 fn agrees_with_a_plain_list(rt: HostRuntime) -> Result<(), Fail> {
     let mut both = Both {

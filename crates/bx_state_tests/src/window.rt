@@ -5,7 +5,7 @@ ghost use Rattle.std.specs.Prelude.{◌≡◌};
 
 use crate::same::same;
 use crate::session::{event, push_numbers};
-use bx_advice::MAX_EVENTS;
+use bx_advice::Limit;
 use bx_batches::Window;
 use std::alloc::Global;
 use std::process::Abort;
@@ -138,9 +138,9 @@ fn a_full_window_takes_no_more(rt: HostRuntime) -> Result<(), Fail> {
 // Appends the greatest number of events that a configuration allows. Checks that the window is full
 // after the last of them, and not before.
 fn check_most(rt: &impl Abort, alloc: Global, window: &mut Window) -> Result<(), Fail> {
-    let most = MAX_EVENTS as usize;
+    let most = Limit::Events.greatest();
     let next = event(alloc, 1)?;
-    for place in 0..u64::from(MAX_EVENTS) {
+    for place in 0..most as u64 {
         same(rt, window.is_full(most, usize::MAX, &next), false, "room");
         push(alloc, window, place, place)?;
     }

@@ -238,7 +238,7 @@ fn check_pattern_parts(rt: &impl Abort, alloc: Global, pattern: &Pattern) -> Res
 // Checks the segments of a name and of a pattern, and that a pattern equals its copy.
 #[test]
 fn parts(rt: HostRuntime) -> Result<(), Fail> {
-    let name = ChannelName::read(rt.alloc(), "/a/bc/d")?.clone()?;
+    let name = ChannelName::read(rt.alloc(), "/a/bc/d")?;
     check_name_parts(&rt, rt.alloc(), &name)?;
     let pattern = Pattern::read(rt.alloc(), "/a/bc/*")?;
     check_pattern_parts(&rt, rt.alloc(), &pattern)

@@ -73,9 +73,6 @@ connected_holds config p acked number s rs ts b live due rises h =
 
 -- ---- Ticks
 
-pub closed_by_held : (numbers : List ℕ) (s : Session) → (closed_by numbers s).held ≡ s.held
-closed_by_held numbers s = grind (arith, common_steps)
-
 tick_still : (config : Config) (place now : ℕ) (s : Session) (rs : List Registered) → Holding s.number s rs → StillHeld s (closed_by (overdue now rs) (expired config place now s))
 tick_still config place now s rs h q e =
     let was : s.held ≡ Some q = grind (arith, common_steps) in

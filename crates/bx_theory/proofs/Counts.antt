@@ -2,20 +2,17 @@
 --
 -- In the files about one session, `grind` splits a claim about an entry by the kind of the entry. A
 -- connect has too many cases, so it is split first (`connected_by`).
-use Rattle.std.proofs.Common.{◌≡◌, ℕ, ◌<◌, ◌≤◌, true, false, Option, Some, None, List, [], ◌∷◌, ◌++◌, length, drop, fold, nat_lt, ◌==◌, refl, ◌∙◌, arith}
-use Rattle.std.proofs.lemmas.{Bool.cond_both, Bool.cond-false, Grind.common_steps}
+use Rattle.std.proofs.Common.{◌≡◌, ℕ, ◌<◌, ◌≤◌, true, false, Option, Some, None, List, [], ◌∷◌, ◌++◌, length, drop, fold, ◌==◌, refl, ◌∙◌, arith}
+use Rattle.std.proofs.lemmas.{Bool.cond_both, Grind.common_steps}
 use Rattle.std.proofs.Math.Seq.{drop-append_seam}
 use Rattle.bx_advice.specs.declared.{config.Config.Config, advice.Outcome.Outcome}
 use Rattle.bx_advice.specs.declared.advice.Outcome.TheVariants.{Failed}
 use Rattle.bx_advice.specs.declared.error.Error.TheVariants.{SupersededConnect, QueueOverflow}
-use Rattle.bx_names.specs.Words.{Glob, with_pattern, without_pattern}
+use Rattle.bx_names.specs.Words.{Glob, without_pattern}
 use Rattle.bx_entry.specs.declared.entry.{Entry.Entry, EntryKind.EntryKind, Rider.Rider}
 use Rattle.bx_entry.specs.declared.entry.EntryKind.TheVariants.{Connect, Subscribe, Unsubscribe, Publish}
-use Rattle.bx_entry.specs.Sessions.{Session, Publication, Pending, Filed, answered, released, acknowledged, answered_or_held, connected, overflowed, with_patterns, subscribed, published, step_by, step, unopened, ridden, is_riding, ridden_by, rider_of}
+use Rattle.bx_entry.specs.Sessions.{Session, Publication, Pending, Filed, answered, released, acknowledged, answered_or_held, connected, published, step_by, step, unopened, ridden, is_riding, ridden_by, rider_of}
 use Rattle.bx_theory.specs.Laws.{InStep, CountsAgree, Each}
-
-pub queue_is : (config : Config) (s : Session) → InStep config s → s.overflow ≡ false → s.queue ≡ drop s.done s.events
-queue_is config s i full = i.queue ∙ cond-false s.overflow [] (drop s.done s.events) full
 
 -- ---- Connects
 
@@ -67,12 +64,6 @@ connected_in config p acked s room i =
     (λ h. answered_or_held_in config p (freed config p acked s) room (f.overflow ∙ h) f.held (freed_in config p acked s i))
 
 -- ---- Entries
-
-pub subscribed_by : (config : Config) (ps : List Glob) (s : Session) (P : Session → Type 0) → P s → P (overflowed s) → P (record s { patterns = fold with_pattern s.patterns ps }) → P (subscribed config ps s)
-subscribed_by config ps s P same full more =
-    let patterns : List Glob = fold with_pattern s.patterns ps in
-    cond_both s.overflow s (with_patterns config patterns s) P (λ h. same)
-    (λ h. cond_both (nat_lt config.limits.patterns (length patterns)) (overflowed s) (record s { patterns = patterns }) P (λ g. full) (λ g. more))
 
 none_left : (ps : List Glob) → fold without_pattern [] ps ≡ []
 none_left [] = refl

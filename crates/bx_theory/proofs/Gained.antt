@@ -2,8 +2,8 @@
 use Rattle.std.proofs.Common.{◌≡◌, ℕ, ◌+◌, ◌<◌, ◌≤◌, Bool, true, false, cond, not, ◌&&◌, ◌||◌, List, [], ◌∷◌, ◌++◌, fold, refl, sym, ap, ◌∙◌, subst, append-nil, append_assoc, filter_map, arith}
 use Rattle.std.proofs.lemmas.{Bool.cond_both, Bool.cond-true, Bool.and_parts, List.Sums.fold-append, Grind.common_steps}
 use Rattle.std.proofs.ByRecursion.{All-append, All-push, All-weaker}
-use Rattle.bx_history.proofs.Tests.{either}
-use Rattle.bx_names.specs.Words.{Glob, same_glob, matches, any_matches, same_glob-decides, segments, is_broadcast, in_force}
+use Rattle.bx_names.specs.Words.{any_matches, segments, is_broadcast, in_force}
+use Rattle.bx_names.proofs.Actives.{Matching, matching_any, matching_from}
 use Rattle.bx_advice.specs.declared.config.Config.{Config}
 use Rattle.bx_message.specs.declared.event.Event.{Event}
 use Rattle.bx_message.specs.Events.{event_size}
@@ -86,23 +86,6 @@ pub events_have_ascending_places : EventsRise
 events_have_ascending_places config number es d = rising_run config 0 (unopened number) es d (record { rising = tt; below = tt })
 
 -- ---- When a publish reaches a session
-
-record Matching (ps : List Glob) (name : List (List ℕ)) : Type 0 where
-  pattern : Glob
-  force : in_force ps pattern ≡ true
-  matching : matches pattern name ≡ true
-
-matching_from : (ps : List Glob) (name : List (List ℕ)) → any_matches ps name ≡ true → Matching ps name
-matching_from [] name h = cc
-matching_from (p ∷ ps) name h = either (matches p name) (Matching (p ∷ ps) name)
-    (λ g. record { pattern = p; force = ap (λ b. b || in_force ps p) ((same_glob-decides p p).1 refl); matching = g })
-    (λ g. let m : Matching ps name = matching_from ps name (sym (ap (λ b. b || any_matches ps name) g) ∙ h) in record { pattern = m.pattern; force = grind (arith, common_steps); matching = m.matching })
-
-matching_any : (ps : List Glob) (name : List (List ℕ)) (p : Glob) → in_force ps p ≡ true → matches p name ≡ true → any_matches ps name ≡ true
-matching_any [] name p f m = f
-matching_any (q ∷ ps) name p f m = either (same_glob p q) (any_matches (q ∷ ps) name ≡ true)
-    (λ g. ap (λ b. b || any_matches ps name) (sym (ap (λ (x : Glob). matches x name) ((same_glob-decides p q).0 g)) ∙ m))
-    (λ g. let rest : in_force ps p ≡ true → any_matches ps name ≡ true = λ k. matching_any ps name p k m in grind (arith, common_steps))
 
 record Hit (config : Config) (s : Session) (e : Event) : Type 0 where
   live : is_live s.stage ≡ true

@@ -131,9 +131,6 @@ opened_agrees config r p numbers a =
 
 -- ---- Messages of a session
 
-moved_live : (number due : ℕ) (s : Registered) → (moved number due s).live ≡ s.live
-moved_live number due s = grind (arith, common_steps)
-
 served_live : (c : MessageKind) (p : Posted) (s : Registered) (hold due : ℕ) (q : Registered) → (left c s.number (moved s.number due q)).live ≡ (q.live && not (closes_by q.number (kind_for c p s hold)))
 served_live c p s hold due q = grind (arith, common_steps)
 

@@ -4,7 +4,7 @@ use Rattle.std.specs.{List.list_all, List.before_first, List.after_first}
 use Rattle.std.proofs.lemmas.Bool.{and_parts}
 use Rattle.bx_message.specs.declared.message.Message.{Message}
 use Rattle.bx_message.specs.Fields.{number_of}
-use Rattle.bx_entry.specs.declared.input.BodyError.{BodyError}
+use Rattle.bx_entry.specs.declared.input.Refusal.{Refusal}
 use Rattle.bx_entry.specs.Inputs.{Request, Unread, Tick}
 use Rattle.bx_entry.specs.Words.{read_by, request_messages}
 use Rattle.bx_script.specs.Replay.{Dialect, Line, Bad, Recorded, Rejected, Accepted, Resharded, Announced, Noted, Script, Taken, Refused, Documents, announces, body_taken, command, form_taken, handed_by, is_space, line_by, line_of, line_with, nonce_after, nonce_of, noted_by, query_taken, recorded_command, resharded_by, reshards, timed_line, with_nonce, with_nonces}
@@ -24,7 +24,7 @@ line_gets_nonce_announced_before ls l = nonces_on 0 ls (l ∷ [])
 HasNone : Line → Type 0
 HasNone l = line_with 0 l ≡ l
 
-none_read : (moment : ℕ) (r : Result (List Message) BodyError) → with_nonce 0 (read_by moment 0 r) ≡ read_by moment 0 r
+none_read : (moment : ℕ) (r : Result (List Message) Refusal) → with_nonce 0 (read_by moment 0 r) ≡ read_by moment 0 r
 none_read moment (Ok messages) = refl
 none_read moment (Err fault) = refl
 

@@ -12,9 +12,9 @@ use Rattle.bx_theory.specs.Readings.{is_from, opens_by}
 -- ---- Which messages are riders
 
 -- The results of judging the elements `these` of a longer list, which has `before` before them and
--- `behind` after them.
+-- `later` after them.
 abbrev pub found_after : Config → List Listed → List Listed → List Listed → List Judged
-found_after config before these behind = take (length these) (drop (length before) (registry config (before ++ (these ++ behind))).judged)
+found_after config before these later = take (length these) (drop (length before) (registry config (before ++ (these ++ later))).judged)
 
 -- Whether the result `j` is for an accepted message of session `number`, except its handshake.
 abbrev pub is_own : ℕ → Judged → Bool
@@ -27,16 +27,16 @@ may_have_rider (Unsubscribe n ps) = true
 may_have_rider (Publish e) = true
 may_have_rider _ = false
 
--- The message with the result `j` is a rider of session `number`. `before` and `behind`: the
+-- The message with the result `j` is a rider of session `number`. `before` and `later`: the
 -- results of the earlier and the later messages of its request. `--ride` is set, and the session
 -- does not acknowledge after the entries `es`. The message ends the request. All messages of the
 -- request are accepted, come from the session, and are no handshakes. The rider is a subscription,
 -- an unsubscription or a publish.
-pub record IsRiderOf (number : ℕ) (config : Config) (es : List Entry) (before : List Judged) (j : Judged) (behind : List Judged) : Type 0 where
+pub record IsRiderOf (number : ℕ) (config : Config) (es : List Entry) (before : List Judged) (j : Judged) (later : List Judged) : Type 0 where
   pub asked : config.ride ≡ true
   pub plain : (session config number es).ack ≡ false
-  pub last : behind ≡ []
-  pub own : AllByRecursion (λ (i : Judged). is_own number i ≡ true) (before ++ j ∷ behind)
+  pub last : later ≡ []
+  pub own : AllByRecursion (λ (i : Judged). is_own number i ≡ true) (before ++ j ∷ later)
   pub kind : may_have_rider j.entry.kind ≡ true
 
 -- The number of the rider's session, if there is a rider.
@@ -47,15 +47,15 @@ rider_session rides = option_map (λ (rider : Rider). rider.session) rides
 -- its request.
 abbrev pub RiderReading : Type 0
 RiderReading = (config : Config) (inputs : List ReadInput) (moment nonce : ℕ) (ms : List Message) (more : List Listed)
-    (before : List Judged) (j : Judged) (behind : List Judged) (number : ℕ) →
-    found_after config (flat_map added_by inputs) (added_by (Request moment nonce ms)) more ≡ before ++ j ∷ behind →
-    (rider_session j.entry.rides ≡ Some number) ↔ IsRiderOf number config (entries config (flat_map added_by inputs ++ (added_by (Request moment nonce ms) ++ more))) before j behind
+    (before : List Judged) (j : Judged) (later : List Judged) (number : ℕ) →
+    found_after config (flat_map added_by inputs) (added_by (Request moment nonce ms)) more ≡ before ++ j ∷ later →
+    (rider_session j.entry.rides ≡ Some number) ↔ IsRiderOf number config (entries config (flat_map added_by inputs ++ (added_by (Request moment nonce ms) ++ more))) before j later
 
 -- A request with a rejected or sessionless message has no rider.
 abbrev pub NothingRidesBeside : Type 0
 NothingRidesBeside = (config : Config) (inputs : List ReadInput) (moment nonce : ℕ) (ms : List Message) (more : List Listed)
-    (before : List Judged) (other : Judged) (behind first : List Judged) (j : Judged) (rest : List Judged) →
-    found_after config (flat_map added_by inputs) (added_by (Request moment nonce ms)) more ≡ before ++ other ∷ behind → other.sender ≡ None →
+    (before : List Judged) (other : Judged) (later first : List Judged) (j : Judged) (rest : List Judged) →
+    found_after config (flat_map added_by inputs) (added_by (Request moment nonce ms)) more ≡ before ++ other ∷ later → other.sender ≡ None →
     found_after config (flat_map added_by inputs) (added_by (Request moment nonce ms)) more ≡ first ++ j ∷ rest → j.entry.rides ≡ None
 
 -- Ticks, rejected messages, handshakes, connects and disconnects have no rider.

@@ -4,9 +4,10 @@ ghost use Rattle.bx_entry.specs.Placings.{by_remainder};
 
 use crate::same::same;
 use bx_advice::Config;
-use bx_calls::{ANSWER, Found, HANDSHAKE, PUBLISH, find, hold, post};
-use bx_entry::{ByRemainder, Placing, Ticket};
-use bx_hub::{Gate, Hub, Watch};
+use bx_calls::texts::{ANSWER, HANDSHAKE, PUBLISH};
+use bx_calls::{Found, find, hold, post};
+use bx_entry::{ByRemainder, Ticket};
+use bx_hub::{Gate, Hub, HubKind, Kind, Watch};
 use bx_window::{EmptyWindow, LogId};
 use futures::task::{Doorbell, Poll, Solo, Source, Waker};
 use libc::net::{EFD_CLOEXEC, eventfd};
@@ -117,10 +118,10 @@ fn wait_for<R: Clock>(rt: &R, flag: &AtomicBool) -> bool {
     false
 }
 
-fn wakes<L: LogId, P: Placing, G: Gate + Drop, H: Wait + Drop, R: Wait>(
+fn wakes<L: HubKind, H: Wait + Drop, R: Wait>(
     rt: &R,
     alloc: Global,
-    hub: &Hub<L, P, G, H>,
+    hub: &Hub<L, H>,
     ticket: Ticket,
     waking: Waking,
     flags: &Flags,
@@ -140,9 +141,9 @@ fn wakes<L: LogId, P: Placing, G: Gate + Drop, H: Wait + Drop, R: Wait>(
 //
 // The wait ends after `LOOKS` milliseconds at the latest. Returns `true` if `flags.stands` was set
 // in that time. The shards are locked in any case.
-fn sweeps<L: LogId, P: Placing, G: Gate + Drop, H: Wait + Drop, R: Wait + Clock>(
+fn sweeps<L: HubKind, H: Wait + Drop, R: Wait + Clock>(
     rt: &R,
-    hub: &Hub<L, P, G, H>,
+    hub: &Hub<L, H>,
     flags: &Flags,
 ) -> bool {
     let stood = wait_for(rt, &flags.stands);
@@ -178,12 +179,10 @@ fn lets_go<R: Clock>(rt: &R, flags: &Flags, counter: &Counter) -> Told {
 }
 
 fn sweeps_and_lets_go<
-    L: LogId + Send + Sync,
-    P: Placing + Send + Sync,
-    G: Gate + Drop + Send + Sync,
+    L: HubKind<Placing: Send + Sync, Gate: Send + Sync> + Send + Sync,
     H: Wait + Drop + Send,
     R: Threads + Wait + Clock + Sync,
->(rt: &R, hub: &Hub<L, P, G, H>, flags: &Flags, counter: &Counter) -> (bool, Told) {
+>(rt: &R, hub: &Hub<L, H>, flags: &Flags, counter: &Counter) -> (bool, Told) {
     join(
         rt,
         || sweeps(rt, hub, flags),
@@ -191,21 +190,23 @@ fn sweeps_and_lets_go<
     )
 }
 
+// What a run of the test uses besides its hub.
+#[derive(Drop)]
+struct Scene {
+    waking: Waking,
+    // The task that sleeps until its connect is answered.
+    task: Solo,
+    flags: Arc<Flags, Global>,
+    // The counter that blocks the wake of `task`.
+    counter: Counter,
+}
+
 fn beside<
-    L: LogId + Send + Sync,
-    P: Placing + Send + Sync,
-    G: Gate + Drop + Send + Sync,
+    L: HubKind<Placing: Send + Sync, Gate: Send + Sync> + Send + Sync,
     H: Wait + Drop + Send,
     R: Threads + Wait + Clock + Abort + Sync,
->(
-    rt: &R,
-    alloc: Global,
-    hub: &Hub<L, P, G, H>,
-    ticket: Ticket,
-    waking: Waking,
-    flags: &Flags,
-    counter: &Counter,
-) {
+>(rt: &R, alloc: Global, hub: &Hub<L, H>, ticket: Ticket, scene: &Scene) {
+    let (waking, flags, counter) = (scene.waking, &*scene.flags, &scene.counter);
     let (answered, (stood, told)) = join(
         rt,
         || wakes(rt, alloc, hub, ticket, waking, flags),
@@ -220,32 +221,21 @@ fn beside<
     same(rt, told, wanted, waking);
 }
 
-// Registers a waker of `task` with the connect under `ticket`, and makes a wake of `task` block.
-// Then runs the test's threads while the task sleeps, and checks what they find.
+// Registers a waker of `scene.task` with the connect under `ticket`. A wake of it blocks. Then runs
+// the test's threads while the task sleeps, and checks what they find.
 fn rings<
-    L: LogId + Send + Sync,
-    P: Placing + Send + Sync,
-    G: Gate + Drop + Send + Sync,
+    L: HubKind<Placing: Send + Sync, Gate: Send + Sync> + Send + Sync,
     H: Wait + Drop + Send,
     R: Threads + Wait + Clock + Abort + Sync,
->(
-    rt: &R,
-    alloc: Global,
-    hub: &Hub<L, P, G, H>,
-    ticket: Ticket,
-    waking: Waking,
-    task: &Solo,
-    flags: &Flags,
-    counter: &Counter,
-) -> Result<(), Fail> {
-    let waker = waker_of(task).ok_or("no waker")?;
+>(rt: &R, alloc: Global, hub: &Hub<L, H>, ticket: Ticket, scene: &Scene) -> Result<(), Fail> {
+    let waker = waker_of(&scene.task).ok_or("no waker")?;
     let (said, _watching) = hub.watch(rt, ticket, waker);
     let is_left = matches!(said, Watch::Stored(None));
     same(rt, is_left, true, "the waker");
-    same(rt, counter.fill(), true, "a full counter");
-    match task.sleep() {
+    same(rt, scene.counter.fill(), true, "a full counter");
+    match scene.task.sleep() {
         Some(asleep) => {
-            beside(rt, alloc, hub, ticket, waking, flags, counter);
+            beside(rt, alloc, hub, ticket, scene);
             asleep.end();
             Ok(())
         }
@@ -263,29 +253,19 @@ fn waker_of(task: &Solo) -> Option<Waker> {
 }
 
 fn held<
-    L: LogId + Send + Sync,
-    P: Placing + Send + Sync,
-    G: Gate + Drop + Send + Sync,
+    L: HubKind<Placing: Send + Sync, Gate: Send + Sync> + Send + Sync,
     H: Wait + Drop + Send,
     R: Threads + Wait + Clock + Abort + Sync,
->(
-    rt: &R,
-    alloc: Global,
-    hub: &Hub<L, P, G, H>,
-    waking: Waking,
-    task: &Solo,
-    flags: &Flags,
-    counter: &Counter,
-) -> Result<(), Fail> {
+>(rt: &R, alloc: Global, hub: &Hub<L, H>, scene: &Scene) -> Result<(), Fail> {
     let mut pass = hub.pass();
     let ticket = hold(rt, alloc, hub, &mut pass)?;
     post(rt, alloc, hub, &mut pass, HANDSHAKE)?;
-    if waking == Waking::Question {
+    if scene.waking == Waking::Question {
         same(rt, hub.pause(rt, 1).is_some(), true, "pause 1");
         post(rt, alloc, hub, &mut pass, PUBLISH)?;
         same(rt, hub.resume(rt, 1).is_some(), true, "resume 1");
     }
-    rings(rt, alloc, hub, ticket, waking, task, flags, counter)
+    rings(rt, alloc, hub, ticket, scene)
 }
 
 fn free<L: LogId + Send + Sync, R: Threads + Wait + Clock + Abort + Sync>(
@@ -295,44 +275,29 @@ fn free<L: LogId + Send + Sync, R: Threads + Wait + Clock + Abort + Sync>(
     config: Config,
     placing: Arc<ByRemainder, Global>,
     gate: Telling,
-    waking: Waking,
-    task: &Solo,
-    flags: &Flags,
-    counter: &Counter,
+    scene: &Scene,
 ) -> Result<(), Fail>
     requires book { opened.seen.book ≡ L.book }
     requires config { config ≡ L.config }
     requires placing { by_remainder ≡ L.placing }
 {
-    let hub = Hub::<L, ByRemainder, Telling, &R>::new(alloc, rt, opened, config, placing, gate)?;
-    held(rt, alloc, &hub, waking, task, flags, counter)
+    let hub = Hub::<Kind<L, ByRemainder, Telling>, &R>::new(
+        alloc, rt, opened, config, placing, gate,
+    )?;
+    held(rt, alloc, &hub, scene)
 }
 
 fn frees<R: Threads + Wait + Clock + Abort + Sync>(
     rt: &R,
     alloc: Global,
-    waking: Waking,
-    task: &Solo,
-    flags: &Arc<Flags, Global>,
-    counter: &Counter,
+    scene: &Scene,
 ) -> Result<(), Fail> {
     let config = Config::new(2, 30_000, 0, 10_000).ok_or("no configuration")?;
     let placing = Arc::new(alloc, ByRemainder)?;
     let gate = Telling {
-        flags: Arc::try_clone(flags)?,
+        flags: Arc::try_clone(&scene.flags)?,
     };
-    free::<Brand, _>(
-        rt,
-        alloc,
-        EmptyWindow::new(),
-        config,
-        placing,
-        gate,
-        waking,
-        task,
-        flags,
-        counter,
-    )
+    free::<Brand, _>(rt, alloc, EmptyWindow::new(), config, placing, gate, scene)
 }
 
 // Checks that a publish and a poll unlock every shard before they wake a task.
@@ -342,7 +307,13 @@ fn wakes_wait_for_no_shard(rt: HostRuntime) -> Result<(), Fail> {
         let flags = Arc::new(rt.alloc(), Flags::new())?;
         let (counter, fd) = Counter::new().ok_or("no counter")?;
         let task = Solo::new(&rt, Doorbell::from_event_fd(fd))?;
-        frees(&rt, rt.alloc(), waking, &task, &flags, &counter)?;
+        let scene = Scene {
+            waking,
+            task,
+            flags,
+            counter,
+        };
+        frees(&rt, rt.alloc(), &scene)?;
     }
     Ok(())
 }

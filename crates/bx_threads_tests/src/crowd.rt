@@ -1,17 +1,15 @@
 //! Test of eight threads that use one hub with four shards.
-ghost use Rattle.std.specs.Prelude.{◌≡◌};
-ghost use Rattle.bx_entry.specs.Placings.{by_remainder};
 
+use crate::hubs::{Work, work_in_new_hub};
 use crate::same::same;
-use bx_advice::Config;
-use bx_calls::{HANDSHAKE, post};
-use bx_entry::{ByRemainder, Placing};
-use bx_hub::{Gate, Hub, OpenGate, Pass, Tick};
-use bx_window::{EmptyWindow, LogId};
+use bx_calls::post;
+use bx_calls::texts::{
+    CONNECT_AT_ONCE, CONNECT_OTHER_AT_ONCE, HANDSHAKE, SUBSCRIBE, SUBSCRIBE_OTHER,
+};
+use bx_hub::{Hub, HubKind, Pass, Tick};
 use std::alloc::Global;
-use std::marker::Brand;
 use std::process::Abort;
-use std::sync::{Arc, Wait};
+use std::sync::Wait;
 use std::test::*;
 use std::thread::{Threads, join};
 
@@ -28,19 +26,11 @@ const EVENTS: usize = 250;
 // Number of events that all three threads publish.
 const ALL_EVENTS: usize = 3 * EVENTS;
 
+// For each of two sessions, the body of a request with a connect that is answered at once.
+const CONNECTS_AT_ONCE: [&str; 2] = [CONNECT_AT_ONCE, CONNECT_OTHER_AT_ONCE];
+
 // The number of connects that a thread posts for a session in one call of `receives`.
 const CONNECTS: usize = 100;
-
-const SUBSCRIPTIONS: [&str; 2] = [
-    r#"[{"channel":"/meta/subscribe","clientId":"000000000000000000000000000000000000000000000001","subscription":"/a/*"}]"#,
-    r#"[{"channel":"/meta/subscribe","clientId":"000000000000000000000000000000000000000000000002","subscription":"/a/*"}]"#,
-];
-
-// For each of two sessions, the body of a request with a connect that is answered at once.
-const ASKS: [&str; 2] = [
-    r#"[{"channel":"/meta/connect","clientId":"000000000000000000000000000000000000000000000001","connectionType":"long-polling","advice":{"timeout":0}}]"#,
-    r#"[{"channel":"/meta/connect","clientId":"000000000000000000000000000000000000000000000002","connectionType":"long-polling","advice":{"timeout":0}}]"#,
-];
 
 // What one of the eight threads does.
 #[derive(Clone, Copy, Debug)]
@@ -56,10 +46,10 @@ enum Job {
 
 // Publishes `EVENTS` events. The data of each is its number, counted from `first`. Returns an empty
 // list, or `None` if a post fails.
-fn publishes<L: LogId, P: Placing, G: Gate + Drop, H: Wait + Drop, R: Wait>(
+fn publishes<L: HubKind, H: Wait + Drop, R: Wait>(
     rt: &R,
     alloc: Global,
-    hub: &Hub<L, P, G, H>,
+    hub: &Hub<L, H>,
     first: usize,
 ) -> Option<Vec<usize>> {
     let mut pass = hub.pass();
@@ -72,10 +62,10 @@ fn publishes<L: LogId, P: Placing, G: Gate + Drop, H: Wait + Drop, R: Wait>(
     Some(Vec::new(alloc))
 }
 
-fn ticks<L: LogId, P: Placing, G: Gate + Drop, H: Wait + Drop, R: Wait>(
+fn ticks<L: HubKind, H: Wait + Drop, R: Wait>(
     rt: &R,
     alloc: Global,
-    hub: &Hub<L, P, G, H>,
+    hub: &Hub<L, H>,
 ) -> Option<Vec<usize>> {
     let mut pass = hub.pass();
     for _ in 0..TICKS {
@@ -89,15 +79,15 @@ fn ticks<L: LogId, P: Placing, G: Gate + Drop, H: Wait + Drop, R: Wait>(
 // `session`: the session's index, 0 or 1. For session 1 each number is raised by `ALL_EVENTS`, so
 // that it differs from all numbers for session 0. Returns `None` if a call fails or the connect has
 // no answer.
-fn asks<L: LogId, P: Placing, G: Gate + Drop, H: Wait + Drop, R: Wait>(
+fn asks<L: HubKind, H: Wait + Drop, R: Wait>(
     rt: &R,
     alloc: Global,
-    hub: &Hub<L, P, G, H>,
+    hub: &Hub<L, H>,
     pass: &mut Pass<L>,
     session: usize,
     given: &mut Vec<usize>,
 ) -> Option<()> {
-    let (_, ticket) = post(rt, alloc, hub, pass, ASKS.get(session)?).ok()?;
+    let (_, ticket) = post(rt, alloc, hub, pass, *CONNECTS_AT_ONCE.get(session)?).ok()?;
     let (polled, _unfiled) = hub.poll_answer(rt, alloc, pass, ticket?);
     let answer = polled.ok()??;
     for event in answer.events.as_slice() {
@@ -113,10 +103,10 @@ fn asks<L: LogId, P: Placing, G: Gate + Drop, H: Wait + Drop, R: Wait>(
 //
 // `session`: the session's index, 0 or 1. For session 1 each number is raised by `ALL_EVENTS`.
 // Returns `None` if a call fails or a connect has no answer.
-fn receives<L: LogId, P: Placing, G: Gate + Drop, H: Wait + Drop, R: Wait>(
+fn receives<L: HubKind, H: Wait + Drop, R: Wait>(
     rt: &R,
     alloc: Global,
-    hub: &Hub<L, P, G, H>,
+    hub: &Hub<L, H>,
     session: usize,
 ) -> Option<Vec<usize>> {
     let mut pass = hub.pass();
@@ -129,10 +119,10 @@ fn receives<L: LogId, P: Placing, G: Gate + Drop, H: Wait + Drop, R: Wait>(
 
 // Sweeps all shards `TICKS` times, below place 0. Returns an empty list, or `None` if a sweep drops
 // an answer.
-fn sweeps<L: LogId, P: Placing, G: Gate + Drop, H: Wait + Drop, R: Wait>(
+fn sweeps<L: HubKind, H: Wait + Drop, R: Wait>(
     rt: &R,
     alloc: Global,
-    hub: &Hub<L, P, G, H>,
+    hub: &Hub<L, H>,
 ) -> Option<Vec<usize>> {
     for _ in 0..TICKS {
         if hub.sweep(rt, 0).dropped() > 0 {
@@ -142,10 +132,10 @@ fn sweeps<L: LogId, P: Placing, G: Gate + Drop, H: Wait + Drop, R: Wait>(
     Some(Vec::new(alloc))
 }
 
-fn works<L: LogId, P: Placing, G: Gate + Drop, H: Wait + Drop, R: Wait>(
+fn works<L: HubKind, H: Wait + Drop, R: Wait>(
     rt: &R,
     alloc: Global,
-    hub: &Hub<L, P, G, H>,
+    hub: &Hub<L, H>,
     job: Job,
 ) -> Option<Vec<usize>> {
     match job {
@@ -164,12 +154,10 @@ fn joined(first: Option<Vec<usize>>, second: Option<Vec<usize>>) -> Option<Vec<u
 }
 
 fn two<
-    L: LogId + Send + Sync,
-    P: Placing + Send + Sync,
-    G: Gate + Drop + Send + Sync,
+    L: HubKind<Placing: Send + Sync, Gate: Send + Sync> + Send + Sync,
     H: Wait + Drop + Send,
     R: Threads + Wait + Sync,
->(rt: &R, alloc: Global, hub: &Hub<L, P, G, H>, jobs: (Job, Job)) -> Option<Vec<usize>> {
+>(rt: &R, alloc: Global, hub: &Hub<L, H>, jobs: (Job, Job)) -> Option<Vec<usize>> {
     let (a, b) = join(
         rt,
         || works(rt, alloc, hub, jobs.0),
@@ -179,15 +167,13 @@ fn two<
 }
 
 fn four<
-    L: LogId + Send + Sync,
-    P: Placing + Send + Sync,
-    G: Gate + Drop + Send + Sync,
+    L: HubKind<Placing: Send + Sync, Gate: Send + Sync> + Send + Sync,
     H: Wait + Drop + Send,
     R: Threads + Wait + Sync,
 >(
     rt: &R,
     alloc: Global,
-    hub: &Hub<L, P, G, H>,
+    hub: &Hub<L, H>,
     first: (Job, Job),
     second: (Job, Job),
 ) -> Option<Vec<usize>> {
@@ -203,12 +189,10 @@ fn four<
 //
 // For the second session each number is raised by `ALL_EVENTS`. Returns `None` if a call fails.
 fn eight<
-    L: LogId + Send + Sync,
-    P: Placing + Send + Sync,
-    G: Gate + Drop + Send + Sync,
+    L: HubKind<Placing: Send + Sync, Gate: Send + Sync> + Send + Sync,
     H: Wait + Drop + Send,
     R: Threads + Wait + Sync,
->(rt: &R, alloc: Global, hub: &Hub<L, P, G, H>) -> Option<Vec<usize>> {
+>(rt: &R, alloc: Global, hub: &Hub<L, H>) -> Option<Vec<usize>> {
     let (a, b) = join(
         rt,
         || four(
@@ -230,13 +214,13 @@ fn eight<
 }
 
 // Opens two sessions and subscribes both to `/a/*`. Returns `None` if a post fails.
-fn opens<L: LogId, P: Placing, G: Gate + Drop, H: Wait + Drop, R: Wait>(
+fn opens<L: HubKind, H: Wait + Drop, R: Wait>(
     rt: &R,
     alloc: Global,
-    hub: &Hub<L, P, G, H>,
+    hub: &Hub<L, H>,
 ) -> Option<()> {
     let mut pass = hub.pass();
-    for body in [HANDSHAKE, HANDSHAKE, SUBSCRIPTIONS[0], SUBSCRIPTIONS[1]] {
+    for body in [HANDSHAKE, HANDSHAKE, SUBSCRIBE, SUBSCRIBE_OTHER] {
         post(rt, alloc, hub, &mut pass, body).ok()?;
     }
     Some(())
@@ -248,12 +232,10 @@ fn opens<L: LogId, P: Placing, G: Gate + Drop, H: Wait + Drop, R: Wait>(
 // After the threads end, more connects fetch the events that are left. Returns `None` if a call
 // fails.
 fn given<
-    L: LogId + Send + Sync,
-    P: Placing + Send + Sync,
-    G: Gate + Drop + Send + Sync,
+    L: HubKind<Placing: Send + Sync, Gate: Send + Sync> + Send + Sync,
     H: Wait + Drop + Send,
     R: Threads + Wait + Sync,
->(rt: &R, alloc: Global, hub: &Hub<L, P, G, H>) -> Option<Vec<usize>> {
+>(rt: &R, alloc: Global, hub: &Hub<L, H>) -> Option<Vec<usize>> {
     opens(rt, alloc, hub)?;
     let given = eight(rt, alloc, hub)?;
     let first = receives(rt, alloc, hub, 0);
@@ -263,21 +245,17 @@ fn given<
     Some(all)
 }
 
-fn crowd<L: LogId + Send + Sync, R: Threads + Wait + Abort + Sync>(
-    rt: &R,
-    alloc: Global,
-    opened: EmptyWindow,
-    config: Config,
-    placing: Arc<ByRemainder, Global>,
-) -> Result<(), Fail>
-    requires book { opened.seen.book ≡ L.book }
-    requires config { config ≡ L.config }
-    requires placing { by_remainder ≡ L.placing }
-{
-    let hub = Hub::<L, ByRemainder, OpenGate, &R>::new(
-        alloc, rt, opened, config, placing, OpenGate,
-    )?;
-    let given = given(rt, alloc, &hub).ok_or("a call failed")?;
+/// Runs eight threads on two new sessions, and checks that each session gets each event once.
+///
+/// # Errors
+///
+/// An error if memory runs out, or a call fails unexpectedly.
+pub fn check_given<
+    L: HubKind<Placing: Send + Sync, Gate: Send + Sync> + Send + Sync,
+    H: Wait + Drop + Send,
+    R: Threads + Wait + Abort + Sync,
+>(rt: &R, alloc: Global, hub: &Hub<L, H>) -> Result<(), Fail> {
+    let given = given(rt, alloc, hub).ok_or("a call failed")?;
     // Each of two sessions gets each event of three publishing threads once.
     same(rt, given.len(), 2 * ALL_EVENTS, "given");
     for (number, event) in given.iter().enumerate() {
@@ -289,8 +267,5 @@ fn crowd<L: LogId + Send + Sync, R: Threads + Wait + Abort + Sync>(
 // Checks that each session gets each published event once while eight threads run.
 #[test]
 fn eight_threads(rt: HostRuntime) -> Result<(), Fail> {
-    let alloc = rt.alloc();
-    let config = Config::new(4, 30_000, 0, 10_000).ok_or("no configuration")?;
-    let placing = Arc::new(alloc, ByRemainder)?;
-    crowd::<Brand, _>(&rt, alloc, EmptyWindow::new(), config, placing)
+    work_in_new_hub(&rt, rt.alloc(), 4, Work::Eight)
 }

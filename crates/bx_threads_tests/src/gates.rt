@@ -4,9 +4,10 @@ ghost use Rattle.bx_entry.specs.Placings.{by_remainder};
 
 use crate::same::same;
 use bx_advice::Config;
-use bx_calls::{ANSWER, Found, HANDSHAKE, PUBLISH, Refused, find, hold, post};
-use bx_entry::{ByRemainder, Placing, Refusal, Ticket};
-use bx_hub::{Gate, Hub, Pass, PostFault, Tick};
+use bx_calls::texts::{ANSWER, HANDSHAKE, PUBLISH};
+use bx_calls::{Found, Refused, find, hold, post};
+use bx_entry::{ByRemainder, Refusal, Ticket};
+use bx_hub::{Gate, Hub, HubKind, Kind, Pass, PostFault, Tick};
 use bx_window::{EmptyWindow, LogId};
 use std::alloc::Global;
 use std::hint;
@@ -75,10 +76,10 @@ impl Gate for Holding {
 //
 // Then lets the publish continue, and returns what the tick and the poll find. The tick's moment is
 // too large. Admission and shard 1 must be unlocked for both, and the list must have the publish.
-fn takes<L: LogId, P: Placing, H: Wait + Drop, R: Wait>(
+fn takes<L: HubKind, H: Wait + Drop, R: Wait>(
     rt: &R,
     alloc: Global,
-    hub: &Hub<L, P, Holding, H>,
+    hub: &Hub<L, H>,
     mut pass: Pass<L>,
     ticket: Ticket,
     flags: &Flags,
@@ -105,10 +106,10 @@ fn takes<L: LogId, P: Placing, H: Wait + Drop, R: Wait>(
 
 // Publishes an event, and returns `true` if it is admitted. The gate stops the call while it has
 // locked shard 0.
-fn posts<L: LogId, P: Placing, H: Wait + Drop, R: Wait>(
+fn posts<L: HubKind, H: Wait + Drop, R: Wait>(
     rt: &R,
     alloc: Global,
-    hub: &Hub<L, P, Holding, H>,
+    hub: &Hub<L, H>,
     mut pass: Pass<L>,
 ) -> bool {
     post(rt, alloc, hub, &mut pass, PUBLISH).is_ok()
@@ -119,14 +120,13 @@ fn posts<L: LogId, P: Placing, H: Wait + Drop, R: Wait>(
 // If one lock guarded both shards, or shard 0 and admission, the stopped publish would wait in
 // vain.
 fn beside<
-    L: LogId + Send + Sync,
-    P: Placing + Send + Sync,
+    L: HubKind<Placing: Send + Sync, Gate: Send + Sync> + Send + Sync,
     H: Wait + Drop + Send,
     R: Threads + Wait + Abort + Sync,
 >(
     rt: &R,
     alloc: Global,
-    hub: &Hub<L, P, Holding, H>,
+    hub: &Hub<L, H>,
     pass: Pass<L>,
     ticket: Ticket,
     flags: &Flags,
@@ -161,10 +161,10 @@ fn beside<
 }
 
 // Opens two sessions, subscribes the first, and returns the ticket of its held connect.
-fn opens<L: LogId, P: Placing, G: Gate + Drop, H: Wait + Drop, R: Wait>(
+fn opens<L: HubKind, H: Wait + Drop, R: Wait>(
     rt: &R,
     alloc: Global,
-    hub: &Hub<L, P, G, H>,
+    hub: &Hub<L, H>,
     pass: &mut Pass<L>,
 ) -> Result<Ticket, Refused> {
     let ticket = hold(rt, alloc, hub, pass)?;
@@ -173,11 +173,10 @@ fn opens<L: LogId, P: Placing, G: Gate + Drop, H: Wait + Drop, R: Wait>(
 }
 
 fn stands<
-    L: LogId + Send + Sync,
-    P: Placing + Send + Sync,
+    L: HubKind<Placing: Send + Sync, Gate: Send + Sync> + Send + Sync,
     H: Wait + Drop + Send,
     R: Threads + Wait + Abort + Sync,
->(rt: &R, alloc: Global, hub: &Hub<L, P, Holding, H>, flags: &Flags) -> Result<(), Fail> {
+>(rt: &R, alloc: Global, hub: &Hub<L, H>, flags: &Flags) -> Result<(), Fail> {
     let mut pass = hub.pass();
     let ticket = opens(rt, alloc, hub, &mut pass)?;
     beside(rt, alloc, hub, pass, ticket, flags)
@@ -196,7 +195,9 @@ fn held<L: LogId + Send + Sync, R: Threads + Wait + Abort + Sync>(
     requires config { config ≡ L.config }
     requires placing { by_remainder ≡ L.placing }
 {
-    let hub = Hub::<L, ByRemainder, Holding, &R>::new(alloc, rt, opened, config, placing, gate)?;
+    let hub = Hub::<Kind<L, ByRemainder, Holding>, &R>::new(
+        alloc, rt, opened, config, placing, gate,
+    )?;
     stands(rt, alloc, &hub, flags)
 }
 

@@ -10,6 +10,8 @@ mod crowd;
 #[cfg(test)]
 mod gates;
 #[cfg(test)]
+mod hubs;
+#[cfg(test)]
 mod locks;
 #[cfg(test)]
 mod rounds;

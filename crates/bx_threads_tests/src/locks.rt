@@ -4,9 +4,10 @@ ghost use Rattle.bx_entry.specs.Placings.{by_remainder, by_remainder-below};
 
 use crate::same::same;
 use bx_advice::Config;
-use bx_calls::{CONNECT, HANDSHAKE, PING, post};
+use bx_calls::post;
+use bx_calls::texts::{CONNECT, HANDSHAKE, PING};
 use bx_entry::{ByRemainder, Placing, Ticket};
-use bx_hub::{Gate, Hub, Tick};
+use bx_hub::{Gate, Hub, HubKind, Kind, Tick};
 use bx_window::{EmptyWindow, LogId};
 use std::alloc::{AllocError, Global};
 use std::marker::Brand;
@@ -148,10 +149,10 @@ impl<C: Clock + Drop> Placing for Holding<C> {
 // Makes `call`, which the gate stops in shard 1, and returns `true` if it succeeds.
 //
 // Before a post, posts `AHEAD` pings, which are not stopped.
-fn calls<L: LogId, P: Placing, G: Gate + Drop, H: Wait + Drop, C: Clock + Drop, R: Wait>(
+fn calls<L: HubKind, H: Wait + Drop, C: Clock + Drop, R: Wait>(
     rt: &R,
     alloc: Global,
-    hub: &Hub<L, P, G, H>,
+    hub: &Hub<L, H>,
     flags: &Flags<C>,
     call: Call,
 ) -> bool {
@@ -178,10 +179,10 @@ fn calls<L: LogId, P: Placing, G: Gate + Drop, H: Wait + Drop, C: Clock + Drop, 
 // Waits until a call is stopped in shard 1, and posts a connect. Returns `true` if it is admitted.
 //
 // The placing stops this post while admission is locked.
-fn posts<L: LogId, P: Placing, G: Gate + Drop, H: Wait + Drop, C: Clock + Drop, R: Wait>(
+fn posts<L: HubKind, H: Wait + Drop, C: Clock + Drop, R: Wait>(
     rt: &R,
     alloc: Global,
-    hub: &Hub<L, P, G, H>,
+    hub: &Hub<L, H>,
     flags: &Flags<C>,
 ) -> bool {
     flags.wait_for(&flags.call_stands);
@@ -193,9 +194,9 @@ fn posts<L: LogId, P: Placing, G: Gate + Drop, H: Wait + Drop, C: Clock + Drop, 
 //
 // The call that was stopped in shard 1 can continue meanwhile. Returns how many answers were
 // dropped.
-fn sweeps<L: LogId, P: Placing, G: Gate + Drop, H: Wait + Drop, C: Clock + Drop, R: Wait>(
+fn sweeps<L: HubKind, H: Wait + Drop, C: Clock + Drop, R: Wait>(
     rt: &R,
-    hub: &Hub<L, P, G, H>,
+    hub: &Hub<L, H>,
     flags: &Flags<C>,
 ) -> usize {
     flags.wait_for(&flags.post_stands);
@@ -209,13 +210,11 @@ fn sweeps<L: LogId, P: Placing, G: Gate + Drop, H: Wait + Drop, C: Clock + Drop,
 }
 
 fn posts_and_sweeps<
-    L: LogId + Send + Sync,
-    P: Placing + Send + Sync,
-    G: Gate + Drop + Send + Sync,
+    L: HubKind<Placing: Send + Sync, Gate: Send + Sync> + Send + Sync,
     H: Wait + Drop + Send,
     C: Clock + Drop + Sync,
     R: Threads + Wait + Sync,
->(rt: &R, alloc: Global, hub: &Hub<L, P, G, H>, flags: &Flags<C>) -> (bool, usize) {
+>(rt: &R, alloc: Global, hub: &Hub<L, H>, flags: &Flags<C>) -> (bool, usize) {
     join(
         rt,
         || posts(rt, alloc, hub, flags),
@@ -229,13 +228,11 @@ fn posts_and_sweeps<
 // If `call` waited for admission with a shard locked, the sweeps would block, and the post would
 // wait for them in vain.
 fn beside<
-    L: LogId + Send + Sync,
-    P: Placing + Send + Sync,
-    G: Gate + Drop + Send + Sync,
+    L: HubKind<Placing: Send + Sync, Gate: Send + Sync> + Send + Sync,
     H: Wait + Drop + Send,
     C: Clock + Drop + Sync,
     R: Threads + Wait + Abort + Sync,
->(rt: &R, alloc: Global, hub: &Hub<L, P, G, H>, flags: &Flags<C>, call: Call) {
+>(rt: &R, alloc: Global, hub: &Hub<L, H>, flags: &Flags<C>, call: Call) {
     let (called, (posted, swept)) = join(
         rt,
         || calls(rt, alloc, hub, flags, call),
@@ -249,13 +246,11 @@ fn beside<
 }
 
 fn stands<
-    L: LogId + Send + Sync,
-    P: Placing + Send + Sync,
-    G: Gate + Drop + Send + Sync,
+    L: HubKind<Placing: Send + Sync, Gate: Send + Sync> + Send + Sync,
     H: Wait + Drop + Send,
     C: Clock + Drop + Sync,
     R: Threads + Wait + Abort + Sync,
->(rt: &R, alloc: Global, hub: &Hub<L, P, G, H>, flags: &Flags<C>, call: Call) -> Result<(), Fail> {
+>(rt: &R, alloc: Global, hub: &Hub<L, H>, flags: &Flags<C>, call: Call) -> Result<(), Fail> {
     post(rt, alloc, hub, &mut hub.pass(), HANDSHAKE)?;
     // Each shard places the new session when it applies the handshake.
     let between = flags.between.load(Ordering::SeqCst);
@@ -278,7 +273,9 @@ fn ordered<L: LogId + Send + Sync, C: Clock + Drop + Send + Sync, R: Threads + W
     requires config { config ≡ L.config }
     requires placing { by_remainder ≡ L.placing }
 {
-    let hub = Hub::<L, Holding<C>, Holding<C>, &R>::new(alloc, rt, opened, config, placing, gate)?;
+    let hub = Hub::<Kind<L, Holding<C>, Holding<C>>, &R>::new(
+        alloc, rt, opened, config, placing, gate,
+    )?;
     stands(rt, alloc, &hub, flags, call)
 }
 

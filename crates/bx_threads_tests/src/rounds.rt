@@ -1,20 +1,17 @@
 //! Test of wakers. In each round, one thread posts a connect and sleeps until another thread's
 //! event answers the connect.
-ghost use Rattle.std.specs.Prelude.{◌≡◌};
-ghost use Rattle.bx_entry.specs.Placings.{by_remainder};
 
+use crate::hubs::{Work, work_in_new_hub};
 use crate::same::same;
-use bx_advice::Config;
-use bx_calls::{CONNECT, Found, HANDSHAKE, SUBSCRIBE, find, post};
-use bx_entry::{ByRemainder, Placing, Ticket};
-use bx_hub::{Gate, Hub, OpenGate, Pass, Watch};
-use bx_window::{EmptyWindow, LogId};
+use bx_calls::texts::{CONNECT, HANDSHAKE, SUBSCRIBE};
+use bx_calls::{Found, find, post};
+use bx_entry::Ticket;
+use bx_hub::{Hub, HubKind, Pass, Watch};
 use futures::task::{Doorbell, Poll, Queue, Source, Waker};
 use std::alloc::{AllocError, Global};
-use std::marker::Brand;
 use std::process::Abort;
+use std::sync::Wait;
 use std::sync::atomic::{AtomicU64, Ordering};
-use std::sync::{Arc, Wait};
 use std::test::*;
 use std::thread;
 use std::thread::{Threads, join};
@@ -56,10 +53,10 @@ fn text_of(alloc: Global, around: [&str; 2], round: u64) -> Result<String, Alloc
     format!(in alloc; "{head}{round}{tail}")
 }
 
-// What two threads share: the task of the one that sleeps, and the round of the other's next
-// publish.
+/// What two threads share: the task of the one that sleeps, and the round of the other's next
+/// publish.
 #[derive(Drop)]
-struct Turns {
+pub struct Turns {
     task: Queue,
     source: Source,
     round: AtomicU64,
@@ -148,9 +145,9 @@ impl Told {
 // If the connect was already answered, puts the waker back and does not sleep. Otherwise counts the
 // waker and the wake in `told`, and stores a new waker in `slot`. Returns `None` if `slot` is
 // empty, the hub does not store the waker or has another one, or the task was shut down.
-fn wait<L: LogId, P: Placing, G: Gate + Drop, H: Wait + Drop, R: Wait>(
+fn wait<L: HubKind, H: Wait + Drop, R: Wait>(
     rt: &R,
-    hub: &Hub<L, P, G, H>,
+    hub: &Hub<L, H>,
     ticket: Ticket,
     turns: &Turns,
     slot: &mut Option<Waker>,
@@ -177,10 +174,10 @@ fn wait<L: LogId, P: Placing, G: Gate + Drop, H: Wait + Drop, R: Wait>(
 // Polls for the answer under `ticket`. If there is none yet, calls `wait` and polls once again.
 //
 // Returns `None` unless a poll finds an answer with the text `wanted`.
-fn answered<L: LogId, P: Placing, G: Gate + Drop, H: Wait + Drop, R: Wait>(
+fn answered<L: HubKind, H: Wait + Drop, R: Wait>(
     rt: &R,
     alloc: Global,
-    hub: &Hub<L, P, G, H>,
+    hub: &Hub<L, H>,
     pass: &mut Pass<L>,
     ticket: Ticket,
     wanted: &str,
@@ -205,10 +202,10 @@ fn answered<L: LogId, P: Placing, G: Gate + Drop, H: Wait + Drop, R: Wait>(
 //
 // In even rounds the event may be published already before the connect. Returns `None` if the post
 // fails.
-fn connects<L: LogId, P: Placing, G: Gate + Drop, H: Wait + Drop, R: Wait>(
+fn connects<L: HubKind, H: Wait + Drop, R: Wait>(
     rt: &R,
     alloc: Global,
-    hub: &Hub<L, P, G, H>,
+    hub: &Hub<L, H>,
     pass: &mut Pass<L>,
     turns: &Turns,
     round: u64,
@@ -223,10 +220,10 @@ fn connects<L: LogId, P: Placing, G: Gate + Drop, H: Wait + Drop, R: Wait>(
 
 // Posts the connect of `round`, and waits for its answer. Returns `None` unless the answer has the
 // event of `round`.
-fn plays<L: LogId, P: Placing, G: Gate + Drop, H: Wait + Drop, R: Wait>(
+fn plays<L: HubKind, H: Wait + Drop, R: Wait>(
     rt: &R,
     alloc: Global,
-    hub: &Hub<L, P, G, H>,
+    hub: &Hub<L, H>,
     pass: &mut Pass<L>,
     turns: &Turns,
     slot: &mut Option<Waker>,
@@ -242,10 +239,10 @@ fn plays<L: LogId, P: Placing, G: Gate + Drop, H: Wait + Drop, R: Wait>(
 // Plays at most `ROUNDS` rounds, until one fails or time is up, and returns the counts.
 //
 // Then sets `turns.round` to `OVER`, so that the publishing thread ends.
-fn waits<L: LogId, P: Placing, G: Gate + Drop, H: Wait + Drop, R: Wait + Clock>(
+fn waits<L: HubKind, H: Wait + Drop, R: Wait + Clock>(
     rt: &R,
     alloc: Global,
-    hub: &Hub<L, P, G, H>,
+    hub: &Hub<L, H>,
     turns: &Turns,
     start: Instant,
 ) -> Told {
@@ -274,10 +271,10 @@ fn waits<L: LogId, P: Placing, G: Gate + Drop, H: Wait + Drop, R: Wait + Clock>(
 // Publishes an event in each round, and returns the number of events.
 //
 // Returns `None` if a publish fails or a round does not begin in time.
-fn publishes<L: LogId, P: Placing, G: Gate + Drop, H: Wait + Drop, R: Wait + Clock>(
+fn publishes<L: HubKind, H: Wait + Drop, R: Wait + Clock>(
     rt: &R,
     alloc: Global,
-    hub: &Hub<L, P, G, H>,
+    hub: &Hub<L, H>,
     turns: &Turns,
 ) -> Option<u64> {
     let mut pass = hub.pass();
@@ -291,10 +288,10 @@ fn publishes<L: LogId, P: Placing, G: Gate + Drop, H: Wait + Drop, R: Wait + Clo
     Some(ROUNDS)
 }
 
-fn publish<L: LogId, P: Placing, G: Gate + Drop, H: Wait + Drop, R: Wait>(
+fn publish<L: HubKind, H: Wait + Drop, R: Wait>(
     rt: &R,
     alloc: Global,
-    hub: &Hub<L, P, G, H>,
+    hub: &Hub<L, H>,
     pass: &mut Pass<L>,
     round: u64,
 ) -> Option<()> {
@@ -305,10 +302,10 @@ fn publish<L: LogId, P: Placing, G: Gate + Drop, H: Wait + Drop, R: Wait>(
 
 // Runs `publishes` and returns its result. If that is `None`, shuts the waiting task down, so that
 // it does not sleep forever.
-fn publishes_all<L: LogId, P: Placing, G: Gate + Drop, H: Wait + Drop, R: Wait + Clock>(
+fn publishes_all<L: HubKind, H: Wait + Drop, R: Wait + Clock>(
     rt: &R,
     alloc: Global,
-    hub: &Hub<L, P, G, H>,
+    hub: &Hub<L, H>,
     turns: &Turns,
 ) -> Option<u64> {
     let published = publishes(rt, alloc, hub, turns);
@@ -319,10 +316,10 @@ fn publishes_all<L: LogId, P: Placing, G: Gate + Drop, H: Wait + Drop, R: Wait +
 }
 
 // Opens two sessions and subscribes the first.
-fn opens<L: LogId, P: Placing, G: Gate + Drop, H: Wait + Drop, R: Wait>(
+fn opens<L: HubKind, H: Wait + Drop, R: Wait>(
     rt: &R,
     alloc: Global,
-    hub: &Hub<L, P, G, H>,
+    hub: &Hub<L, H>,
 ) -> Result<(), Fail> {
     let mut pass = hub.pass();
     for body in [HANDSHAKE, HANDSHAKE, SUBSCRIBE] {
@@ -331,13 +328,16 @@ fn opens<L: LogId, P: Placing, G: Gate + Drop, H: Wait + Drop, R: Wait>(
     Ok(())
 }
 
-fn rounds<
-    L: LogId + Send + Sync,
-    P: Placing + Send + Sync,
-    G: Gate + Drop + Send + Sync,
+/// Opens two sessions, plays the rounds in two threads, and checks the counts.
+///
+/// # Errors
+///
+/// An error if memory runs out, or a call fails unexpectedly.
+pub fn play<
+    L: HubKind<Placing: Send + Sync, Gate: Send + Sync> + Send + Sync,
     H: Wait + Drop + Send,
     R: Threads + Wait + Clock + Abort + Sync,
->(rt: &R, alloc: Global, hub: &Hub<L, P, G, H>, turns: &Turns) -> Result<(), Fail> {
+>(rt: &R, alloc: Global, hub: &Hub<L, H>, turns: &Turns) -> Result<(), Fail> {
     opens(rt, alloc, hub)?;
     let start = Instant::now(rt)?;
     let (told, published) = join(
@@ -363,35 +363,14 @@ fn check<R: Abort>(rt: &R, told: Told, published: Option<u64>) {
     same(rt, told.left > 0, true, "some waker was left");
 }
 
-fn play<L: LogId + Send + Sync, R: Threads + Wait + Clock + Abort + Sync>(
-    rt: &R,
-    alloc: Global,
-    opened: EmptyWindow,
-    config: Config,
-    placing: Arc<ByRemainder, Global>,
-    turns: &Turns,
-) -> Result<(), Fail>
-    requires book { opened.seen.book ≡ L.book }
-    requires config { config ≡ L.config }
-    requires placing { by_remainder ≡ L.placing }
-{
-    let hub = Hub::<L, ByRemainder, OpenGate, &R>::new(
-        alloc, rt, opened, config, placing, OpenGate,
-    )?;
-    rounds(rt, alloc, &hub, turns)
-}
-
 // Checks that each waker registered with a held connect wakes its task once.
 #[test]
 fn each_waker_wakes_once(rt: HostRuntime) -> Result<(), Fail> {
-    let alloc = rt.alloc();
-    let config = Config::new(2, 30_000, 0, 10_000).ok_or("no configuration")?;
-    let placing = Arc::new(alloc, ByRemainder)?;
     let turns = Turns {
         task: Queue::new(&rt, Doorbell::parking())?,
         source: Source::new(),
         round: AtomicU64::new(0),
     };
     turns.task.add()?.schedule();
-    play::<Brand, _>(&rt, alloc, EmptyWindow::new(), config, placing, &turns)
+    work_in_new_hub(&rt, rt.alloc(), 2, Work::Rounds(&turns))
 }

@@ -1,17 +1,14 @@
 //! Test of two threads, each with its own pass.
-ghost use Rattle.std.specs.Prelude.{◌≡◌};
-ghost use Rattle.bx_entry.specs.Placings.{by_remainder};
 
+use crate::hubs::{Work, work_in_new_hub};
 use crate::same::same;
-use bx_advice::Config;
-use bx_calls::{ANSWER, Found, find, hold, publish};
-use bx_entry::{ByRemainder, Placing, Ticket};
-use bx_hub::{Gate, Hub, OpenGate, Pass, Tick};
-use bx_window::{EmptyWindow, LogId};
+use bx_calls::texts::ANSWER;
+use bx_calls::{Found, find, hold, publish};
+use bx_entry::Ticket;
+use bx_hub::{Hub, HubKind, Pass, Tick};
 use std::alloc::Global;
-use std::marker::Brand;
 use std::process::Abort;
-use std::sync::{Arc, Wait};
+use std::sync::Wait;
 use std::test::*;
 use std::thread::{Threads, join};
 
@@ -22,10 +19,10 @@ const TICKS: usize = 5_000;
 //
 // Returns `None` if a tick fails. Publishes no event, so that an event found later was published by
 // another thread.
-fn ticks<L: LogId, P: Placing, G: Gate + Drop, H: Wait + Drop, R: Wait>(
+fn ticks<L: HubKind, H: Wait + Drop, R: Wait>(
     rt: &R,
     alloc: Global,
-    hub: &Hub<L, P, G, H>,
+    hub: &Hub<L, H>,
     mut pass: Pass<L>,
 ) -> Option<Pass<L>> {
     for _ in 0..TICKS {
@@ -37,10 +34,10 @@ fn ticks<L: LogId, P: Placing, G: Gate + Drop, H: Wait + Drop, R: Wait>(
 // Opens the second session and publishes an event. Returns `pass`, which has then seen both.
 //
 // Returns `None` if a post fails.
-fn tells<L: LogId, P: Placing, G: Gate + Drop, H: Wait + Drop, R: Wait>(
+fn tells<L: HubKind, H: Wait + Drop, R: Wait>(
     rt: &R,
     alloc: Global,
-    hub: &Hub<L, P, G, H>,
+    hub: &Hub<L, H>,
     mut pass: Pass<L>,
 ) -> Option<Pass<L>> {
     publish(rt, alloc, hub, &mut pass).ok()?;
@@ -52,12 +49,10 @@ fn tells<L: LogId, P: Placing, G: Gate + Drop, H: Wait + Drop, R: Wait>(
 // The check uses the longer of the two threads' passes. It must find the answer once, with the
 // event. Fails if a call of a thread fails.
 fn meet<
-    L: LogId + Send + Sync,
-    P: Placing + Send + Sync,
-    G: Gate + Drop + Send + Sync,
+    L: HubKind<Placing: Send + Sync, Gate: Send + Sync> + Send + Sync,
     H: Wait + Drop + Send,
     R: Threads + Wait + Abort + Sync,
->(rt: &R, alloc: Global, hub: &Hub<L, P, G, H>, pass: Pass<L>, ticket: Ticket) -> Result<(), Fail> {
+>(rt: &R, alloc: Global, hub: &Hub<L, H>, pass: Pass<L>, ticket: Ticket) -> Result<(), Fail> {
     let other = hub.pass();
     let (a, b) = join(
         rt,
@@ -75,10 +70,10 @@ fn meet<
 
 // Polls twice for the answer under `ticket`. Checks that only the first poll finds an answer, and
 // that its text is `ANSWER`.
-fn answered<L: LogId, P: Placing, G: Gate + Drop, H: Wait + Drop, R: Wait + Abort>(
+fn answered<L: HubKind, H: Wait + Drop, R: Wait + Abort>(
     rt: &R,
     alloc: Global,
-    hub: &Hub<L, P, G, H>,
+    hub: &Hub<L, H>,
     pass: &mut Pass<L>,
     ticket: Ticket,
 ) -> Result<(), Fail> {
@@ -91,10 +86,10 @@ fn answered<L: LogId, P: Placing, G: Gate + Drop, H: Wait + Drop, R: Wait + Abor
 
 // Opens and subscribes the first session, and posts a connect of it, which is held. Checks that the
 // connect has no answer yet, and returns its ticket.
-fn waits<L: LogId, P: Placing, G: Gate + Drop, H: Wait + Drop, R: Wait + Abort>(
+fn waits<L: HubKind, H: Wait + Drop, R: Wait + Abort>(
     rt: &R,
     alloc: Global,
-    hub: &Hub<L, P, G, H>,
+    hub: &Hub<L, H>,
     pass: &mut Pass<L>,
 ) -> Result<Ticket, Fail> {
     let ticket = hold(rt, alloc, hub, pass)?;
@@ -103,40 +98,23 @@ fn waits<L: LogId, P: Placing, G: Gate + Drop, H: Wait + Drop, R: Wait + Abort>(
     Ok(ticket)
 }
 
-fn meet_once<
-    L: LogId + Send + Sync,
-    P: Placing + Send + Sync,
-    G: Gate + Drop + Send + Sync,
+/// Holds a connect, answers it from another thread, and checks the answer.
+///
+/// # Errors
+///
+/// An error if memory runs out, or a call fails unexpectedly.
+pub fn meet_once<
+    L: HubKind<Placing: Send + Sync, Gate: Send + Sync> + Send + Sync,
     H: Wait + Drop + Send,
     R: Threads + Wait + Abort + Sync,
->(rt: &R, alloc: Global, hub: &Hub<L, P, G, H>) -> Result<(), Fail> {
+>(rt: &R, alloc: Global, hub: &Hub<L, H>) -> Result<(), Fail> {
     let mut pass = hub.pass();
     let ticket = waits(rt, alloc, hub, &mut pass)?;
     meet(rt, alloc, hub, pass, ticket)
 }
 
-fn two<L: LogId + Send + Sync, R: Threads + Wait + Abort + Sync>(
-    rt: &R,
-    alloc: Global,
-    opened: EmptyWindow,
-    config: Config,
-    placing: Arc<ByRemainder, Global>,
-) -> Result<(), Fail>
-    requires book { opened.seen.book ≡ L.book }
-    requires config { config ≡ L.config }
-    requires placing { by_remainder ≡ L.placing }
-{
-    let hub = Hub::<L, ByRemainder, OpenGate, &R>::new(
-        alloc, rt, opened, config, placing, OpenGate,
-    )?;
-    meet_once(rt, alloc, &hub)
-}
-
 // Checks that a poll with the longer of two threads' passes finds the event of one of them, once.
 #[test]
 fn two_threads(rt: HostRuntime) -> Result<(), Fail> {
-    let alloc = rt.alloc();
-    let config = Config::new(2, 30_000, 0, 10_000).ok_or("no configuration")?;
-    let placing = Arc::new(alloc, ByRemainder)?;
-    two::<Brand, _>(&rt, alloc, EmptyWindow::new(), config, placing)
+    work_in_new_hub(&rt, rt.alloc(), 2, Work::Two)
 }

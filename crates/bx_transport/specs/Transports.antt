@@ -1,6 +1,6 @@
 -- How the body of a POST and the query of a GET are read.
 use Rattle.std.specs.Prelude.{ℕ, List, [], ◌∷◌, length, nat_lt, codes, if◌then◌else◌, Option, Result, Ok, Err}
-use Rattle.bx_advice.specs.declared.config.TheConstants.{BODY_LIMIT}
+use Rattle.bx_advice.specs.declared.limit.TheConstants.{BODY_LIMIT}
 use Rattle.bx_transport.specs.declared.error.TransportError.{TransportError}
 use Rattle.bx_transport.specs.declared.error.TransportError.TheVariants.{TooLarge, BadName, NoMessage}
 use Rattle.bx_transport.specs.Forms.{is_form, values_of, callback_of, is_callback}

@@ -5,22 +5,25 @@ ghost use Rattle.bx_transport.specs.declared.error.TransportError.TheVariants.{M
 
 use bx_message::Status;
 use std::alloc::{AllocError, AllocFailed};
-use std::error::Error;
-use std::fmt;
+use thiserror::Error;
 
 /// Why the body of a POST or the query of a GET is rejected.
 ///
 /// The variants are in the order in which they are tested, except that memory can run out at any
 /// time after the test for `TooLarge`.
-#[derive(Clone, Copy, Debug, PartialEq, Eq)]
+#[derive(Clone, Copy, Debug, PartialEq, Eq, Error)]
 pub enum TransportError {
     /// The body or the query has more than [`bx_advice::BODY_LIMIT`] bytes.
+    #[error("the request is too large")]
     TooLarge,
     /// The name of a query's callback is not valid.
+    #[error("the callback is no name")]
     BadName,
     /// The form or the query has no parameter `message`.
+    #[error("there is no message")]
     NoMessage,
     /// Memory ran out while the body or the query was read.
+    #[error("out of memory")]
     Memory,
 }
 
@@ -38,19 +41,6 @@ impl TransportError {
         }
     }
 }
-
-impl fmt::Display for TransportError {
-    fn fmt<W: fmt::Write>(&self, f: &mut fmt::Formatter<W>) -> fmt::Result {
-        f.write_str(match self {
-            TransportError::TooLarge => "the request is too large",
-            TransportError::BadName => "the callback is no name",
-            TransportError::NoMessage => "there is no message",
-            TransportError::Memory => "out of memory",
-        })
-    }
-}
-
-impl Error for TransportError {}
 
 impl From<AllocError> for TransportError {
     ghost from_gives = { λ _ e. e ≡ Memory };

@@ -2,10 +2,10 @@
 use Rattle.std.proofs.Common.{◌≡◌, ℕ, ◌<◌, true, ◌&&◌, ◌||◌, List, [], ◌∷◌, ◌++◌, length, take, drop, refl, sym, ap, subst, ◌∙◌, arith, append-nil, append_assoc, length-append, inl, inr, take-append-drop}
 use Rattle.std.specs.Bool.{one_answer}
 use Rattle.std.proofs.lemmas.Bool.{or_cases, or_left, or_right, and_parts}
-use Rattle.bx_names.specs.Words.{parts, path_of, Glob, matches, matches_by, any_matches, same_glob, same_glob-decides, in_force}
+use Rattle.bx_names.specs.Words.{parts, path_of, Glob, matches_by, any_matches, in_force}
 use Rattle.bx_names.specs.declared.tail.Tail.{Tail}
 use Rattle.bx_names.specs.declared.tail.Tail.TheVariants.{Exact, One, Many}
-use Rattle.bx_names.proofs.{PathLemmas.path_of-append, MatchLemmas.exact_decides, MatchLemmas.one_decides, MatchLemmas.many_decides}
+use Rattle.bx_names.proofs.{PathLemmas.path_of-append, MatchLemmas.exact_decides, MatchLemmas.one_decides, MatchLemmas.many_decides, Actives.matching_any, Actives.matching_from}
 use Rattle.bx_tree.specs.declared.nodes.Nodes.{Nodes}
 use Rattle.bx_tree.specs.Words.{AreWhole, patterns_of, stands_at, lists_of, IsIndexOf, is_end, is_met}
 use Rattle.std.proofs.lemmas.Grind.{common_steps}
@@ -47,29 +47,6 @@ matches_rest own Exact more h = (exact_decides own (own ++ more)).1 (ap (λ ts. 
 matches_rest own One more h = (one_decides own (own ++ more)).1 (omega (arith, length-append own more), take_front own more)
 matches_rest own Many more h = (many_decides own (own ++ more)).1 (more, h, refl)
 
--- ---- some active pattern
-
-any_if : (ps : List Glob) (p : Glob) (name : List (List ℕ)) → in_force ps p ≡ true → matches p name ≡ true → any_matches ps name ≡ true
-any_if [] p name h k = cc
-any_if (q ∷ qs) p name h k =
-    elim (or_cases (same_glob p q) (in_force qs p) h) [
-      | inl e ↦ or_left (matches q name) (any_matches qs name) (ap (λ r. matches r name) (sym ((same_glob-decides p q).0 e)) ∙ k)
-      | inr e ↦ or_right (matches q name) (any_matches qs name) (any_if qs p name e k)
-    ]
-
-record Some_matches (ps : List Glob) (name : List (List ℕ)) : Type 0 where
-  p : Glob
-  there : in_force ps p ≡ true
-  fits : matches p name ≡ true
-
-some_if_any : (ps : List Glob) (name : List (List ℕ)) → any_matches ps name ≡ true → Some_matches ps name
-some_if_any [] name h = cc
-some_if_any (q ∷ qs) name h =
-    elim (or_cases (matches q name) (any_matches qs name) h) [
-      | inl e ↦ record { p = q; there = or_left (same_glob q q) (in_force qs q) ((same_glob-decides q q).1 refl); fits = e }
-      | inr e ↦ let later = some_if_any qs name e in record { p = later.p; there = or_right (same_glob later.p q) (in_force qs later.p) later.there; fits = later.fits }
-    ]
-
 -- ---- the search
 
 whole-push : (ss : List (List ℕ)) (s : List ℕ) → AreWhole ss → parts s ≡ s ∷ [] → AreWhole (ss ++ s ∷ [])
@@ -84,7 +61,7 @@ module _ (nodes : Nodes) (all : List (ℕ × List Glob)) (n : ℕ) (index : IsIn
   at ss tail whole = index (record { segments = ss; tail = tail }) whole n
 
   found : (ss : List (List ℕ)) (tail : Tail) (more : List (List ℕ)) → AreWhole ss → stands_at (lists_of nodes tail) (path_of ss) n ≡ true → Leaves tail (length more) → any_matches (patterns_of all n) (ss ++ more) ≡ true
-  found ss tail more whole h leaves = any_if (patterns_of all n) (record { segments = ss; tail = tail }) (ss ++ more) (sym (at ss tail whole) ∙ h) (matches_rest ss tail more leaves)
+  found ss tail more whole h leaves = matching_any (patterns_of all n) (ss ++ more) (record { segments = ss; tail = tail }) (sym (at ss tail whole) ∙ h) (matches_rest ss tail more leaves)
 
   end_is : (rest : List (List ℕ)) → is_end rest ≡ true → length rest ≡ 0
   end_is rest h1 = grind (arith, common_steps)
@@ -129,10 +106,11 @@ module _ (nodes : Nodes) (all : List (ℕ × List Glob)) (n : ℕ) (index : IsIn
 
   any_then_met : (name : List (List ℕ)) → AreWhole name → any_matches (patterns_of all n) name ≡ true → is_met nodes [] name n ≡ true
   any_then_met name whole h =
-      let p = some_if_any (patterns_of all n) name h in
-      let rest = rest_of p.p.segments p.p.tail name p.fits in
+      let m = matching_from (patterns_of all n) name h in
+      let p = m.pattern in
+      let rest = rest_of p.segments p.tail name m.matching in
       ap (λ ss. is_met nodes [] ss n) rest.is
-      ∙ met_below [] p.p.segments p.p.tail rest.more tt (whole_front p.p.segments rest.more (subst AreWhole rest.is whole)) rest.leaves p.there
+      ∙ met_below [] p.segments p.tail rest.more tt (whole_front p.segments rest.more (subst AreWhole rest.is whole)) rest.leaves m.force
 
   pub met_is : (name : List (List ℕ)) → AreWhole name → is_met nodes [] name n ≡ any_matches (patterns_of all n) name
   met_is name whole =

@@ -1,5 +1,5 @@
 //! Changes to the patterns of one session, in its list and in the index.
-ghost use Rattle.std.specs.Prelude.{◌≡◌, ◌≢◌, ℕ, length, take, fold, OnOk, OnErr};
+ghost use Rattle.std.specs.Prelude.{◌≡◌, ◌≢◌, ℕ, take, fold, OnOk, OnErr};
 ghost use Rattle.bx_names.specs.Globs.{Glob};
 ghost use Rattle.bx_names.specs.InForce.{with_pattern};
 ghost use Rattle.bx_tree.specs.Lists.{IsIndexAt, KeepsOthers};
@@ -36,28 +36,6 @@ fn put(
     Ok(())
 }
 
-/// Adds `patterns` for session `number` to `nodes` and `arrivals`, in order.
-///
-/// On error, the first few of them may have been added.
-fn put_each(
-    alloc: Global,
-    nodes: &mut Nodes,
-    arrivals: &mut Arrivals,
-    patterns: &[Pattern],
-    number: u64,
-) -> Result<(), AllocError>
-    requires { IsIndexAt nodes.old number arrivals.old }
-    ensures index { IsIndexAt nodes.new number arrivals.new }
-    ensures others { KeepsOthers number nodes.old nodes.new }
-    ensures ok { OnOk result (arrivals.new ≡ fold with_pattern arrivals.old patterns.now) }
-    ensures first { take (length arrivals.old) arrivals.new ≡ arrivals.old }
-{
-    for pattern in patterns {
-        put(alloc, nodes, arrivals, pattern, number)?;
-    }
-    Ok(())
-}
-
 /// Removes the patterns of session `number` after its first `len`, from both `nodes` and
 /// `arrivals`.
 pub(crate) fn shorten(nodes: &mut Nodes, arrivals: &mut Arrivals, len: usize, number: u64)
@@ -77,6 +55,7 @@ pub(crate) fn shorten(nodes: &mut Nodes, arrivals: &mut Arrivals, len: usize, nu
 /// Adds `patterns` for session `number` to `nodes` and `arrivals`, in order.
 ///
 /// On error, nothing has changed.
+#[tactic(auto, using(crate::proofs::ChangeLemmas::first_stay))]
 pub(crate) fn add_all(
     alloc: Global,
     nodes: &mut Nodes,
@@ -91,9 +70,11 @@ pub(crate) fn add_all(
     ensures err { OnErr result (arrivals.new ≡ arrivals.old) }
 {
     let before = arrivals.len();
-    if let Err(error) = put_each(alloc, nodes, arrivals, patterns, number) {
-        shorten(nodes, arrivals, before, number);
-        return Err(error);
+    for pattern in patterns {
+        if let Err(error) = put(alloc, nodes, arrivals, pattern, number) {
+            shorten(nodes, arrivals, before, number);
+            return Err(error);
+        }
     }
     Ok(())
 }

@@ -37,9 +37,6 @@ place_before n len end h g = omega arith
 
 -- ---- the result
 
-pub level_past : (w : WorldState) (shard : ℕ) → length w.applied ≤ shard → is_level w shard ≡ true
-level_past w shard h = grind arith
-
 level_here : (w : WorldState) (shard : ℕ) → slice_index w.applied shard ≡ length w.list → is_level w shard ≡ true
 level_here w shard e = grind arith
 

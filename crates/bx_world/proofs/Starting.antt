@@ -24,9 +24,6 @@ pub record IsFirst {P : Type 0} (place_of : P → ℕ → ℕ → ℕ) (config :
 abbrev pub AreFirst : {P : Type 0} → (P → ℕ → ℕ → ℕ) → Config → P → List (Shard P) → Type 0
 AreFirst {P} place_of config placing xs = (k : ℕ) (s : Shard P) → slice_get xs k ≡ Some s → IsFirst place_of config placing k s
 
-pub none_first : {P : Type 0} (place_of : P → ℕ → ℕ → ℕ) (config : Config) (placing : P) → AreFirst place_of config placing []
-none_first place_of config placing k s e = absurd (cc)
-
 pub one_more_first : {P : Type 0} (place_of : P → ℕ → ℕ → ℕ) (config : Config) (placing : P) (xs : List (Shard P)) (n : ℕ) (y : Shard P) → length xs ≡ n → AreFirst place_of config placing xs → IsFirst place_of config placing n y →
     AreFirst place_of config placing (xs ++ y ∷ [])
 one_more_first place_of config placing xs n y e each here = each_push (IsFirst place_of config placing) xs y each (subst (λ (k : ℕ). IsFirst place_of config placing k y) (sym e) here)

@@ -3,10 +3,11 @@ use Rattle.std.specs.Prelude.{ℕ, ◌+◌, ◌≡◌, ◌<◌, ◌≤◌, ◌�
 use Rattle.bx_advice.specs.declared.config.Config.{Config}
 use Rattle.bx_message.specs.declared.reply.Answer.{Answer}
 use Rattle.bx_message.specs.declared.reply.AckReply.TheVariants.{AckNumber}
-use Rattle.bx_entry.specs.Words.{Listed, ReadInput, Request, added_by, read_input, Waiting, entries, Filed, batch, session, PlacedAnswer, answer, answer_of, events_of}
+use Rattle.bx_entry.specs.Words.{Listed, ReadInput, Request, added_by, read_input, Waiting, entries, Filed, batch, session, answer, events_of}
 use Rattle.bx_entry.specs.declared.{entry.Slot.Slot, entry.Ticket.Ticket, input.Input.Input}
 use Rattle.bx_entry.specs.declared.entry.Slot.TheVariants as answers
-use Rattle.bx_theory.specs.Fronts.{AsksAgain, FormedBy, done_at, session_before, slot_at}
+use Rattle.bx_theory.specs.Fronts.{AsksAgain, done_at, session_before, slot_at}
+use Rattle.bx_theory.specs.Fronts as fronts
 use Rattle.bx_theory.specs.Laws.{AllBelow}
 use Rattle.bx_entry.specs.Placings.{Setup}
 use Rattle.bx_world.specs.Worlds.{WorldState, Runs}
@@ -95,29 +96,15 @@ Gave (step ∷ steps) (out ∷ outs) place answer = GaveBy place answer step out
 
 -- ---- Repeated acknowledgements
 
--- The connect at `place` is answered at once, with the outstanding batch and its number. The
--- session's connect at `former`, an earlier place, got the answer that formed the batch, with the
--- same number and events. Answers taken for the two connects have that number and those events.
+-- In the list, the connect at `place` gets the outstanding batch again (`repeated`): the events and
+-- the number of the answer to an earlier connect, the one at `former`. Answers that the schedule
+-- takes for the two connects have that number and those events.
 pub record GivenAgain (config : Config) (list : List Listed) (steps : List Step) (outs : List StepOut) (number place : ℕ) : Type 0 where
-  pub former : ℕ
-  pub earlier : former < place
-  pub waits : slot_at config list former ≡ Some (Waiting number)
-  pub filed : Filed
-  pub formed : FormedBy config list number place filed
-  pub first : PlacedAnswer
-  pub again : PlacedAnswer
-  pub first_is : first ≡ answer_of filed
-  pub answered : answer config list former ≡ Some first
-  pub answered_again : answer config list place ≡ Some again
-  pub at_once : again.place ≡ place
-  pub first_number : first.reply.ack ≡ AckNumber (session_before config list number place).num
-  pub again_number : again.reply.ack ≡ AckNumber (session_before config list number place).num
-  pub events : again.events ≡ first.events
-  pub batch_is : again.events ≡ events_of (batch (session_before config list number place))
+  pub repeated : fronts.GivenAgain config list number place
   pub given : (a : Answer) → Gave steps outs place a → a.events ≡ events_of (batch (session_before config list number place))
-  pub numbered : (a : Answer) → Gave steps outs former a → a.reply.ack ≡ AckNumber (session_before config list number place).num
+  pub numbered : (a : Answer) → Gave steps outs repeated.former a → a.reply.ack ≡ AckNumber (session_before config list number place).num
   pub numbered_again : (a : Answer) → Gave steps outs place a → a.reply.ack ≡ AckNumber (session_before config list number place).num
-  pub same : (a b : Answer) → Gave steps outs former a → Gave steps outs place b → b.events ≡ a.events
+  pub same : (a b : Answer) → Gave steps outs repeated.former a → Gave steps outs place b → b.events ≡ a.events
 
 -- Under every schedule, a connect that acknowledges nothing new gets the outstanding batch again.
 abbrev pub BatchesRepeat : Type 0

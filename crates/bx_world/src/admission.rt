@@ -12,10 +12,10 @@ ghost use Rattle.bx_world.specs.Refining.{StandFrom, StandWithin};
 ghost use Rattle.bx_entry.specs.declared.input.AdmitFault.TheVariants.{Memory, Refused};
 
 use crate::backlog::Backlog;
-use bx_advice::{Config, ShardCount};
+use bx_advice::{Config, ShardCount, WorkerCount};
 use bx_entry::{AdmitFault, Admitted, Arrival, Entry, Placing};
 use bx_registry::{Plan, Registry};
-use bx_shard::{Gate, Shard, WorkerCount};
+use bx_shard::{Gate, Shard};
 use std::alloc::{AllocError, Global};
 use std::marker::Model;
 use std::thread::Threads;

@@ -4,10 +4,11 @@ ghost use Rattle.bx_advice.specs.Limits.{greatest_length};
 ghost use Rattle.bx_shard.specs.Upward.{AreConsecutive, AreWithin, BroughtUp, count_behind, end_of};
 ghost use Rattle.bx_world.specs.Backlogs.{empty, kept_in};
 
+use bx_advice::WorkerCount;
 use bx_entry::{Entry, Placing};
 use bx_history::History;
 use bx_message::Sequence;
-use bx_shard::{Gate, Shard, WorkerCount};
+use bx_shard::{Gate, Shard};
 use std::alloc::{AllocError, Global};
 use std::collections::VecDeque;
 use std::marker::Model;

@@ -9,12 +9,12 @@ ghost use Rattle.bx_shard.specs.Props.{holds_props};
 
 use crate::admission::Intake;
 use crate::step::{Applied, Step, StepOut};
-use bx_advice::{Config, ShardCount};
+use bx_advice::{Config, ShardCount, WorkerCount};
 use bx_entry::{AdmitFault, Admitted, Arrival, Entry, Input, Placing, Ticket};
 use bx_history::History;
 use bx_message::Answer;
 use bx_reshard::redistribute;
-use bx_shard::{Gate, Shard, TakenAnswer, Wakers, WorkerCount};
+use bx_shard::{Gate, Shard, TakenAnswer, Wakers};
 use std::alloc::{AllocError, Global};
 use std::sync::Arc;
 use std::thread::Threads;
@@ -89,8 +89,8 @@ impl<P: Placing> World<P> {
     ///
     /// The first of these that applies; nothing has changed:
     ///
-    /// - `Refused(Body(_))`: the documents are not messages, or the read-only listener forbids
-    ///   them.
+    /// - `Refused`, with `NotJson` to `Forbidden`: the documents are not messages, or the read-only
+    ///   listener forbids them.
     /// - `Refused(BadMoment)`: the moment is too large.
     /// - `Refused(Ended)`: the list would become too long.
     /// - `Memory`: memory ran out. This can happen before some of the other errors are tested for.

@@ -1,7 +1,7 @@
 //! Tests of the lines of a record.
 use crate::answer::answer_text;
-use crate::{config_text, request_text, tick_text};
-use bx_advice::{BODY_LIMIT, Config, Options};
+use crate::{config_text, read_config, request_text, tick_text};
+use bx_advice::{BODY_LIMIT, Config, Limit, Options};
 use bx_cut::Bodies;
 use bx_entry::{Access, Arrival};
 use std::alloc::Global;
@@ -130,19 +130,29 @@ fn answers_have_their_place_and_digest(rt: HostRuntime) -> Result<(), Fail> {
     Ok(())
 }
 
-// Returns `true` if the line of `config` is exactly `line`.
+// Returns `true` if the line of `config` is exactly `line`, and gives the line again when read.
 fn has_line(alloc: Global, config: Option<Config>, line: &str) -> Result<bool, Fail> {
-    match config {
-        Some(config) => Ok(config_text(alloc, &config)?.as_slice() == line.as_bytes()),
-        None => Ok(false),
-    }
+    let Some(config) = config else {
+        return Ok(false);
+    };
+    let words: Vec<&[u8]> = line
+        .trim_end()
+        .as_bytes()
+        .split(|byte| *byte == b' ')
+        .collect(alloc)?;
+    let Some(read) = read_config(&words) else {
+        return Ok(false);
+    };
+    let is_written = config_text(alloc, &config)?.as_slice() == line.as_bytes();
+    Ok(is_written && config_text(alloc, &read)?.as_slice() == line.as_bytes())
 }
 
 #[test]
-fn configurations_have_thirteen_words(rt: HostRuntime) -> Result<(), Fail> {
+fn configurations_are_names_and_values(rt: HostRuntime) -> Result<(), Fail> {
     let alloc = rt.alloc();
     let config = Config::new(4, 30_000, 0, 10_000);
-    let line = "--bytes - --sessions 65536 --patterns 1024 4 1 30000 0 10000 - 1024\n";
+    let line =
+        "shards=4 timeout=30000 interval=0 max_interval=10000 options=- bytes=- sessions=65536 patterns=1024 limit=1024\n";
     assert!(rt; has_line(alloc, config, line)?);
     let options = Options {
         ride: true,
@@ -151,10 +161,57 @@ fn configurations_have_thirteen_words(rt: HostRuntime) -> Result<(), Fail> {
     let config = Config::new(64, 4_294_967_295, 7, 0)
         .map(|config| config.with(options))
         .and_then(|config| config.with_limit(9))
-        .and_then(|config| config.with_bytes(70_000))
-        .and_then(|config| config.with_sessions(3))
-        .and_then(|config| config.with_patterns(2));
-    let line = "--bytes 70000 --sessions 3 --patterns 2 64 1 4294967295 7 0 ra 9\n";
+        .and_then(|config| config.with_maximum(Limit::Bytes, 70_000))
+        .and_then(|config| config.with_maximum(Limit::Sessions, 3))
+        .and_then(|config| config.with_maximum(Limit::Patterns, 2));
+    let line =
+        "shards=64 timeout=4294967295 interval=7 max_interval=0 options=ra bytes=70000 sessions=3 patterns=2 limit=9\n";
     assert!(rt; has_line(alloc, config, line)?);
+    Ok(())
+}
+
+#[test]
+fn other_first_lines_are_refused(rt: HostRuntime) -> Result<(), Fail> {
+    let alloc = rt.alloc();
+    let first = "timeout=30000 interval=0 max_interval=10000 options=-";
+    for (shards, limits) in [
+        (
+            "shards=0",
+            "bytes=- sessions=65536 patterns=1024 limit=1024",
+        ),
+        (
+            "shards=65",
+            "bytes=- sessions=65536 patterns=1024 limit=1024",
+        ),
+        ("shard=1", "bytes=- sessions=65536 patterns=1024 limit=1024"),
+        ("shards", "bytes=- sessions=65536 patterns=1024 limit=1024"),
+        ("1", "bytes=- sessions=65536 patterns=1024 limit=1024"),
+        (
+            "shards=1",
+            "bytes=0 sessions=65536 patterns=1024 limit=1024",
+        ),
+        (
+            "shards=1",
+            "bytes=4294967296 sessions=65536 patterns=1024 limit=1024",
+        ),
+        ("shards=1", "bytes=- sessions=- patterns=1024 limit=1024"),
+        (
+            "shards=1",
+            "bytes=- patterns=1024 sessions=65536 limit=1024",
+        ),
+        (
+            "shards=1",
+            "bytes=- sessions=65536 patterns=1025 limit=1024",
+        ),
+        ("shards=1", "bytes=- sessions=65536 patterns=1024"),
+        (
+            "shards=1",
+            "bytes=- sessions=65536 patterns=1024 limit=1024 ",
+        ),
+    ] {
+        let line = format!(in alloc; "{shards} {first} {limits}")?;
+        let words: Vec<&[u8]> = line.as_bytes().split(|byte| *byte == b' ').collect(alloc)?;
+        assert!(rt; read_config(&words).is_none(), "{line}");
+    }
     Ok(())
 }

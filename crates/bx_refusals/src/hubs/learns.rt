@@ -1,11 +1,9 @@
 //! Two callers of a hub. One learns what the other has seen.
-use crate::hubs::Served;
 use crate::hubs::said::{Said, connect, poll, post, tick};
-use crate::requests::{HANDSHAKE, PUBLISH};
 use crate::unlike::Unlike;
-use bx_hub::Pass;
+use bx_calls::texts::{HANDSHAKE, PUBLISH};
+use bx_hub::{Hub, HubKind, Pass};
 use bx_message::Answer;
-use bx_window::LogId;
 use std::alloc::Global;
 use std::sync::Wait;
 
@@ -15,10 +13,10 @@ use std::sync::Wait;
 ///
 /// `Memory` if memory runs out outside of the retried calls; `Wrong` for another result than
 /// expected, or if a second attempt fails.
-pub fn run<L: LogId, H: Wait + Drop, R: Wait>(
+pub fn run<L: HubKind, H: Wait + Drop, R: Wait>(
     rt: &R,
     alloc: Global,
-    hub: &Served<L, H>,
+    hub: &Hub<L, H>,
     said: &mut Said,
 ) -> Result<(), Unlike> {
     let mut reader = hub.pass();
@@ -27,10 +25,10 @@ pub fn run<L: LogId, H: Wait + Drop, R: Wait>(
 }
 
 // Connects with `reader`, publishes with another pass, and returns the answer to the connect.
-fn answer<L: LogId, H: Wait + Drop, R: Wait>(
+fn answer<L: HubKind, H: Wait + Drop, R: Wait>(
     rt: &R,
     alloc: Global,
-    hub: &Served<L, H>,
+    hub: &Hub<L, H>,
     reader: &mut Pass<L>,
     said: &mut Said,
 ) -> Result<Answer, Unlike> {
@@ -45,10 +43,10 @@ fn answer<L: LogId, H: Wait + Drop, R: Wait>(
 }
 
 // Opens the second session, publishes from it, and posts a tick. All use `pass`.
-fn publish<L: LogId, H: Wait + Drop, R: Wait>(
+fn publish<L: HubKind, H: Wait + Drop, R: Wait>(
     rt: &R,
     alloc: Global,
-    hub: &Served<L, H>,
+    hub: &Hub<L, H>,
     pass: &mut Pass<L>,
     said: &mut Said,
 ) -> Result<(), Unlike> {

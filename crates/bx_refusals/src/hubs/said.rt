@@ -1,9 +1,10 @@
 //! Calls of a hub, each retried once if memory runs out, and the lines of their results.
-use crate::hubs::Served;
-use crate::requests::{CONNECT, HANDSHAKE, SUBSCRIBE, add_line, arrival, reply, text_of};
+use crate::requests::{add_line, reply, text_of};
 use crate::unlike::Unlike;
+use bx_calls::arrival;
+use bx_calls::texts::{CONNECT, HANDSHAKE, SUBSCRIBE};
 use bx_entry::{Slot, Ticket};
-use bx_hub::{HubFault, Lagging, Pass, PostFault, PostReceipt, Tick, TickReceipt};
+use bx_hub::{Hub, HubFault, HubKind, Lagging, Pass, PostFault, PostReceipt, Tick, TickReceipt};
 use bx_message::Answer;
 use bx_window::LogId;
 use std::alloc::Global;
@@ -103,10 +104,10 @@ pub struct PostEnd {
 ///
 /// `Memory` if memory runs out outside of the hub's call; `Wrong` for another result than expected,
 /// or if the second attempt fails.
-pub fn post<L: LogId, H: Wait + Drop, R: Wait>(
+pub fn post<L: HubKind, H: Wait + Drop, R: Wait>(
     rt: &R,
     alloc: Global,
-    hub: &Served<L, H>,
+    hub: &Hub<L, H>,
     pass: &mut Pass<L>,
     said: &mut Said,
     place: u64,
@@ -148,10 +149,10 @@ fn end_of<L: LogId>(
 ///
 /// `Memory` if memory runs out outside of the hub's calls; `Wrong` for another result than
 /// expected, or if a second attempt fails.
-pub fn connect<L: LogId, H: Wait + Drop, R: Wait>(
+pub fn connect<L: HubKind, H: Wait + Drop, R: Wait>(
     rt: &R,
     alloc: Global,
-    hub: &Served<L, H>,
+    hub: &Hub<L, H>,
     pass: &mut Pass<L>,
     said: &mut Said,
 ) -> Result<(Ticket, bool), Unlike> {
@@ -173,10 +174,10 @@ pub fn connect<L: LogId, H: Wait + Drop, R: Wait>(
 ///
 /// `Memory` if memory runs out outside of the hub's call; `Wrong` for another result than expected,
 /// or if the second attempt fails.
-pub fn tick<L: LogId, H: Wait + Drop, R: Wait>(
+pub fn tick<L: HubKind, H: Wait + Drop, R: Wait>(
     rt: &R,
     alloc: Global,
-    hub: &Served<L, H>,
+    hub: &Hub<L, H>,
     pass: &mut Pass<L>,
     said: &mut Said,
 ) -> Result<(), Unlike> {
@@ -212,24 +213,20 @@ fn end_of_tick<L: LogId>(
 /// # Errors
 ///
 /// `Wrong` if the hub's call fails for another reason than memory, or fails again.
-pub fn poll<L: LogId, H: Wait + Drop, R: Wait>(
+pub fn poll<L: HubKind, H: Wait + Drop, R: Wait>(
     rt: &R,
     alloc: Global,
-    hub: &Served<L, H>,
+    hub: &Hub<L, H>,
     pass: &mut Pass<L>,
     ticket: Ticket,
 ) -> Result<Option<Answer>, Unlike> {
     let (polled, _unfiled) = hub.poll_answer(rt, alloc, pass, ticket);
-    let stopped = match polled {
-        Ok(answer) => return Ok(answer),
-        Err(stopped) => stopped,
-    };
-    if stopped.fault() != HubFault::Memory {
-        return Err(Unlike::Wrong("no telling"));
-    }
-    let (polled, _unfiled) = hub.poll_answer(rt, alloc, pass, ticket);
     match polled {
         Ok(answer) => Ok(answer),
-        Err(_) => Err(Unlike::Wrong("refused once more")),
+        Err(stopped) if stopped.fault() == HubFault::Memory => {
+            let (polled, _unfiled) = hub.poll_answer(rt, alloc, pass, ticket);
+            polled.map_err(|_| Unlike::Wrong("refused once more"))
+        }
+        Err(_) => Err(Unlike::Wrong("no telling")),
     }
 }

@@ -1,14 +1,13 @@
 //! A task that waits for the answer to a connect, in a hub of one shard.
-use crate::hubs::Served;
 use crate::hubs::said::{Said, connect, post, tick};
-use crate::requests::{HANDSHAKE, PUBLISH};
 use crate::unlike::Unlike;
+use bx_calls::texts::{HANDSHAKE, PUBLISH};
+use bx_calls::waker_of;
 use bx_entry::Ticket;
 use bx_held::PendingAnswer;
-use bx_hub::{HubFault, Pass, Watch};
+use bx_hub::{Hub, HubFault, HubKind, Pass, Watch};
 use bx_message::Answer;
-use bx_window::LogId;
-use futures::task::{Poll, Source, Waker};
+use futures::task::Poll;
 use futures::test::MockTask;
 use std::alloc::{AllocGlobal, Global};
 use std::random::RandomSource;
@@ -25,11 +24,11 @@ use std::sync::{Arc, Wait};
 pub fn run<'a, L, R>(
     rt: &'a R,
     alloc: Global,
-    hub: &Arc<Served<L, &'a R>, Global>,
+    hub: &Arc<Hub<L, &'a R>, Global>,
     said: &mut Said,
 ) -> Result<(), Unlike>
 where
-    L: LogId,
+    L: HubKind,
     R: Wait + RandomSource + AllocGlobal,
 {
     let task = MockTask::new(rt).map_err(|_| Unlike::Memory)?;
@@ -41,25 +40,15 @@ where
     wait(rt, alloc, hub, &mut pass, ticket, &task, said)
 }
 
-// Returns a waker of `task`.
-fn waker(task: &MockTask) -> Result<Waker, Unlike> {
-    let mut slot = None;
-    let source = Source::new();
-    task.enter(|cx| {
-        let _: Poll<()> = cx.register(&source, &mut slot);
-    });
-    slot.ok_or(Unlike::Memory)
-}
-
 // Returns `true` if the shard holds the connect, and `false` if it has not applied the connect yet.
 // Fails if the connect is answered, or if the hub is closed.
-fn is_there<L: LogId, H: Wait + Drop, R: Wait>(
+fn is_there<L: HubKind, H: Wait + Drop, R: Wait>(
     rt: &R,
-    hub: &Served<L, H>,
+    hub: &Hub<L, H>,
     ticket: Ticket,
     task: &MockTask,
 ) -> Result<bool, Unlike> {
-    let (said, _evidence) = hub.watch(rt, ticket, waker(task)?);
+    let (said, _evidence) = hub.watch(rt, ticket, waker_of(task).ok_or(Unlike::Memory)?);
     match said {
         Watch::Stored(_) => Ok(true),
         Watch::Unknown(_) => Ok(false),
@@ -68,7 +57,7 @@ fn is_there<L: LogId, H: Wait + Drop, R: Wait>(
 }
 
 // Returns a future of the answer under `ticket`. Fails if `pass` ends before the ticket's place.
-fn waiting<L: LogId>(pass: &Pass<L>, ticket: Ticket) -> Result<PendingAnswer<L>, Unlike> {
+fn waiting<L: HubKind>(pass: &Pass<L>, ticket: Ticket) -> Result<PendingAnswer<L>, Unlike> {
     let pass = pass.again();
     if ticket.place >= pass.len() {
         return Err(Unlike::Wrong("a ticket beyond the list"));
@@ -78,10 +67,10 @@ fn waiting<L: LogId>(pass: &Pass<L>, ticket: Ticket) -> Result<PendingAnswer<L>,
 
 // Polls `held` once for `task`. Returns the answer or the fault if it is ready, and `Pending` if
 // not.
-fn polled<L: LogId, H: Wait + Drop, R: Wait>(
+fn polled<L: HubKind, H: Wait + Drop, R: Wait>(
     rt: &R,
     alloc: Global,
-    hub: &Served<L, H>,
+    hub: &Hub<L, H>,
     task: &MockTask,
     held: &mut PendingAnswer<L>,
 ) -> Poll<Result<Option<Answer>, HubFault>> {
@@ -93,48 +82,24 @@ fn polled<L: LogId, H: Wait + Drop, R: Wait>(
     }
 }
 
-// What the first poll returns: `Pending`, `Refused` if memory ran out, or `Other` in other cases.
-#[derive(Clone, Copy, Debug, PartialEq, Eq)]
-enum First {
-    Pending,
-    Refused,
-    Other,
-}
-
-// Polls `held` once. Returns `Pending`, `Refused` if memory ran out, or `Other` for any other
-// result.
-fn look<L: LogId, H: Wait + Drop, R: Wait>(
-    rt: &R,
-    alloc: Global,
-    hub: &Served<L, H>,
-    task: &MockTask,
-    held: &mut PendingAnswer<L>,
-) -> First {
-    match polled(rt, alloc, hub, task, held) {
-        Poll::Pending => First::Pending,
-        Poll::Ready(Err(HubFault::Memory)) => First::Refused,
-        Poll::Ready(_) => First::Other,
-    }
-}
-
 // Checks that the task waits for the answer under `ticket`, and that a publish then gives the
 // answer. If memory runs out in the first poll, polls a new future.
-fn wait<L: LogId, H: Wait + Drop, R: Wait>(
+fn wait<L: HubKind, H: Wait + Drop, R: Wait>(
     rt: &R,
     alloc: Global,
-    hub: &Served<L, H>,
+    hub: &Hub<L, H>,
     pass: &mut Pass<L>,
     ticket: Ticket,
     task: &MockTask,
     said: &mut Said,
 ) -> Result<(), Unlike> {
     let mut held = waiting(pass, ticket)?;
-    let mut first = look(rt, alloc, hub, task, &mut held);
-    if first == First::Refused {
+    let mut first = polled(rt, alloc, hub, task, &mut held);
+    if matches!(first, Poll::Ready(Err(HubFault::Memory))) {
         held = waiting(pass, ticket)?;
-        first = look(rt, alloc, hub, task, &mut held);
+        first = polled(rt, alloc, hub, task, &mut held);
     }
-    if first != First::Pending || task.is_woken() {
+    if first.is_ready() || task.is_woken() {
         return Err(Unlike::Wrong("an answer too soon"));
     }
     answer(rt, alloc, hub, task, &mut held, said)
@@ -142,10 +107,10 @@ fn wait<L: LogId, H: Wait + Drop, R: Wait>(
 
 // Publishes, checks that `held` is then ready, and appends its answer to `said`. The poll does not
 // allocate, so it is not retried.
-fn answer<L: LogId, H: Wait + Drop, R: Wait>(
+fn answer<L: HubKind, H: Wait + Drop, R: Wait>(
     rt: &R,
     alloc: Global,
-    hub: &Served<L, H>,
+    hub: &Hub<L, H>,
     task: &MockTask,
     held: &mut PendingAnswer<L>,
     said: &mut Said,
@@ -159,10 +124,10 @@ fn answer<L: LogId, H: Wait + Drop, R: Wait>(
 
 // Publishes and posts a tick. Checks that the publish wakes the task or, if memory ran out when the
 // shard was to apply the publish, that the tick does.
-fn publish<L: LogId, H: Wait + Drop, R: Wait>(
+fn publish<L: HubKind, H: Wait + Drop, R: Wait>(
     rt: &R,
     alloc: Global,
-    hub: &Served<L, H>,
+    hub: &Hub<L, H>,
     task: &MockTask,
     said: &mut Said,
 ) -> Result<(), Unlike> {

@@ -6,9 +6,8 @@ use crate::requests::string;
 use crate::services::asked::{Asked, request};
 use crate::services::list::{Adds, Count, List};
 use crate::unlike::Unlike;
-use bx_message::Item;
 use bx_pieces::Pieces;
-use bx_service::{Backend, BayeuxService, Collect, ServiceFault, Unanswered};
+use bx_service::{Backend, BayeuxService, Collect, ServiceFault};
 use bytes::Bytes;
 use futures::Future;
 use futures::task::Poll;
@@ -33,7 +32,7 @@ pub struct Client<S: Drop, C: Drop> {
     pub task: MockTask,
 }
 
-impl<S: Drop, C: Count + Drop> Client<S, C> {
+impl<S: Backend<Items: Drop>, C: Count + Drop> Client<S, C> {
     /// Makes an exchange that must not wait, and returns the line of its response.
     ///
     /// Retries once if memory runs out. `adds`: what the request adds to the list.
@@ -42,11 +41,7 @@ impl<S: Drop, C: Count + Drop> Client<S, C> {
     ///
     /// `Memory` if memory runs out outside of the exchange; `Wrong` if the exchange waits, fails
     /// again, or adds something other than `adds` to the list when it fails.
-    pub fn ask<I>(&mut self, asked: Asked<'_>, adds: Adds) -> Result<String, Unlike>
-    where
-        S: Backend<Items = I> + Drop,
-        I: Future<Output = Result<Vec<Item>, Unanswered>> + Drop,
-    {
+    pub fn ask(&mut self, asked: Asked<'_>, adds: Adds) -> Result<String, Unlike> {
         let mut line = self.ask_once(asked)?;
         if line.is_none() {
             self.list.check(self.alloc, adds)?;
@@ -58,11 +53,7 @@ impl<S: Drop, C: Count + Drop> Client<S, C> {
 
     // Makes an exchange that must not wait. Returns the line of its response, or `None` if memory
     // ran out.
-    fn ask_once<I>(&self, asked: Asked<'_>) -> Result<Option<String>, Unlike>
-    where
-        S: Backend<Items = I> + Drop,
-        I: Future<Output = Result<Vec<Item>, Unanswered>> + Drop,
-    {
+    fn ask_once(&self, asked: Asked<'_>) -> Result<Option<String>, Unlike> {
         let mut exchange = self.service.call(request(self.alloc, asked)?);
         ended(self.poll(&mut exchange))
     }

@@ -1,13 +1,13 @@
 //! The exchanges of the part `service`.
-use crate::requests::{ACK_HANDSHAKE, HANDSHAKE, add_line};
+use crate::requests::add_line;
 use crate::services::asked::{
     Asked, BROKEN, CONNECT, PUBLISH, QUERY_CONNECT, SUBSCRIBE, replaced, request,
 };
 use crate::services::client::{Client, Given, ended};
 use crate::services::list::{Adds, Count};
 use crate::unlike::Unlike;
-use bx_message::Item;
-use bx_service::{Backend, Unanswered};
+use bx_calls::texts::{ACK_HANDSHAKE, HANDSHAKE};
+use bx_service::Backend;
 use futures::Future;
 use futures::task::Poll;
 use hyper::service::Service;
@@ -33,12 +33,9 @@ struct Session {
 ///
 /// `Memory` if memory runs out outside of the exchanges; `Wrong` for another result than expected,
 /// or if the second attempt of an exchange fails.
-pub fn made<S, I, C>(client: &mut Client<S, C>) -> Result<String, Unlike>
-where
-    S: Backend<Items = I> + Drop,
-    I: Future<Output = Result<Vec<Item>, Unanswered>> + Drop,
-    C: Count + Drop,
-{
+pub fn made<S: Backend<Items: Drop>, C: Count + Drop>(
+    client: &mut Client<S, C>,
+) -> Result<String, Unlike> {
     let mut text = String::new(client.alloc);
     let first = open(client, ACK_HANDSHAKE, "first", &mut text)?;
     let refused = client.ask(Asked::Post(BROKEN), Adds::Nothing)?;
@@ -51,17 +48,12 @@ where
 
 // Opens a session by `handshake`, appends the line of the response to `text`, and returns the
 // session.
-fn open<S, I, C>(
+fn open<S: Backend<Items: Drop>, C: Count + Drop>(
     client: &mut Client<S, C>,
     handshake: &str,
     name: &'static str,
     text: &mut String,
-) -> Result<Session, Unlike>
-where
-    S: Backend<Items = I> + Drop,
-    I: Future<Output = Result<Vec<Item>, Unanswered>> + Drop,
-    C: Count + Drop,
-{
+) -> Result<Session, Unlike> {
     let alloc = client.alloc;
     let line = client.ask(Asked::Post(handshake), Adds::Session)?;
     let number = client.list.sessions();
@@ -73,17 +65,12 @@ where
 
 // Subscribes and connects `first`, publishes from `second`, and connects `second` by a query.
 // Appends the lines of the responses to `text`.
-fn talk<S, I, C>(
+fn talk<S: Backend<Items: Drop>, C: Count + Drop>(
     client: &mut Client<S, C>,
     first: &Session,
     second: &Session,
     text: &mut String,
-) -> Result<(), Unlike>
-where
-    S: Backend<Items = I> + Drop,
-    I: Future<Output = Result<Vec<Item>, Unanswered>> + Drop,
-    C: Count + Drop,
-{
+) -> Result<(), Unlike> {
     let alloc = client.alloc;
     let subscribe = replaced(alloc, SUBSCRIBE, "ID", first.id.as_str())?;
     let line = client.ask(Asked::Post(subscribe.as_str()), Adds::Entry)?;
@@ -99,17 +86,12 @@ where
 
 // Makes a connect that waits for a publish, and returns the line of its response. Retries once if
 // memory runs out before the connect waits. Appends the line of the publish to `text`.
-fn held<S, I, C>(
+fn held<S: Backend<Items: Drop>, C: Count + Drop>(
     client: &mut Client<S, C>,
     connect: &str,
     publish: &str,
     text: &mut String,
-) -> Result<String, Unlike>
-where
-    S: Backend<Items = I> + Drop,
-    I: Future<Output = Result<Vec<Item>, Unanswered>> + Drop,
-    C: Count + Drop,
-{
+) -> Result<String, Unlike> {
     if let Some(line) = held_once(client, connect, publish, text)? {
         return Ok(line);
     }
@@ -118,17 +100,12 @@ where
 
 // Makes a connect that waits for a publish. Returns the line of its response, or `None` if memory
 // ran out before the connect waited.
-fn held_once<S, I, C>(
+fn held_once<S: Backend<Items: Drop>, C: Count + Drop>(
     client: &mut Client<S, C>,
     connect: &str,
     publish: &str,
     text: &mut String,
-) -> Result<Option<String>, Unlike>
-where
-    S: Backend<Items = I> + Drop,
-    I: Future<Output = Result<Vec<Item>, Unanswered>> + Drop,
-    C: Count + Drop,
-{
+) -> Result<Option<String>, Unlike> {
     let asked = request(client.alloc, Asked::Post(connect))?;
     let mut exchange = client.service.call(asked);
     wait(client, &mut exchange, connect, publish, text)
@@ -136,18 +113,13 @@ where
 
 // Polls a connect that must wait, publishes, and polls the connect again. Returns the line of the
 // connect's response, or `None` if memory ran out before the connect waited.
-fn wait<S, I, C, E>(
+fn wait<S: Backend<Items: Drop>, C: Count + Drop, E: Future<Output = Given>>(
     client: &mut Client<S, C>,
     exchange: &mut E,
     connect: &str,
     publish: &str,
     text: &mut String,
 ) -> Result<Option<String>, Unlike>
-where
-    S: Backend<Items = I> + Drop,
-    I: Future<Output = Result<Vec<Item>, Unanswered>> + Drop,
-    C: Count + Drop,
-    E: Future<Output = Given>,
     requires { E.can_poll exchange.old }
 {
     match client.poll(exchange)? {
@@ -169,16 +141,11 @@ where
 // Returns `line`, the response to a connect that waited. If `line` is `None`, since memory ran out,
 // sends `connect` again and returns its response: it acknowledges nothing new, so it gets the same
 // events.
-fn answered<S, I, C>(
+fn answered<S: Backend<Items: Drop>, C: Count + Drop>(
     client: &mut Client<S, C>,
     connect: &str,
     line: Option<String>,
-) -> Result<String, Unlike>
-where
-    S: Backend<Items = I> + Drop,
-    I: Future<Output = Result<Vec<Item>, Unanswered>> + Drop,
-    C: Count + Drop,
-{
+) -> Result<String, Unlike> {
     match line {
         Some(line) => Ok(line),
         None => {

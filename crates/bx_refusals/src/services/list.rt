@@ -1,8 +1,7 @@
 //! The number of entries in a hub's list, compared with the expected number.
-use crate::hubs::Served;
-use crate::requests::arrival;
 use crate::unlike::Unlike;
-use bx_window::LogId;
+use bx_calls::arrival;
+use bx_hub::{Hub, HubKind};
 use std::alloc::Global;
 use std::sync::{Arc, Wait};
 
@@ -19,14 +18,14 @@ pub trait Count {
 /// The list of a hub. A request without messages, which adds no entry, is posted to count its
 /// entries.
 #[derive(Drop)]
-pub struct HubList<L: LogId, R: Wait + Drop> {
+pub struct HubList<L: HubKind, R: Wait + Drop> {
     /// The right to wait for the hub's locks.
     pub rt: R,
     /// The hub that has the list.
-    pub hub: Arc<Served<L, R>, Global>,
+    pub hub: Arc<Hub<L, R>, Global>,
 }
 
-impl<L: LogId, R: Wait + Drop> Count for HubList<L, R> {
+impl<L: HubKind, R: Wait + Drop> Count for HubList<L, R> {
     fn entries(&self, alloc: Global) -> Result<u64, Unlike> {
         let nothing = arrival(alloc, "[]")?;
         match self

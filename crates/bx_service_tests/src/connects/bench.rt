@@ -1,28 +1,17 @@
 //! A hub and two tasks that can wait for a held connect.
-use crate::bench::TestHub;
-use crate::texts::{CONNECT, HANDSHAKE, SUBSCRIBE};
-use bx_cut::Bodies;
-use bx_entry::{Access, Arrival, Ticket};
+use bx_calls::{Task, Tasks, text_of};
+use bx_entry::Ticket;
 use bx_held::PendingAnswer;
-use bx_hub::{HubFault, Pass, Tick};
-use bx_message::{Answer, event_text, reply_text};
-use bx_window::LogId;
+use bx_hub::{Hub, HubFault, HubKind, Pass};
+use bx_message::Answer;
 use futures::task::Poll;
-use futures::test::MockTask;
-use std::alloc::{AllocError, Global};
+use std::alloc::Global;
 use std::process::Abort;
-use std::sync::{Arc, Wait};
+use std::sync::Wait;
 use std::test::*;
 
-/// The ticket of the connect that [`Bench::hold`] posts.
+/// The ticket of the connect that each run holds.
 pub const TICKET: Ticket = Ticket { place: 2, shard: 1 };
-
-/// One of the two tasks of a [`Bench`] that can poll a held connect.
-#[derive(Clone, Copy, Debug)]
-pub enum Task {
-    First,
-    Second,
-}
 
 /// What a poll of a held connect must return.
 #[derive(Clone, Copy, Debug)]
@@ -38,18 +27,6 @@ pub enum Want {
     Fault(HubFault),
 }
 
-// Returns the JSON array of an answer's events, followed by its reply.
-fn array_of(alloc: Global, answer: &Answer) -> Result<Vec<u8>, AllocError> {
-    let mut text = b"[".to_vec(alloc)?;
-    for event in answer.events.as_slice() {
-        text.extend_from_slice(&event_text(alloc, event.event())?)?;
-        text.push(b',')?;
-    }
-    text.extend_from_slice(&reply_text(alloc, &answer.reply)?)?;
-    text.push(b']')?;
-    Ok(text)
-}
-
 /// Checks that `poll` is what `want` describes.
 ///
 /// Aborts the test if the answer's text or the fault is another one.
@@ -60,7 +37,7 @@ fn array_of(alloc: Global, answer: &Answer) -> Result<Vec<u8>, AllocError> {
 pub fn check_poll<A: Abort>(
     rt: &A,
     alloc: Global,
-    poll: &Poll<Result<Option<Answer>, HubFault>>,
+    poll: Poll<Result<Option<Answer>, HubFault>>,
     want: Want,
 ) -> Result<(), Fail> {
     match (poll, want) {
@@ -68,13 +45,13 @@ pub fn check_poll<A: Abort>(
         (Poll::Ready(Ok(None)), Want::None) => Ok(()),
         (Poll::Ready(Ok(Some(answer))), Want::Answer(text)) => {
             assert!(rt;
-                array_of(alloc, answer)?.as_slice() == text.as_bytes(),
+                text_of(alloc, answer)?.as_slice() == text.as_bytes(),
                 "another answer than {text}"
             );
             Ok(())
         }
         (Poll::Ready(Err(fault)), Want::Fault(other)) => {
-            assert_eq!(rt; *fault, other);
+            assert_eq!(rt; fault, other);
             Ok(())
         }
         _ => Err(Fail::from("a poll gave something else")),
@@ -83,66 +60,14 @@ pub fn check_poll<A: Abort>(
 
 /// A hub, a caller's pass, and two tasks that can poll a held connect.
 #[derive(Drop)]
-pub struct Bench<L: LogId, H: Wait + Drop, R: Wait + Copy + Drop> {
-    pub rt: R,
+pub struct Bench<L: HubKind, H: Wait + Drop> {
     pub alloc: Global,
-    pub hub: Arc<TestHub<L, H>, Global>,
+    pub hub: Hub<L, H>,
     pub pass: Pass<L>,
-    pub first: MockTask,
-    pub second: MockTask,
+    pub tasks: Tasks,
 }
 
-impl<L: LogId, H: Wait + Drop, R: Wait + Copy + Drop> Bench<L, H, R> {
-    /// Returns the task that `task` names.
-    pub fn task(&self, task: Task) -> &MockTask {
-        match task {
-            Task::First => &self.first,
-            Task::Second => &self.second,
-        }
-    }
-
-    /// Posts a request with the JSON `body` at moment 0, from a client that may publish.
-    ///
-    /// # Errors
-    ///
-    /// If memory runs out or the request is not admitted.
-    pub fn post(&mut self, body: &str) -> Result<(), Fail> {
-        let arrival = Arrival {
-            moment: 0,
-            nonce: 0,
-            access: Access::ReadWrite,
-            bodies: Bodies::Whole(body.as_bytes().to_vec(self.alloc)?),
-        };
-        self.hub
-            .post(&self.rt, self.alloc, &mut self.pass, arrival)
-            .map_err(|_| "refused")?;
-        Ok(())
-    }
-
-    /// Opens the first session, subscribes it, and posts its connect, which is held.
-    ///
-    /// # Errors
-    ///
-    /// If memory runs out or a request is not admitted.
-    pub fn hold(&mut self) -> Result<(), Fail> {
-        for body in [HANDSHAKE, SUBSCRIBE, CONNECT] {
-            self.post(body)?;
-        }
-        Ok(())
-    }
-
-    /// Posts a tick at `moment`, in milliseconds.
-    ///
-    /// # Errors
-    ///
-    /// If the tick is not appended.
-    pub fn tick(&mut self, moment: u64) -> Result<(), Fail> {
-        self.hub
-            .tick(&self.rt, self.alloc, &mut self.pass, Tick::new(moment))
-            .map_err(|_| "refused")?;
-        Ok(())
-    }
-
+impl<L: HubKind, H: Wait + Drop> Bench<L, H> {
     /// Returns a future of the answer under `ticket`.
     ///
     /// # Errors
@@ -158,14 +83,16 @@ impl<L: LogId, H: Wait + Drop, R: Wait + Copy + Drop> Bench<L, H, R> {
 
     /// Polls `held` once, in `task`, and returns the output: pending, an answer, no answer, or a
     /// fault.
-    pub fn poll(
+    pub fn poll<R: Wait>(
         &self,
+        rt: &R,
         task: Task,
         held: &mut PendingAnswer<L>,
     ) -> Poll<Result<Option<Answer>, HubFault>> {
         let (polled, _left) = self
+            .tasks
             .task(task)
-            .enter(|cx| held.poll(&self.rt, self.alloc, &*self.hub, cx));
+            .enter(|cx| held.poll(rt, self.alloc, &self.hub, cx));
         match polled {
             Poll::Ready(Ok(answer)) => Poll::Ready(Ok(answer)),
             Poll::Ready(Err(stopped)) => Poll::Ready(Err(stopped.fault())),

@@ -1,14 +1,11 @@
 //! Runs with requests to the read-only listener.
-use crate::requests::{Ask, Content, FORM, POST, Want};
-use crate::runs::{Held, Run, Step};
-use crate::texts;
+use crate::requests::{Ask, FORM, JSON, Want};
+use crate::runs::{
+    BAD, CONNECT, CONNECTED, FORBIDDEN, Held, MISSING, NOT_ALLOWED, NOTHING, OK, PUBLISH, Run,
+    Step, TOO_LARGE, UNAVAILABLE,
+};
 use bx_advice::BODY_LIMIT;
-
-const FORBIDDEN: Want = Want::Status(403);
-
-const BAD: Want = Want::Status(400);
-
-const PUBLISH: Step = Step::Post(texts::PUBLISH, texts::PUBLISHED);
+use bx_calls::texts;
 
 /// A request with a message forbidden to readers gets 403 and is not admitted.
 ///
@@ -19,27 +16,12 @@ pub const PUBLISH_NOTHING: Run = Run {
         Step::ReadText(texts::HANDSHAKE_AND_PUBLISH, FORBIDDEN),
         Step::ReadText(texts::PUBLISH_AND_HANDSHAKE, FORBIDDEN),
         Step::Read(
-            Ask {
-                kind: FORM,
-                content: Content::Whole(texts::FORM_HANDSHAKE_AND_PUBLISH),
-                ..POST
-            },
+            Ask::Body(FORM, texts::FORM_HANDSHAKE_AND_PUBLISH),
             FORBIDDEN,
         ),
+        Step::Read(Ask::Get(texts::QUERY_HANDSHAKE_AND_PUBLISH), FORBIDDEN),
         Step::Read(
-            Ask {
-                method: "GET",
-                target: texts::QUERY_HANDSHAKE_AND_PUBLISH,
-                ..POST
-            },
-            FORBIDDEN,
-        ),
-        Step::Read(
-            Ask {
-                method: "GET",
-                target: "/cometd?message={%22channel%22:%22/a%22}",
-                ..POST
-            },
+            Ask::Get("/cometd?message={%22channel%22:%22/a%22}"),
             FORBIDDEN,
         ),
         Step::ReadText(r#"{"channel":"/a/b","data":7}"#, FORBIDDEN),
@@ -48,51 +30,18 @@ pub const PUBLISH_NOTHING: Run = Run {
         Step::ReadText(r#"[{"channel":"/a"}"#, BAD),
         Step::ReadText(r#"[{"channel":"/a"},7]"#, BAD),
         Step::ReadText(r#"[{"channel":"/a"},{}]"#, BAD),
+        Step::Read(Ask::Body(FORM, r#"other=[{"channel":"/a"}]"#), BAD),
         Step::Read(
-            Ask {
-                kind: FORM,
-                content: Content::Whole(r#"other=[{"channel":"/a"}]"#),
-                ..POST
-            },
+            Ask::Get("/cometd?jsonp=a(&message={%22channel%22:%22/a%22}"),
             BAD,
         ),
-        Step::Read(
-            Ask {
-                method: "GET",
-                target: "/cometd?jsonp=a(&message={%22channel%22:%22/a%22}",
-                ..POST
-            },
-            BAD,
-        ),
-        Step::Read(
-            Ask {
-                target: "/cometdx",
-                content: Content::Whole(texts::PUBLISH),
-                ..POST
-            },
-            Want::Status(404),
-        ),
-        Step::Read(
-            Ask {
-                method: "PUT",
-                content: Content::Whole(texts::PUBLISH),
-                ..POST
-            },
-            Want::Status(405),
-        ),
-        Step::Read(
-            Ask {
-                content: Content::Padded(texts::PUBLISH, BODY_LIMIT + 1),
-                ..POST
-            },
-            Want::Status(413),
-        ),
-        Step::ReadText("[]", Want::Json("[]")),
+        Step::Read(Ask::To("POST", "/cometdx", texts::PUBLISH), MISSING),
+        Step::Read(Ask::To("PUT", "/cometd", texts::PUBLISH), NOT_ALLOWED),
+        Step::Read(Ask::Padded(JSON, texts::PUBLISH, BODY_LIMIT + 1), TOO_LARGE),
+        Step::ReadText("[]", OK),
         Step::ReadText(texts::HANDSHAKE, Want::Json(texts::HANDSHAKEN)),
     ],
-    held: None,
-    last: &[],
-    ride: false,
+    ..NOTHING
 };
 
 /// Both listeners serve all sessions. The read-only one accepts publishes only to service channels.
@@ -100,48 +49,30 @@ pub const HEAR: Run = Run {
     first: &[
         Step::Post(texts::HANDSHAKE, texts::HANDSHAKEN),
         Step::ReadText(texts::HANDSHAKE, Want::Json(texts::SECOND_HANDSHAKEN)),
-        Step::Read(
-            Ask {
-                kind: FORM,
-                content: Content::Whole(texts::FORM_OF_TWO),
-                ..POST
-            },
-            FORBIDDEN,
-        ),
+        Step::Read(Ask::Body(FORM, texts::FORM_OF_TWO), FORBIDDEN),
         PUBLISH,
-        Step::ReadText(texts::CONNECT_AT_ONCE, Want::Json(texts::CONNECTED)),
+        Step::ReadText(texts::CONNECT_AT_ONCE, CONNECTED),
         Step::ReadText(texts::SUBSCRIBE, Want::Json(texts::SUBSCRIBED)),
         Step::ReadText(texts::PUBLISH, FORBIDDEN),
-        Step::Read(
-            Ask {
-                method: "GET",
-                target: texts::QUERY_PUBLISH,
-                ..POST
-            },
-            FORBIDDEN,
-        ),
+        Step::Read(Ask::Get(texts::QUERY_PUBLISH), FORBIDDEN),
         Step::ReadText(texts::PUBLISH_SERVICE, Want::Json(texts::PUBLISHED_SERVICE)),
-        Step::ReadText(texts::CONNECT_AT_ONCE, Want::Json(texts::CONNECTED)),
+        Step::ReadText(texts::CONNECT_AT_ONCE, CONNECTED),
         PUBLISH,
-        Step::ReadText(
-            texts::CONNECT_AT_ONCE,
-            Want::Json(texts::CONNECTED_WITH_EVENT),
-        ),
+        Step::ReadText(texts::CONNECT_AT_ONCE, Want::Json(texts::ANSWER)),
         Step::Post(texts::CONNECT_AT_ONCE, texts::CONNECTED),
     ],
     held: Some(Held {
-        content: Content::Whole(texts::CONNECT),
-        is_late: false,
         before: &[Step::ReadText(texts::PUBLISH_OWN, FORBIDDEN)],
         then: &[Step::ReadText(texts::DISCONNECT, Want::Json(texts::DISCONNECTED))],
         gives: Some((true, Want::Json(texts::SESSION_ENDED))),
+        ..CONNECT
     }),
     last: &[
         Step::Close,
         Step::ReadText(texts::PUBLISH, FORBIDDEN),
-        Step::ReadText(texts::HANDSHAKE, Want::Status(503)),
+        Step::ReadText(texts::HANDSHAKE, UNAVAILABLE),
     ],
-    ride: false,
+    ..NOTHING
 };
 
 /// Waiting events are not sent with the response to a rejected request, but with the next rider's.
@@ -152,9 +83,8 @@ pub const RIDE: Run = Run {
         Step::ReadText(texts::SUBSCRIBE, Want::Json(texts::SUBSCRIBED)),
         PUBLISH,
         Step::ReadText(texts::PUBLISH_OWN, FORBIDDEN),
-        Step::Post(texts::PUBLISH_OWN, texts::OWN_RIDDEN),
+        Step::Post(texts::PUBLISH_OWN, texts::RIDDEN),
     ],
-    held: None,
-    last: &[],
     ride: true,
+    ..NOTHING
 };

@@ -1,22 +1,26 @@
-use Rattle.std.proofs.Common.{[], ◌∷◌, ◌++◌, decimal, codes, ap, ◌∙◌}
-use Rattle.bx_record.specs.Record.{bytes_word, options_word}
-use Rattle.bx_record.proofs.Configs.{first_word, next_word}
+use Rattle.std.proofs.Common.{◌∷◌, ◌++◌, decimal, codes, get_or, ap, ◌∙◌}
+use Rattle.bx_advice.specs.declared.limit.Limit.TheVariants.{Bytes}
+use Rattle.bx_advice.specs.declared.limit.TheConstants.Limit.{ALL}
+use Rattle.bx_advice.specs.Limits.{limit_name}
+use Rattle.bx_record.specs.Configs.{limit_word, options_word, setting}
+use Rattle.bx_record.proofs.Configs.{first_word, limit_added, limits_added, next_word}
 use Rattle.bx_record.proofs.config.config_text.Goals as goal
 
-pub returns : goal.returns
-returns c =
+pub loop-limit-init : goal.loop-limit-init
+loop-limit-init c =
     let config = c.args.config.now in
-    let name = first_word {word = codes "--bytes"} (c.in_ok-extend_from_slice.ensures.items ∙ ap (λ t. t ++ codes "--bytes") c.in_ok-text.ensures.items) in
-    let bytes = next_word (bytes_word config.limits.bytes) name c.in_ok-push_bytes.ensures in
-    let sessions_name = next_word (codes "--sessions") bytes c.in_ok-push_word.ensures in
-    let sessions = next_word (decimal config.limits.sessions) sessions_name c.in_ok-push_number.ensures in
-    let patterns_name = next_word (codes "--patterns") sessions c.in_ok-push_word-2.ensures in
-    let patterns = next_word (decimal config.limits.patterns) patterns_name c.in_ok-push_number-2.ensures in
-    let shards = next_word (decimal config.shards) patterns c.in_ok-push_number-3.ensures in
-    let workers = next_word (codes "1") shards c.in_ok-push_word-3.ensures in
-    let timeout = next_word (decimal config.timeout) workers c.in_ok-push_time.ensures in
-    let interval = next_word (decimal config.interval) timeout c.in_ok-push_time-2.ensures in
-    let max_interval = next_word (decimal config.max_interval) interval c.in_ok-push_time-3.ensures in
-    let options = next_word (options_word config.ride config.anonymous) max_interval (c.in_ok-push_word-4.ensures ∙ ap (λ t. c.push_time-3.new.text.items ++ 32 ∷ t) c.options_word.ensures) in
-    let events = next_word (decimal config.limits.events) options c.in_ok-push_number-4.ensures in
-    c.in_ok-push.ensures.items ∙ ap (λ t. t ++ 10 ∷ []) events.same
+    let shards = first_word {word = setting (codes "shards") (decimal config.shards)} (c.in_ok-push_number.ensures ∙ ap (λ t. t ++ decimal config.shards) (c.in_ok-extend_from_slice.ensures.items ∙ ap (λ t. t ++ codes "shards=") c.in_ok-text.ensures.items)) in
+    let timeout = next_word (setting (codes "timeout") (decimal config.timeout)) shards c.in_ok-push_time.ensures in
+    let interval = next_word (setting (codes "interval") (decimal config.interval)) timeout c.in_ok-push_time-2.ensures in
+    let max_interval = next_word (setting (codes "max_interval") (decimal config.max_interval)) interval c.in_ok-push_time-3.ensures in
+    next_word (setting (codes "options") (options_word config.ride config.anonymous)) max_interval
+    (c.in_ok-push_setting.ensures ∙ ap (λ value. c.push_time-3.new.text.items ++ 32 ∷ setting (codes "options") value) c.options_word.ensures)
+
+pub loop-limit-preserved : goal.loop-limit-preserved
+loop-limit-preserved c =
+    let limit = get_or ALL c.loop-limit.limit-index Bytes in
+    limit_added c.args.config.now c.loop-limit.limit-index c.loop-limit-test.true c.loop-limit.invariant
+    (c.in_ok-push_limit.ensures ∙ ap (λ n. c.loop-limit.text.items ++ 32 ∷ setting (limit_name limit) (limit_word limit n)) c.get.ensures)
+
+pub returns : goal.returns
+returns c = c.in_ok-push.ensures.items ∙ limits_added c.args.config.now c.loop-limit.limit-index c.loop-limit-test.false c.loop-limit.invariant

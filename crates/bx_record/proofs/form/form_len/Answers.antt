@@ -1,5 +1,5 @@
 use Rattle.std.proofs.Common.{◌<◌, length, rules, arith}
-use Rattle.bx_advice.specs.declared.config.TheConstants.{BODY_LIMIT}
+use Rattle.bx_advice.specs.declared.limit.TheConstants.{BODY_LIMIT}
 use Rattle.bx_cut.specs.Bodies.{texts_of}
 use Rattle.bx_record.specs.Record.{form_of}
 use Rattle.bx_record.proofs.Forms.{too_long}

@@ -15,7 +15,7 @@ returns-in-Err-clause-value g c = λ sent given. (
       Err c.in-Err.declined,
       (
         search rules,
-        subst (λ (s : Status). IsRefusal s sent) c.post_status.ensures
+        subst (λ (s : Status). IsRefusal s sent) c.status.ensures
             given,
       ),
     ),

@@ -12,20 +12,20 @@ use Rattle.bx_shard.proofs.sessions.Sessions.follow.Goals as goal
 pub returns-in_default-clause-done : goal.returns-in_default-clause-done
 returns-in_default-clause-done c =
     let none = sym c.rider_here.ensures ∙ ap option_copied c.in_default.is in
-    on_ok_weaker c.follow_alone.result (followed_alone c.args.stands c.args.entry.now c.args.self.now c.follow_alone.new.self (away (kept_in c.args.self.now) c.args.entry.now none) c.requires.counted) c.follow_alone.ensures.done
+    on_ok_weaker c.follow_alone.result (followed_alone c.args.belongs c.args.entry.now c.args.self.now c.follow_alone.new.self (away (kept_in c.args.self.now) c.args.entry.now none) c.requires.counted) c.follow_alone.ensures.done
 
 pub ride-requires : goal.ride-requires
 ride-requires c =
     let r = rides_here (kept_in c.args.self.now) c.args.entry.now c.in-Some.rider.now c.in-Some.ensures in
     record {
-      room = mid_fits c.args.stands c.args.entry.now c.in-Some.rider.now r.rides c.args.self.now c.prepare_ride.new.self c.follow_alone-2.new.self r.here c.requires.fresh c.requires.counted c.requires.held
+      room = mid_fits c.args.belongs c.args.entry.now c.in-Some.rider.now r.rides c.args.self.now c.prepare_ride.new.self c.follow_alone-2.new.self r.here c.requires.fresh c.requires.counted c.requires.held
           (search rules) (search rules) (search rules) (search rules) c.in_ok-room.room c.in_ok-room.ensures.room;
     }
 
 pub returns-clause-done : goal.returns-clause-done
 returns-clause-done c =
     let r = rides_here (kept_in c.args.self.now) c.args.entry.now c.in-Some.rider.now c.in-Some.ensures in
-    followed_riding c.args.stands c.args.entry.now c.in-Some.rider.now r.rides c.args.self.now c.prepare_ride.new.self c.follow_alone-2.new.self r.here c.requires.fresh c.requires.counted c.requires.held
+    followed_riding c.args.belongs c.args.entry.now c.in-Some.rider.now r.rides c.args.self.now c.prepare_ride.new.self c.follow_alone-2.new.self r.here c.requires.fresh c.requires.counted c.requires.held
     (search rules) (search rules) (search rules) (search rules) c.ride.new.self c.ride.ensures.sessions c.ride.ensures.connects c.ride.ensures.others.0 (search rules) (search rules)
 
 pub returns-clause-woken : goal.returns-clause-woken
