@@ -17,8 +17,10 @@ TOP = os.path.dirname(os.path.dirname(os.path.realpath(__file__)))
 # The program that replays: in the repository its proved build, in the package the one on the path.
 BUILT = f"{TOP}/crates/bayeux_replay/out/bayeux_replay"
 REPLAY = os.environ.get("REPLAY", BUILT if os.path.isdir(f"{TOP}/crates") else "bayeux_replay")
-# The first line of a record: the arguments of bayeux_replay.
-FIRST = re.compile(rb"(?:--bytes (?:-|[0-9]+) )?(?:--sessions [0-9]+ )?(?:--patterns [0-9]+ )?[0-9]+(?: [0-9]+){4}(?: (?:-|r|a|ra)(?: [0-9]+)?)?")
+# The first line of a record: the server's configuration. After the options it has the limits.
+FIRST = re.compile(rb"shards=[0-9]+ timeout=[0-9]+ interval=[0-9]+ max_interval=[0-9]+ options=(?:-|r|a|ra)(?: [a-z]+=(?:-|[0-9]+))+")
+# How the first line of a record of version 0.1.0 begins.
+OLD = b"--bytes "
 # A line with a moment: a tick (T), a request (P, F or G), a number of shards (S), or a nonce (N).
 LINE = re.compile(rb"([0-9]+) (?:(T)|([PFGSN]) (.*))", re.DOTALL)
 # A line A: the place of a request's first message, and the SHA-256 of the answer.
@@ -179,6 +181,8 @@ class Source:
                 break
             first += data
         line, end, _ = first.partition(b"\n")
+        if line.startswith(OLD):
+            raise UsageError(f"{self.path} was made by version 0.1.0, whose first line has another form; replay it with that version")
         if not end or not FIRST.fullmatch(line):
             raise UsageError(f"{self.path} has no first line that says how a server is run")
         self.read = len(line) + 1

@@ -70,7 +70,7 @@ def check_accessible_names(window, selectors):
     `selectors`: one for each element. The page must also have a language and a title.
     """
     for selector in selectors:
-        if not window.call("GET", f"/element/{window.element(selector)}/computedlabel"):
+        if not window.element(selector).accessible_name:
             raise CheckFailed(f"{selector} has no name")
-    if not (window.run("return document.documentElement.lang") and window.call("GET", "/title")):
+    if not (window.run("return document.documentElement.lang") and window.driver.title):
         raise CheckFailed("the page has no language or no title")

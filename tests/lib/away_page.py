@@ -34,12 +34,12 @@ class PageNotKept(Exception):
 def leave(window, address):
     """Goes to another page of the site at `address`. The browser keeps the page that it leaves."""
     window.run("window.isKept = true")
-    window.call("POST", "/url", {"url": f"{address}/?other"})
+    window.driver.get(f"{address}/?other")
 
 
 def press_back_button(window):
     """Returns to the page that was left. Raises `PageNotKept` if the browser loaded it again."""
-    window.call("POST", "/back", {})
+    window.driver.back()
     if not window.run("return window.isKept"):
         raise PageNotKept
 
@@ -138,15 +138,14 @@ def try_example(fixture):
 
 def set_network(page, is_offline):
     """Takes the network from `page`, or gives it back."""
-    page.call("POST", "/goog/cdp/execute", {"cmd": "Network.enable", "params": {}})
+    page.driver.execute_cdp_cmd("Network.enable", {})
     conditions = {"offline": is_offline, "latency": 0, "downloadThroughput": -1, "uploadThroughput": -1}
-    page.call("POST", "/goog/cdp/execute", {"cmd": "Network.emulateNetworkConditions", "params": conditions})
+    page.driver.execute_cdp_cmd("Network.emulateNetworkConditions", conditions)
 
 
 def set_frozen(page, is_frozen):
     """Freezes `page`, as a phone does with pages while it is locked, or ends this."""
-    state = {"state": "frozen" if is_frozen else "active"}
-    page.call("POST", "/goog/cdp/execute", {"cmd": "Page.setWebLifecycleState", "params": state})
+    page.driver.execute_cdp_cmd("Page.setWebLifecycleState", {"state": "frozen" if is_frozen else "active"})
 
 
 def go_offline(page):
@@ -157,8 +156,8 @@ def go_offline(page):
 
 def hide(page):
     """Hides the window. Returns a function that shows it again."""
-    page.call("POST", "/window/minimize", {})
-    return lambda: page.call("POST", "/window/rect", {"width": 860, "height": 1010})
+    page.driver.minimize_window()
+    return lambda: page.driver.set_window_rect(width=860, height=1010)
 
 
 def freeze(page):

@@ -8,6 +8,8 @@ import subprocess
 import sys
 import time
 
+# Debian's modules, if this is another Python.
+sys.path.append("/usr/lib/python3/dist-packages")
 TOP = pathlib.Path(__file__).resolve().parent.parent.parent
 PROGRAM = f"{TOP}/crates/bayeuxd/out/bayeuxd"
 # The exit status of a script that cannot run on this machine.
@@ -36,6 +38,12 @@ class ScriptParser(argparse.ArgumentParser):
         """Adds the optional argument `program`: the path of a daemon."""
         self.add_argument("program", nargs="?", default=PROGRAM, help="test this bayeuxd (by default the one that scripts/build made)")
 
+    def add_checks(self, checks):
+        """Adds the argument `program`, and flags that choose among the named `checks`."""
+        self.add_daemon()
+        self.add_argument("--only", action="append", choices=checks, metavar="NAME", help="run this check; may be given several times (default: all checks)")
+        self.add_argument("--times", action="store_true", help="print how long each check took")
+
     def parse_options(self):
         """Returns the parsed arguments.
 
@@ -45,6 +53,12 @@ class ScriptParser(argparse.ArgumentParser):
         if not os.access(options.program, os.X_OK):
             self.error(f"no program: {options.program}; scripts/build bayeuxd makes it")
         return options
+
+
+def expect_equal(what, found, wanted):
+    """Raises `CheckFailed` if `found` is not equal to `wanted`."""
+    if found != wanted:
+        raise CheckFailed(f"{what}: {found!r}, not {wanted!r}")
 
 
 def check_can_run(name, *programs):
@@ -71,17 +85,33 @@ def finish(main):
 
 
 def run_check(name, check):
-    """Calls `check` and returns a status: 0, or 1 if it raises `CheckFailed` or a subprocess times out.
+    """Calls `check` and returns a status: 0, or 1 if it fails, a subprocess times out, or the system reports an error.
 
     Prints the error to standard error, after `name`, the path of the script.
     """
     try:
         check()
         return 0
-    except (CheckFailed, subprocess.TimeoutExpired) as wrong:
+    except (CheckFailed, OSError, subprocess.TimeoutExpired) as wrong:
         # Replace the line of progress, if there is one.
         print(f"{CLEAR_LINE if sys.stderr.isatty() else ''}{name}: {wrong}", file=sys.stderr)
         return 1
+
+
+def run_named_checks(name, options, checks):
+    """Runs the chosen checks, and returns the exit status: 0, or 1 if a check fails.
+
+    `name`: the path of the script. `options`: those of `ScriptParser.add_checks`. `checks`: functions
+    of the program, by name.
+    """
+    check_can_run(name, options.program)
+    status = 0
+    for it in options.only or checks:
+        start = time.monotonic()
+        status |= run_check(f"{name}: {it}", lambda it=it: checks[it](options.program))
+        if sys.stderr.isatty() or options.times:
+            print(f"{it} {time.monotonic() - start:.1f} s", file=sys.stderr)
+    return status
 
 
 def report_counts(name, what, results):
@@ -100,7 +130,7 @@ def report_counts(name, what, results):
 
 
 def wait_until(what, condition):
-    """Waits until `is_so()` returns a true value, and returns that value.
+    """Waits until `condition()` returns a true value, and returns that value.
 
     Raises `CheckFailed` after `TIMEOUT_SECONDS` seconds. `what`: the condition in words, for the message.
     """

@@ -1,16 +1,14 @@
-"""A headless Chromium that is controlled by WebDriver, its windows, and keyboard input."""
+"""A headless Chromium that is controlled by Selenium, its windows, and keyboard input."""
 import contextlib
-import json
 import os
-import subprocess
-import urllib.error
-import urllib.request
-from base64 import b64decode
+import shutil
 
-from base import CheckFailed, can_connect, end, free_port, wait_until
+from base import CheckFailed, wait_until
 
-# The key of an element's id in a response of WebDriver.
-ELEMENT = "element-6066-11e4-a52e-4f735466cecf"
+with contextlib.suppress(ModuleNotFoundError):
+    from selenium import webdriver
+    from selenium.webdriver.chrome.service import Service
+
 ENTER, TAB, SHIFT = "\ue007", "\ue004", "\ue008"
 # Returns the name of the element with the focus, and whether an outline shows the focus.
 FOCUS = """
@@ -19,57 +17,33 @@ return [it.id || it.textContent, it.matches(':focus-visible') && style.outlineSt
 """
 
 
+def missing_package():
+    """Returns the first of Debian's packages that a browser needs and that is not installed, or `None`."""
+    found = {"chromium": shutil.which("chromium"), "chromium-driver": shutil.which("chromedriver"), "python3-selenium": "webdriver" in globals()}
+    return next((it for it in found if not found[it]), None)
+
+
 class Browser:
-    """A headless Chromium, controlled by chromedriver.
+    """A headless Chromium.
 
     `folder`: the folder for the browser's profile and the driver's log.
     """
 
     def __init__(self, folder):
-        self.port, self.session = free_port(), ""
-        self.driver = subprocess.Popen(
-            ["chromedriver", f"--port={self.port}", f"--log-path={folder}/driver.log"],
-            stdout=subprocess.DEVNULL,
-            stderr=subprocess.DEVNULL,
-            env={**os.environ, "TMPDIR": folder},
-        )
-        try:
-            self.begin(folder)
-        except BaseException:
-            self.end()
-            raise
-
-    def begin(self, folder):
-        """Waits until the driver listens, and starts the browser."""
-        wait_until("the driver listens", lambda: can_connect(self.port))
+        options = webdriver.ChromeOptions()
+        options.accept_insecure_certs = True
         # Only names of loopback are resolved, so that the browser connects to no other machine.
         args = ["--headless=new", "--disable-gpu", "--no-first-run", "--disable-background-networking", "--disable-component-update"]
         args += [f"--user-data-dir={folder}/profile", "--host-resolver-rules=MAP * ~NOTFOUND, EXCLUDE 127.0.0.1, EXCLUDE localhost"]
-        if os.geteuid() == 0:
-            args.append("--no-sandbox")
-        wanted = {"browserName": "chrome", "acceptInsecureCerts": True, "goog:chromeOptions": {"args": args}}
-        self.session = "/session/" + self.call("POST", "/session", {"capabilities": {"alwaysMatch": wanted}})["sessionId"]
+        for it in args + (["--no-sandbox"] if os.geteuid() == 0 else []):
+            options.add_argument(it)
+        service = Service(shutil.which("chromedriver"), log_path=f"{folder}/driver.log", env={**os.environ, "TMPDIR": folder})
+        self.driver = webdriver.Chrome(service=service, options=options)
         # The first window stays open, because a new window can only be requested from an open one.
-        self.first = self.call("GET", "/window")
-
-    def call(self, method, path, content=None):
-        """Sends a command to the driver, and returns the value in its response.
-
-        `content`: the body, sent as JSON. Raises `CheckFailed` if the driver reports an error.
-        """
-        data = None if content is None else json.dumps(content).encode()
-        request = urllib.request.Request(f"http://127.0.0.1:{self.port}{self.session}{path}", data, method=method)
-        try:
-            with urllib.request.urlopen(request, timeout=60) as response:
-                return json.load(response)["value"]
-        except urllib.error.HTTPError as error:
-            raise CheckFailed(f"{method} {path}: {json.load(error)['value']['message'].splitlines()[0]}") from error
+        self.first = self.driver.current_window_handle
 
     def end(self):
-        if self.session:
-            with contextlib.suppress(Exception):
-                self.call("DELETE", "")
-        end(self.driver)
+        self.driver.quit()
 
 
 class Window:
@@ -77,53 +51,50 @@ class Window:
 
     def __init__(self, browser, address, width=860, height=1010):
         self.browser = browser
-        self.handle = browser.call("POST", "/window/new", {"type": "window"})["handle"]
-        self.call("POST", "/window/rect", {"width": width, "height": height})
-        self.call("POST", "/url", {"url": address})
+        browser.driver.switch_to.new_window("window")
+        self.handle = browser.driver.current_window_handle
+        self.driver.set_window_rect(width=width, height=height)
+        self.driver.get(address)
 
-    def call(self, method, path, content=None):
-        self.browser.call("POST", "/window", {"handle": self.handle})
-        return self.browser.call(method, path, content)
+    @property
+    def driver(self):
+        """The driver, whose commands go to this window."""
+        self.browser.driver.switch_to.window(self.handle)
+        return self.browser.driver
 
     def run(self, script, *args):
         """Runs `script` in the page with `args` as its arguments, and returns its result."""
-        return self.call("POST", "/execute/sync", {"script": script, "args": list(args)})
+        return self.driver.execute_script(script, *args)
 
     def texts(self, selector):
         """Returns the texts of all elements that match `selector`."""
         return self.run("return [...document.querySelectorAll(arguments[0])].map((it) => it.textContent)", selector)
 
     def element(self, selector):
-        return self.call("POST", "/element", {"using": "css selector", "value": selector})[ELEMENT]
+        return self.driver.find_element("css selector", selector)
 
     def click(self, selector):
-        self.call("POST", f"/element/{self.element(selector)}/click", {})
+        self.element(selector).click()
 
     def write(self, selector, text):
-        self.call("POST", f"/element/{self.element(selector)}/value", {"text": text})
+        self.element(selector).send_keys(text)
 
     def wait_state(self, state):
         wait_until(f"the page says {state}", lambda: self.run("return document.getElementById('state').className") == state)
 
-    def picture(self, file):
-        file.write_bytes(b64decode(self.call("GET", "/screenshot")))
-
     def close(self):
-        self.call("DELETE", "/window")
-        self.browser.call("POST", "/window", {"handle": self.browser.first})
+        self.driver.close()
+        self.browser.driver.switch_to.window(self.browser.first)
 
 
 def press(window, *keys):
     """Presses `keys` one after another. The element with the focus gets them."""
-    strokes = [{"type": kind, "value": key} for key in keys for kind in ("keyDown", "keyUp")]
-    window.call("POST", "/actions", {"actions": [{"type": "key", "id": "keys", "actions": strokes}]})
+    webdriver.ActionChains(window.driver).send_keys(*keys).perform()
 
 
 def press_back(window):
     """Presses Shift+Tab."""
-    strokes = [("keyDown", SHIFT), ("keyDown", TAB), ("keyUp", TAB), ("keyUp", SHIFT)]
-    actions = [{"type": kind, "value": key} for kind, key in strokes]
-    window.call("POST", "/actions", {"actions": [{"type": "key", "id": "keys", "actions": actions}]})
+    webdriver.ActionChains(window.driver).key_down(SHIFT).send_keys(TAB).key_up(SHIFT).perform()
 
 
 def check_focus(window, name):
@@ -141,6 +112,5 @@ def emulate(window, width=0, height=0, scheme=""):
     `scheme`: "light" or "dark". Without arguments, ends the emulation.
     """
     size = {"width": width, "height": height, "deviceScaleFactor": 1, "mobile": False}
-    colours = {"features": [{"name": "prefers-color-scheme", "value": scheme}]}
-    for command, parameters in (("DeviceMetricsOverride", size), ("EmulatedMedia", colours)):
-        window.call("POST", "/goog/cdp/execute", {"cmd": f"Emulation.set{command}", "params": parameters})
+    window.driver.execute_cdp_cmd("Emulation.setDeviceMetricsOverride", size)
+    window.driver.execute_cdp_cmd("Emulation.setEmulatedMedia", {"features": [{"name": "prefers-color-scheme", "value": scheme}]})

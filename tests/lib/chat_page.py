@@ -1,10 +1,16 @@
 """Tests of the chat: two users, cut connections, a slow line, and the keyboard alone."""
+import re
+
 from accessibility import check_accessibility, check_accessible_names
 from base import CheckFailed, wait_until
-from browser import ENTER, TAB, Window, check_focus, press, press_back
+from browser import ENTER, TAB, Window, check_focus, emulate, press, press_back
 
 # The element that says why a message was not sent.
 PROBLEM = "#problem:not([hidden])"
+# What the chat shows once if messages may be missing.
+GAP = re.compile(r"Messages since \d\d:\d\d.* may be missing")
+# Returns whether the newest message is in view.
+IS_END_SHOWN = "const it = document.getElementById('messages'); return it.lastChild.getBoundingClientRect().bottom <= it.getBoundingClientRect().bottom"
 
 
 class Chat(Window):
@@ -79,22 +85,27 @@ def try_writing(ann, ben, texts):
 
 
 def try_slow_line(fixture):
-    """Checks that Enter sends nothing while a message is being sent, and that the typed text stays.
+    """Checks that messages that are entered while one is being sent follow it, in order, and that typed text stays.
 
-    If the response is an error, the text of the message returns to its field.
+    If the response is an error, the texts of the message and of those that wait return to the field.
     """
     site = fixture.site
     chat = Chat(fixture.browser, f"{site.address}/chat/", "Ann")
     chat.run("const ask = client.publish; client.publish = (...args) => new Promise((go) => (window.go = go)).then(() => ask.apply(client, args))")
-    chat.write("#text", "Once" + ENTER)
-    chat.write("#text", "Meanwhile" + ENTER + ENTER)
+    for text in ("Once", "Twice"):
+        chat.write("#text", text + ENTER + ENTER)
+    chat.write("#text", "Meanwhile")
     chat.run("go()")
+    wait_until("the next one is on its way", lambda: chat.run("return newest.text") == "Twice")
     chat.wait_messages(["Once"])
+    chat.run("go()")
+    chat.wait_messages(["Once", "Twice"])
+    wait_until("nothing is on its way", lambda: not chat.run("return isSending"))
     if chat.run("return document.getElementById('text').value") != "Meanwhile":
         raise CheckFailed("what was typed meanwhile is gone")
-    wait_until("nothing is on its way", lambda: not chat.run("return isSending"))
     site.status = 504
     chat.write("#text", ENTER)
+    chat.write("#text", "and" + ENTER)
     chat.write("#text", "more")
     chat.run("go()")
     wait_until("the page says so", lambda: chat.texts(PROBLEM) == ["No answer: it may have been sent."])
@@ -102,7 +113,7 @@ def try_slow_line(fixture):
     chat.write("#text", ENTER)
     chat.run("go()")
     wait_until("the page says so", lambda: chat.texts(PROBLEM) == ["Not sent: HTTP status 413"])
-    if chat.run("return document.getElementById('text').value") != "Meanwhile more":
+    if chat.run("return document.getElementById('text').value") != "Meanwhile and more":
         raise CheckFailed(f"the field has {chat.run('return text.value')!r}, and not what was not sent and what was typed")
     site.status = 200
     chat.close()
@@ -119,7 +130,7 @@ def try_late_message(fixture):
     site.status = 504
     chat.send("Arrives late")
     wait_until("the page says so", lambda: chat.texts(PROBLEM) == ["No answer: it may have been sent."])
-    chat.write("#text", " and more")
+    chat.write("#text", "and more")
     site.status = 200
     # The server had the message, and only now publishes it.
     sent = chat.run("return { name: ownName, text: newest.text, mark: OWN_MARK, number: newest.number }")
@@ -168,7 +179,7 @@ def try_cut(fixture, ann, ben, texts):
 
 
 def try_restart(server, ann, ben, texts):
-    """Checks that both windows recover from a restart of the server.
+    """Checks that both windows recover from a restart of the server, and show that messages may be missing.
 
     They share a channel again. A message that failed is not sent again until the user does so.
     `texts`: the messages so far. Returns them and the new one.
@@ -181,6 +192,7 @@ def try_restart(server, ann, ben, texts):
     server.start()
     for chat in (ann, ben):
         chat.wait_state("connected")
+        wait_until("the window shows the gap", lambda chat=chat: len([it for it in chat.texts(".notice") if GAP.fullmatch(it)]) == 1)
     wait_until("the problem is over", lambda: not ann.texts(PROBLEM))
     ann.wait_messages(texts)
     ann.click("#write button")
@@ -200,7 +212,7 @@ def try_leaving(server, ann, ben):
     for chat, publish, is_last in ((ann, publishes[0], not is_shared), (ben, publishes[1], True)):
         if not server.ask(publish)[0]["successful"]:
             raise CheckFailed("the page has no session")
-        chat.call("POST", "/url", {"url": "about:blank"})
+        chat.driver.get("about:blank")
         if chat is ann:
             wait_until("Ben sees that Ann left", lambda: "Ann left" in ben.texts(".notice"))
         if is_last:
@@ -218,7 +230,7 @@ def try_chat(fixture, address, transport, picture=None):
         raise CheckFailed(f"the page says {ann.texts('#state')}, and not that it is connected, with {transport} as its title")
     texts = try_talk(ann, ben)
     if picture:
-        ann.picture(picture)
+        ann.driver.save_screenshot(picture)
     texts = try_writing(ann, ben, texts)
     texts = try_cut(fixture, ann, ben, texts)
     try_restart(fixture.server, ann, ben, texts)
@@ -228,7 +240,7 @@ def try_chat(fixture, address, transport, picture=None):
 
 
 def try_keyboard(fixture):
-    """Checks that the chat can be used by keyboard alone, and fits on a narrow screen."""
+    """Checks that the chat can be used by keyboard alone, fits on a narrow screen, and keeps its end in view if the screen is turned."""
     window = Window(fixture.browser, fixture.from_disk("chat/index.html"))
     check_accessible_names(window, ["#name", "#join button"])
     check_accessibility(window)
@@ -241,6 +253,10 @@ def try_keyboard(fixture):
     for number in range(12):
         fixture.server.publish("/chat/hall", {"name": f"Name {number * 31}", "text": text})
     wait_until("all messages are shown", lambda: len(window.texts("#messages li p")) == 13)
+    for size in ((390, 420), (844, 390)):
+        emulate(window, *size)
+        wait_until("the newest message stays in view", lambda: window.run(IS_END_SHOWN))
+    window.run("document.getElementById('messages').scrollTop = 0")
     press(window, TAB)
     check_focus(window, "Send")
     press_back(window)
@@ -248,4 +264,6 @@ def try_keyboard(fixture):
     check_focus(window, "messages")
     check_accessible_names(window, ["#messages", "#text", "#write button"])
     check_accessibility(window)
+    if window.run("return document.getElementById('messages').scrollTop"):
+        raise CheckFailed("the chat scrolled while somebody read further up")
     window.close()

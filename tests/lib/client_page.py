@@ -49,6 +49,17 @@ window.outcomes = [];
 for (const promise of [it.start(), it.start()]) promise.then(() => outcomes.push(it.state), (error) => outcomes.push(error.message));
 """
 
+# Makes the server reject each message, with the advice not to try again.
+ADVISE_NONE = "it.items = ([{ channel }]) => [{ channel, successful: false, error: '403::No', advice: { reconnect: 'none' } }];"
+
+# Waits for a response to callback-polling for no time, and records the errors of the page.
+LATE_SCRIPT = """
+window.failures = [];
+window.addEventListener('error', ({ message }) => failures.push(message));
+window.hasArrived = () => performance.getEntriesByType('resource').some(({ name }) => name.includes('jsonp='));
+askByScript(arguments[0], [], 0).catch(({ message }) => (window.why = message));
+"""
+
 # Makes the window that has the session wait before it subscribes.
 SLOW_ADJUST = """
 window.waiting = [];
@@ -127,7 +138,7 @@ def try_start(fixture):
         raise CheckFailed("a promise has settled, and the client was never connected")
     page.run("starting.stop()")
     wait_until("both promises reject", lambda: page.run("return outcomes") == ["stopped", "stopped"])
-    page.run(START.replace("window.starting", "it.ask = () => Promise.reject(Object.assign(new Error('403::No'), { isFinal: true })); window.starting"))
+    page.run(START.replace("window.starting", f"{ADVISE_NONE} window.starting"))
     wait_until("both promises reject", lambda: page.run("return outcomes") == ["403::No", "403::No"])
     page.run(START)
     wait_until("it is interrupted", lambda: page.run("return starting.state") == "interrupted")
@@ -214,6 +225,17 @@ def try_silence(fixture):
     client.do("publishLogged('/a', 1)")
     client.wait_for_log("interrupted no answer in time", ["no answer in time", True])
     wait_until("it is connected again", client.is_connected)
+    page.close()
+
+
+def try_late_script(fixture):
+    """Checks that a response to callback-polling causes no error in the page if it arrives after the client has given up."""
+    page = Window(fixture.browser, fixture.site.address)
+    page.run(LATE_SCRIPT, f"http://127.0.0.1:{fixture.server.port}/cometd")
+    wait_until("it gives up, and the response arrives", lambda: page.run("return [window.why, hasArrived()]") == ["no answer in time", True])
+    wait_until("no function is left", lambda: not page.run("return Object.keys(window).filter((it) => it.startsWith('bayeux_callback'))"))
+    if page.run("return window.failures"):
+        raise CheckFailed(f"the page reports {page.run('return window.failures')}")
     page.close()
 
 

@@ -15,7 +15,8 @@ from base import CLEAR_LINE, CheckFailed, run_check, wait_until
 TIMEOUT_SECONDS = 20.0
 # The seed of the daemons. No two bytes are equal, so that a byte read at a wrong place is noticed.
 SEED = bytes(range(1, 33)).hex()
-CONNECT = b'[{"channel":"/meta/connect","connectionType":"long-polling","clientId":"%s"}]'
+FORM = b"application/x-www-form-urlencoded"
+CONNECT = {"channel": "/meta/connect", "connectionType": "long-polling"}
 HANDSHAKE = {"channel": "/meta/handshake", "version": "1.0", "supportedConnectionTypes": ["long-polling"]}
 
 
@@ -24,14 +25,20 @@ class ConnectionEnded(CheckFailed):
 
 
 class Daemon:
-    """A running bayeuxd that was started with positional arguments.
+    """A running bayeuxd that was started with positional arguments. A context manager that ends it.
 
     `timeout` and `max_interval`: milliseconds. `extra`: the optional arguments at the end,
-    options and limit.
+    options and limit. `connections`: after how many connections it ends, or 0 for never.
     """
 
-    def __init__(self, program, timeout, max_interval, *extra, shards=4):
-        self.begin([program, "127.0.0.1:0", str(shards), str(timeout), "0", str(max_interval), SEED, "0", *extra])
+    def __init__(self, program, timeout, max_interval, *extra, shards=4, connections=0):
+        self.begin([program, "127.0.0.1:0", str(shards), str(timeout), "0", str(max_interval), SEED, str(connections), *extra])
+
+    def __enter__(self):
+        return self
+
+    def __exit__(self, *_):
+        self.end()
 
     def begin(self, args, **streams):
         """Starts the command line `args`, and waits until the daemon listens.
@@ -97,6 +104,11 @@ class Daemon:
             fields = text.read().rpartition(")")[2].split()
         return (int(fields[11]) + int(fields[12])) / os.sysconf("SC_CLK_TCK")
 
+    def expect_end(self):
+        """Waits until the process has ended. Raises `CheckFailed` if its status is not 0."""
+        if self.process.wait(TIMEOUT_SECONDS) != 0:
+            raise CheckFailed(f"it ended with status {self.process.returncode}: {self.log_tail()!r}")
+
     def end(self):
         """Terminates the process, and kills it if it is still running after 5 seconds."""
         if self.process.poll() is None:
@@ -108,6 +120,42 @@ class Daemon:
                 self.process.wait()
         self.process.stdout.close()
         self.errors.close()
+
+
+class FlagDaemon(Daemon):
+    """A daemon that is started with `flags`.
+
+    It ends at the end of its standard input, or after the number of connections in `flags`, if they
+    have one. `streams`: keyword arguments of `Popen`.
+    """
+
+    def __init__(self, program, *flags, **streams):
+        # pylint: disable=super-init-not-called
+        until = [] if "--connections" in flags else ["--until-eof"]
+        self.begin([program, "--listen", "localhost:0", *until, *flags], stdin=subprocess.PIPE, **streams)
+
+    def end(self):
+        self.process.stdin.close()
+        super().end()
+
+
+class NonExpiringDaemon(FlagDaemon):
+    """A daemon with a page of metrics, in which no session and no hold expires during a check.
+
+    This also holds on a slow machine.
+    """
+
+    def __init__(self, program, *flags):
+        super().__init__(program, "--timeout", "600s", "--max-interval", "600s", "--metrics", "127.0.0.1:0", *flags)
+        self.metrics = self.logged_address("metrics listening address=")
+
+
+class DaemonWithReaders(NonExpiringDaemon):
+    """A `NonExpiringDaemon` with a readers' listener."""
+
+    def __init__(self, program, *flags):
+        super().__init__(program, "--readers", "127.0.0.1:0", *flags)
+        self.readers = self.readers_address()
 
 
 class Response:
@@ -210,9 +258,28 @@ def post(body, kind=b"application/json", path=b"/cometd"):
     return b"POST %s HTTP/1.1\r\nhost: h\r\ncontent-type: %s\r\ncontent-length: %d\r\n\r\n" % (path, kind, len(body)) + body
 
 
+def post_coded(codings, method=b"POST", target=b"/cometd", body=b"[]"):
+    """Returns a request with `body` in one chunk. Each of `codings` is the value of a field of its own."""
+    lines = b"".join(b"transfer-encoding:%s\r\n" % it for it in codings)
+    return b"%s %s HTTP/1.1\r\nhost: h\r\n%s\r\n%x\r\n%s\r\n0\r\n\r\n" % (method, target, lines, len(body), body)
+
+
 def get(query, path=b"/cometd"):
     """Returns a GET of `path` followed by `query`, which begins with `?` if it is not empty."""
     return b"GET %s%s HTTP/1.1\r\nhost: h\r\n\r\n" % (path, query)
+
+
+def expect_status(connection, request, status):
+    """Returns the body of the response to `request`. Raises `CheckFailed` if its status is another one.
+
+    Only a 200 may have a body. A 405 must have the allowed methods.
+    """
+    connection.send(request)
+    response = connection.response()
+    methods = b"GET, POST" if status == 405 else None
+    if (response.status, response.fields.get(b"allow"), bool(response.body)) != (status, methods, status == 200):
+        raise CheckFailed(f"not {status} for {request[:200]!r}, of {len(request)} bytes: {response.status} {response.fields} {response.body[:80]!r}")
+    return response.body
 
 
 def expect_success(items, count):
@@ -220,6 +287,19 @@ def expect_success(items, count):
     if len(items) != count or not all(item.get("successful") for item in items):
         raise CheckFailed(f"not {count} successful replies: {items}")
     return items
+
+
+def expect_events(items, events):
+    """Raises `CheckFailed` if `items` are not `events` and then a successful reply."""
+    if items[:-1] != events:
+        raise CheckFailed(f"not the events {events}: {items}")
+    expect_success(items[-1:], 1)
+
+
+def expect_error(items, error):
+    """Raises `CheckFailed` if `items` are not one reply with this error."""
+    if [(item.get("successful"), item.get("error")) for item in items] != [(False, error)]:
+        raise CheckFailed(f"not {error}: {items}")
 
 
 def open_session(connection, **extra):
@@ -231,6 +311,26 @@ def open_session(connection, **extra):
     return {"clientId": expect_success(connection.ask([{**HANDSHAKE, **extra}]), 1)[0]["clientId"]}
 
 
+def subscribe(connection, pattern, session):
+    """Subscribes a session to `pattern`. `session`: the member with its client id."""
+    expect_success(connection.ask([{"channel": "/meta/subscribe", "subscription": pattern, **session}]), 1)
+
+
+def publish(connection, channel, data, session):
+    """Publishes an event. `session`: the member with the client id, or an empty dictionary."""
+    expect_success(connection.ask([{"channel": channel, "data": data, **session}]), 1)
+
+
+def send_connect(connection, session):
+    """Sends a connect, and does not wait for the response."""
+    connection.send(post(json.dumps([{**CONNECT, **session}]).encode()))
+
+
+def poll(connection, session):
+    """Returns the items of the response to a connect that is not held."""
+    return connection.ask([{**CONNECT, "advice": {"timeout": 0}, **session}])
+
+
 def hold_connect(address, channel):
     """Returns a connection with a held connect. The session is subscribed to `channel`.
 
@@ -238,8 +338,8 @@ def hold_connect(address, channel):
     """
     connection = Connection(address)
     session = open_session(connection)
-    expect_success(connection.ask([{"channel": "/meta/subscribe", "subscription": channel, **session}]), 1)
-    connection.send(post(json.dumps([{"channel": "/meta/connect", "connectionType": "long-polling", **session}]).encode()))
+    subscribe(connection, channel, session)
+    send_connect(connection, session)
     return connection
 
 
@@ -250,12 +350,11 @@ def check_serves(address, channel):
     """
     with Connection(address) as connection:
         session = open_session(connection)
-        expect_success(connection.ask([{"channel": "/meta/subscribe", "subscription": channel, **session}]), 1)
+        subscribe(connection, channel, session)
         expect_success(connection.ask([{"channel": channel, "data": {"right": channel}, "id": "p", **session}]), 1)
-        items = connection.ask([{"channel": "/meta/connect", "connectionType": "long-polling", "id": 7, **session}])
-        if items[:-1] != [{"channel": channel, "data": {"right": channel}, "id": "p"}]:
-            raise CheckFailed(f"not the event that was published: {items}")
-        if expect_success(items[1:], 1)[0]["id"] != 7:
+        items = connection.ask([{**CONNECT, "id": 7, **session}])
+        expect_events(items, [{"channel": channel, "data": {"right": channel}, "id": "p"}])
+        if items[-1]["id"] != 7:
             raise CheckFailed(f"not the id of the connect: {items}")
         expect_success(connection.ask([{"channel": "/meta/disconnect", **session}]), 1)
 

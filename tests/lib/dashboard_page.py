@@ -42,7 +42,7 @@ def try_dashboard(fixture, address, picture=None):
         try_gaps(fixture.server, window)
         if picture:
             wait_until("the curves fill the charts", lambda: max(window.run(STARTS)) < 60)
-            window.picture(picture)
+            window.driver.save_screenshot(picture)
     try_old_numbers(fixture.server, window)
     window.close()
 
@@ -83,13 +83,15 @@ def try_old_numbers(server, window):
 
 
 def try_narrow_dashboard(fixture):
-    """Checks that the dashboard fits on a narrow screen."""
+    """Checks that the dashboard fits on a narrow screen, and shows the least, average and greatest number."""
     window = Window(fixture.browser, fixture.from_disk("dashboard/index.html"))
     window.wait_state("connected")
     check_accessibility(window)
     for value in (12345.6, -125000, 1795793822):
         fixture.server.publish("/dashboard/a-name-that-is-not-short", value)
     wait_until("the numbers are shown", lambda: window.texts(".value") == ["1,795,793,822"])
+    if window.texts(".card dd") != ["-125,000", "598,560,389.2", "1,795,793,822"]:
+        raise CheckFailed(f"min, average and max are {window.texts('.card dd')}")
     check_accessible_names(window, [".card svg"])
     check_accessibility(window)
     window.close()

@@ -4,7 +4,7 @@ import getpass
 import pathlib
 import subprocess
 
-from base import TOP, CheckFailed, can_connect, end, free_port, wait_until
+from base import TOP, CheckFailed, can_connect, end, expect_equal, free_port, wait_until
 
 # The lines of the configuration that disable callback-polling.
 CALLBACK_POLLING_OFF = """            limit_except POST {
@@ -28,19 +28,14 @@ def try_refusals(address, of_a_get):
     query = "message=%5B%5D&jsonp=name"
     foreign = {"https://localhost.example": 403, "null": 403, "https://sub.localhost": 403, address: 200}
     for origin, status in foreign.items():
-        expect(f"a POST of the origin {origin}", status_of(f"{address}/cometd", *post, "-H", f"Origin: {origin}"), status)
+        expect_equal(f"a POST of the origin {origin}", status_of(f"{address}/cometd", *post, "-H", f"Origin: {origin}"), status)
     for site, status in {"same-origin": 200, "none": 200, "same-site": 403, "cross-site": 403}.items():
-        expect(f"a POST that is {site}", status_of(f"{address}/cometd", *post, "-H", f"Sec-Fetch-Site: {site}"), status)
-    expect("a program's POST", status_of(f"{address}/cometd", *post), 200)
-    expect("a GET", status_of(f"{address}/cometd?{query}"), of_a_get)
-    expect("a foreign page's GET", status_of(f"{address}/cometd?{query}", "-H", "Sec-Fetch-Site: cross-site"), 403)
-    expect("another name", status_of(f"{address}/cometd", *post, "-H", "Host: other.example"), 421)
-    expect("a path below", status_of(f"{address}/cometd/handshake", *post), 200)
-
-
-def expect(what, found, wanted):
-    if found != wanted:
-        raise CheckFailed(f"{what}: status {found}, not {wanted}")
+        expect_equal(f"a POST that is {site}", status_of(f"{address}/cometd", *post, "-H", f"Sec-Fetch-Site: {site}"), status)
+    expect_equal("a program's POST", status_of(f"{address}/cometd", *post), 200)
+    expect_equal("a GET", status_of(f"{address}/cometd?{query}"), of_a_get)
+    expect_equal("a foreign page's GET", status_of(f"{address}/cometd?{query}", "-H", "Sec-Fetch-Site: cross-site"), 403)
+    expect_equal("another name", status_of(f"{address}/cometd", *post, "-H", "Host: other.example"), 421)
+    expect_equal("a path below", status_of(f"{address}/cometd/handshake", *post), 200)
 
 
 def make_certificate(folder):

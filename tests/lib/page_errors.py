@@ -10,7 +10,7 @@ ERROR_MESSAGE = "#error:not([hidden])"
 STATUS_TEXTS = {
     401: "then reload this page",
     403: "rejects this page",
-    404: "Check the path",
+    404: "Check the path, such as /cometd, or add another server to this page’s address, such as ?server=http://HOST:PORT/cometd",
     429: "no more requests",
     502: "is not running. Start bayeuxd",
     503: "is overloaded",
@@ -77,7 +77,7 @@ def try_wrong_addresses(fixture):
 def try_wrong_address(browser, server, address):
     """Checks this for the page at `address`."""
     nobody = f"http://127.0.0.1:{free_port()}/cometd"
-    for wrong, texts in (("ftp://127.0.0.1/", ["is not a server address", "?server="]), (nobody, ["No Bayeux server answers", "Start bayeuxd"])):
+    for wrong, texts in (("ftp://127.0.0.1/", ["is not a server address", "?server="]), (nobody, ["No Bayeux server answers", "Start bayeuxd", "?server=http://HOST:PORT/cometd"])):
         window = Window(browser, f"{address}?server={wrong}")
         wait_for_error(window, wrong, *texts)
         check_accessibility(window)

@@ -99,10 +99,10 @@ def try_chat(fixture, address):
         if chat.texts(PROBLEM) != [FORBIDDEN] or chat.texts("#messages li p") != ["Read this"]:
             raise CheckFailed(f"the page says {chat.texts(PROBLEM)} and shows {chat.texts('#messages li p')}")
     last = {"channel": "/nobody", "data": 0, "clientId": chats[1].run("return client.clientId")}
-    chats[0].call("POST", "/url", {"url": "about:blank"})
+    chats[0].driver.get("about:blank")
     # A window that has not yet taken over the session cannot end it.
     wait_until("the other has the session alone", lambda: not chats[1].run("return client.windows?.hasOthers()"))
-    chats[1].call("POST", "/url", {"url": "about:blank"})
+    chats[1].driver.get("about:blank")
     wait_until("the session is gone", lambda: fixture.server.ask(last)[0].get("error") == "402::Unknown client")
     for chat in chats:
         chat.close()

@@ -106,6 +106,23 @@ REJECTED = {
     ],
 }
 
+# First lines of a record that must be rejected: each has one wrong word, or a word too few or too many.
+REJECTED_LINES = [
+    line
+    for right in ["shards=2 timeout=30000 interval=0 max_interval=10000 options=- bytes=- sessions=65536 patterns=1024 limit=1024"]
+    for line in (
+        *(right.replace("shards=2", it) for it in ("shards=0", "shards=65", "shards=", "shards", "shard=2", "Shards=2", "shards=2=", "2", "shards=+2", " shards=2")),
+        *(right.replace("timeout=30000", it) for it in ("timeout=4294967296", "timeout=30s", "timeout=-", "interval=30000")),
+        *(right.replace(" interval=0", it) for it in (" interval=-1", " interval=18446744073709551616", "")),
+        *(right.replace("max_interval=10000", it) for it in ("max_interval=", "max-interval=10000", "max_interval=10000 ")),
+        *(right.replace("options=-", it) for it in ("options=", "options=ar", "options=x", "options=R", "option=-")),
+        *(right.replace("bytes=-", it) for it in ("bytes=0", "bytes=4294967296", "bytes=4611686018427387904", "bytes=--", "bytes=")),
+        *(right.replace("sessions=65536", it) for it in ("sessions=0", "sessions=65537", "sessions=-")),
+        *(right.replace("patterns=1024", it) for it in ("patterns=0", "patterns=1025", "patterns=-", "")),
+        *(right.replace("limit=1024", it) for it in ("limit=0", "limit=65537", "limit=-", "limit=1024 limit=1024", "limit=1024 x=1", "")),
+    )
+]
+
 
 def listed(text, count):
     """Returns `count` copies of `text`, separated by commas."""
