@@ -13,12 +13,14 @@ let isSending = false;
 let hasJoined = false; // whether the others know that this user has joined
 let messageCount = 0; // how many messages this window has sent
 let newest = {}; // the newest message that this window has sent
+const waiting = []; // the texts to send after it
 
 const client = newClient();
 client.onleave = () => {
   hasJoined = false;
   return [{ channel: CHANNEL, data: { name: ownName, left: true } }];
 };
+client.ongap = (since) => showNotice(`Messages since ${formatTime(since)} may be missing`);
 const showState = client.onstate;
 client.onstate = (state, why) => {
   showState(state, why);
@@ -44,8 +46,7 @@ function confirmNewest() {
   const field = element('text');
   newest.hasArrived = true;
   if (!newest.isPutBack) return;
-  if (field.value === newest.text) field.value = '';
-  else if (field.value.startsWith(`${newest.text} `)) field.value = field.value.slice(newest.text.length + 1);
+  if (field.value.startsWith(newest.text)) field.value = field.value.slice(newest.text.length).trimStart();
   showProblem('');
 }
 
@@ -58,7 +59,7 @@ function showMessage(name, text, isOwn) {
   item.style.setProperty('--hue', hueOf(name));
   author.textContent = name;
   body.textContent = text;
-  time.textContent = new Date().toLocaleTimeString([], { hour: '2-digit', minute: '2-digit' });
+  time.textContent = formatTime(new Date());
   item.append(author, body, time);
   show(item);
 }
@@ -70,12 +71,31 @@ function showNotice(text) {
   show(item);
 }
 
+function formatTime(date) {
+  return date.toLocaleTimeString([], { hour: '2-digit', minute: '2-digit' });
+}
+
 // Appends `item` to the list. Scrolls to it if the user is at the end or has sent it.
 function show(item) {
+  const isRead = isAtEnd();
+  element('messages').append(item);
+  if (isRead || item.className === 'own') showEnd();
+}
+
+function isAtEnd() {
   const list = element('messages');
-  const isAtEnd = list.scrollHeight - list.scrollTop - list.clientHeight < NEAR;
-  list.append(item);
-  if (isAtEnd || item.className === 'own') list.scrollTop = list.scrollHeight;
+  return list.scrollHeight - list.scrollTop - list.clientHeight < NEAR;
+}
+
+function showEnd() {
+  element('messages').scrollTop = element('messages').scrollHeight;
+}
+
+// Keeps the end in view if the list becomes smaller, such as when a phone is turned.
+function keepEnd() {
+  let wasAtEnd = true;
+  element('messages').addEventListener('scroll', () => (wasAtEnd = isAtEnd()));
+  new ResizeObserver(() => wasAtEnd && showEnd()).observe(element('messages'));
 }
 
 // Returns a hue, in degrees, that is the same for a name in all windows.
@@ -90,27 +110,38 @@ function showProblem(text) {
   element('problem').hidden = text === '';
 }
 
-// Sends one message at a time. A message that may not have been sent is put back into the field,
-// before what was typed meanwhile. It leaves the field if it arrives after all.
-async function send() {
+// Takes the text out of the field and sends it, after the texts that wait.
+function send() {
   const field = element('text');
-  const text = field.value;
-  if (isSending || text.trim() === '') return;
-  isSending = true;
+  if (field.value.trim() === '') return;
+  waiting.push(field.value);
   field.value = '';
-  showProblem('');
-  newest = { number: ++messageCount, text, hasArrived: false, isPutBack: false };
-  try {
-    await client.publish(CHANNEL, { name: ownName, text, mark: OWN_MARK, number: newest.number });
-  } catch (failure) {
-    if (!newest.hasArrived) {
+  if (!isSending) sendWaiting();
+}
+
+// Sends one message at a time. A message that may not have been sent is put back into the field,
+// with those that wait and before what was typed meanwhile. It leaves the field if it arrives after
+// all.
+async function sendWaiting() {
+  const field = element('text');
+  isSending = true;
+  while (waiting.length > 0) {
+    const text = waiting.shift();
+    showProblem('');
+    newest = { number: ++messageCount, text, hasArrived: false, isPutBack: false };
+    try {
+      await client.publish(CHANNEL, { name: ownName, text, mark: OWN_MARK, number: newest.number });
+    } catch (failure) {
+      if (newest.hasArrived) continue;
       newest.isPutBack = true;
-      field.value = field.value === '' ? text : `${text} ${field.value}`;
+      field.value = [text, ...waiting.splice(0), field.value].filter((it) => it !== '').join(' ');
       showProblem(publishErrorText(failure));
     }
   }
   isSending = false;
 }
+
+keepEnd();
 
 element('join').addEventListener('submit', (event) => {
   event.preventDefault();

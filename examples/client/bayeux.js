@@ -141,7 +141,11 @@ async function askByScript(url, messages, timeout) {
       script.remove();
       settle(value);
     };
-    const timer = setTimeout(finish, timeout, reject, new Error(NO_ANSWER));
+    const timer = setTimeout(() => {
+      finish(reject, new Error(NO_ANSWER));
+      // The script may still arrive. It then calls this.
+      window[name] = () => delete window[name];
+    }, timeout);
     window[name] = (items) => finish(resolve, items);
     script.onerror = () => finish(reject, new Error('the server cannot be reached, or refused the request'));
     script.src = `${url}?jsonp=${name}&message=${encodeURIComponent(JSON.stringify(messages))}`;

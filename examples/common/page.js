@@ -19,7 +19,8 @@ const STATUS_TEXTS = {
   503: 'is overloaded. This page tries again.',
   504: 'is a proxy, and got no answer from the server behind it. Restart bayeuxd, or wait.',
 };
-const WRONG_PATH_TEXT = 'is not a Bayeux address. Check the path, such as /cometd.';
+const OTHER_SERVER_TEXT = 'add another server to this page’s address, such as ?server=http://HOST:PORT/cometd.';
+const WRONG_PATH_TEXT = `is not a Bayeux address. Check the path, such as /cometd, or ${OTHER_SERVER_TEXT}`;
 // The statuses of a proxy that cannot reach the server, or gets no answer from it.
 const NOT_RUNNING = 502;
 const TOO_LATE = 504;
@@ -73,7 +74,7 @@ function connectionError(address, why) {
   if (why === NO_ANSWER) {
     return `No answer from ${address} for ten seconds. The network or the server is slow, or too many windows are open: a browser has six connections to a server, and each window can take one.`;
   }
-  return `No Bayeux server answers this page at ${address}. Start bayeuxd there, or add another server to this page’s address, such as ?server=ADDRESS.`;
+  return `No Bayeux server answers this page at ${address}. Start bayeuxd there, or ${OTHER_SERVER_TEXT}`;
 }
 
 /** Returns the text about the failure of a publish. */

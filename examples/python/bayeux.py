@@ -7,6 +7,8 @@ BAYEUX_URL: the server, by default http://127.0.0.1:8087/cometd. BAYEUX_NAME: a 
 """
 import http.client, json, os, random, shlex, sys, time, urllib.error, urllib.request
 
+URL = os.environ.get("BAYEUX_URL", "http://127.0.0.1:8087/cometd")
+
 
 class Refused(Exception):
     """The server rejected a message. The text is its error."""
@@ -15,7 +17,7 @@ class Refused(Exception):
 class Client:
     """A session. It opens when it is first needed. As a context manager, it ends with the block."""
 
-    def __init__(self, url=os.environ.get("BAYEUX_URL", "http://127.0.0.1:8087/cometd"), name=os.environ.get("BAYEUX_NAME")):
+    def __init__(self, url=URL, name=os.environ.get("BAYEUX_NAME")):
         self.url, self.id, self.batch, self.advice = url, None, 0, {}
         self.ext = {"ack": True} | ({"name": name} if name else {})
 
@@ -84,7 +86,7 @@ class Client:
             except (OSError, ValueError, Refused, http.client.HTTPException) as failure:
                 if isinstance(failure, Refused) and self.id:
                     raise
-                print(f"bayeux.py: {failure}; trying again", file=sys.stderr)
+                print(f"bayeux.py: {self.url}: {failure}; trying again", file=sys.stderr)
                 time.sleep(pause * random.uniform(0.5, 1))
                 pause = min(2 * pause, 10)
 
@@ -118,5 +120,7 @@ if __name__ == "__main__":
         main(sys.argv[1:])
     except KeyboardInterrupt:
         pass
+    except urllib.error.URLError as failure:
+        sys.exit(f"bayeux.py: {URL}: {failure}; BAYEUX_URL names another server")
     except (OSError, ValueError, Refused) as failure:
         sys.exit(f"bayeux.py: {failure}")
