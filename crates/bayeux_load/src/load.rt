@@ -19,17 +19,15 @@ const MOST_THREADS: u64 = 8;
 // A thread that runs a part.
 type Other = JoinHandle<Result<Tally, Fault>>;
 
-/// Loads the server and returns the results of all threads.
-///
-/// `is_shown`: whether to show a line of progress on standard error.
-///
-/// # Errors
-///
-/// - `Unreachable`: the host has no address.
-/// - `System`: the clock cannot be read, or a thread cannot be spawned.
-/// - `Memory`: memory ran out, at any step.
-/// - Otherwise the fault of the first part that failed.
-pub fn load<R>(rt: R, settings: LoadSettings, is_shown: bool) -> Result<Tally, Fault>
+/// A load that runs on several threads.
+#[derive(Drop)]
+pub struct ThreadedLoad<R> {
+    rt: R,
+    context: Arc<Context, Global>,
+    threads: u64,
+}
+
+impl<R> ThreadedLoad<R>
 where
     R: Net<Listener = TcpListener, Stream = TcpStream>
         + Clock
@@ -43,115 +41,87 @@ where
         + Drop
         + 'static,
 {
-    let threads = threads_for(&rt);
-    let context = Arc::new(rt.alloc(), context_of(&rt, settings, threads)?)?;
-    let mut whole = Tally::new(rt.alloc())?;
-    match all_parts(rt, &context, threads, is_shown, &mut whole) {
-        Ok(()) => Ok(whole),
-        Err(fault) => Err(fault),
+    /// Creates a load with `settings`, which starts now.
+    ///
+    /// # Errors
+    ///
+    /// - `Unreachable`: the host has no address.
+    /// - `System`: the clock cannot be read.
+    /// - `Memory`: memory ran out.
+    pub fn new(rt: R, settings: LoadSettings) -> Result<ThreadedLoad<R>, Fault> {
+        let alloc = rt.alloc();
+        let threads = threads_for(&rt);
+        let address = address_of(&rt, &settings.target)?;
+        let Ok(start) = Instant::now(&rt) else {
+            return Err(Fault::System);
+        };
+        let context = Context::new(alloc, settings, address, start, threads);
+        Ok(ThreadedLoad {
+            rt,
+            context: Arc::new(alloc, context)?,
+            threads,
+        })
     }
-}
 
-// Creates what all threads share.
-fn context_of<R: Net + Clock + AllocGlobal>(
-    rt: &R,
-    settings: LoadSettings,
-    threads: u64,
-) -> Result<Context, Fault> {
-    match (address_of(rt, &settings.target), Instant::now(rt)) {
-        (Ok(address), Ok(start)) => Ok(Context::new(rt.alloc(), settings, address, start, threads)),
-        (Err(fault), _) => Err(fault),
-        (_, Err(_)) => Err(Fault::System),
-    }
-}
-
-// Runs all parts, the first on this thread, and adds their results to `whole`. Returns the fault of
-// the first part that failed, or why a thread cannot be spawned. Joins all spawned threads.
-fn all_parts<R>(
-    rt: R,
-    context: &Arc<Context, Global>,
-    threads: u64,
-    is_shown: bool,
-    whole: &mut Tally,
-) -> Result<(), Fault>
-where
-    R: Net<Listener = TcpListener, Stream = TcpStream>
-        + Clock
-        + Wait
-        + Threads
-        + Eprint
-        + Sync
-        + Send
-        + Copy
-        + Drop
-        + 'static,
-{
-    let mut others = Vec::with_capacity(context.alloc, MOST_THREADS as usize)?;
-    let mut begun = Ok(());
-    for index in 1..threads {
-        begun = begin(rt, context, index, threads, &mut others);
-        if begun.is_err() {
-            break;
+    /// Loads the server and returns the results of all threads, those of this one first.
+    ///
+    /// `is_shown`: whether to show a line of progress on standard error. Joins all spawned threads.
+    ///
+    /// # Errors
+    ///
+    /// - `System`: a thread cannot be spawned.
+    /// - `Memory`: memory ran out, at any step.
+    /// - Otherwise the fault of the first part that failed.
+    pub fn run(&self, is_shown: bool) -> Result<Tally, Fault> {
+        let alloc = self.context.alloc;
+        let mut whole = Tally::new(alloc)?;
+        let mut others = Vec::with_capacity(alloc, MOST_THREADS as usize)?;
+        let mut begun = Ok(());
+        for index in 1..self.threads {
+            begun = self.begin(index, &mut others);
+            if begun.is_err() {
+                break;
+            }
+        }
+        let own = match (begun, LoadPart::new(alloc, 0, self.threads)) {
+            (Ok(()), Ok(part)) => work(&self.rt, &*self.context, part, is_shown),
+            (Err(fault), _) => Err(fault),
+            (_, Err(_)) => Err(Fault::Memory),
+        };
+        // Ends the threads that run, so that they can be joined.
+        if own.is_err() {
+            self.context.has_failed.store(true, Ordering::SeqCst);
+        }
+        match added(&self.rt, &mut whole, own, others) {
+            None => Ok(whole),
+            Some(fault) => Err(fault),
         }
     }
-    let own = match (begun, LoadPart::new(context.alloc, 0, threads)) {
-        (Ok(()), Ok(part)) => work(&rt, &**context, part, is_shown),
-        (Err(fault), _) => Err(fault),
-        (_, Err(_)) => Err(Fault::Memory),
-    };
-    // Ends the threads that run, so that they can be joined.
-    if own.is_err() {
-        context.has_failed.store(true, Ordering::SeqCst);
-    }
-    match added(rt, whole, own, others) {
-        None => Ok(()),
-        Some(fault) => Err(fault),
-    }
-}
 
-// Spawns a thread that runs part `index` of `threads`, and appends its handle to `others`. Without
-// room for it, the thread might not be joined.
-fn begin<R>(
-    rt: R,
-    context: &Arc<Context, Global>,
-    index: u64,
-    threads: u64,
-    others: &mut Vec<Other>,
-) -> Result<(), Fault>
-where
-    R: Net<Listener = TcpListener, Stream = TcpStream>
-        + Clock
-        + Wait
-        + Threads
-        + Eprint
-        + Sync
-        + Send
-        + Copy
-        + Drop
-        + 'static,
-{
-    let part = LoadPart::new(context.alloc, index, threads)?;
-    let context = Arc::try_clone(context)?;
-    match thread::spawn(&rt, move || work(&rt, &*context, part, false)) {
-        Ok(other) => Ok(others.push(other)?),
-        Err(_) => Err(Fault::System),
+    // Spawns a thread that runs part `index`, and appends its handle to `others`. Without room for
+    // it, the thread might not be joined.
+    fn begin(&self, index: u64, others: &mut Vec<Other>) -> Result<(), Fault> {
+        let rt = self.rt;
+        let part = LoadPart::new(self.context.alloc, index, self.threads)?;
+        let context = Arc::try_clone(&self.context)?;
+        match thread::spawn(&rt, move || work(&rt, &*context, part, false)) {
+            Ok(other) => Ok(others.push(other)?),
+            Err(_) => Err(Fault::System),
+        }
     }
 }
 
 // Adds the results of all parts to `whole`, `own` first. Returns why the first one failed, if one
 // did.
-fn added<R: Threads>(
-    rt: R,
+fn added(
+    rt: &impl Threads,
     whole: &mut Tally,
     own: Result<Tally, Fault>,
     others: Vec<Other>,
-) -> Option<Fault>
-where
-    R: Copy + Drop,
-{
+) -> Option<Fault> {
     let mut fault = add(whole, own);
     for other in others {
-        fault = fault.or(add(whole, other.join(&rt)));
+        fault = fault.or(add(whole, other.join(rt)));
     }
     fault
 }

@@ -14,7 +14,7 @@ mod worker;
 
 use bx_load::{LoadSettings, SettingsFault};
 use fault::Fault;
-use load::load;
+use load::ThreadedLoad;
 use report::report;
 use std::env;
 use std::io::IsTerminal;
@@ -26,8 +26,11 @@ const USAGE: &str = "usage: bayeux_load url sessions channels publishers events 
 
 fn main(rt: HostRuntime) -> ExitCode {
     match settings(&rt) {
-        Ok(settings) => match load(rt, settings, rt.stderr().is_terminal()) {
-            Ok(tally) => reported(&rt, &tally),
+        Ok(settings) => match ThreadedLoad::new(rt, settings) {
+            Ok(load) => match load.run(rt.stderr().is_terminal()) {
+                Ok(tally) => reported(&rt, &tally),
+                Err(fault) => failed(&rt, fault),
+            },
             Err(fault) => failed(&rt, fault),
         },
         Err(SettingsFault::Memory) => failed(&rt, Fault::Memory),

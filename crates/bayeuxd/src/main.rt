@@ -3,88 +3,89 @@
 
 mod clock;
 mod end;
+mod lists;
+mod log_lines;
 mod metrics;
 mod recorder;
 mod refusals;
+mod replies;
 mod serve;
+mod starting;
 mod ticker;
+mod timed;
 
-use bx_advice::Limit;
 use bx_metrics::Counts;
-use bx_settings::{Seed, Settings, parse_args, read_flags, read_seed};
+use bx_service::Transports;
+use bx_settings::{LogLevel, Seed, Settings, draw_seed, parse_args, read_flags, read_seed};
 use end::signal_at_eof;
 use futures::channel::oneshot;
 use futures::channel::oneshot::{Receiver, Sender};
-use log::{error, info, warn};
-use metrics::serve_metrics;
+use log::{LevelFilter, Logged, info};
+use log_lines::{LineForm, LogLines};
+use metrics::{MetricsListener, process_values};
 use recorder::{NewRecordFile, make_record};
-use serve::{ListenAddress, ServeFault, ServeSettings, listen, serve};
-use std::alloc::{AllocError, Global};
+use serve::{ListenAddress, ServeFault, ServeSettings, Server, listen};
+use starting::{log_cannot_listen, log_cannot_serve, log_failure, log_settings};
+use std::alloc::Global;
 use std::fs::File;
 use std::net::{SocketAddr, ToSocketAddrs};
 use std::process::ExitCode;
-use std::random::RandomSource;
 use std::sync::Arc;
 use std::{env, io, thread};
 
-/// Usage text, printed if the arguments are neither flags nor valid by position.
+/// Usage text, printed if the arguments do not begin with a flag and are not valid by position.
 const USAGE: &str =
     "usage: bayeuxd address shards timeout interval max_interval seed connections [options [limit]]";
-
-/// The rest of the usage text, printed if there are no arguments.
-const FLAGS: &str = "or bayeuxd [--listen ADDRESS] [FLAG ..]\nSee bayeuxd --help";
 
 /// Error text if the server cannot listen or serve. The log has the reason.
 const CANNOT_LISTEN: &str = "bayeuxd: cannot listen";
 
-/// Error text if the metrics listener cannot start. Its address and the reason follow.
-const NO_METRICS: &str = "bayeuxd: cannot listen for metrics";
+/// What failed if the metrics listener cannot start.
+const NO_METRICS: &str = "cannot listen for metrics";
 
-/// Error text if the record file cannot be created or written. Its name and the reason follow.
-const CANNOT_RECORD: &str = "bayeuxd: cannot create the record";
+/// What failed if the record file cannot be created or written.
+const CANNOT_RECORD: &str = "cannot create the record";
+
+/// What to do if the record file exists.
+const RECORD_EXISTS: &str =
+    "bayeuxd: a record needs a new file: name another one, or move this one away";
 
 /// Error text if the thread that reads standard input cannot start.
 const NO_READER: &str = "bayeuxd: cannot read standard input";
 
-// One second, in milliseconds. If `timeout` or `max_interval` is shorter, the log has a warning,
-// since the user may have meant seconds.
-const SECOND: u32 = 1000;
+/// What failed if the seed cannot be read.
+const NO_SEED: &str = "cannot read the seed";
 
 /// Error text if memory runs out.
 const OUT_OF_MEMORY: &str = "bayeuxd: out of memory";
 
-fn main(rt: HostRuntime) -> ExitCode {
-    let args = match read_args(&rt) {
+// The system, with a log of the form and the level that the settings give.
+type Host = Logged<HostRuntime, LogLines<HostRuntime>>;
+
+fn main(host: HostRuntime) -> ExitCode {
+    let args = match read_args(&host) {
         Ok(args) => args,
         Err(status) => return status,
     };
-    let processors = thread::available_parallelism(&rt).map_or(1, |it| it.get());
-    let settings = match settings_of(&rt, args.as_slice(), processors) {
+    let processors = thread::available_parallelism(&host).map_or(1, |it| it.get());
+    let settings = match settings_of(&host, args.as_slice(), processors) {
         Ok(settings) => settings,
         Err(status) => return status,
     };
+    let rt = with_log(host, &settings);
     let parts = match parts_of(&rt, &settings) {
         Ok(parts) => parts,
         Err(status) => return status,
     };
-    let Parts {
-        arguments,
-        listen_address,
-        readers,
-        counts,
-        shutdown,
-        end,
-    } = parts;
-    tell_settings(&rt, &settings);
-    let listening = match listen(&rt, listen_address, readers) {
+    log_settings(&rt, &settings);
+    let listening = match listen(&rt, parts.listen_address, parts.readers) {
         Ok(listening) => listening,
         Err(fault) => return not_served(&rt, fault),
     };
-    if let Some(address) = settings.metrics
-        && let Err(error) = serve_metrics(rt, address, &counts)
-    {
-        return refused_at(&rt, NO_METRICS, address, &error);
-    }
+    let metrics = match metrics_of(&rt, &settings) {
+        Ok(metrics) => metrics,
+        Err(status) => return status,
+    };
     // The record file is created last, so that a failed listener leaves no file.
     let record_file = match record_of(&rt, &settings) {
         Ok(file) => file,
@@ -93,24 +94,25 @@ fn main(rt: HostRuntime) -> ExitCode {
     // The thread is spawned here, because only `main` can pass the right to read standard input to
     // a thread. Without `--until-eof`, `shutdown` is kept: dropping it would end the server.
     let _kept = if settings.until_eof {
-        let Ok(_reading) = thread::spawn(&rt, move || signal_at_eof(&rt, shutdown)) else {
+        let shutdown = parts.shutdown;
+        let Ok(_reading) = thread::spawn(&host, move || signal_at_eof(&host, shutdown)) else {
             return failed(&rt, NO_READER);
         };
         None
     } else {
-        Some(shutdown)
+        Some(parts.shutdown)
     };
-    let mut writer = io::writer(&rt);
-    let served = serve(
+    let server = Server {
         rt,
         listening,
-        arguments,
+        metrics,
+        process: move || process_values(&host),
+        readers_publish: settings.readers_publish,
+        arguments: parts.arguments,
         record_file,
-        &counts,
-        end,
-        &mut writer,
-    );
-    match served {
+        shutdown: parts.end,
+    };
+    match server.serve(&parts.counts, &mut io::writer(&rt)) {
         Ok(()) => {
             info!(rt; target: "bayeuxd", "ended");
             ExitCode::SUCCESS
@@ -119,7 +121,19 @@ fn main(rt: HostRuntime) -> ExitCode {
     }
 }
 
+// Adds the log that `settings` describe to `host`.
+fn with_log(host: HostRuntime, settings: &Settings<'_>) -> Host {
+    let level = match settings.log_level {
+        LogLevel::Error => LevelFilter::Error,
+        LogLevel::Warn => LevelFilter::Warn,
+        LogLevel::Info => LevelFilter::Info,
+    };
+    let form = LineForm::of(&host, settings.log);
+    Logged::new(host, level, LogLines::new(host, host.alloc(), form))
+}
+
 // The parts of a server that are created before it listens.
+#[derive(Drop)]
 struct Parts<'a> {
     arguments: ServeSettings,
     listen_address: ListenAddress<'a>,
@@ -130,10 +144,11 @@ struct Parts<'a> {
 }
 
 // Creates the parts of the server. On error, reports what is wrong and returns the exit status.
-fn parts_of<'a>(rt: &HostRuntime, settings: &Settings<'a>) -> Result<Parts<'a>, ExitCode> {
+fn parts_of<'a>(rt: &Host, settings: &Settings<'a>) -> Result<Parts<'a>, ExitCode> {
     let alloc = rt.alloc();
-    let Ok(seed) = seed_of(rt, settings.seed) else {
-        return Err(failed(rt, "bayeuxd: cannot read the seed"));
+    let seed = match seed_of(rt, settings.seed) {
+        Ok(seed) => seed,
+        Err(error) => return Err(refused_at(rt, NO_SEED, seed_name(settings.seed), &error)),
     };
     let listen_address = listen_address_of(rt, settings.listen)?;
     let readers = match settings.read_only_listen {
@@ -150,6 +165,11 @@ fn parts_of<'a>(rt: &HostRuntime, settings: &Settings<'a>) -> Result<Parts<'a>, 
         arguments: ServeSettings {
             config: settings.config,
             body: settings.body,
+            transports: if settings.callback_polling {
+                Transports::All
+            } else {
+                Transports::JsonPosts
+            },
             seed,
             connections: settings.connections,
             until_eof: settings.until_eof,
@@ -162,94 +182,55 @@ fn parts_of<'a>(rt: &HostRuntime, settings: &Settings<'a>) -> Result<Parts<'a>, 
     })
 }
 
+// Listens for metrics, if `--metrics` names an address. On error, prints what is wrong and returns
+// the exit status.
+fn metrics_of(rt: &Host, settings: &Settings<'_>) -> Result<Option<MetricsListener>, ExitCode> {
+    let Some(name) = settings.metrics else {
+        return Ok(None);
+    };
+    let bound = match addresses_of(rt, name) {
+        Ok(addresses) => MetricsListener::bind(rt, addresses.as_slice()),
+        Err(error) => Err(error),
+    };
+    match bound {
+        Ok(listener) => Ok(Some(listener)),
+        Err(error) => Err(refused_at(rt, NO_METRICS, name, &error)),
+    }
+}
+
 // Creates the record file, if `--record` names one. On error, prints what is wrong and returns the
 // exit status.
-fn record_of(
-    rt: &HostRuntime,
-    settings: &Settings<'_>,
-) -> Result<Option<NewRecordFile<File>>, ExitCode> {
+fn record_of(rt: &Host, settings: &Settings<'_>) -> Result<Option<NewRecordFile<File>>, ExitCode> {
     let Some(path) = settings.record_file else {
         return Ok(None);
     };
     match make_record(rt, path, &settings.config, settings.record_answers) {
         Ok(file) => Ok(Some(file)),
-        Err(error) => Err(refused_at(rt, CANNOT_RECORD, path, &error)),
+        Err(error) => {
+            let exit = refused_at(rt, CANNOT_RECORD, path, &error);
+            if error.kind() == io::ErrorKind::AlreadyExists {
+                let _ = rt.eprintln(RECORD_EXISTS);
+            }
+            Err(exit)
+        }
     }
 }
 
 // Reports why serving failed, and returns the exit status.
-fn not_served(rt: &HostRuntime, fault: ServeFault<'_>) -> ExitCode {
+fn not_served(rt: &Host, fault: ServeFault<'_>) -> ExitCode {
     match fault {
         ServeFault::CannotListen(name, error) => cannot_listen(rt, name, &error),
-        ServeFault::CannotServe(error) if error.kind() == io::ErrorKind::OutOfMemory => {
-            failed(rt, OUT_OF_MEMORY)
-        }
         ServeFault::CannotServe(error) => {
-            error!(rt; target: "bayeuxd", "cannot serve error=\"{error}\"");
-            failed(rt, CANNOT_LISTEN)
+            log_cannot_serve(rt, &error);
+            failed_by(rt, &error, CANNOT_LISTEN)
         }
     }
 }
 
 // Creates metrics for `shards` shards. All are 0.
-fn counts_of(rt: &HostRuntime, shards: usize) -> io::Result<Arc<Counts, Global>> {
+fn counts_of(rt: &Host, shards: usize) -> io::Result<Arc<Counts, Global>> {
     let alloc = rt.alloc();
     Ok(Arc::new(alloc, Counts::new(alloc, shards)?)?)
-}
-
-// Logs all settings except the seed, and warns of a `timeout` or `max_interval` below a second.
-fn tell_settings(rt: &HostRuntime, settings: &Settings<'_>) {
-    if let Ok(text) = settings_text(rt.alloc(), settings) {
-        info!(rt; target: "bayeuxd", "starting {text}");
-    }
-    let times = [
-        ("timeout", settings.config.timeout),
-        ("max_interval", settings.config.max_interval),
-    ];
-    for (name, time) in times {
-        if time > 0 && time < SECOND {
-            warn!(rt; target: "bayeuxd", "time is below one second {name}={time} hint=\"for seconds, write {time}s\"");
-        }
-    }
-}
-
-// Returns the text that the log has for all settings except the seed.
-fn settings_text(alloc: Global, settings: &Settings<'_>) -> Result<String, AllocError> {
-    let config = settings.config;
-    let mut text = format!(in alloc;
-        "listen={} readers={} shards={}",
-        settings.listen,
-        settings.read_only_listen.unwrap_or("-"),
-        config.shards
-    )?;
-    write!(
-        text,
-        " timeout={} interval={} max_interval={}",
-        config.timeout, config.interval, config.max_interval
-    )?;
-    for limit in &Limit::ALL {
-        match config.limits.get(*limit) {
-            n if n <= limit.greatest() => write!(text, " {}={n}", limit.name())?,
-            _ => write!(text, " {}=no-limit", limit.name())?,
-        }
-    }
-    write!(
-        text,
-        " body={} ride={} anonymous={}",
-        settings.body.get(),
-        config.ride,
-        config.anonymous
-    )?;
-    write!(
-        text,
-        " connections={} metrics={} record={} record_answers={} until_eof={}",
-        settings.connections,
-        settings.metrics.unwrap_or("-"),
-        settings.record_file.unwrap_or("-"),
-        settings.record_answers,
-        settings.until_eof
-    )?;
-    Ok(text)
 }
 
 // Returns the command-line arguments, without the program's name.
@@ -282,11 +263,8 @@ fn settings_of<'a>(
     processors: usize,
 ) -> Result<Settings<'a>, ExitCode> {
     if !are_flags(args) {
-        let Some(settings) = parse_args(args) else {
+        let Some(settings) = parse_args(rt.alloc(), args) else {
             let _ = rt.eprintln(USAGE);
-            if args.is_empty() {
-                let _ = rt.eprintln(FLAGS);
-            }
             return Err(ExitCode::from(2));
         };
         return Ok(settings);
@@ -300,28 +278,34 @@ fn settings_of<'a>(
     }
 }
 
-// Returns `true` if the first argument begins with `-`.
+// Returns `true` if there are no arguments, or the first one begins with `-`.
 fn are_flags(args: &[String]) -> bool {
-    args.first()
-        .is_some_and(|it| it.as_bytes().starts_with(b"-"))
+    match args.first() {
+        Some(first) => first.as_bytes().starts_with(b"-"),
+        None => true,
+    }
 }
 
 // Returns the seed for nonces, which comes from the arguments, a file or the system.
-fn seed_of(rt: &HostRuntime, seed: Seed<'_>) -> io::Result<[u8; 32]> {
+fn seed_of(rt: &Host, seed: Seed<'_>) -> io::Result<[u8; 32]> {
     match seed {
         Seed::FromArguments(seed) => Ok(seed),
         Seed::File(path) => read_seed(rt, path),
-        Seed::FromSystem => {
-            let mut seed = [0; 32];
-            rt.fill_bytes(&mut seed)?;
-            Ok(seed)
-        }
+        Seed::FromSystem => draw_seed(rt),
+    }
+}
+
+// Returns the name of the place that the seed comes from.
+fn seed_name<'a>(seed: Seed<'a>) -> &'a str {
+    match seed {
+        Seed::File(path) => path,
+        Seed::FromSystem | Seed::FromArguments(_) => "the operating system",
     }
 }
 
 // Resolves `name`, an address to listen at. On error, reports what is wrong and returns the exit
 // status.
-fn listen_address_of<'a>(rt: &HostRuntime, name: &'a str) -> Result<ListenAddress<'a>, ExitCode> {
+fn listen_address_of<'a>(rt: &Host, name: &'a str) -> Result<ListenAddress<'a>, ExitCode> {
     match addresses_of(rt, name) {
         Ok(addresses) => Ok(ListenAddress { name, addresses }),
         Err(error) => Err(cannot_listen(rt, name, &error)),
@@ -329,30 +313,42 @@ fn listen_address_of<'a>(rt: &HostRuntime, name: &'a str) -> Result<ListenAddres
 }
 
 // Returns the addresses of `name`, a host and a port, in the order in which they are tried.
-fn addresses_of(rt: &HostRuntime, name: &str) -> io::Result<Vec<SocketAddr>> {
+fn addresses_of(rt: &Host, name: &str) -> io::Result<Vec<SocketAddr>> {
     let mut addresses = Vec::new(rt.alloc());
-    for address in name.to_socket_addrs(rt)? {
+    // A runtime with a log, such as `rt`, does not look up names of hosts.
+    for address in name.to_socket_addrs(rt.inner())? {
         addresses.push(address)?;
     }
     Ok(addresses)
 }
 
 // Reports that the server cannot listen at `listen`, and returns the exit status.
-fn cannot_listen(rt: &HostRuntime, listen: &str, error: &io::Error) -> ExitCode {
-    error!(rt; target: "bayeuxd", "cannot listen address={listen} error=\"{error}\"");
-    failed(rt, CANNOT_LISTEN)
+fn cannot_listen(rt: &Host, listen: &str, error: &io::Error) -> ExitCode {
+    log_cannot_listen(rt, listen, error);
+    failed_by(rt, error, CANNOT_LISTEN)
 }
 
-// Prints what failed, its address or file, and the error, and returns the exit status of a failure.
-fn refused_at(rt: &HostRuntime, what: &str, name: &str, error: &io::Error) -> ExitCode {
-    match format!(in rt.alloc(); "{what} at {name}: {error}") {
-        Ok(why) => failed(rt, why.as_str()),
-        Err(_) => failed(rt, what),
+// Logs and prints what failed, its address or file, and the error. Returns the exit status of a
+// failure.
+fn refused_at(rt: &Host, what: &str, name: &str, error: &io::Error) -> ExitCode {
+    log_failure(rt, what, name, error);
+    match format!(in rt.alloc(); "bayeuxd: {what} at {name}: {error}") {
+        Ok(why) => failed_by(rt, error, why.as_str()),
+        Err(_) => failed(rt, OUT_OF_MEMORY),
+    }
+}
+
+// Prints `why`, or that memory ran out if this is `error`. Returns the exit status of a failure.
+fn failed_by(rt: &Host, error: &io::Error, why: &str) -> ExitCode {
+    if error.kind() == io::ErrorKind::OutOfMemory {
+        failed(rt, OUT_OF_MEMORY)
+    } else {
+        failed(rt, why)
     }
 }
 
 // Prints `why` and returns the exit status of a failure.
-fn failed(rt: &HostRuntime, why: &str) -> ExitCode {
+fn failed<R: Eprint>(rt: &R, why: &str) -> ExitCode {
     let _ = rt.eprintln(why);
     ExitCode::FAILURE
 }

@@ -1,15 +1,22 @@
 //! The metrics listener.
 ghost use Rattle.std.specs.Prelude.{◌≤◌, length, IfOk};
 
-use bx_metrics::{Counts, Metric, MetricsRequest, response_text};
+use crate::clock::SinceStart;
+use crate::lists::{channels_text, sessions_text};
+use bx_hub::{Hub, HubKind};
+use bx_metrics::{
+    Counts, Metric, MetricsRequest, PageSettings, ProcessTexts, ProcessValues, STATUS_PAGE,
+    page_text, response_text,
+};
+use bx_service::Clock;
 use log::{Log, info};
-use std::alloc::{AllocGlobal, Global};
+use std::alloc::AllocGlobal;
 use std::io::{Read, Write};
-use std::net::{Net, TcpListener, TcpStream};
-use std::sync::Arc;
-use std::thread::Threads;
-use std::time::{Clock, Duration, Instant};
-use std::{io, thread};
+use std::net::{Net, SocketAddr, TcpListener, TcpStream};
+use std::rt::Files;
+use std::sync::Wait;
+use std::time::{Duration, Instant};
+use std::{fs, io, thread, time};
 
 // The longest time for a request's head to arrive, and for a write to make progress, in
 // milliseconds. Policy of this server.
@@ -25,80 +32,141 @@ const HEAD: usize = 4096;
 // The most calls that read data of one request. Policy of this server.
 const READS: usize = 16;
 
-/// Serves metrics at `address`, on a thread that runs until the program ends.
-///
-/// # Errors
-///
-/// The error of resolving `address`, of a system call, or of memory that runs out.
-pub fn serve_metrics<R>(rt: R, address: &str, counts: &Arc<Counts, Global>) -> io::Result<()>
-where
-    R: Net<Listener = TcpListener, Stream = TcpStream>
-        + Threads
-        + Clock
-        + Log
-        + AllocGlobal
-        + Send
-        + Copy
-        + Drop
-        + 'static,
-{
-    let listener = TcpListener::bind(&rt, address)?;
-    let at = listener.local_addr()?;
-    let start = Instant::now(&rt)?;
-    let counts = Arc::try_clone(counts)?;
-    let _answering = thread::spawn(
-        &rt,
-        move || answer_all(&rt, rt.alloc(), &listener, &*counts, start),
-    )?;
-    info!(rt; target: "bayeuxd", "metrics listening address={at}");
-    Ok(())
+/// A listener for metrics, before it accepts connections.
+#[derive(Drop)]
+pub struct MetricsListener {
+    listener: TcpListener,
 }
 
-// Answers one request on each connection, one connection at a time, and updates the uptime before.
-// A request gets no response if its head takes too long, a system call fails or memory runs out.
-fn answer_all<R: Clock>(
+impl MetricsListener {
+    /// Listens at the first of `addresses` that works, and logs the address.
+    ///
+    /// # Errors
+    ///
+    /// The error of the last address, or of a system call.
+    pub fn bind<R>(rt: &R, addresses: &[SocketAddr]) -> io::Result<MetricsListener>
+    where
+        R: Net<Listener = TcpListener, Stream = TcpStream> + Log,
+    {
+        let listener = TcpListener::bind(rt, addresses)?;
+        let at = listener.local_addr()?;
+        info!(rt; target: "bayeuxd", address = at; "metrics listening");
+        Ok(MetricsListener { listener })
+    }
+}
+
+/// Answers requests at `listener` until the program ends.
+///
+/// Answers one request on each connection, one connection at a time, and updates the uptime before.
+/// A request gets no response if its head takes too long, a system call fails or memory runs out.
+///
+/// `hub`: the hub with the sessions to list. `clock`: the clock that the hub's moments come from.
+/// `settings`: what the page of metrics shows of the server's settings. `process`: returns what it
+/// shows of the process.
+///
+/// # Blocking
+///
+/// Waits for connections and requests. Locks a shard while it copies one of its sessions.
+pub fn answer_all<L, H, R, P>(
     rt: &R,
-    alloc: Global,
-    listener: &TcpListener,
+    hub: &Hub<L, H>,
+    clock: &SinceStart<R>,
     counts: &Counts,
-    start: Instant,
-) {
-    for stream in listener.incoming() {
+    settings: &PageSettings,
+    process: &P,
+    listener: &MetricsListener,
+)
+where
+    L: HubKind,
+    H: Wait + Drop,
+    R: Wait + time::Clock + AllocGlobal,
+    P: Fn() -> ProcessValues,
+    requires { P.IsAlwaysCallable process.now }
+{
+    for stream in listener.listener.incoming() {
         let Ok(stream) = stream else {
             thread::sleep(rt, Duration::from_millis(PAUSE));
             continue;
         };
-        if let Ok(passed) = start.elapsed(rt) {
+        if let Ok(passed) = clock.start.elapsed(rt) {
             counts.set(Metric::Uptime, passed.as_secs());
         }
-        let _ = answer(rt, stream, alloc, counts);
+        let _ = answer(rt, hub, clock, counts, settings, process, stream);
     }
 }
 
 // Reads the request on one connection and writes its response. Fails if this takes too long, a
 // system call fails or memory runs out.
-fn answer<R: Clock>(
+fn answer<L, H, R, P>(
     rt: &R,
-    mut stream: TcpStream,
-    alloc: Global,
+    hub: &Hub<L, H>,
+    clock: &SinceStart<R>,
     counts: &Counts,
-) -> io::Result<()> {
+    settings: &PageSettings,
+    process: &P,
+    mut stream: TcpStream,
+) -> io::Result<()>
+where
+    L: HubKind,
+    H: Wait + Drop,
+    R: Wait + time::Clock + AllocGlobal,
+    P: Fn() -> ProcessValues,
+    requires { P.IsAlwaysCallable process.now }
+{
     stream.set_write_timeout(Some(Duration::from_millis(PATIENCE)))?;
     let mut head = [0; HEAD];
     let length = read_head(rt, &mut stream, &mut head)?;
-    let metrics = counts.read(alloc)?;
-    let text = response_text(
-        alloc,
-        MetricsRequest::of(&head[..length]),
-        counts.listens(),
-        &metrics,
-    )?;
+    let (alloc, shards) = (rt.alloc(), settings.config.shards);
+    let asked = MetricsRequest::of(&head[..length]);
+    let page = match asked {
+        MetricsRequest::StatusPage => Vec::from_slice(alloc, STATUS_PAGE.as_bytes())?,
+        MetricsRequest::Metrics => {
+            let metrics = counts.read(alloc)?;
+            page_text(alloc, &metrics, settings, &process())?.into_bytes()
+        }
+        MetricsRequest::Sessions => sessions_text(rt, alloc, hub, shards, clock.now())?,
+        MetricsRequest::Channels => channels_text(rt, alloc, hub, shards)?,
+        MetricsRequest::Health | MetricsRequest::Other | MetricsRequest::NoGet => Vec::new(alloc),
+    };
+    let text = response_text(alloc, asked, counts.listens(), page.as_slice())?;
     stream.write_all(text.as_slice())
+}
+
+/// Reads what Linux reports of this process. Values in files that cannot be read are unknown.
+pub fn process_values<R: Files + AllocGlobal + Copy + Drop>(rt: &R) -> ProcessValues {
+    let process = text_of(rt, "/proc/self/stat");
+    let limits = text_of(rt, "/proc/self/limits");
+    let system = text_of(rt, "/proc/stat");
+    let texts = ProcessTexts {
+        process: process.as_str(),
+        limits: limits.as_str(),
+        system: system.as_str(),
+    };
+    ProcessValues::of(texts, open_files(rt).ok())
+}
+
+// Returns the text of the file at `path`, or an empty text if it cannot be read.
+fn text_of<R: Files + AllocGlobal>(rt: &R, path: &str) -> String {
+    match fs::read_to_string(rt, path) {
+        Ok(text) => text,
+        Err(_) => String::new(rt.alloc()),
+    }
+}
+
+// Returns the number of this process's open file descriptors.
+fn open_files<R: Files + AllocGlobal + Copy + Drop>(rt: &R) -> io::Result<u64> {
+    let mut count: u64 = 0;
+    for entry in fs::read_dir(rt, "/proc/self/fd")? {
+        let _ = entry?;
+        count = count.saturating_add(1);
+    }
+    // The list also has the descriptor from which it is read.
+    Ok(count.saturating_sub(1))
 }
 
 // Reads a request's head up to its empty line, the end of the data, or the limits `HEAD` and
 // `READS`. Returns its length in bytes, or an error if it takes too long or a system call fails.
-fn read_head<R: Clock>(rt: &R, stream: &mut TcpStream, head: &mut [u8]) -> io::Result<usize>
+fn read_head<R: time::Clock>(rt: &R, stream: &mut TcpStream, head: &mut [u8]) -> io::Result<usize>
     ensures { IfOk result (λ n. n ≤ length head.new) }
 {
     let begun = Instant::now(rt)?;

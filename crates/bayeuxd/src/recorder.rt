@@ -1,7 +1,7 @@
 //! The record of a hub's list: its file, and the thread that writes it.
+use crate::serve::ServerKind;
 use bx_advice::Config;
-use bx_entry::ByRemainder;
-use bx_hub::{Hub, HubKind, Kind, OpenGate, RecordFront};
+use bx_hub::{Hub, HubKind, RecordFront};
 use bx_record::{
     CountedFile, RecordFault, RecordFile, Source, TakenAnswerLines, TakenText, WaitingAnswerLines,
     WriteSummary, WriterEnd, config_text, write_until_stopped,
@@ -12,6 +12,7 @@ use std::alloc::{AllocError, AllocGlobal, Global};
 use std::fs::{File, OpenOptions};
 use std::io::Write;
 use std::os::unix::fs::OpenOptionsExt;
+use std::rt::Files;
 use std::sync::atomic::{AtomicBool, Ordering};
 use std::sync::{Arc, Wait};
 use std::thread::{JoinHandle, Threads};
@@ -37,8 +38,8 @@ pub struct NewRecordFile<F> {
 ///
 /// `AlreadyExists` if there is a file at `path`. Otherwise the error of a system call, or of memory
 /// that runs out; the file may have been created.
-pub fn make_record(
-    rt: &HostRuntime,
+pub fn make_record<R: Files<File = File> + Log + AllocGlobal>(
+    rt: &R,
     path: &str,
     config: &Config,
     has_answers: bool,
@@ -50,7 +51,7 @@ pub fn make_record(
         .open(rt, path)?;
     let mut file = CountedFile::new(file);
     file.write_all(config_text(rt.alloc(), config)?.as_slice())?;
-    info!(rt; target: "bayeuxd", "recording started file={path}");
+    info!(rt; target: "bayeuxd", file = path; "recording started");
     Ok(NewRecordFile { file, has_answers })
 }
 
@@ -78,7 +79,7 @@ impl Recorder {
     /// Locks admission.
     pub fn start<L, R, F>(
         rt: R,
-        hub: &Arc<Hub<Kind<L, ByRemainder, OpenGate>, R>, Global>,
+        hub: &Arc<Hub<ServerKind<L>, R>, Global>,
         file: Option<NewRecordFile<F>>,
     ) -> io::Result<Recorder>
     where
@@ -185,7 +186,7 @@ impl<L: HubKind, R: Wait + Log + Drop> Source for HubRecord<L, R> {
         let TakenAnswerLines { bytes, fault, .. } = self.log.take(&self.rt, empty);
         if let Some(fault) = fault {
             let why = why_of(fault);
-            warn!(&self.rt; target: "bayeuxd", "recording of answers ended early reason=\"{why}\"");
+            warn!(&self.rt; target: "bayeuxd", reason = why; "recording of answers ended early");
         }
         bytes
     }
@@ -201,16 +202,16 @@ fn tell<R: Log>(rt: &R, written: &WriteSummary<Ended>) {
     let count = written.count;
     match &written.end {
         WriterEnd::StopRequested =>
-            info!(rt; target: "bayeuxd", "recording complete bytes={count}"),
+            info!(rt; target: "bayeuxd", bytes = count; "recording complete"),
         WriterEnd::Ended(Ended { fault, place }) => {
             let why = why_of(*fault);
-            warn!(rt; target: "bayeuxd", "recording ended early bytes={count} place={place} reason=\"{why}\"");
+            warn!(rt; target: "bayeuxd", bytes = count, place, reason = why; "recording ended early");
         }
         WriterEnd::AlreadyEnded => {
-            warn!(rt; target: "bayeuxd", "recording ended early bytes={count} reason=\"nothing is recorded\"");
+            warn!(rt; target: "bayeuxd", bytes = count, reason = "nothing is recorded"; "recording ended early");
         }
         WriterEnd::WriteFailed(error) => {
-            warn!(rt; target: "bayeuxd", "recording ended early bytes={count} reason=\"{error}\"");
+            warn!(rt; target: "bayeuxd", bytes = count, reason:% = error; "recording ended early");
         }
     }
 }

@@ -1,70 +1,117 @@
-//! Log lines for requests that are rejected or not answered.
-use bx_hub::PostFault;
-use bx_message::Status;
-use bx_metrics::{Counts, Metric};
+//! Log lines for requests that are not answered.
+use bx_service::{Observer, ServiceEvent};
 use log::{Log, warn};
+use std::alloc::{AllocError, Global};
+use std::mem;
+use std::sync::{Arc, Mutex, Wait};
 
-// Metrics that count rejected or unanswered requests, each with its log text.
-const CAUSES: [(Metric, &str); 10] = [
-    (
-        Metric::Responses(Status::BadRequest),
-        "400: malformed or incomplete body or query",
-    ),
-    (
-        Metric::Responses(Status::Forbidden),
-        "403: publish at the read-only listener",
-    ),
-    (
-        Metric::Responses(Status::TooLarge),
-        "413: body or query too large",
-    ),
-    (
-        Metric::Refused(PostFault::Behind { first: 0 }),
-        "the window is full because a shard lags",
-    ),
-    (
-        Metric::Refused(PostFault::Overrun { shard: 0, place: 0 }),
-        "internal error: the window has dropped entries that a shard needs",
-    ),
-    (
-        Metric::Refused(PostFault::WrongShard { shard: 0, found: 0 }),
-        "internal error: shard lock mismatch",
-    ),
-    (
-        Metric::Refused(PostFault::Memory),
-        "out of memory for a request",
-    ),
-    (
-        Metric::Refused(PostFault::Closed),
-        "the server is shutting down",
-    ),
-    (Metric::UnansweredRequests, "answer unavailable"),
-    (Metric::MissingResponses, "out of memory for a response"),
-];
+// Reason of the requests that get no response because memory runs out for it.
+const NO_RESPONSE: &str = "out of memory for a response";
 
-/// How many rejected or unanswered requests are already logged, by cause.
-///
-/// With these counts, [`log_new`](Self::log_new) logs only new ones.
-#[derive(Clone, Copy)]
-pub struct RefusalLogger {
-    logged: [u64; 10],
+// A reason and the number of requests that were not answered for it.
+type Refusals = (&'static str, u64);
+
+/// An observer that counts and logs the requests at a listener that are not answered, by reason.
+#[derive(Drop)]
+pub struct RefusalLogger<R> {
+    rt: R,
+    alloc: Global,
+    // The listener's name in the log.
+    listener: &'static str,
+    // The requests since the last log, by reason.
+    refusals: Mutex<Vec<Refusals>>,
 }
 
-impl RefusalLogger {
-    /// Creates a logger that has not logged any rejected or unanswered request.
-    pub fn new() -> RefusalLogger {
-        RefusalLogger { logged: [0; 10] }
+impl<R: Wait + Log> RefusalLogger<R> {
+    /// Creates an observer that has not seen a request. `listener`: the listener's name in the log.
+    pub fn new(rt: R, alloc: Global, listener: &'static str) -> RefusalLogger<R> {
+        RefusalLogger {
+            rt,
+            alloc,
+            listener,
+            refusals: Mutex::new(Vec::new(alloc)),
+        }
     }
 
-    /// Logs each cause that has occurred since the last call, with its count since then.
-    pub fn log_new<R: Log>(&mut self, rt: &R, counts: &Counts) {
-        for ((metric, text), logged) in CAUSES.iter().zip(self.logged.iter_mut()) {
-            let count = counts.get(*metric);
-            let more = count.saturating_sub(*logged);
-            if more > 0 {
-                warn!(rt; target: "bayeuxd", count = more; "requests failed: {text}");
+    /// Logs each reason that has occurred since the last call, with its count since then.
+    ///
+    /// # Blocking
+    ///
+    /// Waits until no request is being counted.
+    pub fn log_new(&self) {
+        let none = Vec::new(self.alloc);
+        let refusals = mem::replace(&mut *self.refusals.lock(&self.rt), none);
+        let listener = self.listener;
+        for (reason, count) in refusals {
+            warn!(&self.rt; target: "bayeuxd", reason, listener, count; "requests failed");
+        }
+    }
+
+    // Counts a request that was not answered for `reason`. If memory runs out, does nothing.
+    fn count(&self, reason: &'static str) {
+        let mut refusals = self.refusals.lock(&self.rt);
+        match refusals.iter_mut().find(|it| it.0 == reason) {
+            Some(counted) => counted.1 = counted.1.saturating_add(1),
+            None => {
+                let _ = refusals.push((reason, 1));
             }
-            *logged = count;
+        }
+    }
+}
+
+/// The loggers of the refusals at both listeners.
+#[derive(Drop)]
+pub struct ListenerRefusals<R> {
+    /// The logger of the main listener.
+    pub main: Arc<RefusalLogger<R>, Global>,
+    /// The logger of the read-only listener.
+    pub read_only: Arc<RefusalLogger<R>, Global>,
+}
+
+impl<R: Wait + Log + Copy> ListenerRefusals<R> {
+    /// Creates loggers that have not seen a request.
+    ///
+    /// # Errors
+    ///
+    /// `AllocError` if memory runs out.
+    pub fn new(rt: R, alloc: Global) -> Result<ListenerRefusals<R>, AllocError> {
+        Ok(ListenerRefusals {
+            main: Arc::new(alloc, RefusalLogger::new(rt, alloc, "main"))?,
+            read_only: Arc::new(alloc, RefusalLogger::new(rt, alloc, "read-only"))?,
+        })
+    }
+
+    /// Returns handles to the same loggers.
+    ///
+    /// # Errors
+    ///
+    /// `AllocError` if memory runs out.
+    pub fn try_clone(&self) -> Result<ListenerRefusals<R>, AllocError> {
+        Ok(ListenerRefusals {
+            main: Arc::try_clone(&self.main)?,
+            read_only: Arc::try_clone(&self.read_only)?,
+        })
+    }
+}
+
+impl<R: Wait + Log> ListenerRefusals<R> {
+    /// Logs each reason that has occurred since the last call, with its count since then.
+    ///
+    /// # Blocking
+    ///
+    /// Waits until no request is being counted.
+    pub fn log_new(&self) {
+        self.main.log_new();
+        self.read_only.log_new();
+    }
+}
+
+impl<R: Wait + Log + Drop> Observer for RefusalLogger<R> {
+    fn see(&self, event: ServiceEvent<'_>) {
+        match event {
+            ServiceEvent::Refused(error) => self.count(error.reason()),
+            ServiceEvent::Responded(None) => self.count(NO_RESPONSE),
+            _ => {}
         }
     }
 }

@@ -1,31 +1,37 @@
 //! Runs the server: the hub, the thread that posts ticks, the record, and the listeners.
-ghost use Rattle.std.specs.Prelude.{◌≡◌};
+ghost use Rattle.std.specs.Prelude.{◌≡◌, IfOk};
 ghost use Rattle.bx_entry.specs.Placings.{by_remainder};
 
 use crate::clock::{RandomNonces, SinceStart};
 use crate::end::CloseOnShutdown;
+use crate::metrics::{MetricsListener, answer_all};
 use crate::recorder::{NewRecordFile, Recorder};
-use crate::ticker::run_ticker;
+use crate::refusals::{ListenerRefusals, RefusalLogger};
+use crate::ticker::{Ticker, TickerParts};
+use crate::timed::TimedBackend;
 use bx_advice::{BodyLimit, Config};
-use bx_entry::{Access, ByRemainder};
+use bx_entry::{Access, ByRemainder, SharedPatterns};
 use bx_hub::{Hub, HubKind, Kind, OpenGate};
 use bx_message::Item;
-use bx_metrics::Counts;
+use bx_metrics::{Counts, PageSettings, ProcessValues};
+use bx_names::Pattern;
 use bx_record::WaitingAnswerLines;
 use bx_serve::{Endpoint, serve_until};
-use bx_service::{AnswerLogger, Backend, BayeuxService, HubBackend, Observer, Unanswered};
+use bx_service::{
+    AnswerLogger, Backend, BayeuxService, HubBackend, Observer, Transports, Unanswered,
+};
+use bx_settings::VERSION;
 use bx_window::{EmptyWindow, LogId};
 use futures::Future;
 use futures::channel::oneshot::Receiver;
 use log::{Log, info};
 use rand_chacha::ChaCha20Rng;
 use rand_core::SeedableRng;
-use std::alloc::{AllocGlobal, Global};
+use std::alloc::{AllocError, AllocGlobal, Global};
 use std::io::Write;
 use std::marker::Brand;
 use std::net::{Net, SocketAddr};
 use std::random::RandomSource;
-use std::sync::atomic::{AtomicBool, Ordering};
 use std::sync::{Arc, Mutex, Wait};
 use std::thread::Threads;
 use std::time::{Clock, Duration, Instant};
@@ -42,6 +48,8 @@ pub struct ServeSettings {
     pub config: Config,
     /// The size limit of bodies and queries.
     pub body: BodyLimit,
+    /// The transports that both listeners accept.
+    pub transports: Transports,
     /// The seed for nonces.
     pub seed: [u8; 32],
     /// How many connections are accepted before the server ends, or 0 for no limit.
@@ -50,8 +58,30 @@ pub struct ServeSettings {
     pub until_eof: bool,
 }
 
-// How long open connections are still served at the end if `until_eof` is set, in milliseconds.
-// Policy of this server.
+impl ServeSettings {
+    // Returns the settings that the page of metrics shows.
+    fn page_settings(&self) -> PageSettings {
+        PageSettings {
+            version: VERSION,
+            config: self.config,
+            body: self.body,
+        }
+    }
+
+    // Limits how long open connections are still served at the end. With a limit of connections,
+    // those that were accepted may last for any time.
+    fn limit_shutdown(&self, runtime: &mut Runtime) {
+        if self.until_eof && self.connections == 0 {
+            runtime.set_shutdown_timeout(Some(Duration::from_millis(LEAVE)));
+        }
+    }
+}
+
+/// The kind of the server's hub. `L`: the window of its list.
+pub type ServerKind<L> = Kind<L, ByRemainder, OpenGate>;
+
+// How long open connections are still served at the end if `until_eof` is set and there is no limit
+// of connections, in milliseconds. Policy of this server.
 const LEAVE: u64 = 1000;
 
 /// Why the server cannot start, or stopped.
@@ -78,14 +108,14 @@ pub struct ListenAddress<'a> {
     pub addresses: Vec<SocketAddr>,
 }
 
-// The publishers' listener and, if any, the read-only listener.
-type Listeners = (TcpListener, Option<TcpListener>);
-
 /// A runtime, with the listeners that [`listen`] opened on it.
 #[derive(Drop)]
 pub struct Listening {
     runtime: Runtime,
-    listeners: Listeners,
+    // The publishers' listener.
+    listener: TcpListener,
+    // The read-only listener, if any.
+    readers: Option<TcpListener>,
 }
 
 /// Listens at `listen_address` and, for the read-only listener, at `readers`.
@@ -112,84 +142,34 @@ where
     };
     Ok(Listening {
         runtime,
-        listeners: (listener, readers),
+        listener,
+        readers,
     })
 }
 
-/// Serves connections until `arguments.connections` were accepted or `shutdown` is ready.
-///
-/// If `arguments.connections` is 0, there is no limit.
-///
-/// Prints the listeners' addresses to `writer`, and records the list in `record_file`, if given.
-/// Once `shutdown` is ready, it closes the hub, which ends held connects. Then it waits for the
-/// open connections to end. With `until_eof` it closes those that are still open after a second.
-///
-/// # Errors
-///
-/// The error of printing or of a system call, or of memory that runs out.
-///
-/// # Blocking
-///
-/// Blocks until all connections have ended.
-pub fn serve<R, F, W>(
-    rt: R,
-    listening: Listening,
-    arguments: ServeSettings,
-    record_file: Option<NewRecordFile<F>>,
-    counts: &Arc<Counts, Global>,
-    shutdown: Receiver<()>,
-    writer: &mut W,
-) -> io::Result<()>
-where
-    R: Wait
-        + Threads
-        + Clock
-        + RandomSource
-        + AllocGlobal
-        + Net
-        + Log
-        + Sync
-        + Send
-        + Copy
-        + Drop
-        + 'static,
-    F: Write + Send + Drop + 'static,
-    W: Write,
-{
-    let Listening { runtime, listeners } = listening;
-    let start = Instant::now(&rt)?;
-    let placing = Arc::new(rt.alloc(), ByRemainder)?;
-    run::<Brand, R, F, W>(
-        rt,
-        EmptyWindow::new(),
-        runtime,
-        listeners,
-        arguments,
-        record_file,
-        start,
-        placing,
-        counts,
-        shutdown,
-        writer,
-    )
+/// A server with its listeners, before it serves connections.
+#[derive(Drop)]
+pub struct Server<R, F, P> {
+    /// The host, with its threads, sockets and clocks.
+    pub rt: R,
+    /// The runtime and the listeners.
+    pub listening: Listening,
+    /// The listener for metrics, if any.
+    pub metrics: Option<MetricsListener>,
+    /// Returns what the metrics show of this process.
+    pub process: P,
+    /// The patterns of the broadcast channels that the read-only listener allows.
+    pub readers_publish: Vec<Pattern>,
+    /// How the server runs.
+    pub arguments: ServeSettings,
+    /// Where to record the list, if anywhere.
+    pub record_file: Option<NewRecordFile<F>>,
+    /// Is ready when the server is to end.
+    pub shutdown: Receiver<()>,
 }
 
-// Serves connections over a new hub until all have ended, while a thread posts ticks.
-fn run<L, R, F, W>(
-    rt: R,
-    opened: EmptyWindow,
-    runtime: Runtime,
-    listeners: Listeners,
-    arguments: ServeSettings,
-    record_file: Option<NewRecordFile<F>>,
-    start: Instant,
-    placing: Arc<ByRemainder, Global>,
-    counts: &Arc<Counts, Global>,
-    shutdown: Receiver<()>,
-    writer: &mut W,
-) -> io::Result<()>
+impl<R, F, P> Server<R, F, P>
 where
-    L: LogId + Send + Sync + 'static,
     R: Wait
         + Threads
         + Clock
@@ -203,68 +183,95 @@ where
         + Drop
         + 'static,
     F: Write + Send + Drop + 'static,
-    W: Write,
-    requires book { opened.seen.book ≡ L.book }
-    requires config { arguments.config ≡ L.config }
-    requires placing { by_remainder ≡ L.placing }
+    P: Fn() -> ProcessValues + Send + Drop + 'static,
 {
-    let alloc = rt.alloc();
-    let clock = SinceStart { rt, start };
-    let hub = Hub::<Kind<L, ByRemainder, OpenGate>, R>::new(
-        alloc,
-        rt,
-        opened,
-        arguments.config,
-        placing,
-        OpenGate,
-    )?;
-    let hub = Arc::new(alloc, hub)?;
-    let mut runtime = runtime;
-    let (listener, readers) = listeners;
-    counts.set_listens(true);
-    tell(&rt, "listening", &listener, writer)?;
-    if let Some(readers) = &readers {
-        tell(&rt, "readers listening", readers, writer)?;
+    /// Serves connections until `arguments.connections` were accepted or `shutdown` is ready.
+    ///
+    /// If `arguments.connections` is 0, there is no limit.
+    ///
+    /// Prints the listeners' addresses to `writer`, and records the list in `record_file`, if
+    /// given. Once `shutdown` is ready, it closes the hub, which ends held connects. Then it waits
+    /// for the open connections to end. With `until_eof` and no limit of connections, it closes
+    /// those that are still open after a second.
+    ///
+    /// # Errors
+    ///
+    /// The error of printing or of a system call, or of memory that runs out.
+    ///
+    /// # Blocking
+    ///
+    /// Blocks until all connections have ended.
+    pub fn serve<W: Write>(self, counts: &Arc<Counts, Global>, writer: &mut W) -> io::Result<()>
+        requires process { (f : _) → P.pre f }
+    {
+        let start = Instant::now(&self.rt)?;
+        let placing = Arc::new(self.rt.alloc(), ByRemainder)?;
+        self.run::<Brand, W>(EmptyWindow::new(), start, placing, counts, writer)
     }
-    let stop = Arc::new(alloc, AtomicBool::new(false))?;
-    let (ticked, over) = (Arc::try_clone(&hub)?, Arc::try_clone(&stop)?);
-    let counted = Arc::try_clone(counts)?;
-    let crowd = arguments.config.limits.sessions;
-    if arguments.until_eof {
-        runtime.set_shutdown_timeout(Some(Duration::from_millis(LEAVE)));
+
+    // Serves connections over a new hub until all have ended, while a thread posts ticks.
+    fn run<L: LogId + Send + Sync + 'static, W: Write>(
+        self,
+        opened: EmptyWindow,
+        start: Instant,
+        placing: Arc<ByRemainder, Global>,
+        counts: &Arc<Counts, Global>,
+        writer: &mut W,
+    ) -> io::Result<()>
+    where
+        requires book { opened.seen.book ≡ L.book }
+        requires config { self.arguments.config ≡ L.config }
+        requires placing { by_remainder ≡ L.placing }
+        requires process { (f : _) → P.pre f }
+    {
+        let Server {
+            rt,
+            listening,
+            metrics,
+            process,
+            readers_publish,
+            arguments,
+            record_file,
+            shutdown,
+        } = self;
+        let Listening {
+            mut runtime,
+            listener,
+            readers,
+        } = listening;
+        let alloc = rt.alloc();
+        let ServeSettings { config, seed, .. } = arguments;
+        let hub = Hub::<ServerKind<L>, R>::new(alloc, rt, opened, config, placing, OpenGate)?;
+        let shared = SharedParts::new(rt, hub, SinceStart { rt, start }, seed, counts)?;
+        if let Some(listener) = metrics {
+            shared.start_metrics(arguments, process, listener)?;
+        }
+        // The recorder starts before anything is appended to the list, such as the first tick.
+        let recorder = Recorder::start(rt, &shared.hub, record_file)?;
+        let ListenerRefusals { main, read_only } = shared.refusals.try_clone()?;
+        let first = shared.parts_for(listener, Access::ReadWrite, main, recorder.answers()?)?;
+        let other = match readers {
+            Some(listener) => {
+                let access = Access::ReadOnly(SharedPatterns::new(alloc, readers_publish)?);
+                Some(shared.parts_for(listener, access, read_only, recorder.answers()?)?)
+            }
+            None => None,
+        };
+        let ticker = shared.start_ticker(config.limits.sessions)?;
+        arguments.limit_shutdown(&mut runtime);
+        let end = shared.close_on(shutdown)?;
+        counts.set_listens(true);
+        tell(&rt, "listening", &first.listener, writer)?;
+        if let Some(other) = &other {
+            tell(&rt, "readers listening", &other.listener, writer)?;
+        }
+        let served = serve_endpoints(rt, &mut runtime, first, other, arguments, end);
+        counts.set_listens(false);
+        ticker.end(&rt);
+        shared.hub.close(&rt);
+        recorder.end(&rt);
+        served
     }
-    let end = CloseOnShutdown {
-        rt,
-        hub: Arc::try_clone(&hub)?,
-        counts: Arc::try_clone(counts)?,
-        shutdown,
-    };
-    // The recorder starts before anything is appended to the list, such as the first tick.
-    let recorder = Recorder::start(rt, &hub, record_file)?;
-    let shared = SharedParts {
-        rt,
-        hub: Arc::try_clone(&hub)?,
-        clock,
-        generator: Arc::new(alloc, Mutex::new(ChaCha20Rng::from_seed(arguments.seed)))?,
-        counts: Arc::try_clone(counts)?,
-        answers: recorder.answers()?,
-    };
-    let first = shared.parts_for(listener, Access::ReadWrite)?;
-    let other = match readers {
-        Some(listener) => Some(shared.parts_for(listener, Access::ReadOnly)?),
-        None => None,
-    };
-    let ticker = thread::spawn(
-        &rt,
-        move || run_ticker(&rt, alloc, &*ticked, &clock, &*counted, crowd, &*over),
-    )?;
-    let served = serve_endpoints(rt, &mut runtime, first, other, arguments, end);
-    counts.set_listens(false);
-    stop.store(true, Ordering::SeqCst);
-    ticker.join(&rt);
-    hub.close(&rt);
-    recorder.end(&rt);
-    served
 }
 
 // Logs the address of `listener` and prints it to `writer`, each time after `what`.
@@ -275,7 +282,7 @@ fn tell<R: Log, W: Write>(
     writer: &mut W,
 ) -> io::Result<()> {
     let address = listener.local_addr()?;
-    info!(rt; target: "bayeuxd", "{what} address={address}");
+    info!(rt; target: "bayeuxd", address; "{what}");
     writeln!(writer, "{what} {address}")?;
     writer.flush()
 }
@@ -297,7 +304,7 @@ fn bind<'a, R: Net>(
     Err(ServeFault::CannotListen(listen_address.name, refused))
 }
 
-// The parts that the backends and observers of both listeners share.
+// The parts that the listeners and threads of a server share.
 #[derive(Drop)]
 struct SharedParts<L: HubKind, R: Wait + Drop> {
     rt: R,
@@ -305,7 +312,7 @@ struct SharedParts<L: HubKind, R: Wait + Drop> {
     clock: SinceStart<R>,
     generator: Arc<Mutex<ChaCha20Rng>, Global>,
     counts: Arc<Counts, Global>,
-    answers: Option<Arc<WaitingAnswerLines, Global>>,
+    refusals: ListenerRefusals<R>,
 }
 
 // A listener with its backend and its observer.
@@ -316,17 +323,45 @@ struct EndpointParts<S, O> {
     observer: O,
 }
 
-impl<L: HubKind, R: Wait + Clock + AllocGlobal + Copy + Drop> SharedParts<L, R> {
+// The observer of a listener's requests: metrics, the log of answers, and the log of refusals.
+type EndpointObserver<R> = (
+    (Arc<Counts, Global>, AnswerLogger<R>),
+    Arc<RefusalLogger<R>, Global>,
+);
+
+impl<L: HubKind, R: Wait + Clock + AllocGlobal + Log + Copy + Drop> SharedParts<L, R> {
+    // Creates the parts for `hub`. `seed`: the seed for nonces.
+    fn new(
+        rt: R,
+        hub: Hub<L, R>,
+        clock: SinceStart<R>,
+        seed: [u8; 32],
+        counts: &Arc<Counts, Global>,
+    ) -> Result<SharedParts<L, R>, AllocError> {
+        let alloc = rt.alloc();
+        Ok(SharedParts {
+            rt,
+            hub: Arc::new(alloc, hub)?,
+            clock,
+            generator: Arc::new(alloc, Mutex::new(ChaCha20Rng::from_seed(seed)))?,
+            counts: Arc::try_clone(counts)?,
+            refusals: ListenerRefusals::new(rt, alloc)?,
+        })
+    }
+
     // Creates the backend and the observer for `listener`, and returns all three. `access`: what
-    // the listener allows.
+    // the listener allows. `refusals`: the log of the listener's refusals. `answers`: the log of
+    // answers' digests, if they are recorded.
     fn parts_for(
         &self,
         listener: TcpListener,
         access: Access,
+        refusals: Arc<RefusalLogger<R>, Global>,
+        answers: Option<Arc<WaitingAnswerLines, Global>>,
     ) -> io::Result<
         EndpointParts<
-            HubBackend<L, R, SinceStart<R>, RandomNonces<R>>,
-            (Arc<Counts, Global>, AnswerLogger<R>),
+            TimedBackend<HubBackend<L, R, SinceStart<R>, RandomNonces<R>>, R>,
+            EndpointObserver<R>,
         >,
     > {
         let (rt, alloc) = (self.rt, self.rt.alloc());
@@ -335,18 +370,76 @@ impl<L: HubKind, R: Wait + Clock + AllocGlobal + Copy + Drop> SharedParts<L, R> 
             generator: Arc::try_clone(&self.generator)?,
         };
         let hub = Arc::try_clone(&self.hub)?;
-        let answers = match &self.answers {
-            Some(log) => Some(Arc::try_clone(log)?),
-            None => None,
-        };
         Ok(EndpointParts {
             listener,
-            backend: HubBackend::new(rt, alloc, hub, access, self.clock, nonces),
+            backend: TimedBackend {
+                rt,
+                backend: HubBackend::new(rt, alloc, hub, access, self.clock, nonces),
+                counts: Arc::try_clone(&self.counts)?,
+            },
             observer: (
-                Arc::try_clone(&self.counts)?,
-                AnswerLogger::new(rt, alloc, answers),
+                (
+                    Arc::try_clone(&self.counts)?,
+                    AnswerLogger::new(rt, alloc, answers),
+                ),
+                refusals,
             ),
         })
+    }
+
+    // Creates the future that closes the hub once `shutdown` is ready.
+    fn close_on<A: Drop>(&self, shutdown: A) -> Result<CloseOnShutdown<L, R, A>, AllocError>
+        ensures { IfOk result (λ c. c.shutdown ≡ shutdown) }
+    {
+        Ok(CloseOnShutdown {
+            rt: self.rt,
+            hub: Arc::try_clone(&self.hub)?,
+            counts: Arc::try_clone(&self.counts)?,
+            shutdown,
+        })
+    }
+}
+
+impl<L, R> SharedParts<ServerKind<L>, R>
+where
+    L: LogId + Send + Sync + 'static,
+    R: Wait + Threads + Clock + AllocGlobal + Log + Sync + Send + Copy + Drop + 'static,
+{
+    // Starts the thread that posts ticks. `crowd`: the number of filed answers above which they are
+    // dropped sooner.
+    fn start_ticker(&self, crowd: usize) -> io::Result<Ticker> {
+        Ticker::start(TickerParts {
+            rt: self.rt,
+            hub: Arc::try_clone(&self.hub)?,
+            clock: self.clock,
+            counts: Arc::try_clone(&self.counts)?,
+            refusals: self.refusals.try_clone()?,
+            crowd,
+        })
+    }
+
+    // Starts the thread that answers the requests at `listener`, the listener for metrics.
+    // `process`: returns what the metrics show of this process.
+    fn start_metrics<P: Fn() -> ProcessValues + Send + Drop + 'static>(
+        &self,
+        arguments: ServeSettings,
+        process: P,
+        listener: MetricsListener,
+    ) -> io::Result<()>
+        requires process { (f : _) → P.pre f }
+    {
+        let (rt, clock) = (self.rt, self.clock);
+        let (hub, counts) = (Arc::try_clone(&self.hub)?, Arc::try_clone(&self.counts)?);
+        let settings = arguments.page_settings();
+        let _answering = thread::spawn(
+            &rt,
+            move ||
+                requires { (f : _) → P.pre f }
+            {
+                answer_all(&rt, &*hub, &clock, &*counts, &settings, &process, &listener);
+            },
+        )?;
+        Ok(())
     }
 }
 
@@ -369,22 +462,24 @@ where
     A: Future<Output = ()>,
     requires { A.can_poll end }
 {
-    let (alloc, body) = (rt.alloc(), arguments.body);
-    let first = endpoint_of(alloc, body, first)?;
+    let alloc = rt.alloc();
+    let first = endpoint_of(alloc, arguments, first)?;
     let other = match other {
-        Some(parts) => Some(endpoint_of(alloc, body, parts)?),
+        Some(parts) => Some(endpoint_of(alloc, arguments, parts)?),
         None => None,
     };
     serve_until(rt, runtime, first, other, arguments.connections, end)
 }
 
-// Creates the service for the listener in `parts`, and returns both. `body`: the size limit of
-// bodies and queries.
+// Creates the service for the listener in `parts`, and returns both.
 fn endpoint_of<S: Backend, O: Observer>(
     alloc: Global,
-    body: BodyLimit,
+    arguments: ServeSettings,
     parts: EndpointParts<S, O>,
 ) -> io::Result<Endpoint<BayeuxService<S, O>>> {
     let service = BayeuxService::with_observer(alloc, parts.backend, parts.observer)?;
-    Ok((parts.listener, service.with_limit(body)))
+    let service = service
+        .with_limit(arguments.body)
+        .with_transports(arguments.transports);
+    Ok((parts.listener, service))
 }

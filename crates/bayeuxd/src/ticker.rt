@@ -1,15 +1,21 @@
 //! The thread that posts ticks.
-use crate::refusals::RefusalLogger;
-use bx_hub::{Hub, HubKind, Lagging, Pass, ShardSurvey, Survey, Tick};
+use crate::clock::SinceStart;
+use crate::refusals::ListenerRefusals;
+use crate::replies::ReplyLogger;
+use crate::serve::ServerKind;
+use bx_advice::Error;
+use bx_hub::{Hub, HubKind, Pass, ShardSurvey, Tick};
 use bx_metrics::{Counts, Metric};
-use bx_service::Clock;
+use bx_service::Clock as _;
+use bx_window::LogId;
 use log::Log;
-use std::alloc::Global;
+use std::alloc::{AllocGlobal, Global};
 use std::collections::VecDeque;
-use std::sync::Wait;
 use std::sync::atomic::{AtomicBool, Ordering};
-use std::time::Duration;
-use std::{thread, time};
+use std::sync::{Arc, Wait};
+use std::thread::{JoinHandle, Threads};
+use std::time::{Clock, Duration};
+use std::{io, thread};
 
 // The pause before each tick, in milliseconds. Policy of this server.
 const TICK: u64 = 100;
@@ -21,58 +27,111 @@ const KEPT: usize = 600;
 // of ticks: a second. Policy of this server.
 const KEPT_IN_A_CROWD: usize = 10;
 
-// Number of ticks between the log lines for rejected requests: a second. Policy of this server.
+// Number of ticks between the log lines for rejected requests and overflows: a second. Policy of
+// this server.
 const TELLING: u64 = 10;
 
-/// Posts a tick every 100 ms until `stop` is set.
-///
-/// Counts the ticks and copies the hub's state to `counts`. Once a second, logs why requests were
-/// rejected or not answered. Drops filed answers that are not taken within a minute, or within a
-/// second while more than `crowd` are filed.
-///
-/// # Blocking
-///
-/// Sleeps between ticks. Locks and wakes tasks as [`Hub::tick`] does.
-pub fn run_ticker<L, H, R, C>(
-    rt: &R,
-    alloc: Global,
-    hub: &Hub<L, H>,
-    clock: &C,
-    counts: &Counts,
-    crowd: usize,
-    stop: &AtomicBool,
-)
+/// What the thread that posts ticks uses.
+#[derive(Drop)]
+pub struct TickerParts<L: HubKind, R: Wait + Drop> {
+    /// The right to wait, to read the clock, and to log.
+    pub rt: R,
+    /// The hub that the ticks are posted to.
+    pub hub: Arc<Hub<L, R>, Global>,
+    /// The clock that the ticks' moments come from.
+    pub clock: SinceStart<R>,
+    /// The metrics, which get the hub's state.
+    pub counts: Arc<Counts, Global>,
+    /// The loggers of the refusals at both listeners.
+    pub refusals: ListenerRefusals<R>,
+    /// The number of filed answers above which they are dropped sooner.
+    pub crowd: usize,
+}
+
+/// The thread that posts ticks.
+#[derive(Drop)]
+pub struct Ticker {
+    thread: JoinHandle<()>,
+    stop: Arc<AtomicBool, Global>,
+}
+
+impl Ticker {
+    /// Starts to post a tick every 100 ms.
+    ///
+    /// The thread counts the ticks and copies the hub's state to `counts`. Once a second, it logs
+    /// the refusals of both listeners, the sessions that overflowed, and the rejected handshakes.
+    /// It drops filed answers that are not taken within a minute, or within a second while more
+    /// than `crowd` are filed.
+    ///
+    /// # Errors
+    ///
+    /// The error of starting the thread, or of memory that runs out. No tick is then posted.
+    pub fn start<L, R>(parts: TickerParts<ServerKind<L>, R>) -> io::Result<Ticker>
+    where
+        L: LogId + Send + Sync + 'static,
+        R: Wait + Threads + Clock + AllocGlobal + Log + Sync + Send + Copy + Drop + 'static,
+    {
+        let rt = parts.rt;
+        let stop = Arc::new(rt.alloc(), AtomicBool::new(false))?;
+        let over = Arc::try_clone(&stop)?;
+        let thread = thread::spawn(&rt, move || post_ticks(&parts, &*over))?;
+        Ok(Ticker { thread, stop })
+    }
+
+    /// Logs what has not been logged yet, and ends the thread.
+    ///
+    /// # Blocking
+    ///
+    /// Blocks until the thread has ended.
+    pub fn end<R: Threads>(self, rt: &R) {
+        let Ticker { thread, stop } = self;
+        stop.store(true, Ordering::SeqCst);
+        thread.join(rt);
+    }
+}
+
+// Posts a tick every 100 ms until `stop` is set. Sleeps between ticks, and locks and wakes tasks as
+// `Hub::tick` does.
+fn post_ticks<L: HubKind, R>(parts: &TickerParts<L, R>, stop: &AtomicBool)
 where
-    L: HubKind,
-    H: Wait + Drop,
-    R: Wait + time::Clock + Log,
-    C: Clock,
+    R: Wait + Clock + AllocGlobal + Log + Drop,
 {
+    let TickerParts {
+        rt,
+        hub,
+        clock,
+        counts,
+        refusals,
+        crowd,
+    } = parts;
     let mut pass = hub.pass();
-    let mut places = VecDeque::new(alloc);
-    let mut refusals = RefusalLogger::new();
+    let mut places = VecDeque::new(rt.alloc());
+    let mut overflows = ReplyLogger::new(Error::QueueOverflow, "sessions overflowed");
+    let mut rejected = ReplyLogger::new(Error::TooManySessions, "handshakes rejected");
     let mut turn: u64 = 0;
     for _ in rt.forever() {
-        if stop.load(Ordering::SeqCst) {
-            refusals.log_new(rt, counts);
+        let is_over = stop.load(Ordering::SeqCst);
+        if is_over || turn % TELLING == 0 {
+            refusals.log_new();
+            overflows.log_new(rt, &**counts);
+            rejected.log_new(rt, &**counts);
+        }
+        if is_over {
             break;
         }
         thread::sleep(rt, Duration::from_millis(TICK));
         turn = turn.wrapping_add(1);
-        if turn % TELLING == 0 {
-            refusals.log_new(rt, counts);
-        }
         // A tick that is not appended adds no place. Answers are then dropped only if too many are
         // filed.
-        match hub.tick(rt, alloc, &mut pass, Tick::new(clock.now())) {
+        match hub.tick(rt, rt.alloc(), &mut pass, Tick::new(clock.now())) {
             Ok(ticked) => {
-                count_tick(counts, ticked.advanced.behind());
+                counts.add_tick(ticked.advanced.behind());
                 let _ = places.push_back(ticked.place);
             }
             Err(_) => counts.add(Metric::RefusedTicks, 1),
         }
-        let filed = survey(rt, hub, &mut pass, counts);
-        let kept = if filed > crowd as u64 {
+        let filed = survey(rt, &**hub, &mut pass, &**counts);
+        let kept = if filed > *crowd as u64 {
             KEPT_IN_A_CROWD
         } else {
             KEPT
@@ -94,23 +153,6 @@ fn last_before(places: &mut VecDeque<u64>, kept: usize) -> Option<u64> {
     last
 }
 
-// Counts an appended tick, and records how many shards have not applied it.
-fn count_tick(counts: &Counts, behind: Lagging) {
-    let Lagging {
-        memory,
-        overrun,
-        paused,
-        closed,
-        misplaced,
-    } = behind;
-    let mut shards: u64 = 0;
-    for some in [memory, overrun, paused, closed, misplaced] {
-        shards = shards.saturating_add(some as u64);
-    }
-    counts.add(Metric::Ticks, 1);
-    counts.set(Metric::ShardsBehind, shards);
-}
-
 // Copies the state of the hub and its shards to `counts`. Returns how many answers are filed in all
 // shards.
 fn survey<L: HubKind, H: Wait + Drop, R: Wait>(
@@ -119,22 +161,14 @@ fn survey<L: HubKind, H: Wait + Drop, R: Wait>(
     pass: &mut Pass<L>,
     counts: &Counts,
 ) -> u64 {
-    let Survey {
-        entries,
-        live,
-        opened,
-        batches,
-    } = hub.survey(rt, pass);
-    counts.set(Metric::Entries, entries);
-    counts.set(Metric::Sessions, live as u64);
-    counts.set(Metric::OpenedSessions, opened);
-    counts.set(Metric::Batches, batches as u64);
+    let listed = hub.survey(rt, pass);
+    counts.set_survey(listed);
     let (mut connects, mut answers): (u64, u64) = (0, 0);
     for shard in 0..counts.shards() {
         let Some(ShardSurvey { place, held, filed }) = hub.survey_shard(rt, shard) else {
             break;
         };
-        counts.set_lag(shard, entries, place);
+        counts.set_lag(shard, listed.entries, place);
         connects = connects.saturating_add(held as u64);
         answers = answers.saturating_add(filed as u64);
     }

@@ -100,6 +100,21 @@ impl Window {
         self.events.len()
     }
 
+    /// Returns the length in bytes of the JSON texts of all events.
+    #[tactic(auto, using(crate::proofs::Parts::bytes_in))]
+    pub fn bytes(&self) -> usize
+        ensures { result ≡ bytes_of self.now.contents.queue }
+    {
+        self.bytes
+    }
+
+    /// Returns the number of outstanding events.
+    pub fn outstanding(&self) -> usize
+        ensures { result ≡ self.now.contents.out }
+    {
+        self.out
+    }
+
     /// Reserves room for `count` more events.
     ///
     /// # Errors

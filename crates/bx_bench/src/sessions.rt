@@ -38,7 +38,7 @@ impl Setting {
     fn open(&self, alloc: Global) -> Result<Vec<Session>> {
         let mut sessions = Vec::new(alloc);
         for number in 0..SESSIONS {
-            sessions.push(Session::open(alloc, number, true))?;
+            sessions.push(Session::open(alloc, number, true, 0))?;
         }
         Ok(sessions)
     }

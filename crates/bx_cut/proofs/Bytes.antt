@@ -1,12 +1,11 @@
 -- The lexer's first step, by the first byte of a text.
 use Rattle.std.proofs.Common.{◌≡◌, ◌≢◌, ℕ, suc, ◌+◌, ◌⊎◌, Bool, true, false, cond, ◌||◌, ◌==◌, List, [], ◌∷◌, ◌++◌, length, take, drop, refl, sym, ap, ◌∙◌, subst, arith}
 use Rattle.std.proofs.lemmas.Bool.{true≢false, eqb-true, or_cases}
-use Rattle.std.proofs.lemmas.List.{take-append-drop}
+use Rattle.std.proofs.lemmas.{List.take-append-drop, Grind.common_steps}
 use Rattle.std.specs.List.{prefix_len}
 use Rattle.json.specs.Word.{is_operator, is_space, ends_word}
 use Rattle.json.specs.Lex.{between, other, class, lex}
 use Rattle.bx_cut.specs.Cut.{past_blank, outside, opens, closes, nest_len, is_word_byte}
-use Rattle.std.proofs.lemmas.Grind.{common_steps}
 
 pub space_cases : (P : ℕ → Type 0) → P 32 → P 9 → P 10 → P 13 → (x : ℕ) → is_space x ≡ true → P x
 space_cases P a b c d x h = third (or_cases ((x == 32) || (x == 9) || (x == 10)) (x == 13) h)

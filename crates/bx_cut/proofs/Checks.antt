@@ -1,17 +1,11 @@
 -- Which bodies are valid documents, by the values that they read as.
-use Rattle.std.proofs.Common.{◌≡◌, ℕ, suc, ◌<◌, ◌≤◌, Bool, true, false, cond, ◌&&◌, nat_lt, List, [], ◌∷◌, length, Some, None, is_some, refl, sym, ap, ◌∙◌}
-use Rattle.std.proofs.lemmas.{Bool.lt-ltb, Bool.le-ltb, Str.is_utf8-from_IsUtf8, Str.IsUtf8-from_is_utf8}
+use Rattle.std.proofs.Common.{◌≡◌, ℕ, suc, ◌<◌, ◌≤◌, Bool, true, false, cond, ◌&&◌, nat_lt, List, [], ◌∷◌, length, Some, None, is_some, refl, sym, ap, ◌∙◌, arith}
+use Rattle.std.proofs.lemmas.{Bool.lt-ltb, Bool.le-ltb, Str.is_utf8-from_IsUtf8, Str.IsUtf8-from_is_utf8, Grind.common_steps}
 use Rattle.std.specs.{List.list_all, Str.IsUtf8, Str.is_utf8}
-use Rattle.serde_json.specs.Read.{read}
-use Rattle.serde_json.specs.Data.{Data}
-use Rattle.serde_json.specs.Events.{items_len}
-use Rattle.serde_json.specs.Find.{as_array, as_object}
-use Rattle.serde_json.specs.View.{view, items_view}
+use Rattle.serde_json.specs.{Read.read, Data.Data, Events.items_len, Find.as_array, Find.as_object, View.view, View.items_view}
 use Rattle.serde_json.specs.declared.value.Value.{Value}
 use Rattle.bx_cut.specs.Faults.{all_objects, array_fault, value_fault, fault}
 use Rattle.bx_cut.specs.declared.error.CutError.TheVariants.{NotJson, NotObject, TooMany}
-use Rattle.std.proofs.lemmas.Grind.{common_steps}
-use Rattle.std.proofs.Common.{arith}
 
 -- ---- a value
 

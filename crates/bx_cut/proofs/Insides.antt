@@ -1,6 +1,6 @@
 -- The text inside a value reads as the value's parts.
 use Rattle.std.proofs.Common.{◌≡◌, ℕ, ◌≤◌, Bool, true, false, ◌==◌, List, [], ◌∷◌, Option, Some, None, IsSome, IfSome, option_map, option_and_then, refl, sym, ap, ◌∙◌, subst, arith}
-use Rattle.std.proofs.lemmas.{Bool.or_parts, Bool.false≢true, List.append-nil}
+use Rattle.std.proofs.lemmas.{Bool.or_parts, Bool.false≢true, List.append-nil, Grind.common_steps}
 use Rattle.std.specs.{Borrow.Bor, Bool.IsTrue}
 use Rattle.json.specs.Json as json
 use Rattle.json.specs.Text.{content, plain}
@@ -12,7 +12,6 @@ use Rattle.bx_cut.specs.Words.{past_blank, past_byte, after_first, Member, split
 use Rattle.bx_cut.proofs.{Bytes.Other, Slices.text_bare, Reach.some_same, Reach.from_map, Readings.whole, Seen.Matches, Seen.seen}
 use Rattle.bx_cut.proofs.Laws.{text_reads, members_bare, items_parts, members_found, pick_none}
 use Rattle.bx_cut.proofs.Nested.{EachText, find_items, find_members, found_first, other_first}
-use Rattle.std.proofs.lemmas.Grind.{common_steps}
 
 pub record Begins (t : List ℕ) (x : ℕ) : Type 0 where
   pub rest : List ℕ

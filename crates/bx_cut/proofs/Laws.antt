@@ -1,6 +1,6 @@
 -- The pieces of a document read as its elements.
 use Rattle.std.proofs.Common.{◌≡◌, ℕ, suc, ◌-◌, ◌≤◌, Bool, true, false, cond, nat_lt, inl, inr, List, [], ◌∷◌, ◌++◌, length, take, Option, Some, None, is_some, IfSome, option_and_then, refl, sym, ap, ◌∙◌, subst, arith}
-use Rattle.std.proofs.lemmas.{Bool.false≢true, Bool.and_parts, List.append-nil, List.append_assoc, List.take_at, List.length-append, Slice.Eq.bytes_eq-Decides}
+use Rattle.std.proofs.lemmas.{Bool.false≢true, Bool.and_parts, List.append-nil, List.append_assoc, List.take_at, List.length-append, Slice.Eq.bytes_eq-Decides, Grind.common_steps}
 use Rattle.std.specs.{Str.bytes_eq}
 use Rattle.json.specs.Token.{Token}
 use Rattle.json.specs.Json as json
@@ -12,15 +12,13 @@ use Rattle.serde_json.specs.Find.{get, get_member, as_object}
 use Rattle.serde_json.specs.Read.{number_of, of_json, of_items, of_members, read}
 use Rattle.serde_json.proofs.Views.{get_member-put, get_member-put_other}
 use Rattle.bx_cut.specs.Words.{past_blank, past_byte, after_first, Member, split_member, listed, first_and_more, then_more, all_objects, value_fault, IsBare, IsObjectOf, AreObjectsOf, ArePiecesOf, StandsIn, GoesOnIn, LieIn, Object, is_name, later_or, last_member, members, split_object, pieces, pieces_of, only, spelled}
-use Rattle.bx_cut.specs.declared.document.TheConstants.{MAX_MESSAGES}
-use Rattle.bx_cut.specs.declared.error.CutError.TheVariants.{NotObject, TooMany}
+use Rattle.bx_cut.specs.declared.{document.TheConstants.MAX_MESSAGES, error.CutError.TheVariants.NotObject, error.CutError.TheVariants.TooMany}
 use Rattle.bx_cut.proofs.{Lists.turn, Readings.whole, Readings.reads_as, Bytes.blanks, Bytes.split_blanks, Values.Text}
 use Rattle.bx_cut.proofs.Nested.{FoundInside, entries, EachMember, find_members, object_text, next, next_comma, Next, found_first, other_first}
 use Rattle.bx_cut.proofs.Objects.{object-none, object-some, Shortens-split_object}
 use Rattle.bx_cut.proofs.Reach.{some_same, from_map, from_and_then}
 use Rattle.bx_cut.proofs.Seen.{start, Matches, seen}
 use Rattle.bx_cut.proofs.Slices.{text_bare, blanks_blank, nothing_left, shut_at, stands_at, goes_on_at}
-use Rattle.std.proofs.lemmas.Grind.{common_steps}
 
 text_tokens : (v : List ℕ) (ts : List Token) → Text v ts → tokens v ≡ ts
 unfolding lex punctuate

@@ -1,9 +1,8 @@
 -- Parts separated by commas, one at a time.
 use Rattle.std.proofs.Common.{◌≡◌, ℕ, zero, suc, ◌<◌, ◌≤◌, List, [], ◌∷◌, ◌++◌, length, Option, Some, None, sym, ap, ◌∙◌, arith}
-use Rattle.std.proofs.lemmas.List.{append_assoc, append-nil}
+use Rattle.std.proofs.lemmas.{List.append_assoc, List.append-nil, Grind.common_steps}
 use Rattle.bx_cut.specs.Cut.{past_byte, first_and_more, separated, listed, split_value, split_member}
 use Rattle.bx_cut.proofs.Reach.{past_byte-shorter, split_value-shorter, split_member-shorter}
-use Rattle.std.proofs.lemmas.Grind.{common_steps}
 
 abbrev pub Shortens : {A : Type 0} → (List ℕ → Option (A × List ℕ)) → Type 0
 Shortens {A} split = (t : List ℕ) (p : A × List ℕ) → Some p ≡ split t → length p.1 < length t

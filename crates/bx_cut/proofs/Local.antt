@@ -1,12 +1,11 @@
 -- A string or a word is read from its own bytes alone.
 use Rattle.std.proofs.Common.{◌≡◌, ℕ, suc, ◌+◌, ◌*◌, Bool, true, false, cond, ◌&&◌, ◌==◌, nat_lt, List, [], ◌∷◌, ◌++◌, take, Option, Some, None, option_and_then, refl, sym, ap, ◌∙◌, subst, arith}
-use Rattle.std.proofs.lemmas.Bool.{true≢false, eqb-true}
+use Rattle.std.proofs.lemmas.{Bool.true≢false, Bool.eqb-true, Grind.common_steps}
 use Rattle.std.specs.Char.{digit_value, is_digit, encode_utf8}
 use Rattle.json.specs.Text.{code_unit, short_escape, is_high_surrogate, is_low_surrogate, surrogate_pair, Within, plain, after_backslash, after_u, after_high, prepend, content}
 use Rattle.json.specs.Lex.{Mode, in_string, in_escape}
 use Rattle.json.specs.Align.{span}
 use Rattle.bx_cut.proofs.Reach.{span-cons}
-use Rattle.std.proofs.lemmas.Grind.{common_steps}
 
 abbrev mode : Within → Mode
 mode plain = in_string

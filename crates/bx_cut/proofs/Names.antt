@@ -1,10 +1,8 @@
 -- The last member with a given key, found in a loop over the members.
-use Rattle.std.proofs.Common.{◌≡◌, ℕ, Bool, cond, List, [], ◌∷◌, ◌++◌, Option, Some, option_map, refl, sym, ap, ◌∙◌}
-use Rattle.std.proofs.lemmas.{Bool.false≢true, Slice.Eq.bytes_eq-Decides}
+use Rattle.std.proofs.Common.{◌≡◌, ℕ, Bool, cond, List, [], ◌∷◌, ◌++◌, Option, Some, option_map, refl, sym, ap, ◌∙◌, arith}
+use Rattle.std.proofs.lemmas.{Bool.false≢true, Slice.Eq.bytes_eq-Decides, Grind.common_steps}
 use Rattle.std.specs.{Bool.IsTrue, Borrow.Bor, Option.unwrap_or}
 use Rattle.bx_cut.specs.Words.{Member, split_value, then_more, separated, listed, is_name, last_member, elements_inside, spelled}
-use Rattle.std.proofs.lemmas.Grind.{common_steps}
-use Rattle.std.proofs.Common.{arith}
 
 pub last_member-append : (name : List ℕ) (ms : List Member) (m : Member) → last_member name (ms ++ m ∷ []) ≡ cond (is_name name (spelled m.0)) (Some m.1) (last_member name ms)
 last_member-append name [] m = refl

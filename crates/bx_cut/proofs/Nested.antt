@@ -1,20 +1,17 @@
 -- Arrays and objects within a text, level by level.
 use Rattle.std.proofs.Common.{◌≡◌, ℕ, ◌+◌, ◌-◌, ◌<◌, Bool, true, false, cond, ◌==◌, List, [], ◌∷◌, ◌++◌, length, take, Option, Some, None, option_and_then, refl, sym, ap, ◌∙◌, subst, arith}
-use Rattle.std.proofs.lemmas.{Bool.false≢true, List.append_assoc}
+use Rattle.std.proofs.lemmas.{Bool.false≢true, List.append_assoc, Grind.common_steps}
 use Rattle.json.specs.Token.{Token, begin_object, end_object, begin_array, end_array, key, string, number, boolean, null, bad}
-use Rattle.json.specs.Text.{content, plain}
-use Rattle.json.specs.Word.{ends_word, word}
+use Rattle.json.specs.{Text.content, Text.plain, Word.ends_word, Word.word, Align.span}
 use Rattle.json.specs.Json.{Json, Items, no_items, item, Members, no_members, member}
 use Rattle.json.specs.Json as json
 use Rattle.json.specs.Tree.{json_tokens, items_tokens, members_tokens, HasNumbers, ItemsHaveNumbers, MembersHaveNumbers}
 use Rattle.json.specs.Lex.{Lexeme, token, comma, colon, Class, between, in_word, in_string, lex_byte, lex, string_token, fresh, after_value, after_comma, begins_colon, place_token, punctuate}
 use Rattle.bx_cut.specs.Cut.{past_blank, past_byte, after_first, begins_with, outside, nest_len, value_len, split_value, split_member, after_key, Member, then_more, first_and_more, listed}
 use Rattle.bx_cut.proofs.Lists.{Shortens, turn, listed-none, Shortens-split_value, Shortens-split_member}
-use Rattle.json.specs.Align.{span}
 use Rattle.bx_cut.proofs.Bytes.{byte_cases, BeginsFull, past-full, past-lex, blanks, Blank-blanks, split_blanks}
 use Rattle.bx_cut.proofs.Seen.{start, SeenMark, Matches, seen, past_string, IsWord, is_word}
 use Rattle.bx_cut.proofs.Values.{Quote, quote, quote_at, Fits, Text, Found, find_string, find_number, find_true, find_false, find_null}
-use Rattle.std.proofs.lemmas.Grind.{common_steps}
 
 -- ---- a text by its first token, after a value
 

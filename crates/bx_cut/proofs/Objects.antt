@@ -1,11 +1,10 @@
 -- The object at the front of a text, and its parts.
 use Rattle.std.proofs.Common.{◌≡◌, ℕ, zero, suc, ◌-◌, ◌<◌, ◌≤◌, List, length, take, Option, Some, None, option_map, option_and_then, refl, ap, ◌∙◌, arith}
-use Rattle.std.proofs.lemmas.List.{length-drop}
+use Rattle.std.proofs.lemmas.{List.length-drop, Grind.common_steps}
 use Rattle.std.specs.List.{prefix_len}
 use Rattle.json.specs.Word.{is_space}
 use Rattle.bx_cut.specs.Words.{past_blank, after_first, past_byte, Member, split_member, separated, listed, first_and_more, then_more, Object, closed, split_object}
 use Rattle.bx_cut.proofs.{Reach.from_map, Reach.from_and_then, Reach.after_first-length, Reach.past_byte-shorter, Lists.Shortens, Lists.Shortens-split_member}
-use Rattle.std.proofs.lemmas.Grind.{common_steps}
 
 pub object-none : (t : List ℕ) → None ≡ after_first 123 (past_blank t) → None ≡ split_object t
 unfolding split_object

@@ -3,9 +3,8 @@ use Rattle.std.proofs.Common.{◌≡◌, ℕ, suc, ◌+◌, ◌-◌, ◌<◌, �
 use Rattle.std.proofs.lemmas.{List.drop_more, List.drop_all, List.take_all, List.length-drop, Bool.eqb-true, Bool.true≢false, Grind.common_steps}
 use Rattle.std.proofs.lemmas.Str.{IsCharBoundary-end, IsCharBoundary-after_ascii, IsCharBoundary-start}
 use Rattle.std.specs.{List.prefix_len, Str.IsUtf8, Str.IsCharBoundary}
-use Rattle.json.specs.Word.{is_space}
+use Rattle.json.specs.{Word.is_space, Align.span, Align.span_byte}
 use Rattle.json.specs.Lex.{Mode, in_string, in_escape, quote, backslash, operator, space, other}
-use Rattle.json.specs.Align.{span, span_byte}
 use Rattle.bx_cut.specs.Cut.{Scan, outside, quoted, escaped, opens, closes, nest_len, value_len, is_word_byte, begins_with, after_first, past_byte, past_blank, split_value, split_member, Member, after_key, with_value, IsRest}
 
 span_of_tests : (a b c d : Bool) (k : Mode → ℕ) → span_byte in_string (cond a quote (cond b backslash (cond c operator (cond d space other)))) k ≡ cond a 1 (cond b (1 + k in_escape) (1 + k in_string))

@@ -1,18 +1,12 @@
 -- What the grammar reads: the tokens of a value, and the rest.
-use Rattle.std.proofs.Common.{◌≡◌, ℕ, zero, suc, List, [], ◌++◌, ◌≤◌, length, Option, Some, None, option_and_then, refl, sym, ap, ◌∙◌}
-use Rattle.std.proofs.lemmas.List.{append-nil}
-use Rattle.json.specs.Token.{Token}
+use Rattle.std.proofs.Common.{◌≡◌, ℕ, zero, suc, List, [], ◌++◌, ◌≤◌, length, Option, Some, None, option_and_then, refl, sym, ap, ◌∙◌, arith}
+use Rattle.std.proofs.lemmas.{List.append-nil, Grind.common_steps}
+use Rattle.json.specs.{Token.Token, Lex.tokens}
 use Rattle.json.specs.Json.{Json, Items, Members, Parse, after_end_array, read_key, items_step, members_step, items, members, value_with, value, if_last}
-use Rattle.json.specs.Lex.{tokens}
 use Rattle.json.specs.Tree.{json_tokens, items_tokens, members_tokens, HasNumbers, depth}
-use Rattle.json.proofs.Numbered.{ArePrintableOrBad-tokens, value-HasNumbers}
-use Rattle.json.proofs.Nesting.{value-depth}
-use Rattle.json.proofs.Printed.Trees.{value-json_tokens}
-use Rattle.serde_json.specs.Data.{Data}
-use Rattle.serde_json.specs.Read.{of_json, read}
+use Rattle.json.proofs.{Numbered.ArePrintableOrBad-tokens, Numbered.value-HasNumbers, Nesting.value-depth, Printed.Trees.value-json_tokens}
+use Rattle.serde_json.specs.{Data.Data, Read.of_json, Read.read}
 use Rattle.bx_cut.proofs.Reach.{from_and_then}
-use Rattle.std.proofs.lemmas.Grind.{common_steps}
-use Rattle.std.proofs.Common.{arith}
 
 abbrev Fronts : {A : Type 0} → (A → List Token) → Parse A → Type 0
 Fronts {A} shown p = (ts : List Token) (q : A × List Token) → Some q ≡ p ts → ts ≡ shown q.0 ++ q.1

@@ -1,17 +1,14 @@
 -- The text of each token.
-use Rattle.std.proofs.Common.{◌≡◌, ℕ, Bool, true, false, cond, List, [], ◌∷◌, drop, Option, Some, refl, sym, ap, ◌∙◌, subst}
-use Rattle.std.proofs.lemmas.Bool.{false≢true}
+use Rattle.std.proofs.Common.{◌≡◌, ℕ, Bool, true, false, cond, List, [], ◌∷◌, drop, Option, Some, refl, sym, ap, ◌∙◌, subst, arith}
+use Rattle.std.proofs.lemmas.{Bool.false≢true, Grind.common_steps}
 use Rattle.std.specs.List.{prefix_len}
 use Rattle.json.specs.Token.{Token, begin_object, end_object, begin_array, end_array, key, string, number, boolean, null, bad}
-use Rattle.json.specs.Text.{content, plain}
+use Rattle.json.specs.{Text.content, Text.plain, Align.span}
 use Rattle.json.specs.Word.{is_space, number_before, word}
 use Rattle.json.specs.Lex.{colon, between, in_word, in_string, Class, lex_byte, lex, string_token, Place, fresh, after_value, after_comma, after_key, begins_colon, place_token, punctuate}
-use Rattle.json.specs.Align.{span}
 use Rattle.bx_cut.specs.Cut.{past_blank, is_word_byte}
 use Rattle.bx_cut.proofs.Bytes.{Other, byte_cases, space_cases, BeginsFull, past-full, past-lex, next_one}
 use Rattle.bx_cut.proofs.Reach.{mode_of, span-cons}
-use Rattle.std.proofs.lemmas.Grind.{common_steps}
-use Rattle.std.proofs.Common.{arith}
 
 -- ---- after a string or a word
 

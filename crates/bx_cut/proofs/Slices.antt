@@ -1,17 +1,14 @@
 -- No value's text ends with whitespace, and only whitespace follows the last value.
 use Rattle.std.proofs.Common.{◌≡◌, ℕ, suc, ◌+◌, ◌<◌, ◌≤◌, inl, inr, Bool, true, false, cond, ◌==◌, List, [], ◌∷◌, ◌++◌, length, take, get_or, refl, sym, ap, ◌∙◌, subst, arith}
 use Rattle.std.proofs.Math.Seq.{get_or-append_seam}
-use Rattle.std.proofs.lemmas.{List.append-nil, List.append_assoc, List.length-append, List.length-drop, List.Sums.prefix_len_passes}
+use Rattle.std.proofs.lemmas.{List.append-nil, List.append_assoc, List.length-append, List.length-drop, List.Sums.prefix_len_passes, Grind.common_steps}
 use Rattle.std.specs.List.{prefix_len}
-use Rattle.json.specs.Align.{span}
-use Rattle.json.specs.Token.{Token}
-use Rattle.json.specs.Word.{is_space}
+use Rattle.json.specs.{Align.span, Token.Token, Word.is_space}
 use Rattle.json.specs.Lex.{Lexeme, token, comma, colon, between, in_string, lex, Place, after_value, after_comma, begins_colon, place_token, punctuate}
 use Rattle.serde_json.specs.Data.{Items, item}
 use Rattle.bx_cut.specs.Words.{past_blank, is_word_byte, outside, closes, opens, nest_len, value_len, BeginsBare, EndsBare, IsBare, IsBlank, IsShut, StandsIn, GoesOnIn, AreObjectsOf, Object}
 use Rattle.bx_cut.proofs.Bytes.{byte_cases, BeginsFull, past-full, past-lex, blanks, split_blanks}
 use Rattle.bx_cut.proofs.{Reach.EndsBy, Reach.ends_more, Reach.ends_string, Reach.ends_nested, Values.Fits, Values.Text}
-use Rattle.std.proofs.lemmas.Grind.{common_steps}
 
 -- ---- no value's text ends with whitespace
 

@@ -1,19 +1,15 @@
 -- The text of a value within a text: its length, and that it reads as the value.
 use Rattle.std.proofs.Common.{◌≡◌, ℕ, ◌+◌, ◌<◌, Bool, true, false, cond, List, [], ◌∷◌, ◌++◌, length, take, drop, Option, Some, refl, sym, ap, ap₂, ◌∙◌, subst, arith}
-use Rattle.std.proofs.lemmas.{Bool.false≢true, List.append-nil, List.take-append-drop, List.length-take-le, List.drop_at}
+use Rattle.std.proofs.lemmas.{Bool.false≢true, List.append-nil, List.take-append-drop, List.length-take-le, List.drop_at, Grind.common_steps}
 use Rattle.std.specs.Prelude.{not}
 use Rattle.json.specs.Token.{Token, string, number, boolean, null, bad}
-use Rattle.json.specs.Text.{content, plain}
-use Rattle.json.specs.Word.{ends_word, word}
-use Rattle.json.specs.Print.{IsNumber}
+use Rattle.json.specs.{Text.content, Text.plain, Word.ends_word, Word.word, Print.IsNumber, Align.span}
 use Rattle.json.specs.Lex.{Lexeme, token, between, in_word, in_string, lex, string_token, after_value, begins_colon, punctuate}
-use Rattle.json.specs.Align.{span}
 use Rattle.json.proofs.Printed.Numbers.{lex-number, in_word-ended}
 use Rattle.bx_cut.specs.Words.{past_blank, after_first, outside, nest_len, value_len, spelled}
 use Rattle.bx_cut.proofs.{Bytes.Other, Local.local, Reach.nest-string, Reach.span_le}
 use Rattle.bx_cut.proofs.Seen.{start, Seen, SeenWord, past_string, string-lex, word-lex}
 use Rattle.bx_cut.proofs.Words.{AllOther, other_nests, other_len, WordText, word_text, true_text, false_text, null_text}
-use Rattle.std.proofs.lemmas.Grind.{common_steps}
 
 -- ---- a string
 
@@ -147,11 +143,8 @@ pub find_true : (t : List ℕ) (rest : List Token) → SeenWord t (boolean true)
 unfolding punctuate lex word
 find_true t rest (x, xs, e, o, w, l) =
     let f = subst (WordText (x ∷ xs)) w (word_text (x ∷ xs)) in
-    word_found t (boolean true) rest 116 (114 ∷ 117 ∷ 101 ∷ []) f.0 leaf true_other
+    word_found t (boolean true) rest 116 (114 ∷ 117 ∷ 101 ∷ []) f.0 (grind (arith, common_steps)) true_other
     (λ z g. ap₂ (λ (b : Bool) (q : List Lexeme). token (cond b (boolean true) bad) ∷ q) g (in_word-ended z g)) x xs e f.1 f.2 l
-  where
-    leaf : IsLeaf (boolean true)
-    leaf = grind (arith, common_steps)
 
 pub false_other : AllOther false_text
 false_other = (record { low = omega arith; other = record { class_is = refl; quote_not = refl; opens_not = refl; closes_not = refl; word_byte = refl } }, (record { low = omega arith; other = record { class_is = refl; quote_not = refl; opens_not = refl; closes_not = refl; word_byte = refl } }, (record { low = omega arith; other = record { class_is = refl; quote_not = refl; opens_not = refl; closes_not = refl; word_byte = refl } }, (record { low = omega arith; other = record { class_is = refl; quote_not = refl; opens_not = refl; closes_not = refl; word_byte = refl } }, (record { low = omega arith; other = record { class_is = refl; quote_not = refl; opens_not = refl; closes_not = refl; word_byte = refl } }, tt)))))
@@ -160,11 +153,8 @@ pub find_false : (t : List ℕ) (rest : List Token) → SeenWord t (boolean fals
 unfolding punctuate lex word
 find_false t rest (x, xs, e, o, w, l) =
     let f = subst (WordText (x ∷ xs)) w (word_text (x ∷ xs)) in
-    word_found t (boolean false) rest 102 (97 ∷ 108 ∷ 115 ∷ 101 ∷ []) f.0 leaf false_other
+    word_found t (boolean false) rest 102 (97 ∷ 108 ∷ 115 ∷ 101 ∷ []) f.0 (grind (arith, common_steps)) false_other
     (λ z g. ap₂ (λ (b : Bool) (q : List Lexeme). token (cond b (boolean false) bad) ∷ q) g (in_word-ended z g)) x xs e f.1 f.2 l
-  where
-    leaf : IsLeaf (boolean false)
-    leaf = grind (arith, common_steps)
 
 pub null_other : AllOther null_text
 null_other = (record { low = omega arith; other = record { class_is = refl; quote_not = refl; opens_not = refl; closes_not = refl; word_byte = refl } }, (record { low = omega arith; other = record { class_is = refl; quote_not = refl; opens_not = refl; closes_not = refl; word_byte = refl } }, (record { low = omega arith; other = record { class_is = refl; quote_not = refl; opens_not = refl; closes_not = refl; word_byte = refl } }, (record { low = omega arith; other = record { class_is = refl; quote_not = refl; opens_not = refl; closes_not = refl; word_byte = refl } }, tt))))
@@ -173,8 +163,5 @@ pub find_null : (t : List ℕ) (rest : List Token) → SeenWord t null rest → 
 unfolding punctuate lex word
 find_null t rest (x, xs, e, o, w, l) =
     let f = subst (WordText (x ∷ xs)) w (word_text (x ∷ xs)) in
-    word_found t null rest 110 (117 ∷ 108 ∷ 108 ∷ []) f.0 leaf null_other
+    word_found t null rest 110 (117 ∷ 108 ∷ 108 ∷ []) f.0 (grind (arith, common_steps)) null_other
     (λ z g. ap₂ (λ (b : Bool) (q : List Lexeme). token (cond b null bad) ∷ q) g (in_word-ended z g)) x xs e f.1 f.2 l
-  where
-    leaf : IsLeaf null
-    leaf = grind (arith, common_steps)

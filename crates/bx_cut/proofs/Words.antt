@@ -1,6 +1,6 @@
 -- The text of a number or a literal, up to the end of the word.
 use Rattle.std.proofs.Common.{◌≡◌, ℕ, ◌+◌, ◌-◌, ◌<◌, Bool, true, false, cond, ◌&&◌, ◌||◌, ◌==◌, nat_eq, List, [], ◌∷◌, ◌++◌, length, take, drop, Option, Some, None, option_and_then, refl, sym, ap, ◌∙◌, subst, arith}
-use Rattle.std.proofs.lemmas.{Bool.true≢false, Bool.eqb-true, Bool.Decides.Decides-eqb, Slice.Eq.starts_is}
+use Rattle.std.proofs.lemmas.{Bool.true≢false, Bool.eqb-true, Bool.Decides.Decides-eqb, Slice.Eq.starts_is, Grind.common_steps}
 use Rattle.std.proofs.lemmas.List.{append_assoc, take-append-drop, length-append, take_at}
 use Rattle.std.specs.{Char.is_ascii_digit, List.prefix_len, List.starts_with}
 use Rattle.json.specs.Token.{Token, number, boolean, null, bad}
@@ -10,7 +10,6 @@ use Rattle.json.proofs.Printed.Numbers.{number_alone}
 use Rattle.json.specs.Ascii as ascii
 use Rattle.bx_cut.specs.Cut.{outside, nest_len, is_word_byte}
 use Rattle.bx_cut.proofs.{Bytes.Other, Reach.from_and_then, Reach.some_same}
-use Rattle.std.proofs.lemmas.Grind.{common_steps}
 
 pub record Letter (x : ℕ) : Type 0 where
   pub other : Other x

@@ -1,7 +1,6 @@
 -- The documents of a request.
 use Rattle.std.specs.Prelude.{ℕ, List, [], ◌∷◌, map, string_bytes}
-use Rattle.bx_cut.specs.declared.bodies.Bodies.{Bodies}
-use Rattle.bx_cut.specs.declared.bodies.Bodies.TheVariants.{Whole, Decoded}
+use Rattle.bx_cut.specs.declared.{bodies.Bodies.Bodies, bodies.Bodies.TheVariants.Whole, bodies.Bodies.TheVariants.Decoded}
 
 -- The bytes of each document, in order.
 abbrev pub texts_of : Bodies → List (List ℕ)

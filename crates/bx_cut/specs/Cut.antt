@@ -1,9 +1,7 @@
 -- How a JSON text is split into parts. For other texts, the results have no meaning.
 use Rattle.std.specs.Prelude.{◌≡◌, ◌≤◌, ℕ, zero, suc, ◌+◌, ◌-◌, ◌==◌, ◌||◌, List, [], ◌∷◌, length, take, drop, Bool, false, not, cond, Option, Some, None, option_map, option_and_then}
 use Rattle.std.specs.{List.prefix_len, Str.IsCharBoundary}
-use Rattle.json.specs.Word.{is_operator, is_space}
-use Rattle.json.specs.Lex.{in_string}
-use Rattle.json.specs.Align.{span}
+use Rattle.json.specs.{Word.is_operator, Word.is_space, Lex.in_string, Align.span}
 use Rattle.json.specs.Ascii as ascii
 
 -- The text without leading whitespace.

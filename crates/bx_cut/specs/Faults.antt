@@ -2,11 +2,8 @@
 use Rattle.std.specs.Prelude.{ℕ, List, Bool, true, cond, ◌&&◌, nat_lt, is_some, Option, Some, None}
 use Rattle.std.specs.Str.{is_utf8}
 use Rattle.serde_json.specs.Data.{Data, Items, no_items, item}
-use Rattle.serde_json.specs.Events.{items_len}
-use Rattle.serde_json.specs.Find.{as_array, as_object}
-use Rattle.serde_json.specs.Read.{read}
-use Rattle.bx_cut.specs.declared.document.TheConstants.{MAX_MESSAGES}
-use Rattle.bx_cut.specs.declared.error.CutError.{CutError}
+use Rattle.serde_json.specs.{Events.items_len, Find.as_array, Find.as_object, Read.read}
+use Rattle.bx_cut.specs.declared.{document.TheConstants.MAX_MESSAGES, error.CutError.CutError}
 use Rattle.bx_cut.specs.declared.error.CutError.TheVariants.{NotJson, NotObject, TooMany}
 
 abbrev pub all_objects : Items → Bool

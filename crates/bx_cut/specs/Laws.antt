@@ -3,8 +3,7 @@ use Rattle.std.specs.Prelude.{◌≡◌, ℕ, List, [], ◌∷◌, ◌++◌, len
 use Rattle.std.specs.List.{prefix_len}
 use Rattle.json.specs.Word.{is_space}
 use Rattle.serde_json.specs.Data.{Data, array, object, Items, no_items, item}
-use Rattle.serde_json.specs.Find.{get}
-use Rattle.serde_json.specs.Read.{read}
+use Rattle.serde_json.specs.{Find.get, Read.read}
 use Rattle.bx_cut.specs.Cut.{past_blank}
 use Rattle.bx_cut.specs.Pieces.{Object, members, last_member}
 

@@ -3,12 +3,9 @@ use Rattle.std.proofs.Common.{◌≡◌, ℕ, ◌+◌, ◌||◌, Bool, true, fal
 use Rattle.std.proofs.lemmas.List.{append_assoc}
 use Rattle.bx_cut.specs.Pieces.{Object}
 use Rattle.bx_message.specs.declared.message.Message.{Message}
-use Rattle.bx_message.specs.Fields.{message_in}
-use Rattle.bx_message.specs.MessageKinds.{is_handshake}
-use Rattle.bx_entry.specs.Words.{listed_from, Cut, objects_in, objects_of, all_messages, has_broadcast, let_in}
-use Rattle.bx_entry.specs.declared.input.{Refusal.Refusal, Access.Access}
-use Rattle.bx_entry.specs.declared.input.Refusal.TheVariants.{Forbidden}
-use Rattle.bx_entry.specs.declared.input.Access.TheVariants.{ReadWrite, ReadOnly}
+use Rattle.bx_message.specs.{Fields.message_in, MessageKinds.is_handshake}
+use Rattle.bx_entry.specs.Words.{listed_from, Cut, objects_in, objects_of, all_messages, allows_all, let_in}
+use Rattle.bx_entry.specs.declared.{access.Access.Access, access.Access.TheVariants.ReadOnly, access.Access.TheVariants.ReadWrite, input.Refusal.Refusal, input.Refusal.TheVariants.Forbidden}
 
 abbrev pub joined : List Message → Option (List Message) → Option (List Message)
 joined xs rest = option_map (λ ms. xs ++ ms) rest
@@ -76,19 +73,19 @@ cut_none cs i x old e none =
 
 -- ---- Listeners
 
-ok_by : (ns ms : List Message) (b : Bool) → cond b (Err Forbidden) (Ok ns) ≡ Ok ms → ns ≡ ms
+ok_by : (ns ms : List Message) (b : Bool) → cond b (Ok ns) (Err Forbidden) ≡ Ok ms → ns ≡ ms
 ok_by ns ms true e = cc
 ok_by ns ms false e = cc
 
 pub let_in-ok : (access : Access) (read : Result (List Message) Refusal) (ms : List Message) → let_in access read ≡ Ok ms → read ≡ Ok ms
 let_in-ok ReadWrite read ms e = e
-let_in-ok ReadOnly (Ok ns) ms e = ap (λ xs. Ok xs) (ok_by ns ms (has_broadcast ns) e)
-let_in-ok ReadOnly (Err f) ms e = e
+let_in-ok (ReadOnly ps) (Ok ns) ms e = ap (λ xs. Ok xs) (ok_by ns ms (allows_all ps ns) e)
+let_in-ok (ReadOnly ps) (Err f) ms e = e
 
 pub let_in-is_ok : (access : Access) (read : Result (List Message) Refusal) → is_ok (let_in access read) ≡ true → is_ok read ≡ true
 let_in-is_ok ReadWrite read e = e
-let_in-is_ok ReadOnly (Ok ns) e = refl
-let_in-is_ok ReadOnly (Err f) e = e
+let_in-is_ok (ReadOnly ps) (Ok ns) e = refl
+let_in-is_ok (ReadOnly ps) (Err f) e = e
 
 -- ---- The elements of a request
 

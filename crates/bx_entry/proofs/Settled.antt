@@ -1,9 +1,7 @@
 -- What is kept of a session determines what is kept after an entry, and the answers that it adds.
 use Rattle.std.proofs.Common.{◌≡◌, ℕ, Bool, true, false, cond, Option, List, ◌++◌, ◌==◌, refl, sym, ap, ◌∙◌, append-nil, append_assoc, arith}
 use Rattle.std.proofs.lemmas.Grind.{common_steps}
-use Rattle.bx_advice.specs.declared.{config.Config.Config, advice.Outcome.Outcome}
-use Rattle.bx_advice.specs.declared.advice.Outcome.TheVariants.{Failed}
-use Rattle.bx_advice.specs.declared.error.Error.TheVariants.{SupersededConnect}
+use Rattle.bx_advice.specs.declared.{config.Config.Config, advice.Outcome.Outcome, advice.Outcome.TheVariants.Failed, error.Error.TheVariants.SupersededConnect}
 use Rattle.bx_entry.specs.declared.entry.{Entry.Entry, EntryKind.EntryKind, Rider.Rider}
 use Rattle.bx_entry.specs.declared.entry.EntryKind.TheVariants.{Connect}
 use Rattle.bx_entry.specs.Words.{Session, Pending, Filed, released, admitted, connected, step_by, ridden_by, rider_of, step, Kept, kept, resumed}

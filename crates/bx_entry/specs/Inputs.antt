@@ -5,8 +5,7 @@ use Rattle.bx_advice.specs.Limits.{greatest_moment, greatest_length}
 use Rattle.bx_message.specs.declared.message.Message.{Message}
 use Rattle.bx_entry.specs.Listing.{Listed, request}
 use Rattle.bx_entry.specs.Listing as messages
-use Rattle.bx_entry.specs.declared.input.{AdmitFault.AdmitFault, Refusal.Refusal}
-use Rattle.bx_entry.specs.declared.input.AdmitFault.TheVariants.{Refused, Memory}
+use Rattle.bx_entry.specs.declared.{input.AdmitFault.AdmitFault, input.Refusal.Refusal, input.AdmitFault.TheVariants.Refused, input.AdmitFault.TheVariants.Memory}
 use Rattle.bx_entry.specs.declared.input.Refusal.TheVariants.{BadMoment, Ended}
 
 -- A request with its messages, a request that is rejected before its messages are listed, or a

@@ -1,8 +1,7 @@
 -- Placings: the shard of each session.
 use Rattle.std.specs.Prelude.{ℕ, ◌%◌, ◌<◌, ◌≤◌, List, [], ◌∷◌, length, slice_index}
 use Rattle.bx_advice.specs.declared.config.Config.{Config}
-use Rattle.std.proofs.Common.{arith}
-use Rattle.std.proofs.Math.Nat.{mod-lt}
+use Rattle.std.proofs.{Common.arith, Math.Nat.mod-lt}
 
 -- A configuration, the number of shards, and the placing of sessions in them.
 pub record Setup : Type 0 where

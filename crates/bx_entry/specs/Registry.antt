@@ -8,9 +8,8 @@ use Rattle.bx_message.specs.declared.message.AckMember.TheVariants.{NoAck, AckTr
 use Rattle.bx_message.specs.MessageKinds.{message_kind_of, is_connect, is_handshake}
 use Rattle.bx_entry.specs.Listing.{Posted, Listed, Post}
 use Rattle.bx_entry.specs.Listing as messages
-use Rattle.bx_advice.specs.declared.{error.Error.Error, config.Config.Config}
+use Rattle.bx_advice.specs.declared.{error.Error.Error, config.Config.Config, advice.Outcome.TheVariants.Done, advice.Outcome.TheVariants.Failed}
 use Rattle.bx_advice.specs.declared.error.Error.TheVariants.{UnknownMetaChannel, SecondHandshake, UnsupportedVersion, NoSupportedConnectionType, TooManySessions, NoClientId, UnknownClient, UnknownConnectionType, InvalidChannel, InvalidPattern, TooManyPatterns, SubscriptionDenied, MissingSubscription, MissingData}
-use Rattle.bx_advice.specs.declared.advice.Outcome.TheVariants.{Done, Failed}
 use Rattle.bx_advice.specs.declared.advice.Outcome.TheVariants as advice
 use Rattle.bx_message.specs.Replies.{reply_to}
 use Rattle.bx_message.specs.declared.reply.AckReply.TheVariants as replies

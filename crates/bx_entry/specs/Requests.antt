@@ -1,18 +1,15 @@
 -- The messages of a request, or the fault of its documents.
-use Rattle.std.specs.Prelude.{ℕ, ⊤, ◌≡◌, ◌||◌, if◌then◌else◌, Bool, true, false, List, [], ◌∷◌, length, map, flat_map, nat_lt, Option, Some, None, option_map, option_and_then, Result, Ok, Err}
-use Rattle.std.specs.List.{list_any}
-use Rattle.bx_names.specs.Faults.{first_case}
-use Rattle.bx_names.specs.Kinds.{is_broadcast}
-use Rattle.bx_cut.specs.declared.error.CutError.{CutError}
+use Rattle.std.specs.Prelude.{ℕ, ⊤, ◌≡◌, ◌||◌, ◌&&◌, not, if◌then◌else◌, Bool, true, false, List, [], ◌∷◌, length, map, flat_map, nat_lt, Option, Some, None, is_some, option_map, option_and_then, Result, Ok, Err}
+use Rattle.std.specs.List.{list_all, list_any}
+use Rattle.bx_names.specs.{Faults.first_case, Faults.name_fault, Globs.Glob, Globs.any_matches, Kinds.is_broadcast, Segments.segments}
+use Rattle.bx_cut.specs.declared.{error.CutError.CutError, document.TheConstants.MAX_MESSAGES}
 use Rattle.bx_cut.specs.declared.error.CutError.TheVariants as cuts
-use Rattle.bx_cut.specs.declared.document.TheConstants.{MAX_MESSAGES}
 use Rattle.bx_cut.specs.Words.{fault, Object, pieces, texts_of}
 use Rattle.bx_message.specs.declared.message.Message.{Message}
 use Rattle.bx_message.specs.Fields.{message_in}
 use Rattle.bx_entry.specs.Inputs.{ReadInput, Request, Unread}
-use Rattle.bx_entry.specs.declared.input.{AdmitFault.AdmitFault, Arrival.Arrival, Access.Access, Input.Input, Refusal.Refusal}
-use Rattle.bx_entry.specs.declared.input.AdmitFault.TheVariants.{Refused, Memory}
-use Rattle.bx_entry.specs.declared.input.Access.TheVariants.{ReadWrite, ReadOnly}
+use Rattle.bx_entry.specs.declared.{access.Access.Access, input.AdmitFault.AdmitFault, input.Arrival.Arrival, input.Input.Input, input.Refusal.Refusal}
+use Rattle.bx_entry.specs.declared.{access.Access.TheVariants.ReadOnly, access.Access.TheVariants.ReadWrite, input.AdmitFault.TheVariants.Memory, input.AdmitFault.TheVariants.Refused}
 use Rattle.bx_entry.specs.declared.input.Input.TheVariants.{Post}
 use Rattle.bx_entry.specs.declared.input.Refusal.TheVariants.{NotJson, NotObject, TooMany, NoChannel, Forbidden}
 
@@ -94,16 +91,21 @@ request_messages documents = messages_of (map cut_of documents)
 
 -- ---- Listeners
 
--- Whether any of the messages is to a broadcast channel.
-abbrev pub has_broadcast : List Message → Bool
-has_broadcast ms = list_any (λ m. is_broadcast m.channel) ms
+-- Whether the read-only listener with the patterns `ps` allows messages to this channel. A
+-- broadcast channel must be a valid name that one of the patterns matches.
+abbrev pub allows : List Glob → List ℕ → Bool
+allows ps channel = not (is_broadcast channel) || (not (is_some (name_fault channel)) && any_matches ps (segments channel))
 
--- The messages that the listener allows. The read-only listener rejects a request with a message to
--- a broadcast channel.
+-- Whether the read-only listener with the patterns `ps` allows each of the messages.
+abbrev pub allows_all : List Glob → List Message → Bool
+allows_all ps ms = list_all (λ m. allows ps m.channel) ms
+
+-- The messages that the listener allows. The read-only listener rejects a request with a message
+-- that it does not allow.
 abbrev pub let_in : Access → Result (List Message) Refusal → Result (List Message) Refusal
 let_in ReadWrite messages = messages
-let_in ReadOnly (Ok ms) = if has_broadcast ms then Err Forbidden else Ok ms
-let_in ReadOnly (Err f) = Err f
+let_in (ReadOnly ps) (Ok ms) = if allows_all ps ms then Ok ms else Err Forbidden
+let_in (ReadOnly ps) (Err f) = Err f
 
 -- The messages of a request as it arrived, or the first fault.
 abbrev pub arrival_messages : Arrival → Result (List Message) Refusal

@@ -2,12 +2,9 @@
 -- response is complete once all messages of its input are answered. At the end, an input without a
 -- complete response is held.
 use Rattle.std.specs.Prelude.{ℕ, zero, suc, ◌+◌, ◌==◌, ◌&&◌, max, Bool, false, List, [], ◌∷◌, ◌++◌, length, filter, map, fold, nat_lt, nat_le, is_none, Option, Some, None, Result, Ok, Err, flat_map, position}
-use Rattle.bx_entry.specs.Listing.{Listed}
+use Rattle.bx_entry.specs.{Listing.Listed, Registry.Registry, Registry.registry, Answers.PlacedAnswer, Answers.answer_in}
 use Rattle.bx_advice.specs.declared.config.Config.{Config}
-use Rattle.bx_message.specs.declared.reply.Item.{Item}
-use Rattle.bx_message.specs.declared.reply.Item.TheVariants.{EventItem, ReplyItem}
-use Rattle.bx_entry.specs.Registry.{Registry, registry}
-use Rattle.bx_entry.specs.Answers.{PlacedAnswer, answer_in}
+use Rattle.bx_message.specs.declared.{reply.Item.Item, reply.Item.TheVariants.EventItem, reply.Item.TheVariants.ReplyItem}
 use Rattle.bx_entry.specs.Inputs.{ReadInput, Request, Unread, Tick, refusal_of, added_by}
 use Rattle.bx_entry.specs.declared.input.Refusal.{Refusal}
 

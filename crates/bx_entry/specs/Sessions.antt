@@ -2,11 +2,9 @@
 use Rattle.std.specs.Prelude.{ℕ, ◌+◌, ◌==◌, ◌&&◌, not, Bool, true, false, List, [], ◌∷◌, ◌++◌, length, take, fold, nat_lt, nat_le, if◌then◌else◌, Option, Some, None}
 use Rattle.std.specs.List.{list_any}
 use Rattle.bx_names.specs.Words.{Glob, any_matches, with_pattern, without_pattern, segments, is_broadcast}
-use Rattle.bx_advice.specs.declared.error.Error.TheVariants.{SupersededConnect, QueueOverflow}
-use Rattle.bx_advice.specs.declared.{config.Config.Config, advice.Outcome.Outcome}
+use Rattle.bx_advice.specs.declared.{error.Error.TheVariants.SupersededConnect, error.Error.TheVariants.QueueOverflow, config.Config.Config, advice.Outcome.Outcome}
 use Rattle.bx_advice.specs.declared.advice.Outcome.TheVariants.{Connected, Disconnected, Failed}
-use Rattle.bx_message.specs.declared.{event.Event.Event, reply.Reply.Reply, reply.AckReply.AckReply}
-use Rattle.bx_message.specs.declared.reply.AckReply.TheVariants.{NoAck, AckNumber}
+use Rattle.bx_message.specs.declared.{event.Event.Event, reply.Reply.Reply, reply.AckReply.AckReply, reply.AckReply.TheVariants.NoAck, reply.AckReply.TheVariants.AckNumber}
 use Rattle.bx_message.specs.Replies.{connect_reply}
 use Rattle.bx_entry.specs.declared.entry.{Entry.Entry, EntryKind.EntryKind, Rider.Rider}
 use Rattle.bx_entry.specs.declared.entry.EntryKind.TheVariants.{Connect, Subscribe, Unsubscribe, Publish, Disconnect, Refused, Tick}

@@ -1,22 +1,12 @@
 //! Requests and ticks, and why they are rejected.
 ghost use Rattle.std.specs.Prelude.{◌≡◌};
-ghost use Rattle.bx_entry.specs.Refusals.{refusal_name, refusal_status};
+ghost use Rattle.bx_entry.specs.Refusals.{refusal_reason, refusal_status};
 ghost use Rattle.bx_entry.specs.declared.input.AdmitFault.TheVariants.{Memory};
 
+use crate::access::Access;
 use bx_cut::Bodies;
 use bx_message::Status;
 use std::alloc::{AllocError, AllocFailed};
-
-/// What the listener that received a request allows.
-///
-/// Policy of this server.
-#[derive(Clone, Copy, Debug, PartialEq, Eq)]
-pub enum Access {
-    /// The main listener, which allows all messages.
-    ReadWrite,
-    /// The read-only listener, which rejects requests with a message to a broadcast channel.
-    ReadOnly,
-}
 
 /// A request as it arrived, with its documents still to be read.
 #[derive(Drop)]
@@ -54,7 +44,7 @@ pub enum Refusal {
     TooMany,
     /// A message has no `channel`, or one that is not a string.
     NoChannel,
-    /// A message is to a broadcast channel, and the listener is read-only.
+    /// A message is to a broadcast channel that the read-only listener does not allow.
     Forbidden,
     /// The moment of the request or tick exceeds `MAX_MOMENT`, 2^62 milliseconds.
     BadMoment,
@@ -90,19 +80,20 @@ impl<T: Drop> From<AllocFailed<T>> for AdmitFault {
 }
 
 impl Refusal {
-    /// Returns the name under which requests that are rejected for this reason are counted.
-    ///
-    /// The faults of documents have the same name.
+    /// Returns the reason in words, such as "the messages are not JSON".
     ///
     /// Policy of this server.
-    pub fn name(self) -> &'static str
-        ensures { result.now ≡ refusal_name self }
+    pub fn reason(self) -> &'static str
+        ensures { result.now ≡ refusal_reason self }
     {
         match self {
-            Refusal::NotJson | Refusal::NotObject | Refusal::TooMany | Refusal::NoChannel => "body",
-            Refusal::Forbidden => "forbidden",
-            Refusal::BadMoment => "bad_moment",
-            Refusal::Ended => "ended",
+            Refusal::NotJson => "the messages are not JSON",
+            Refusal::NotObject => "a message is not a JSON object",
+            Refusal::TooMany => "too many messages in one request",
+            Refusal::NoChannel => "a message has no channel",
+            Refusal::Forbidden => "the listener is read-only",
+            Refusal::BadMoment => "the clock is out of range",
+            Refusal::Ended => "the list is full",
         }
     }
 

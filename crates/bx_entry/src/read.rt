@@ -3,13 +3,13 @@ ghost use Rattle.std.specs.Prelude.{◌≡◌, ◌++◌, ◌<◌, IfOk, IfErr, O
 ghost use Rattle.std.specs.List.{list_any};
 ghost use Rattle.bx_cut.specs.Bodies.{texts_of};
 ghost use Rattle.bx_cut.specs.declared.document.TheConstants.{MAX_MESSAGES};
-ghost use Rattle.bx_entry.specs.Requests.{IsUnread, all_messages, arrival_messages, has_broadcast, request_messages};
+ghost use Rattle.bx_entry.specs.Requests.{IsUnread, all_messages, arrival_messages, request_messages};
 ghost use Rattle.bx_entry.specs.Requests.{cut_fault, cut_of, is_not_json, is_not_object, is_too_many, objects_in, objects_of};
 
-use crate::input::{Access, AdmitFault, Arrival, Refusal};
+use crate::access::Access;
+use crate::input::{AdmitFault, Arrival, Refusal};
 use bx_cut::{Bodies, CutError, Document, MAX_MESSAGES};
 use bx_message::{Message, MessageError};
-use bx_names::is_broadcast;
 use std::alloc::{AllocError, Global};
 
 impl Arrival {
@@ -24,23 +24,16 @@ impl Arrival {
         ensures fault { IfErr result (IsUnread (arrival_messages self.now)) }
     {
         let messages = read_messages(alloc, &self.bodies)?;
-        match self.access {
-            Access::ReadWrite => Ok(messages),
-            Access::ReadOnly if has_broadcast(messages.as_slice()) => {
-                Err(AdmitFault::Refused(Refusal::Forbidden))
-            }
-            Access::ReadOnly => Ok(messages),
+        let is_allowed = match &self.access {
+            Access::ReadWrite => true,
+            Access::ReadOnly(patterns) => patterns.allows_all(alloc, messages.as_slice())?,
+        };
+        if is_allowed {
+            Ok(messages)
+        } else {
+            Err(AdmitFault::Refused(Refusal::Forbidden))
         }
     }
-}
-
-// Returns `true` if any of `messages` is to a broadcast channel.
-fn has_broadcast(messages: &[Message]) -> bool
-    ensures { result ≡ has_broadcast messages.now }
-{
-    messages
-        .iter()
-        .any(|message| is_broadcast(message.channel.as_str()))
 }
 
 // A document that is split into its messages, or why it cannot be split.

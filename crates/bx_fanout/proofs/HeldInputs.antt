@@ -64,9 +64,6 @@ pub unchanged : (place : ℕ) (a : Answer) (rows : List Row) → list_any (waits
 unchanged place a [] e = refl
 unchanged place a (row ∷ rows) e = grind (arith, unchanged place a rows)
 
-held-of : (w : HeldInput) (number : ℕ) (o : Option Answer) → w.number ≡ number → w.answer ≡ o → w ≡ record { number = number; answer = o }
-held-of w number o e f = grind arith
-
 written : (k : ℕ) (h w : HeldInput) (a : Answer) (o : Option Answer) → h.answer ≡ o → w.number ≡ h.number → w.answer ≡ (if is_none o then Some a else o) →
     (k, w) ≡ (if is_none o then with_answer a (k, h) else (k, h))
 written k h w a o is e f = grind arith

@@ -1,13 +1,12 @@
 -- What a shard's lock guards stays right when the shard learns, advances and returns answers.
 use Rattle.std.proofs.Common.{◌≡◌, ℕ, ◌+◌, ◌-◌, ◌<◌, ◌≤◌, List, [], ◌∷◌, ◌++◌, length, take, drop, slice_get, option_map, Option, Some, None, refl, ap, sym, ◌∙◌, subst, arith, take-append-drop}
-use Rattle.std.specs.Prelude.{Result, Ok, Err, OnOk, OnErr, IfSome, Bool, true, false, nat_eq, if◌then◌else◌}
+use Rattle.std.specs.Prelude.{Result, Ok, Err, OnOk, OnErr, Bool, true, false, if◌then◌else◌}
 use Rattle.std.specs.Option.{IsSome}
-use Rattle.std.proofs.lemmas.Bool.{eq-eqb}
 use mathlib.Core.List.{IsPrefix}
 use Rattle.bx_advice.specs.declared.config.Config.{Config}
 use Rattle.bx_message.specs.declared.reply.Answer.{Answer}
 use Rattle.bx_entry.specs.Words.{answer, Listed, entries}
-use Rattle.bx_entry.specs.declared.entry.{Batch.Batch, Entry.Entry, Ticket.Ticket}
+use Rattle.bx_entry.specs.declared.entry.{Batch.Batch, Entry.Entry}
 use Rattle.bx_connects.specs.Connects.{filed_answer}
 use Rattle.futures.specs.declared.task.waker.Waker.{Waker}
 use Rattle.bx_shard.specs.Words.{Refines, Took, given_of, swept_places, Setup, Applied, IsAsBefore, IsSound, State, Swept, Watched, WasShut, connect_in}
@@ -111,12 +110,6 @@ pub stands_untaken : (setup : Setup) (seen told : List LogStep) (taken : List �
 stands_untaken setup seen told taken place s t true r h e is took same sound = stands_still setup seen told taken s t h (as_before place s t (sym e ∙ is) (took refl)) sound
 stands_untaken setup seen told taken place s t false r h e is took same sound = subst (λ (u : State). Stands setup (held seen told taken u)) (sym (same refl)) h
 
-pub filed_first : {F : Type 0} (i j : ℕ) (o r : Option Answer) (given : Result (Option Answer) F) → r ≡ (if nat_eq i j then o else None) → i ≡ j → IfSome r (λ a. given ≡ Ok (Some a)) → IfSome o (λ a. given ≡ Ok (Some a))
-filed_first i j None r given filed here at = tt
-filed_first {F} i j (Some a) r given filed here at =
-    let own : r ≡ Some a = filed ∙ ap (λ (b : Bool). if b then Some a else None) (eq-eqb i j here) in
-    subst (λ (x : Option Answer). IfSome x (λ (y : Answer). given ≡ Ok (Some y))) own at
-
 -- ---- Other calls
 
 pub stands_watched : (setup : Setup) (seen told : List LogStep) (taken : List ℕ) (place : ℕ) (waker : Waker) (s t : State) (b : Bool) → Stands setup (held seen told taken s) → (b ≡ true → Watched place waker s t) → (b ≡ false → t ≡ s) → IsSound t → Stands setup (held seen told taken t)
@@ -129,10 +122,6 @@ stands_watched setup seen told taken place waker s t true h own other sound =
       holds = subst (λ (i : ℕ). Refines setup (list_of seen) taken i t.place t) (sym w.index) (subst (λ (n : ℕ). Refines setup (list_of seen) taken s.index n t) (sym w.place) on);
     }
 stands_watched setup seen told taken place waker s t false h own other sound = subst (λ (u : State). Stands setup (held seen told taken u)) (sym (other refl)) h
-
-pub watched_index : (place : ℕ) (waker : Waker) (s t : State) (b : Bool) → (b ≡ true → Watched place waker s t) → (b ≡ false → t ≡ s) → t.index ≡ s.index
-watched_index place waker s t true own other = (own refl).index
-watched_index place waker s t false own other = ap (λ (u : State). u.index) (other refl)
 
 pub stands_swept : (setup : Setup) (seen told : List LogStep) (taken : List ℕ) (before : ℕ) (s t : State) → Stands setup (held seen told taken s) → Swept before s t → IsSound t → Stands setup (held seen told (taken ++ swept_places before s) t)
 stands_swept setup seen told taken before s t h w sound =
@@ -153,14 +142,6 @@ stands_shut setup seen told taken s t h w sound =
     }
 
 -- ---- The shard's index
-
-pub applied_index : {X Y : Type 0} (s t : State) (e : Entry) (r : Result X Y) → OnOk r (Applied s e t) → OnErr r (IsAsBefore s t) → t.index ≡ s.index
-applied_index s t e (Ok x) done refused = done.index
-applied_index s t e (Err x) done refused = refused.index
-
-pub untaken_index : (place : ℕ) (s t : State) (b : Bool) → (b ≡ true → Took place s t) → (b ≡ false → t ≡ s) → t.index ≡ s.index
-untaken_index place s t true took same = (took refl).index_is
-untaken_index place s t false took same = ap (λ (u : State). u.index) (same refl)
 
 -- ---- The fields of a shard state
 

@@ -5,6 +5,7 @@ pub mod Lists
 pub mod Places
 pub mod Posts
 pub mod Records
+pub mod Surveys
 pub mod Waking
 pub mod Walks
 pub mod Watches

@@ -1,16 +1,8 @@
 -- The lowest position of the shards, and a window that was trimmed there.
-use Rattle.std.proofs.Common.{ℕ, suc, ◌≡◌, ◌+◌, ◌≤◌, List, [], ◌∷◌, ◌++◌, length, drop, nat_le, cond, slice_index_or, Bool, true, false, refl, ap, subst, arith}
-use Rattle.std.specs.List.{All}
-use Rattle.std.proofs.lemmas.List.Elements.{All-push}
+use Rattle.std.proofs.Common.{ℕ, suc, ◌≡◌, ◌+◌, List, [], ◌∷◌, length, drop, nat_le, cond, slice_index_or, Bool, true, false, refl, ap, subst, arith}
 use Rattle.bx_window.specs.Steps.{below, firsts_of, list_of}
 use Rattle.bx_window.specs.declared.law.LogStep.{LogStep}
 use Rattle.bx_hub.specs.Posts.{IsUntrimmable}
-
-pub all_lower : (low place : ℕ) (ps : List ℕ) → place ≤ low → All (λ q. low ≤ q) ps → All (λ q. place ≤ q) (ps ++ place ∷ [])
-all_lower low place ps lower h = All-push (λ q. place ≤ q) ps place (λ k d lt. let a = h k d lt in omega (arith, a, lower)) (omega arith)
-
-pub all_kept : (low place : ℕ) (ps : List ℕ) → low ≤ place → All (λ q. low ≤ q) ps → All (λ q. low ≤ q) (ps ++ place ∷ [])
-all_kept low place ps higher h = All-push (λ q. low ≤ q) ps place h higher
 
 below_dropped : (n end : ℕ) (fs : List ℕ) → below n end (drop (below n end fs) fs) ≡ 0
 below_dropped n end [] = refl

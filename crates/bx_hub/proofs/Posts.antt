@@ -1,6 +1,6 @@
 -- What a request or a tick adds to the front of a pass, and why it is not admitted.
-use Rattle.std.proofs.Common.{◌≡◌, ℕ, ◌+◌, ◌<◌, ◌≤◌, Option, None, List, [], ◌∷◌, ◌++◌, length, take, drop, refl, sym, ap, ◌∙◌, subst, arith, inl, inr, length-append}
-use Rattle.std.specs.Prelude.{Result, Ok, Err, IfOk, IfErr, IfSome, IsErrAnd, IsOkUnless, OnOk, OnErr}
+use Rattle.std.proofs.Common.{◌≡◌, ℕ, ◌+◌, ◌<◌, ◌≤◌, Option, None, List, [], ◌∷◌, ◌++◌, length, take, drop, refl, sym, ap, ◌∙◌, subst, arith, inr, length-append}
+use Rattle.std.specs.Prelude.{Result, Ok, Err, IfOk, IfErr, IfSome, IsOkUnless, OnOk, OnErr}
 use Rattle.std.proofs.lemmas.{Grind.common_steps, List.drop_at}
 use mathlib.Core.List.{IsPrefix}
 use Rattle.bx_registry.specs.Standings.{Continues, Standing}
@@ -13,8 +13,7 @@ use Rattle.bx_entry.specs.Listing as messages
 use Rattle.bx_advice.specs.Limits.{greatest_length}
 use Rattle.bx_advice.specs.declared.config.Config.{Config}
 use Rattle.bx_entry.specs.Inputs.{Tick}
-use Rattle.bx_entry.specs.Words.{IsFault, IsUnread, ReadInput, added_by, read_by, refusal_of, Listed, entries}
-use Rattle.bx_message.specs.declared.message.Message.{Message}
+use Rattle.bx_entry.specs.Words.{IsFault, ReadInput, added_by, refusal_of, Listed, entries}
 use Rattle.bx_entry.specs.declared.input.Input.{Input}
 use Rattle.bx_entry.specs.declared.entry.Entry.{Entry}
 use Rattle.bx_theory.proofs.Lists.{entries_length}
@@ -26,13 +25,12 @@ use Rattle.bx_window.specs.Places as places
 use Rattle.bx_window.specs.Steps.{list_of, setup_of}
 use Rattle.bx_window.specs.declared.law.LogStep.{LogStep}
 use Rattle.bx_hub.specs.Faults.{of_admission}
-use Rattle.bx_hub.specs.Posts.{AreSlotsAt, IsAdmittedAt, IsFullFor, IsReadable, IsRefused, IsUnpublished, IsWhole, IsWithoutRoom, WasFullFor}
+use Rattle.bx_hub.specs.Posts.{AreSlotsAt, IsAdmittedAt, IsReadable, IsRefused, IsUnpublished, IsWhole}
 use Rattle.bx_hub.specs.Submissions.{input_of}
 use Rattle.bx_hub.specs.declared.submission.Submission.{Submission}
 use Rattle.bx_hub.specs.declared.submission.Submission.TheVariants as submission
 use Rattle.bx_hub.specs.declared.fault.PostFault.{PostFault}
-use Rattle.bx_hub.specs.declared.fault.PostFault.TheVariants.{Refused, Closed, Behind, Overrun, WrongShard, Memory}
-use Rattle.bx_window.proofs.Fronts.{prefix_self, prefix_trans}
+use Rattle.bx_hub.specs.declared.fault.PostFault.TheVariants.{Refused, Closed, Behind, Memory}
 use Rattle.bx_hub.proofs.Lists.{list_length}
 
 -- ---- Planned batches
@@ -112,16 +110,6 @@ fault_planned refusal (Err f) some memory = fault_told refusal (Err f) f refl so
 
 -- ---- Faults
 
-pub refused_by : (input : ReadInput) (f : AdmitFault) (front : List LogStep) → IsFault (refusal_of (length (list_of front)) input) f → IsRefused input (of_admission f) front
-refused_by input (admissions.Refused refusals.Ended) front is = inl is
-refused_by input (admissions.Refused _) front is = is
-refused_by input admissions.Memory front is = tt
-
-pub unread_by : (moment nonce : ℕ) (messages : Result (List Message) Refusal) (f : AdmitFault) (front : List LogStep) → IsUnread messages f → IsRefused (read_by moment nonce messages) (of_admission f) front
-unread_by moment nonce messages (admissions.Refused refusal) front is =
-    refused_by (read_by moment nonce messages) (admissions.Refused refusal) front (ap (λ (r : Result (List Message) Refusal). refusal_of (length (list_of front)) (read_by moment nonce r)) is)
-unread_by moment nonce messages admissions.Memory front is = tt
-
 pub whole_planned : (f : AdmitFault) (front log : List LogStep) → IsWhole (of_admission f) front log
 whole_planned (admissions.Refused refusal) front log = tt
 whole_planned admissions.Memory front log = tt
@@ -133,29 +121,12 @@ unpublished input (Behind first) front allowed some u = record { allowed = allow
 unpublished input Memory front allowed some u = tt
 unpublished input _ front allowed some u = absurd u
 
-pub err_refused : {T : Type 0} (input : ReadInput) (f : PostFault) (front : List LogStep) (r : Result T PostFault) → IsErrAnd r (λ e. e ≡ f) → IsRefused input f front → IfErr r (λ e. IsRefused input e front)
-err_refused input f front (Ok x) is refused = absurd is
-err_refused input f front (Err e) is refused = subst (λ (g : PostFault). IsRefused input g front) (sym is) refused
-
 pub unpublished_result : {T : Type 0} {W : Type 0} (input : ReadInput) (list : List Listed) (writer unchanged : W) (whole new : List LogStep) (r : Result T PostFault) → refusal_of (length list) input ≡ None → list ≡ list_of whole → 0 < length (added_by input) →
     OnErr r ((unchanged ≡ writer) × (new ≡ whole)) → IfErr r (λ e. IsUnpublished e new) → IfErr r (λ e. IsRefused input e new)
 unpublished_result input list writer unchanged whole new (Ok x) allowed is some same u = tt
 unpublished_result input list writer unchanged whole new (Err e) allowed is some same u =
     let there : list ≡ list_of new = is ∙ ap list_of (sym (same.1)) in
     unpublished input e new (subst (λ (xs : List Listed). refusal_of (length xs) input ≡ None) there allowed) some u
-
-pub without_room : (input : ReadInput) (f : PostFault) (before front : List LogStep) → IsPrefix before front → WasFullFor input before → IsWithoutRoom f front → IsRefused input f front
-without_room input (Overrun shard place) before front p was o =
-    (record { before = was.before; first = was.first; begins = prefix_trans was.before before front was.begins p; full = was.full }, o)
-without_room input (WrongShard shard found) before front p was o =
-    (record { before = was.before; first = was.first; begins = prefix_trans was.before before front was.begins p; full = was.full }, o)
-without_room input Memory before front p was o = tt
-without_room input _ before front p was o = absurd o
-
-pub was_full : {T : Type 0} (input : ReadInput) (first : ℕ) (front : List LogStep) (r : Result T PostFault) → r ≡ Err (Behind first) → IfErr r (λ e. IsRefused input e front) → WasFullFor input front
-was_full {T} input first front r is refused =
-    let full : IsFullFor input first front = subst (λ (x : Result T PostFault). IfErr x (λ e. IsRefused input e front)) is refused in
-    record { before = front; first = first; begins = prefix_self front; full = full }
 
 pub input_readable : (s : Submission) → IsReadable (input_of s)
 input_readable (submission.Request r) = tt

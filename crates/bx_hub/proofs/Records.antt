@@ -1,12 +1,12 @@
 -- What is recorded of an input results in exactly what the input adds to the list.
-use Rattle.std.proofs.Common.{◌≡◌, List, [], ◌∷◌, ◌++◌, Ok, length, refl, ap, sym, ◌∙◌, arith, append_assoc, append-nil}
+use Rattle.std.proofs.Common.{◌≡◌, List, [], ◌∷◌, ◌++◌, length, refl, ap, sym, ◌∙◌, arith, append_assoc}
 use Rattle.std.specs.List.{AllByRecursion}
 use Rattle.bx_message.specs.declared.message.Message.{Message}
 use Rattle.bx_entry.specs.declared.input.{Arrival.Arrival, Input.Input}
 use Rattle.bx_entry.specs.declared.input.Input.TheVariants.{Post}
 use Rattle.bx_entry.specs.Inputs.{added_by}
 use Rattle.bx_entry.specs.Listing.{request}
-use Rattle.bx_entry.specs.Requests.{arrival_messages, read_by, read_input}
+use Rattle.bx_entry.specs.Requests.{read_input}
 use Rattle.bx_record.specs.Laws.{CanRecord}
 use Rattle.bx_hub.specs.Submissions.{input_of}
 use Rattle.bx_hub.specs.Records.{inputs_by, list_by, where_any}
@@ -20,14 +20,6 @@ all_recordable (x ∷ xs) input all one = (all.0, all_recordable xs input all.1 
 pub list_by-append : (xs ys : List Input) → list_by (xs ++ ys) ≡ list_by xs ++ list_by ys
 list_by-append [] ys = refl
 list_by-append (x ∷ xs) ys = ap (λ l. added_by (read_input x) ++ l) (list_by-append xs ys) ∙ sym (append_assoc (added_by (read_input x)) (list_by xs) (list_by ys))
-
-by_any : (a : Arrival) (ms : List Message) → arrival_messages a ≡ Ok ms → list_by (where_any ms (Post a)) ≡ request a.moment a.nonce ms
-by_any a [] is = refl
-by_any a (m ∷ ms) is = append-nil (added_by (read_input (Post a))) ∙ ap (λ r. added_by (read_by a.moment a.nonce r)) is
-
-pub list_by_one : (wanted : Submission) → list_by (inputs_by wanted) ≡ added_by (input_of wanted)
-list_by_one (submission.Request r) = by_any r.arrival r.messages.items r.read
-list_by_one (submission.Tick tick) = refl
 
 no_request : (a : Arrival) (ms : List Message) → request a.moment a.nonce ms ≡ [] → where_any ms (Post a) ≡ []
 no_request a [] is = refl

@@ -1,5 +1,5 @@
 -- The result of registering a waker is true of the connect afterwards.
-use Rattle.std.proofs.Common.{ℕ, ◌≡◌, Bool, true, false, nat_eq, if◌then◌else◌, Option, Some, None, refl, sym, ◌∙◌, ap, subst}
+use Rattle.std.proofs.Common.{ℕ, ◌≡◌, Bool, true, false, if◌then◌else◌, Option, Some, None, refl, sym, ◌∙◌, ap, subst}
 use Rattle.std.proofs.lemmas.Bool.{eq-eqb}
 use Rattle.bx_connects.specs.Words.{watched, with_waker}
 use Rattle.bx_connects.specs.declared.{connects.ConnectState.ConnectState, watch.Watch.Watch}
@@ -7,9 +7,6 @@ use Rattle.bx_connects.specs.declared.connects.ConnectState.TheVariants.{Held, F
 use Rattle.bx_shard.specs.States.{State, Watched, connect_in}
 use Rattle.bx_hub.specs.Watches.{HoldsOf, IsBack}
 use Rattle.futures.specs.declared.task.waker.Waker.{Waker}
-
-pub own_ticket : (shard index : ℕ) → shard ≡ index → nat_eq shard index ≡ true
-own_ticket shard index same = eq-eqb shard index same
 
 holds : (shut : Bool) (waker : Waker) (c : Option ConnectState)
     → HoldsOf shut waker (with_waker shut waker c) (watched shut waker c)

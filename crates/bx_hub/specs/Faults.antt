@@ -2,7 +2,7 @@
 use Rattle.std.specs.Prelude.{ℕ, ◌≡◌, ◌≢◌, ◌+◌, ◌<◌, List, codes}
 use Rattle.bx_entry.specs.declared.input.AdmitFault.{AdmitFault}
 use Rattle.bx_entry.specs.declared.input.AdmitFault.TheVariants as admissions
-use Rattle.bx_entry.specs.Refusals.{refusal_name, refusal_status}
+use Rattle.bx_entry.specs.Refusals.{refusal_reason, refusal_status}
 use Rattle.bx_message.specs.declared.status.Status.{Status}
 use Rattle.bx_message.specs.declared.status.Status.TheVariants as statuses
 use Rattle.bx_window.specs.declared.law.LogStep.{LogStep}
@@ -18,14 +18,14 @@ abbrev pub of_admission : AdmitFault → PostFault
 of_admission (admissions.Refused refusal) = Refused refusal
 of_admission admissions.Memory = Memory
 
--- The name of a fault of a post: that of its refusal, or its own.
-abbrev pub fault_name : PostFault → List ℕ
-fault_name (Refused refusal) = refusal_name refusal
-fault_name faults.Closed = codes "closed"
-fault_name (Behind first) = codes "behind"
-fault_name (Overrun shard place) = codes "overrun"
-fault_name (WrongShard shard found) = codes "misplaced"
-fault_name Memory = codes "memory"
+-- The reason of a fault of a post in words: that of its refusal, or its own.
+abbrev pub fault_reason : PostFault → List ℕ
+fault_reason (Refused refusal) = refusal_reason refusal
+fault_reason faults.Closed = codes "the server is shutting down"
+fault_reason (Behind first) = codes "the window is full because a shard lags"
+fault_reason (Overrun shard place) = codes "internal error: the window lacks entries that a shard needs"
+fault_reason (WrongShard shard found) = codes "internal error: the lock of a shard guards another shard"
+fault_reason Memory = codes "out of memory"
 
 -- The HTTP status of a request that was not admitted: that of its refusal, or 503 for other faults.
 abbrev pub fault_status : PostFault → Status

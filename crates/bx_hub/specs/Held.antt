@@ -4,7 +4,7 @@ use mathlib.Core.List.{IsPrefix}
 use Rattle.bx_advice.specs.declared.config.Config.{Config}
 use Rattle.bx_entry.specs.Answers.{answer}
 use Rattle.bx_message.specs.declared.reply.Answer.{Answer}
-use Rattle.bx_shard.specs.Words.{Refines, given_of, Setup, state, State, connect_in}
+use Rattle.bx_shard.specs.Words.{Refines, given_of, Setup, state, State}
 use Rattle.bx_entry.specs.declared.Placing as Placing
 use Rattle.bx_entry.specs.declared.entry.Ticket.{Ticket}
 use Rattle.bx_window.specs.declared.law.LogId as LogId
@@ -46,8 +46,8 @@ abbrev pub answer_over : Config → List LogStep → ℕ → Option Answer
 answer_over config log place = option_map given_of (answer config (list_of log) place)
 
 module _ {L : Type 0} where
-  -- `evidence` is for `ticket`. The ticket's shard had applied all entries of `front`, and had no
-  -- answer filed under the ticket.
+  -- `evidence` is for `ticket`. The ticket's shard was active, had applied all entries of `front`,
+  -- and had no answer filed under the ticket.
   pub record IsUnfiledAt (ticket : Ticket) (front : List LogStep) (evidence : Unfiled L) : Type 0 where
     pub ticket_is : evidence.ticket.value ≡ ticket
     pub front_is : evidence.front.value ≡ front

@@ -1,7 +1,7 @@
 //! Results of posts and ticks, and the faults of the hub.
 ghost use Rattle.std.specs.Prelude.{◌≡◌, ◌+◌, ◌<◌, ◌^◌};
 ghost use Rattle.bx_hub.specs.declared.fault.PostFault.TheVariants as faults;
-ghost use Rattle.bx_hub.specs.Faults.{count_of, fault_name, fault_status, of_admission, one_more};
+ghost use Rattle.bx_hub.specs.Faults.{count_of, fault_reason, fault_status, of_admission, one_more};
 
 use crate::walk::AdvanceReport;
 use bx_entry::{AdmitFault, Refusal, Slot};
@@ -117,19 +117,21 @@ pub enum PostFault {
 }
 
 impl PostFault {
-    /// Returns the name under which requests that are not admitted for this reason are counted.
+    /// Returns the reason in words, such as "the server is shutting down".
     ///
     /// Policy of this server.
-    pub fn name(self) -> &'static str
-        ensures { result.now ≡ fault_name self }
+    pub fn reason(self) -> &'static str
+        ensures { result.now ≡ fault_reason self }
     {
         match self {
-            PostFault::Refused(refusal) => refusal.name(),
-            PostFault::Closed => "closed",
-            PostFault::Behind { .. } => "behind",
-            PostFault::Overrun { .. } => "overrun",
-            PostFault::WrongShard { .. } => "misplaced",
-            PostFault::Memory => "memory",
+            PostFault::Refused(refusal) => refusal.reason(),
+            PostFault::Closed => "the server is shutting down",
+            PostFault::Behind { .. } => "the window is full because a shard lags",
+            PostFault::Overrun { .. } =>
+                "internal error: the window lacks entries that a shard needs",
+            PostFault::WrongShard { .. } =>
+                "internal error: the lock of a shard guards another shard",
+            PostFault::Memory => "out of memory",
         }
     }
 

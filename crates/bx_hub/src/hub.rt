@@ -24,7 +24,7 @@ use bx_connects::Watch;
 use bx_entry::{Admitted, Arrival, Ticket};
 use bx_message::Answer;
 use bx_record::{RecordFault, TakenText};
-use bx_shard::Wakers;
+use bx_shard::{SessionSurvey, Wakers};
 use bx_window::{EmptyWindow, Front, log_pair};
 use futures::task::Waker;
 use std::alloc::{AllocError, Global};
@@ -67,7 +67,7 @@ impl<L: HubKind, R: Wait + Drop> Hub<L, R> {
     ghost use Rattle.bx_hub.specs.Submissions.{input_of};
     ghost use Rattle.bx_hub.specs.Records.{EndsIn, inputs_by, inputs_from};
     ghost use Rattle.bx_hub.specs.Posts.{AreSlotsAt, IsAdmittedAt, IsRefused, IsTrimmedTo, IsWithoutRoom};
-    ghost use Rattle.bx_hub.specs.Surveys.{survey_of};
+    ghost use Rattle.bx_hub.specs.Surveys.{IsSessionOf, survey_of};
     ghost use Rattle.bx_hub.specs.Waking.{put_of};
     ghost use Rattle.bx_hub.specs.Changes.{AreAllChanged, IsChanged};
     ghost use Rattle.bx_connects.specs.declared.watch.Watch.TheVariants as watches;
@@ -448,9 +448,9 @@ impl<L: HubKind, R: Wait + Drop> Hub<L, R> {
     /// `None` if there is still no answer, or if `ticket` names no shard. A filed answer can be
     /// taken even after [`close`](Self::close).
     ///
-    /// With `None`, the second value is evidence that the shard had no answer under `ticket` when
-    /// it had applied all that `pass` has seen. The second value is `None` with an answer or an
-    /// error, and if `ticket` names no shard.
+    /// With `None`, the second value is evidence that the shard was active and had no answer under
+    /// `ticket` when it had applied all that `pass` has seen. The second value is `None` with an
+    /// answer or an error, and if `ticket` names no shard.
     ///
     /// # Errors
     ///
@@ -583,6 +583,39 @@ impl<L: HubKind, R: Wait + Drop> Hub<L, R> {
     {
         let shard_state = self.shards.get(shard)?;
         Some(shard_state.lock(rt).survey())
+    }
+
+    /// Returns what an operator sees of a session of a shard.
+    ///
+    /// Returns `None` if the shard does not exist, or has no session at `index`.
+    ///
+    /// `index`: counted from 0, in no particular order. If a session is opened or closed, the
+    /// indexes of others may change.
+    ///
+    /// # Errors
+    ///
+    /// `AllocError` if memory runs out for the session's patterns.
+    ///
+    /// # Blocking
+    ///
+    /// Locks the shard, while the session's patterns are cloned.
+    pub fn survey_session<W: Wait>(
+        &self,
+        rt: &W,
+        alloc: Global,
+        shard: usize,
+        index: usize,
+    ) -> Result<Option<SessionSurvey>, AllocError>
+        ensures shown { IfOk result (λ survey. IfSome survey (IsSessionOf (setup_of L.config L.placing) shard index)) }
+        ensures unknown { L.config.shards ≤ shard → result ≡ Ok None }
+    {
+        if shard >= self.shards.len() {
+            return Ok(None);
+        }
+        match self.lock_shard(rt, shard) {
+            Ok(shard_state) => shard_state.survey_session(alloc, index),
+            Err(_) => Ok(None),
+        }
     }
 
     /// Starts to record what is appended to the list, which must be empty.

@@ -16,7 +16,7 @@ mod survey;
 mod walk;
 
 pub use bx_connects::Watch;
-pub use bx_shard::{Gate, OpenGate};
+pub use bx_shard::{Gate, OpenGate, SessionSurvey};
 pub use fault::{HubFault, Lagging, PostFault, PostReceipt, TickReceipt};
 pub use hub::{Hub, Pass};
 pub use kind::{HubKind, Kind};

@@ -8,6 +8,8 @@ ghost use Rattle.bx_connects.specs.Waking.{AreWoken, waker_of};
 ghost use Rattle.bx_shard.specs.Refining.{Refines};
 ghost use Rattle.bx_shard.specs.Props.{holds_props};
 ghost use Rattle.bx_shard.specs.Seen.{state};
+ghost use Rattle.bx_shard.specs.Surveys.{IsSurveyAt};
+ghost use Rattle.bx_entry.specs.Keeping.{Kept};
 ghost use Rattle.bx_shard.specs.States.{Swept, WasShut, Watched, connect_in};
 ghost use Rattle.bx_window.specs.Places.{IsOf, StandsIn};
 ghost use Rattle.bx_window.specs.Steps.{list_of, setup_of};
@@ -25,13 +27,13 @@ use bx_connects::Watch;
 use bx_entry::{Batch, Placing, Ticket};
 use bx_history::{History, Lists};
 use bx_message::Answer;
-use bx_shard::{Gate, Shard, Wakers};
+use bx_shard::{Gate, SessionSurvey, Shard, Wakers};
 use bx_window::{Front, LogId, LogReader, Next, entry_of};
 use evidence::listed;
 pub(crate) use evidence::{AddedWakers, ShardAdvance, ShardPosition};
 pub use evidence::{ChangeEvidence, NoAnswer, ShardChange, Unfiled, WatchEvidence};
 use futures::task::Waker;
-use std::alloc::Global;
+use std::alloc::{AllocError, Global};
 use std::snapshot::Snapshot;
 use std::sync::Arc;
 
@@ -57,6 +59,7 @@ pub(crate) struct ShardState<L: LogId, P: Placing> {
 impl<L: LogId, P: Placing> ShardState<L, P> {
     ghost use Rattle.bx_hub.specs.Held.{IsUnfiledAt, Stands, answer_over, held_of, taken_by};
     ghost use Rattle.bx_hub.specs.Changes.{MakesOf, activity_after};
+    ghost use Rattle.bx_hub.specs.Surveys.{IsSessionOf};
     ghost use Rattle.bx_hub.specs.Watches.{IsBack, IsSaid};
     ghost use Rattle.bx_hub.specs.Lags.{IsLagging, IsOverrunIn};
     ghost use Rattle.bx_hub.specs.Posts.{IsWithoutRoom};
@@ -354,9 +357,10 @@ impl<L: LogId, P: Placing> ShardState<L, P> {
     }
 
     // Takes the answer filed under `ticket`, a ticket of this shard. Returns evidence if there is
-    // none. The shard must have applied all of the longest front learned.
+    // none. The shard must be active, and have applied all of the longest front learned.
     fn take_level(&mut self, ticket: Ticket) -> (Option<Answer>, Option<Unfiled<L>>)
         requires own { ticket.shard ≡ self.old.shard.index }
+        requires active { self.old.activity ≡ Active }
         requires level { self.old.shard.place ≡ length (list_of self.old.prefix) }
         ensures answer { IfSome result.0 (λ a. answer_over L.config self.old.prefix ticket.place ≡ Some a) }
         ensures none { IfNone result.0 (IsSomeAnd result.1 (IsUnfiledAt ticket self.old.prefix)) }
@@ -514,6 +518,25 @@ impl<L: LogId, P: Placing> ShardState<L, P> {
             held: connects.held_places().len(),
             filed: connects.filed_places().len(),
         }
+    }
+
+    /// Returns what an operator sees of the shard's session at `index`, or `None` if there is none.
+    ///
+    /// `index`: counted from 0, in no particular order.
+    ///
+    /// # Errors
+    ///
+    /// `AllocError` if memory runs out for the patterns.
+    pub(crate) fn survey_session(
+        &self,
+        alloc: Global,
+        index: usize,
+    ) -> Result<Option<SessionSurvey>, AllocError>
+        ensures shown { IfOk result (λ survey. IfSome survey (λ shown. (k : Kept) × IsSurveyAt self.now.shard.sessions index k shown)) }
+        ensures none { IfOk result (λ survey. IfNone survey (length self.now.shard.sessions.by_number.entries ≤ index)) }
+        ensures session { IfOk result (λ survey. IfSome survey (IsSessionOf (setup_of L.config L.placing) self.now.shard.index index)) }
+    {
+        self.shard.sessions().survey(alloc, index)
     }
 
     // Pauses the shard, if it is active.

@@ -1,5 +1,6 @@
 //! A hub under test, its caller's pass, and two waiting tasks that its gate inspects.
 use crate::same::same;
+use crate::steps::Shown;
 use bx_calls::texts::{CONNECT, CONNECT_THIRD, HANDSHAKE, PING, SUBSCRIBE, SUBSCRIBE_THIRD};
 use bx_calls::{Refused, Task, Tasks, is_of, long_ping, post, publish, waker_of};
 use bx_entry::{Arrival, ByTable, Ticket};
@@ -187,6 +188,49 @@ impl<L: HubKind, H: Wait + Drop> Bench<L, H> {
             let ping = long_ping(self.alloc, length)?;
             let posted = self.post(rt, ping, PING);
             same(rt, posted, Ok((place, behind(paused))), place);
+        }
+        Ok(())
+    }
+
+    /// Checks what is seen of the session at `index` of the first session's shard.
+    ///
+    /// `wanted`: what must be seen of the first session. `None`: the shard must have no session at
+    /// the index.
+    ///
+    /// # Errors
+    ///
+    /// [`Fail`] if memory runs out.
+    pub fn sees<R: Wait + Abort>(
+        &self,
+        rt: &R,
+        index: usize,
+        wanted: Option<Shown>,
+    ) -> Result<(), Fail> {
+        let shown = self
+            .hub
+            .survey_session(rt, self.alloc, self.waiting.home, index)?;
+        same(rt, shown.is_some(), wanted.is_some(), index);
+        if let (Some(shown), Some(wanted)) = (shown, wanted) {
+            same(rt, (shown.number, shown.opened), (1, wanted.opened), index);
+            let flags = (shown.ack, shown.has_overflowed, shown.is_held);
+            same(
+                rt,
+                flags,
+                (wanted.ack, wanted.has_overflowed, wanted.is_held),
+                index,
+            );
+            let queue = (shown.events, shown.bytes, shown.outstanding, shown.batch);
+            let wanted_queue = (
+                wanted.events,
+                wanted.bytes,
+                wanted.outstanding,
+                wanted.batch,
+            );
+            same(rt, queue, wanted_queue, index);
+            same(rt, shown.patterns.len(), wanted.patterns.len(), index);
+            for (pattern, text) in shown.patterns.iter().zip(wanted.patterns) {
+                assert!(rt; pattern.as_str() == *text);
+            }
         }
         Ok(())
     }

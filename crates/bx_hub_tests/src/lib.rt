@@ -16,6 +16,8 @@ mod recorded;
 #[cfg(test)]
 mod same;
 #[cfg(test)]
+mod sessions;
+#[cfg(test)]
 mod steps;
 #[cfg(test)]
 mod tests;

@@ -22,6 +22,22 @@ use std::test::*;
 /// A moment above the greatest that a tick may have.
 pub const LATE: u64 = (1 << 62) + 1;
 
+/// What an operator must see of session 1, the first one.
+#[derive(Clone, Copy, Debug)]
+pub struct Shown {
+    /// The moment at which the session was opened.
+    pub opened: u64,
+    pub ack: bool,
+    pub has_overflowed: bool,
+    pub is_held: bool,
+    /// The texts of its patterns.
+    pub patterns: &'static [&'static str],
+    pub events: usize,
+    pub bytes: usize,
+    pub outstanding: usize,
+    pub batch: u64,
+}
+
 /// A step of a run. `Finds`, `Wait` and `Watch` name places in the first session's shard.
 #[derive(Clone, Copy, Debug)]
 pub enum Step {
@@ -73,6 +89,9 @@ pub enum Step {
     /// Checks the first session's shard. Fields: the numbers of entries that it has applied, of
     /// held connects, and of filed answers.
     Stands(u64, usize, usize),
+    /// Checks a session of the first session's shard. Fields: its index, and what is seen of the
+    /// first session, or `None` if the shard has no session at the index.
+    Session(usize, Option<Shown>),
     /// Sweeps the answers filed by entries before a place. Fields: the place, and how many are
     /// dropped.
     Sweep(u64, usize),
@@ -187,12 +206,15 @@ fn look<L: HubKind, H: Wait + Drop, R: Wait + Abort>(
         Step::NoShard(index) => {
             same(rt, hub.pause(rt, index).is_some(), false, step);
             same(rt, hub.survey_shard(rt, index), None, step);
+            let shown = hub.survey_session(rt, alloc, index, 0)?;
+            same(rt, shown.is_some(), false, step);
             same(rt, hub.resume(rt, index).is_some(), false, step);
         }
         Step::Stands(place, held, filed) => {
             let stood = ShardSurvey { place, held, filed };
             same(rt, hub.survey_shard(rt, waiting.home), Some(stood), step);
         }
+        Step::Session(index, wanted) => bench.sees(rt, index, wanted)?,
         Step::Woken(task, wanted) => {
             same(rt, waiting.tasks.task(task).is_woken(), wanted, step);
             let under_lock = waiting.woken_under_lock.load(Ordering::SeqCst);

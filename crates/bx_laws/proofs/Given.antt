@@ -4,8 +4,7 @@ use Rattle.bx_advice.specs.declared.config.Config.{Config}
 use Rattle.bx_message.specs.declared.{event.Event.Event, message_kind.MessageKind.MessageKind}
 use Rattle.bx_message.specs.MessageKinds.{message_kind_of}
 use Rattle.bx_entry.specs.Words.{Listed, Post, Posted, Registry, Registered, Judged, PlaceSlot, Ready, Waiting, NoSlot, event_of, kind_for, hold_of, registry, entries_of, sessionless_kind, PlacedAnswer, answer_of, events_of, answer_by, answer_at}
-use Rattle.bx_entry.specs.declared.entry.{Entry.Entry, EntryKind.EntryKind}
-use Rattle.bx_entry.specs.declared.entry.EntryKind.TheVariants.{Publish}
+use Rattle.bx_entry.specs.declared.{entry.Entry.Entry, entry.EntryKind.EntryKind, entry.EntryKind.TheVariants.Publish}
 use Rattle.bx_entry.specs.Sessions.{Publication, Filed, session, unopened}
 use Rattle.bx_theory.proofs.Verdicts.{EntryOf, FoundOf, each_verdict, entry_of_place, got_here, judged_length, next_found, verdict_of}
 use Rattle.bx_theory.specs.Laws.{Each, EachOf, Slice}

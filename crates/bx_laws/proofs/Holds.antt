@@ -1,9 +1,7 @@
 -- A held connect stays held until the first entry that ends the hold, which answers it.
 use Rattle.std.proofs.Common.{◌≡◌, ℕ, Bool, true, false, Option, Some, List, [], ◌∷◌, ◌++◌, fold, ◌==◌, refl, sym, ap, ◌∙◌, subst, append_assoc, arith}
 use Rattle.std.proofs.lemmas.{Bool.cond-true, Grind.common_steps}
-use Rattle.bx_advice.specs.declared.{config.Config.Config, advice.Outcome.Outcome}
-use Rattle.bx_advice.specs.declared.advice.Outcome.TheVariants.{Failed}
-use Rattle.bx_advice.specs.declared.error.Error.TheVariants.{SupersededConnect}
+use Rattle.bx_advice.specs.declared.{config.Config.Config, advice.Outcome.Outcome, advice.Outcome.TheVariants.Failed, error.Error.TheVariants.SupersededConnect}
 use Rattle.bx_message.specs.Replies.{connect_reply}
 use Rattle.bx_entry.specs.declared.entry.{Entry.Entry, EntryKind.EntryKind, Rider.Rider}
 use Rattle.bx_entry.specs.declared.entry.EntryKind.TheVariants.{Connect}

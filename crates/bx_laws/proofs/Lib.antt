@@ -1,4 +1,3 @@
-pub mod Computed
 pub mod Given
 pub mod Holds
 pub mod ReadBack

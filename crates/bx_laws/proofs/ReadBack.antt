@@ -2,13 +2,10 @@
 use Rattle.std.proofs.Common.{◌≡◌, ℕ, suc, ◌^◌, ◌<◌, ◌≤◌, true, false, List, [], ◌∷◌, ◌++◌, map, codes, decimal, Option, Some, None, option_map, IfSome, refl, subst, arith}
 use Rattle.std.proofs.lemmas.List.{append_assoc}
 use Rattle.json.specs.Json as json
-use Rattle.json.specs.Lex.{lex, punctuate}
-use Rattle.json.specs.Word.{word}
-use Rattle.json.specs.Print.{quoted}
+use Rattle.json.specs.{Lex.lex, Lex.punctuate, Word.word, Print.quoted}
 use Rattle.serde_json.specs.Data.{Data, boolean, string, array, object, no_items, item}
 use Rattle.bx_advice.specs.Errors.{error_text}
-use Rattle.bx_advice.specs.declared.advice.{Advice.Advice, Outcome.Outcome}
-use Rattle.bx_advice.specs.declared.advice.Outcome.TheVariants.{Failed}
+use Rattle.bx_advice.specs.declared.{advice.Advice.Advice, advice.Outcome.Outcome, advice.Outcome.TheVariants.Failed}
 use Rattle.bx_message.specs.declared.{message_kind.MessageKind.MessageKind, reply.AckReply.AckReply}
 use Rattle.bx_message.specs.declared.reply.AckReply.TheVariants.{NoAck, AckTrue, AckNumber}
 use Rattle.bx_message.specs.Texts.{member, raw_member, text_member, number_member, reconnect_text, advice_members, advice_member, ack_member, error_member, success_text, types_member, version_member, reply_members, event_members, item_text}

@@ -2,21 +2,15 @@
 use Rattle.std.proofs.Common.{◌≡◌, ℕ, suc, ◌^◌, ◌<◌, ◌≤◌, Bool, true, false, ◌&&◌, List, [], ◌∷◌, ◌++◌, map, decimal, Some, None, option_map, option_and_then, refl, sym, ap, ◌∙◌, subst, arith}
 use Rattle.std.proofs.lemmas.{List.append-nil, List.append_assoc, List.drop_all, Bool.and_parts}
 use Rattle.std.specs.{List.join_with_byte, List.list_all, List.prefix_len, Ordering.nat_cmp, Ordering.match_ordering, Cmp.Lexicographic.slice_cmp}
-use Rattle.std.specs.declared.cmp.Ordering.{Ordering}
-use Rattle.std.specs.declared.cmp.Ordering.TheVariants.{Greater}
+use Rattle.std.specs.declared.{cmp.Ordering.Ordering, cmp.Ordering.TheVariants.Greater}
 use Rattle.json.specs.Token.{Token, begin_object, end_object, begin_array, end_array, key}
 use Rattle.json.specs.Token as token
-use Rattle.json.specs.Json.{Json}
+use Rattle.json.specs.{Json.Json, Text.content, Text.plain, Word.is_space, Print.quoted, Print.escape}
 use Rattle.json.specs.Json as json
-use Rattle.json.specs.Text.{content, plain}
-use Rattle.json.specs.Word.{is_space}
 use Rattle.json.specs.Lex.{Lexeme, colon, between, in_string, lex, string_token, fresh, after_value, after_comma, begins_colon, place_token, punctuate, tokens}
 use Rattle.json.specs.Lex as lexeme
-use Rattle.json.specs.Print.{quoted, escape}
 use Rattle.json.specs.Tree.{json_tokens, items_tokens, members_tokens, depth, items_depth, members_depth}
-use Rattle.json.proofs.Printed.Strings.{content-escape, lex-escape}
-use Rattle.json.proofs.Printed.Numbers.{lex-number}
-use Rattle.json.proofs.Printed.Decimals.{IsNumber-decimal}
+use Rattle.json.proofs.{Printed.Strings.content-escape, Printed.Strings.lex-escape, Printed.Numbers.lex-number, Printed.Decimals.IsNumber-decimal}
 use Rattle.serde_json.specs.Data.{Data, unsigned, number, string, array, object, Items, no_items, item, Members, no_members, put}
 use Rattle.serde_json.specs.Data as values
 use Rattle.serde_json.specs.Read.{of_json, of_items, of_members}

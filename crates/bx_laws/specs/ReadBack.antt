@@ -2,13 +2,11 @@
 use Rattle.std.specs.Prelude.{◌≡◌, ℕ, suc, ◌^◌, ◌<◌, ◌≤◌, List, [], ◌∷◌, ◌++◌, map, codes, Bool, true, false, Option, Some, None, option_map, option_and_then, IfSome, ⊤}
 use Rattle.std.specs.{List.list_all, Ordering.nat_cmp, Ordering.match_ordering, Cmp.Lexicographic.slice_cmp}
 use Rattle.json.specs.Json as json
-use Rattle.json.specs.Lex.{tokens}
-use Rattle.json.specs.Tree.{json_tokens}
+use Rattle.json.specs.{Lex.tokens, Tree.json_tokens}
 use Rattle.serde_json.specs.Data.{Data, unsigned, boolean, number, string, array, object, Items, no_items, item, Members, no_members, member}
 use Rattle.serde_json.specs.Read.{of_json}
 use Rattle.bx_advice.specs.Errors.{error_text}
-use Rattle.bx_advice.specs.declared.advice.{Advice.Advice, Outcome.Outcome}
-use Rattle.bx_advice.specs.declared.advice.Outcome.TheVariants.{Failed}
+use Rattle.bx_advice.specs.declared.{advice.Advice.Advice, advice.Outcome.Outcome, advice.Outcome.TheVariants.Failed}
 use Rattle.bx_message.specs.declared.{message_kind.MessageKind.MessageKind, event.Event.Event, reply.Reply.Reply, reply.Item.Item, reply.AckReply.AckReply}
 use Rattle.bx_message.specs.declared.reply.AckReply.TheVariants.{NoAck, AckTrue, AckNumber}
 use Rattle.bx_message.specs.Texts.{reconnect_text, reply_text, event_text, item_text, body_text}

@@ -1,20 +1,16 @@
 -- Messages, replies and inputs of the worked runs.
-use Rattle.std.specs.Prelude.{ℕ, replicate, Bool, true, false, List, [], ◌∷◌, ◌++◌, map, codes, Option, Some, None, Ok, Err}
+use Rattle.std.specs.Prelude.{ℕ, replicate, Bool, true, false, List, [], ◌∷◌, ◌++◌, map, codes, Option, Some, None, Ok, Err, Result}
 use Rattle.std.proofs.Common.{lit≤}
 use Rattle.bx_names.specs.Words.{matches, glob_of, segments}
 use Rattle.bx_message.specs.declared.{message.Message.Message, message_kind.MessageKind.MessageKind, reply.Reply.Reply, reply.Item.Item, reply.AckReply.AckReply}
-use Rattle.bx_message.specs.declared.message.TextMember.TheVariants.{Absent, Text}
+use Rattle.bx_message.specs.declared.{message.TextMember.TheVariants.Absent, message.TextMember.TheVariants.Text, reply.Item.TheVariants.EventItem, reply.Item.TheVariants.ReplyItem}
 use Rattle.bx_message.specs.declared.message.AckMember.TheVariants.{NoAck, AckTrue, AckNumber}
-use Rattle.bx_advice.specs.declared.{error.Error.Error, config.Config.Config, advice.Outcome.Outcome}
-use Rattle.bx_advice.specs.declared.error.Error.TheVariants.{UnknownClient}
-use Rattle.bx_advice.specs.Advice.{advice_of}
-use Rattle.bx_advice.specs.Limits.{standard_limits}
+use Rattle.bx_advice.specs.declared.{error.Error.Error, config.Config.Config, advice.Outcome.Outcome, error.Error.TheVariants.UnknownClient}
+use Rattle.bx_advice.specs.{Advice.advice_of, Limits.standard_limits}
 use Rattle.bx_advice.specs.declared.advice.Outcome.TheVariants.{Opened, Connected, Done, Failed}
-use Rattle.bx_message.specs.declared.reply.Item.TheVariants.{EventItem, ReplyItem}
 use Rattle.bx_entry.specs.Words.{client_id, ReadInput, Request, Out, outs}
 use Rattle.bx_entry.specs.declared.input.Refusal.{Refusal}
 use Rattle.bx_message.specs.Texts.{body_text}
-use Rattle.std.specs.Prelude.{Result}
 use Rattle.std.specs.List.{join_with_byte}
 
 -- ---- Messages

@@ -1,21 +1,16 @@
 -- Worked runs: inputs as messages, and the outs that the definitions give for them.
-use Rattle.std.specs.Prelude.{◌≡◌, replicate, flat_map, drop, true, false, [], ◌∷◌, ◌++◌, codes, Some, None, Err}
+use Rattle.std.specs.Prelude.{◌≡◌, replicate, flat_map, drop, true, false, [], ◌∷◌, ◌++◌, codes, Some, None, Err, map}
 use Rattle.bx_names.specs.Faults.{name_fault, pattern_fault}
 use Rattle.bx_names.specs.declared.error.NameError.TheVariants.{NoSlash, EmptySegment, BadByte, Wild, TooLong, TooDeep}
-use Rattle.bx_message.specs.declared.message.TextMember.TheVariants.{Text}
-use Rattle.bx_message.specs.declared.message.AckMember.TheVariants.{NoAck}
-use Rattle.bx_message.specs.declared.{message_kind.MessageKind.MessageKind, reply.AckReply.AckReply}
-use Rattle.bx_advice.specs.declared.error.Error.TheVariants.{UnknownMetaChannel, UnsupportedVersion, SecondHandshake, NoClientId, UnknownClient, InvalidChannel, SubscriptionDenied, MissingSubscription, MissingData, SupersededConnect, QueueOverflow}
+use Rattle.bx_message.specs.declared.{message.TextMember.TheVariants.Text, message.AckMember.TheVariants.NoAck, message_kind.MessageKind.MessageKind, reply.AckReply.AckReply}
+use Rattle.bx_advice.specs.declared.error.Error.TheVariants.{UnknownMetaChannel, UnsupportedVersion, SecondHandshake, NoClientId, UnknownClient, InvalidChannel, SubscriptionDenied, MissingSubscription, MissingData, SupersededConnect, QueueOverflow, UnknownConnectionType, InvalidPattern, TooManyPatterns, TooManySessions}
 use Rattle.bx_advice.specs.declared.advice.Outcome.TheVariants.{Opened, Disconnected, Done, Failed}
 use Rattle.bx_message.specs.declared.reply.Item.TheVariants.{EventItem, ReplyItem}
 use Rattle.bx_entry.specs.Inputs.{Request, Tick}
 use Rattle.bx_entry.specs.declared.input.Refusal.TheVariants.{BadMoment, NotJson}
 use Rattle.bx_entry.specs.Words.{outs, held, Unread}
-use Rattle.bx_advice.specs.declared.error.Error.TheVariants.{UnknownConnectionType, InvalidPattern, TooManyPatterns}
 use Rattle.bx_message.specs.Texts.{callback_text}
 use Rattle.bx_laws.specs.Samples.{ack_connect, blank, id_of, versioned, handshake, ack_handshake, connect, connect_now, ack_connect_now, in_quotes, subscribe, unsubscribe, disconnect, publish, post, standard, reply, handshaken, ack_handshaken, connected_as, connected, ack_connected, subscribed, unsubscribed, disconnected, published, unknown_client, event, out, subscribe_all, subscribed_all, match_all, two_connects, held_with_ack, small, failed, four_batches, full_batch, texts, refused_messages, mixed, mixed_failed, crowded, anonymous, open_to_all, ridden_publishes, ridden_hold, ridden_after, waits_after, riding}
-use Rattle.bx_advice.specs.declared.error.Error.TheVariants.{TooManySessions}
-use Rattle.std.specs.Prelude.{◌++◌, map}
 use Rattle.bx_script.specs.Replay.{lines_of, line_of, Bad, Recorded, Rejected, Accepted, Resharded, Announced, Noted, Script, inputs_from, printed, with_nonces}
 
 -- ---- Names and patterns

@@ -18,7 +18,7 @@ ghost use Rattle.bx_theory.specs.Opens.{OpenIsHeld, OpensGoOn, OutsAdd};
 ghost use Rattle.bx_theory.specs.Sole.{OpenAreSole, OpensAscend};
 ghost use Rattle.bx_entry.specs.Keeping.{KeptSteps, KeptRuns, KeptInBounds};
 ghost use Rattle.bx_theory.specs.Fronts.{AcknowledgedEventsAreNotGivenAgain, AnswersShareNoEvent, RepeatedConnectGetsTheSameBatch};
-ghost use Rattle.bx_laws.specs.Readers.{ReadOnlyRequestPublishesNothing, ReadersPublishNothing};
+ghost use Rattle.bx_laws.specs.Readers.{ReadOnlyRequestPublishesAsAllowed, ReadersPublishAsAllowed};
 ghost use Rattle.bx_laws.specs.ReadBack.{RepliesReadBack, EventsReadBack, BodiesReadBack};
 
 /// Proves that more entries never lower the number of events that a session never sends again.
@@ -226,18 +226,19 @@ pub fn given_was_published()
     ensures { GivenWasPublished }
 {}
 
-/// Proves that a request through the read-only listener publishes nothing, whatever else is listed.
+/// Proves that a request through the read-only listener publishes only as its patterns allow.
 ///
-/// It adds no message to a broadcast channel, and no event to a session.
-pub fn read_only_request_publishes_nothing()
-    ensures { ReadOnlyRequestPublishesNothing }
+/// Whatever else is listed, a pattern matches each broadcast channel to which the request adds a
+/// message, and the channel of each event that it adds. Without patterns, it publishes nothing.
+pub fn read_only_request_publishes_as_allowed()
+    ensures { ReadOnlyRequestPublishesAsAllowed }
 {}
 
-/// Proves that no session has events if all requests come through the read-only listener.
+/// Proves that requests through the read-only listener alone publish only as its patterns allow.
 ///
-/// The list then has no message to a broadcast channel.
-pub fn readers_publish_nothing()
-    ensures { ReadersPublishNothing }
+/// A pattern matches the channel of each event. Without patterns, no session has events.
+pub fn readers_publish_as_allowed()
+    ensures { ReadersPublishAsAllowed }
 {}
 
 /// Proves that the outs of a run begin with the outs of its first inputs.

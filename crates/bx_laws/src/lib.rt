@@ -23,7 +23,7 @@ pub use laws::{
     only_subscriptions_and_publishes_ride, outs_grow, overflowed_if_entry_found_no_room,
     pattern_active_if_last_subscribed, publish_without_client_has_no_session, publishes_are_events,
     queue_and_batch_within_limits, queue_batch_and_counts_agree, queue_bounded,
-    read_only_request_publishes_nothing, readers_publish_nothing,
+    read_only_request_publishes_as_allowed, readers_publish_as_allowed,
     registry_and_entries_agree_on_live, repeated_connect_gets_the_same_batch,
     replay_prints_held_last, replies_read_back, rider_given, rider_sessions_do_not_acknowledge,
     when_a_message_is_a_rider,

@@ -22,6 +22,7 @@ pub fn handshakes()
 {}
 
 /// Proves examples of publishes, and of the events that connects get.
+#[tactic(auto, unfolding(json::specs::Print::escape_byte, bx_entry::specs::Windows::has_room, bx_entry::specs::Windows::bytes_of, bx_message::specs::Events::event_size))]
 pub fn deliveries()
     ensures held_then_given { HeldThenGiven }
     ensures sessionless_publish { SessionlessPublish }
@@ -34,6 +35,7 @@ pub fn deliveries()
 /// Proves examples of requests that have a rider, and of requests that have none.
 ///
 /// A rider is a request's last message, if its reply carries the session's waiting events.
+#[tactic(auto, unfolding(json::specs::Print::escape_byte, bx_entry::specs::Windows::has_room, bx_entry::specs::Windows::bytes_of, bx_message::specs::Events::event_size))]
 pub fn riders()
     ensures events_ride { EventsRide }
     ensures ride_after_hold { RideAfterHold }
@@ -45,6 +47,7 @@ pub fn riders()
 {}
 
 /// Proves examples of batches and their acknowledgements.
+#[tactic(auto, unfolding(json::specs::Print::escape_byte, bx_entry::specs::Windows::has_room, bx_entry::specs::Windows::bytes_of, bx_message::specs::Events::event_size))]
 pub fn acknowledgements()
     ensures no_number { NoNumber }
     ensures batches_repeat { BatchesRepeat }
@@ -54,6 +57,7 @@ pub fn acknowledgements()
 {}
 
 /// Proves examples of held connects, and of what ends a hold.
+#[tactic(auto, unfolding(json::specs::Print::escape_byte, bx_entry::specs::Windows::has_room, bx_entry::specs::Windows::bytes_of, bx_message::specs::Events::event_size))]
 pub fn held_connects()
     ensures hold_runs_out { HoldRunsOut }
     ensures not_sole { NotSole }
@@ -86,6 +90,7 @@ pub fn refusals()
 {}
 
 /// Proves examples of queues and patterns at their limits.
+#[tactic(auto, unfolding(json::specs::Print::escape_byte, bx_entry::specs::Windows::has_room, bx_entry::specs::Windows::bytes_of, bx_message::specs::Events::event_size))]
 pub fn overflows()
     ensures full_queue { FullQueue }
     ensures queue_with_room { QueueWithRoom }

@@ -1,19 +1,15 @@
 -- Objects and arrays that are written piece by piece.
-use Rattle.std.proofs.Common.{◌≡◌, ℕ, ◌+◌, ◌<◌, List, [], ◌∷◌, ◌++◌, length, take, map, get_or, refl, sym, ap, ◌∙◌, arith, append_assoc}
-use Rattle.std.proofs.Common.{cond, Result, Ok, Err, OnOk, is_ok, Bool, true, false, not, ◌||◌, ◌==◌, nat_lt, eq-eqb}
+use Rattle.std.proofs.Common.{◌≡◌, ℕ, ◌+◌, ◌<◌, List, [], ◌∷◌, ◌++◌, length, take, map, get_or, refl, sym, ap, ◌∙◌, arith, append_assoc, cond, Result, Ok, Err, OnOk, is_ok, Bool, true, false, not, ◌||◌, ◌==◌, nat_lt, eq-eqb}
 use Rattle.std.proofs.lemmas.Bool.{true≢false, ltb-false, and_parts}
 use Rattle.std.specs.List.{join_with_byte, list_all}
-use Rattle.json.specs.Run.{is_plain}
-use Rattle.json.specs.Print.{escape, escape_byte}
+use Rattle.json.specs.{Run.is_plain, Token.string}
+use Rattle.json.specs.Print.{escape, escape_byte, print, print_from, quoted}
 use Rattle.json.proofs.Printed.Strings.{escape_byte_plain}
 use Rattle.std.proofs.lemmas.List.{append-nil, take_more, map-append, length-map, length-take-le}
-use Rattle.json.specs.Token.{string}
-use Rattle.json.specs.Print.{print, print_from, quoted}
 use Rattle.bx_message.specs.Objects.{OpenObject, opened, resumed, with_name, with_member, with_members, closed}
 use Rattle.bx_message.specs.Texts.{member, object}
 use Rattle.bx_advice.specs.Errors.{error_text}
-use Rattle.bx_advice.specs.declared.error.Error.{Error}
-use Rattle.bx_advice.specs.declared.error.Error.TheVariants.{UnknownMetaChannel}
+use Rattle.bx_advice.specs.declared.{error.Error.Error, error.Error.TheVariants.UnknownMetaChannel}
 
 -- ---- one token
 

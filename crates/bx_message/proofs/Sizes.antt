@@ -1,10 +1,8 @@
 -- The size of an event's text if its channel needs no escapes.
 use Rattle.std.proofs.Common.{◌≡◌, ℕ, ◌+◌, true, List, [], ◌∷◌, ◌++◌, length, codes, Option, Some, None, ap, ◌∙◌, arith}
 use Rattle.std.specs.List.{list_all}
-use Rattle.std.proofs.lemmas.Grind.{common_steps}
-use Rattle.std.proofs.lemmas.List.{length-append}
-use Rattle.json.specs.Run.{is_plain}
-use Rattle.json.specs.Print.{escape_byte, quoted}
+use Rattle.std.proofs.lemmas.{Grind.common_steps, List.length-append}
+use Rattle.json.specs.{Run.is_plain, Print.escape_byte, Print.quoted}
 use Rattle.bx_message.specs.declared.event.Event.{Event}
 use Rattle.bx_message.specs.Events.{member, object, raw_member, event_size}
 use Rattle.bx_message.proofs.ObjectLemmas.{quoted_plain}

@@ -1,7 +1,7 @@
 -- The status codes of HTTP, as numbers.
 use Rattle.std.specs.Prelude.{ℕ}
 use Rattle.bx_message.specs.declared.status.Status.{Status}
-use Rattle.bx_message.specs.declared.status.Status.TheVariants.{Ok, BadRequest, Forbidden, NotFound, MethodNotAllowed, TooLarge, NotImplemented, Unavailable}
+use Rattle.bx_message.specs.declared.status.Status.TheVariants.{Ok, BadRequest, Forbidden, NotFound, MethodNotAllowed, TooLarge, UnsupportedMediaType, NotImplemented, Unavailable}
 
 abbrev pub code_of : Status → ℕ
 code_of Ok = 200
@@ -10,5 +10,6 @@ code_of Forbidden = 403
 code_of NotFound = 404
 code_of MethodNotAllowed = 405
 code_of TooLarge = 413
+code_of UnsupportedMediaType = 415
 code_of NotImplemented = 501
 code_of Unavailable = 503

@@ -21,6 +21,8 @@ pub enum Status {
     MethodNotAllowed,
     /// The HTTP status 413.
     TooLarge,
+    /// The HTTP status 415.
+    UnsupportedMediaType,
     /// The HTTP status 501.
     NotImplemented,
     /// The HTTP status 503.
@@ -39,6 +41,7 @@ impl Status {
             Status::NotFound => 404,
             Status::MethodNotAllowed => 405,
             Status::TooLarge => 413,
+            Status::UnsupportedMediaType => 415,
             Status::NotImplemented => 501,
             Status::Unavailable => 503,
         }

@@ -3,17 +3,17 @@ use Rattle.std.specs.Prelude.{ℕ, Bool, Option, position}
 use Rattle.std.specs.{Str.bytes_eq}
 use Rattle.bx_advice.specs.declared.advice.Outcome.{Outcome}
 use Rattle.bx_advice.specs.declared.advice.Outcome.TheVariants as outcomes
-use Rattle.bx_hub.specs.Faults.{fault_name}
+use Rattle.bx_service.specs.Errors.{error_reason}
 use Rattle.bx_message.specs.declared.{message_kind.MessageKind.MessageKind, reply.Reply.Reply}
 use Rattle.bx_metrics.specs.contracts.metric.MetricPartialEq.TheImpl as metrics
 use Rattle.bx_metrics.specs.declared.metric.Metric.{Metric}
 use Rattle.bx_metrics.specs.declared.metric.Metric.TheVariants.{ErrorReplies, Refused, SuccessfulReplies}
 use Rattle.bx_metrics.specs.declared.metric.TheConstants.{METRICS}
 
--- Whether two metrics have the same row: they are equal, or count requests that were not admitted
--- for reasons with the same name.
+-- Whether two metrics have the same row: they are equal, or count requests without an answer for
+-- the same reason in words.
 abbrev pub counts : Metric → Metric → Bool
-counts (Refused fault) (Refused other) = bytes_eq (fault_name fault) (fault_name other)
+counts (Refused error) (Refused other) = bytes_eq (error_reason error) (error_reason other)
 counts metric other = metrics.ghosts.eq metric other
 
 -- The index of the row of a metric.

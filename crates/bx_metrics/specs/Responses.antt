@@ -2,14 +2,17 @@
 use Rattle.std.specs.Prelude.{ℕ, List, [], ◌++◌, Bool, true, false, codes, decimal, length, nat_eq, if◌then◌else◌}
 use Rattle.std.specs.{List.starts_with}
 use Rattle.bx_metrics.specs.declared.response.MetricsRequest.{MetricsRequest}
-use Rattle.bx_metrics.specs.declared.response.MetricsRequest.TheVariants.{Metrics, Health, Other, NoGet}
+use Rattle.bx_metrics.specs.declared.response.MetricsRequest.TheVariants.{StatusPage, Metrics, Sessions, Channels, Health, Other, NoGet}
 
 -- What a request asks for, by how its head begins.
 abbrev pub asked_of : List ℕ → MetricsRequest
 asked_of head =
-    if starts_with nat_eq head (codes "GET /metrics ") then Metrics
+    if starts_with nat_eq head (codes "GET / ") then StatusPage
+    else (if starts_with nat_eq head (codes "GET /metrics ") then Metrics
+    else (if starts_with nat_eq head (codes "GET /sessions ") then Sessions
+    else (if starts_with nat_eq head (codes "GET /channels ") then Channels
     else (if starts_with nat_eq head (codes "GET /healthz ") then Health
-    else (if starts_with nat_eq head (codes "GET ") then Other else NoGet))
+    else (if starts_with nat_eq head (codes "GET ") then Other else NoGet)))))
 
 -- The texts `before` and `behind` with `number` in decimal between them.
 abbrev pub with_number : List ℕ → ℕ → List ℕ → List ℕ
@@ -24,10 +27,13 @@ fields_text size = with_number (codes "\r\ncontent-length: ") size (codes "\r\nc
 abbrev pub message_text : List ℕ → List ℕ → List ℕ
 message_text status body = codes "HTTP/1.1 " ++ status ++ fields_text (length body) ++ body
 
--- The text of the response to a request. `listens`: whether the server listens. `page`: the page of
--- metrics.
+-- The text of the response to a request. `listens`: whether the server listens. `page`: the page
+-- that the request asks for, if any.
 abbrev pub response_text : MetricsRequest → Bool → List ℕ → List ℕ
+response_text StatusPage listens page = message_text (codes "200 OK\r\ncontent-type: text/html; charset=utf-8") page
 response_text Metrics listens page = message_text (codes "200 OK\r\ncontent-type: text/plain; version=0.0.4; charset=utf-8") page
+response_text Sessions listens page = message_text (codes "200 OK\r\ncontent-type: application/x-ndjson") page
+response_text Channels listens page = message_text (codes "200 OK\r\ncontent-type: application/x-ndjson") page
 response_text Health true page = message_text (codes "200 OK") (codes "listening\n")
 response_text Health false page = message_text (codes "503 Service Unavailable") (codes "not listening\n")
 response_text Other listens page = message_text (codes "404 Not Found") []

@@ -1,9 +1,11 @@
 //! The current values of the metrics, and copies of them.
 ghost use Rattle.std.specs.Prelude.{◌≡◌, slice_get, unwrap_or};
 
+use crate::histogram::{BUCKETS, bucket_of};
 use crate::metric::{METRICS, Metric};
 use std::alloc::{AllocError, Global};
 use std::sync::atomic::{AtomicBool, AtomicU64, Ordering};
+use std::time::Duration;
 
 /// The current metrics, how many entries each shard lacks, and whether the server listens.
 ///
@@ -12,6 +14,10 @@ use std::sync::atomic::{AtomicBool, AtomicU64, Ordering};
 pub struct Counts {
     counts: Vec<AtomicU64>,
     lags: Vec<AtomicU64>,
+    // The number of requests in each bucket of the histogram.
+    times: Vec<AtomicU64>,
+    // The time that all requests took, in nanoseconds.
+    time: AtomicU64,
     listens: AtomicBool,
 }
 
@@ -25,6 +31,8 @@ impl Counts {
         Ok(Counts {
             counts: zeros(alloc, METRICS.len())?,
             lags: zeros(alloc, shards)?,
+            times: zeros(alloc, BUCKETS)?,
+            time: AtomicU64::new(0),
             listens: AtomicBool::new(false),
         })
     }
@@ -48,6 +56,15 @@ impl Counts {
         if let Some(count) = self.counts.get(metric.place()) {
             count.store(value, Ordering::SeqCst);
         }
+    }
+
+    /// Adds a request that took the time `passed` to the histogram.
+    pub fn add_time(&self, passed: Duration) {
+        let nanoseconds = u64::try_from(passed.as_nanos()).unwrap_or(u64::MAX);
+        if let Some(count) = self.times.get(bucket_of(nanoseconds)) {
+            count.fetch_add(1, Ordering::SeqCst);
+        }
+        self.time.fetch_add(nanoseconds, Ordering::SeqCst);
     }
 
     /// Returns the number of shards.
@@ -93,6 +110,8 @@ impl Counts {
         Ok(MetricValues {
             values: loaded(alloc, &self.counts)?,
             lags: loaded(alloc, &self.lags)?,
+            times: loaded(alloc, &self.times)?,
+            time: self.time.load(Ordering::SeqCst),
         })
     }
 }
@@ -120,16 +139,40 @@ fn loaded(alloc: Global, counts: &Vec<AtomicU64>) -> Result<Vec<u64>, AllocError
 pub struct MetricValues {
     values: Vec<u64>,
     lags: Vec<u64>,
+    times: Vec<u64>,
+    time: u64,
 }
 
 impl MetricValues {
-    /// Creates a copy of all metrics from their `values`, in the order of the page, and `lags`.
+    /// Creates a copy of all metrics from their `values`, in the order of the page.
     ///
-    /// `lags`: the number of entries that each shard lacks, by shard. A missing value counts as 0.
-    pub fn of(values: Vec<u64>, lags: Vec<u64>) -> MetricValues
-        ensures { (result.values ≡ values) × (result.lags ≡ lags) }
+    /// `lags`: the number of entries that each shard lacks, by shard. `times`: the number of
+    /// requests in each bucket of the histogram. `time`: the time that all requests took, in
+    /// nanoseconds. A missing value counts as 0.
+    pub fn of(values: Vec<u64>, lags: Vec<u64>, times: Vec<u64>, time: u64) -> MetricValues
+        ensures counts { (result.values ≡ values) × (result.lags ≡ lags) }
+        ensures times { (result.times ≡ times) × (result.time ≡ time) }
     {
-        MetricValues { values, lags }
+        MetricValues {
+            values,
+            lags,
+            times,
+            time,
+        }
+    }
+
+    /// Returns the number of requests in each bucket of the histogram.
+    pub(crate) fn times(&self) -> &[u64]
+        ensures { result.now ≡ self.now.times.items }
+    {
+        self.times.as_slice()
+    }
+
+    /// Returns the time that all requests took, in nanoseconds.
+    pub(crate) fn time(&self) -> u64
+        ensures { result ≡ self.now.time }
+    {
+        self.time
     }
 
     /// Returns the number of entries that each shard lacks, by shard.

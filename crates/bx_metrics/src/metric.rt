@@ -6,6 +6,8 @@ use bx_advice::Error;
 use bx_entry::Refusal;
 use bx_hub::PostFault;
 use bx_message::{MessageKind, Status};
+use bx_service::RequestError;
+use bx_transport::TransportError;
 
 /// A metric of the server: a number that the page of metrics shows.
 ///
@@ -26,8 +28,6 @@ pub enum Metric {
     AdmittedRequests,
     /// The number of events in answers so far, counted before the response is created.
     Events,
-    /// The number of admitted requests for which an answer was unavailable.
-    UnansweredRequests,
     /// The number of requests that got no response because memory ran out.
     MissingResponses,
     /// Length of the list at the last tick, in entries.
@@ -52,8 +52,8 @@ pub enum Metric {
     FiledAnswers,
     /// The number of responses with this status.
     Responses(Status),
-    /// The number of requests that were not admitted, for a reason with this name.
-    Refused(PostFault),
+    /// The number of responses without items, for this reason.
+    Refused(RequestError),
     /// The number of successful replies to messages of this kind.
     SuccessfulReplies(MessageKind),
     /// The number of replies with this error.
@@ -64,15 +64,23 @@ pub enum Metric {
 /// text.
 pub(crate) type Row = (Metric, &'static str, &'static str, &'static str);
 
-// Expands to an array of rows, from each name, type and help text with its metrics.
+// Expands to an array of rows: one for each metric, then for each metric with a label one for each
+// label.
 macro_rules! rows {
-    ($($name:literal, $type_name:literal, $help:literal: $($metric:expr),*;)*) => {
-        [$($(($metric, $name, $type_name, $help)),*),*]
+    (
+        $($name:literal, $type_name:literal, $help:literal: $metric:expr;)*
+        labels:
+        $($group:literal, $group_type:literal, $group_help:literal: $of:path: $($label:expr),*;)*
+    ) => {
+        [
+            $(($metric, $name, $type_name, $help),)*
+            $($(($of($label), $group, $group_type, $group_help)),*),*
+        ]
     };
 }
 
 /// The rows of the metrics page, in order, with those of the same name adjacent.
-pub(crate) const METRICS: [Row; 59] = rows! {
+pub(crate) const METRICS: [Row; 72] = rows! {
     "bayeux_uptime_seconds_total", "counter", "Seconds since the program started.": Metric::Uptime;
     "bayeux_connections", "gauge", "Open connections.": Metric::OpenConnections;
     "bayeux_connections_total", "counter", "Connections accepted.": Metric::AcceptedConnections;
@@ -80,8 +88,6 @@ pub(crate) const METRICS: [Row; 59] = rows! {
     "bayeux_requests_held", "gauge", "Admitted requests in progress.": Metric::AdmittedInProgress;
     "bayeux_requests_admitted_total", "counter", "Requests admitted.": Metric::AdmittedRequests;
     "bayeux_events_total", "counter", "Events in responses.": Metric::Events;
-    "bayeux_requests_unanswered_total", "counter", "Admitted requests whose answer was unavailable.":
-        Metric::UnansweredRequests;
     "bayeux_responses_missing_total", "counter", "Requests dropped for lack of memory.": Metric::MissingResponses;
     "bayeux_list_entries_total", "counter", "Length of the list at the last tick, in entries.": Metric::Entries;
     "bayeux_ticks_total", "counter", "Ticks appended to the list.": Metric::Ticks;
@@ -93,50 +99,36 @@ pub(crate) const METRICS: [Row; 59] = rows! {
     "bayeux_window_batches", "gauge", "Batches in the window.": Metric::Batches;
     "bayeux_connects_held", "gauge", "Held connects.": Metric::HeldConnects;
     "bayeux_answers_filed", "gauge", "Filed answers that nobody has taken.": Metric::FiledAnswers;
-    "bayeux_responses_total", "counter", "Responses, by status.":
-        Metric::Responses(Status::Ok),
-        Metric::Responses(Status::BadRequest),
-        Metric::Responses(Status::Forbidden),
-        Metric::Responses(Status::NotFound),
-        Metric::Responses(Status::MethodNotAllowed),
-        Metric::Responses(Status::TooLarge),
-        Metric::Responses(Status::NotImplemented),
-        Metric::Responses(Status::Unavailable);
-    "bayeux_requests_refused_total", "counter", "Requests not admitted, by reason.":
-        Metric::Refused(PostFault::Refused(Refusal::NotJson)),
-        Metric::Refused(PostFault::Refused(Refusal::Forbidden)),
-        Metric::Refused(PostFault::Refused(Refusal::BadMoment)),
-        Metric::Refused(PostFault::Refused(Refusal::Ended)),
-        Metric::Refused(PostFault::Closed),
-        Metric::Refused(PostFault::Behind { first: 0 }),
-        Metric::Refused(PostFault::Overrun { shard: 0, place: 0 }),
-        Metric::Refused(PostFault::WrongShard { shard: 0, found: 0 }),
-        Metric::Refused(PostFault::Memory);
-    "bayeux_replies_total", "counter", "Successful replies, by kind of message.":
-        Metric::SuccessfulReplies(MessageKind::Handshake),
-        Metric::SuccessfulReplies(MessageKind::Connect),
-        Metric::SuccessfulReplies(MessageKind::Subscribe),
-        Metric::SuccessfulReplies(MessageKind::Unsubscribe),
-        Metric::SuccessfulReplies(MessageKind::Disconnect),
-        Metric::SuccessfulReplies(MessageKind::Publish),
-        Metric::SuccessfulReplies(MessageKind::UnknownMeta);
-    "bayeux_errors_total", "counter", "Error replies, by error.":
-        Metric::ErrorReplies(Error::UnknownMetaChannel),
-        Metric::ErrorReplies(Error::SecondHandshake),
-        Metric::ErrorReplies(Error::UnsupportedVersion),
-        Metric::ErrorReplies(Error::NoSupportedConnectionType),
-        Metric::ErrorReplies(Error::TooManySessions),
-        Metric::ErrorReplies(Error::NoClientId),
-        Metric::ErrorReplies(Error::UnknownClient),
-        Metric::ErrorReplies(Error::UnknownConnectionType),
-        Metric::ErrorReplies(Error::InvalidChannel),
-        Metric::ErrorReplies(Error::InvalidPattern),
-        Metric::ErrorReplies(Error::TooManyPatterns),
-        Metric::ErrorReplies(Error::SubscriptionDenied),
-        Metric::ErrorReplies(Error::MissingSubscription),
-        Metric::ErrorReplies(Error::MissingData),
-        Metric::ErrorReplies(Error::SupersededConnect),
-        Metric::ErrorReplies(Error::QueueOverflow);
+    labels:
+    "bayeux_responses_total", "counter", "Responses, by status.": Metric::Responses:
+        Status::Ok, Status::BadRequest, Status::Forbidden, Status::NotFound, Status::MethodNotAllowed,
+        Status::TooLarge, Status::UnsupportedMediaType, Status::NotImplemented, Status::Unavailable;
+    "bayeux_requests_refused_total", "counter", "Requests without an answer, by reason.": Metric::Refused:
+        RequestError::NotFound, RequestError::MethodNotAllowed, RequestError::TransferCoding,
+        RequestError::CallbackPolling, RequestError::MediaType, RequestError::BodyFailed,
+        RequestError::Unreadable(TransportError::TooLarge), RequestError::Unreadable(TransportError::BadName),
+        RequestError::Unreadable(TransportError::NoMessage), RequestError::Unreadable(TransportError::Memory),
+        RequestError::NotAdmitted(PostFault::Refused(Refusal::NotJson)),
+        RequestError::NotAdmitted(PostFault::Refused(Refusal::NotObject)),
+        RequestError::NotAdmitted(PostFault::Refused(Refusal::TooMany)),
+        RequestError::NotAdmitted(PostFault::Refused(Refusal::NoChannel)),
+        RequestError::NotAdmitted(PostFault::Refused(Refusal::Forbidden)),
+        RequestError::NotAdmitted(PostFault::Refused(Refusal::BadMoment)),
+        RequestError::NotAdmitted(PostFault::Refused(Refusal::Ended)),
+        RequestError::NotAdmitted(PostFault::Closed),
+        RequestError::NotAdmitted(PostFault::Behind { first: 0 }),
+        RequestError::NotAdmitted(PostFault::Overrun { shard: 0, place: 0 }),
+        RequestError::NotAdmitted(PostFault::WrongShard { shard: 0, found: 0 }),
+        RequestError::Unanswered;
+    "bayeux_replies_total", "counter", "Successful replies, by kind of message.": Metric::SuccessfulReplies:
+        MessageKind::Handshake, MessageKind::Connect, MessageKind::Subscribe, MessageKind::Unsubscribe,
+        MessageKind::Disconnect, MessageKind::Publish, MessageKind::UnknownMeta;
+    "bayeux_errors_total", "counter", "Error replies, by error.": Metric::ErrorReplies:
+        Error::UnknownMetaChannel, Error::SecondHandshake, Error::UnsupportedVersion,
+        Error::NoSupportedConnectionType, Error::TooManySessions, Error::NoClientId, Error::UnknownClient,
+        Error::UnknownConnectionType, Error::InvalidChannel, Error::InvalidPattern, Error::TooManyPatterns,
+        Error::SubscriptionDenied, Error::MissingSubscription, Error::MissingData, Error::SupersededConnect,
+        Error::QueueOverflow;
 };
 
 impl Metric {
@@ -150,12 +142,12 @@ impl Metric {
         }
     }
 
-    // Returns `true` if this metric and `other` have the same row. Reasons with the same name do.
+    // Returns `true` if this metric and `other` have the same row. Errors with the same reason do.
     fn counts(self, other: Metric) -> bool
         ensures { result ≡ counts self other }
     {
         match (self, other) {
-            (Metric::Refused(fault), Metric::Refused(other)) => fault.name() == other.name(),
+            (Metric::Refused(error), Metric::Refused(other)) => error.reason() == other.reason(),
             (metric, other) => metric == other,
         }
     }

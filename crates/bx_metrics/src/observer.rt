@@ -21,7 +21,7 @@ impl Observer for Counts {
                 self.add(Metric::AdmittedRequests, 1);
                 self.add(Metric::AdmittedInProgress, 1);
             }
-            ServiceEvent::Refused(fault) => self.add(Metric::Refused(fault), 1),
+            ServiceEvent::Refused(error) => self.add(Metric::Refused(error), 1),
             ServiceEvent::Answered { place: _, items } => count_all(self, items),
             ServiceEvent::Responded(Some(status)) => self.add(Metric::Responses(status), 1),
             ServiceEvent::Responded(None) => self.add(Metric::MissingResponses, 1),
@@ -35,12 +35,8 @@ impl Observer for Counts {
     }
 }
 
-// Counts the events and replies in `items`, or that they are unavailable.
-fn count_all(counts: &Counts, items: Option<&[Item]>) {
-    let Some(items) = items else {
-        counts.add(Metric::UnansweredRequests, 1);
-        return;
-    };
+// Counts the events and replies in `items`.
+fn count_all(counts: &Counts, items: &[Item]) {
     let mut events: u64 = 0;
     for item in items {
         match item {

@@ -1,6 +1,9 @@
 //! The page of metrics, in Prometheus' text format 0.0.4.
 use crate::counts::MetricValues;
+use crate::histogram::push_histogram;
 use crate::metric::{METRICS, Metric};
+use crate::process::ProcessValues;
+use crate::settings::PageSettings;
 use bx_message::MessageKind;
 use std::alloc::{AllocError, Global};
 
@@ -13,7 +16,7 @@ const LAG: &str = "bayeux_shard_lag_entries";
 
 const LAG_HELP: &str = "Entries of the list that the shard has not applied.";
 
-/// Formats the page of metrics: a row for each metric, and one for each shard.
+/// Formats the page of metrics: rows of the server, of its shards and settings, and of the process.
 ///
 /// The row of a shard is the number of entries that it has not applied.
 ///
@@ -24,7 +27,12 @@ const LAG_HELP: &str = "Entries of the list that the shard has not applied.";
 /// # Errors
 ///
 /// `AllocError` if memory runs out.
-pub fn page_text(alloc: Global, metrics: &MetricValues) -> Result<String, AllocError> {
+pub fn page_text(
+    alloc: Global,
+    metrics: &MetricValues,
+    settings: &PageSettings,
+    process: &ProcessValues,
+) -> Result<String, AllocError> {
     let mut page = String::with_capacity(alloc, ROOM)?;
     for (place, (metric, name, type_name, help)) in METRICS.iter().enumerate() {
         let before = METRICS.get(place.wrapping_sub(1));
@@ -39,11 +47,47 @@ pub fn page_text(alloc: Global, metrics: &MetricValues) -> Result<String, AllocE
     for (shard, lag) in metrics.lags().iter().enumerate() {
         page.push_str(format!(in alloc; "{LAG}{{shard=\"{shard}\"}} {lag}\n")?.as_str())?;
     }
+    push_histogram(alloc, &mut page, metrics.times(), metrics.time())?;
+    settings.push_rows(alloc, &mut page)?;
+    process.push_rows(alloc, &mut page)?;
     Ok(page)
 }
 
-// Appends the lines `# HELP` and `# TYPE` for the metrics with this name.
-fn push_head(
+/// The unit in which a number counts.
+#[derive(Clone, Copy)]
+pub(crate) enum Unit {
+    /// One.
+    One,
+    /// A hundredth.
+    Hundredth,
+    /// A thousandth.
+    Thousandth,
+}
+
+/// Appends a row without labels: `value`, which counts in `unit`, as a decimal number.
+pub(crate) fn push_value(
+    alloc: Global,
+    page: &mut String,
+    name: &str,
+    value: u64,
+    unit: Unit,
+) -> Result<(), AllocError> {
+    let row = match unit {
+        Unit::One => format!(in alloc; "{name} {value}\n")?,
+        Unit::Hundredth => {
+            let (whole, part) = (value / 100, value % 100);
+            format!(in alloc; "{name} {whole}.{part:02}\n")?
+        }
+        Unit::Thousandth => {
+            let (whole, part) = (value / 1000, value % 1000);
+            format!(in alloc; "{name} {whole}.{part:03}\n")?
+        }
+    };
+    page.push_str(row.as_str())
+}
+
+/// Appends the lines `# HELP` and `# TYPE` for the metrics with this name.
+pub(crate) fn push_head(
     alloc: Global,
     page: &mut String,
     name: &str,
@@ -59,7 +103,10 @@ fn push_head(
 fn label_of(alloc: Global, metric: Metric) -> Result<String, AllocError> {
     match metric {
         Metric::Responses(status) => format!(in alloc; "{{status=\"{}\"}}", status.code()),
-        Metric::Refused(fault) => format!(in alloc; "{{reason=\"{}\"}}", fault.name()),
+        Metric::Refused(error) => {
+            let (status, reason) = (error.status().code(), error.reason());
+            format!(in alloc; "{{status=\"{status}\",reason=\"{reason}\"}}")
+        }
         Metric::SuccessfulReplies(kind) => format!(in alloc; "{{kind=\"{}\"}}", kind_name(kind)),
         Metric::ErrorReplies(error) => format!(in alloc; "{{error=\"{}\"}}", error.text()),
         _ => Ok(String::new(alloc)),

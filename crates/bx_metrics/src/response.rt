@@ -1,20 +1,24 @@
 //! The responses of the metrics listener.
-ghost use Rattle.std.specs.Prelude.{◌≡◌, ◌++◌, List, ℕ, IfOk, OnOk};
+ghost use Rattle.std.specs.Prelude.{◌≡◌, ◌++◌, IfOk, OnOk};
 ghost use Rattle.bx_metrics.specs.Responses.{asked_of, fields_text, message_text, response_text, with_number};
 
-use crate::counts::MetricValues;
-use crate::page::page_text;
 use itoa::Buffer;
 use std::alloc::{AllocError, Global};
 
 /// What a request to the metrics listener asks for.
 #[derive(Clone, Copy, Debug, PartialEq, Eq)]
 pub enum MetricsRequest {
+    /// A request for the status page: `GET /`.
+    StatusPage,
     /// A request for the page of metrics: `GET /metrics`.
     Metrics,
+    /// A request for the list of sessions: `GET /sessions`.
+    Sessions,
+    /// A request for the list of channels: `GET /channels`.
+    Channels,
     /// A request for whether the server listens: `GET /healthz`.
     Health,
-    /// A GET of a target other than `/metrics` and `/healthz`.
+    /// A GET of any other target.
     Other,
     /// A request with a method other than GET, or without a method.
     NoGet,
@@ -27,8 +31,14 @@ impl MetricsRequest {
     pub fn of(head: &[u8]) -> MetricsRequest
         ensures { result ≡ asked_of head.now }
     {
-        if head.starts_with(b"GET /metrics ") {
+        if head.starts_with(b"GET / ") {
+            MetricsRequest::StatusPage
+        } else if head.starts_with(b"GET /metrics ") {
             MetricsRequest::Metrics
+        } else if head.starts_with(b"GET /sessions ") {
+            MetricsRequest::Sessions
+        } else if head.starts_with(b"GET /channels ") {
+            MetricsRequest::Channels
         } else if head.starts_with(b"GET /healthz ") {
             MetricsRequest::Health
         } else if head.starts_with(b"GET ") {
@@ -41,7 +51,9 @@ impl MetricsRequest {
 
 /// Creates the response to `asked`, with the field `connection: close`.
 ///
-/// - `Metrics`: 200 with the page of `metrics`
+/// - `StatusPage`: 200 with `page`, which is HTML
+/// - `Metrics`: 200 with `page`, which is in Prometheus' text format 0.0.4
+/// - `Sessions`, `Channels`: 200 with `page`, which has a JSON value in each line
 /// - `Health`: 200 if `listens`, otherwise 503
 /// - `Other`: 404
 /// - `NoGet`: 405
@@ -53,32 +65,25 @@ pub fn response_text(
     alloc: Global,
     asked: MetricsRequest,
     listens: bool,
-    metrics: &MetricValues,
-) -> Result<Vec<u8>, AllocError>
-    ensures { IfOk result (λ text. (page : List ℕ) × (text.items ≡ response_text asked listens page)) }
-{
-    let page = match asked {
-        MetricsRequest::Metrics => page_text(alloc, metrics)?,
-        _ => String::new(alloc),
-    };
-    respond(alloc, asked, listens, page.as_str())
-}
-
-// Creates the response to `asked`. `listens`: whether the server listens, used only for `Health`.
-// `page`: the page of metrics, used only for `Metrics`.
-fn respond(
-    alloc: Global,
-    asked: MetricsRequest,
-    listens: bool,
-    page: &str,
+    page: &[u8],
 ) -> Result<Vec<u8>, AllocError>
     ensures { IfOk result (λ text. text.items ≡ response_text asked listens page.now) }
 {
     match asked {
+        MetricsRequest::StatusPage => message(
+            alloc,
+            "200 OK\r\ncontent-type: text/html; charset=utf-8",
+            page,
+        ),
         MetricsRequest::Metrics => message(
             alloc,
             "200 OK\r\ncontent-type: text/plain; version=0.0.4; charset=utf-8",
-            page.as_bytes(),
+            page,
+        ),
+        MetricsRequest::Sessions | MetricsRequest::Channels => message(
+            alloc,
+            "200 OK\r\ncontent-type: application/x-ndjson",
+            page,
         ),
         MetricsRequest::Health if listens => message(alloc, "200 OK", b"listening\n"),
         MetricsRequest::Health => message(alloc, "503 Service Unavailable", b"not listening\n"),

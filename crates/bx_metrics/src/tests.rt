@@ -1,11 +1,18 @@
-use crate::{Counts, Metric, MetricValues, page_text};
-use bx_advice::Error;
-use bx_hub::PostFault;
+use crate::{
+    ChannelLines, Counts, Metric, MetricValues, MetricsRequest, PageSettings, ProcessTexts,
+    ProcessValues, STATUS_PAGE, SessionLines, page_text, response_text,
+};
+use bx_advice::{BodyLimit, Config, Error};
+use bx_hub::{Lagging, PostFault, SessionSurvey, Survey};
 use bx_message::{MessageKind, Status};
-use bx_service::{Observer, ServiceEvent};
+use bx_names::Pattern;
+use bx_service::{Observer, RequestError, ServiceEvent};
+use bx_transport::TransportError;
+use std::alloc::Global;
 use std::test::Fail;
+use std::time::Duration;
 
-// The expected page for 57 values: 1, the greatest number, and 3 to 57. The values of the last two
+// The expected page for 70 values: 1, the greatest number, and 3 to 70. The values of the last two
 // metrics are missing. There are two shards.
 const PAGE: &str = r#"# HELP bayeux_uptime_seconds_total Seconds since the program started.
 # TYPE bayeux_uptime_seconds_total counter
@@ -28,108 +35,288 @@ bayeux_requests_admitted_total 6
 # HELP bayeux_events_total Events in responses.
 # TYPE bayeux_events_total counter
 bayeux_events_total 7
-# HELP bayeux_requests_unanswered_total Admitted requests whose answer was unavailable.
-# TYPE bayeux_requests_unanswered_total counter
-bayeux_requests_unanswered_total 8
 # HELP bayeux_responses_missing_total Requests dropped for lack of memory.
 # TYPE bayeux_responses_missing_total counter
-bayeux_responses_missing_total 9
+bayeux_responses_missing_total 8
 # HELP bayeux_list_entries_total Length of the list at the last tick, in entries.
 # TYPE bayeux_list_entries_total counter
-bayeux_list_entries_total 10
+bayeux_list_entries_total 9
 # HELP bayeux_ticks_total Ticks appended to the list.
 # TYPE bayeux_ticks_total counter
-bayeux_ticks_total 11
+bayeux_ticks_total 10
 # HELP bayeux_ticks_refused_total Ticks not appended to the list.
 # TYPE bayeux_ticks_refused_total counter
-bayeux_ticks_refused_total 12
+bayeux_ticks_refused_total 11
 # HELP bayeux_shards_behind Shards that had not applied the last tick.
 # TYPE bayeux_shards_behind gauge
-bayeux_shards_behind 13
+bayeux_shards_behind 12
 # HELP bayeux_answers_swept_total Unclaimed answers dropped.
 # TYPE bayeux_answers_swept_total counter
-bayeux_answers_swept_total 14
+bayeux_answers_swept_total 13
 # HELP bayeux_sessions Live sessions.
 # TYPE bayeux_sessions gauge
-bayeux_sessions 15
+bayeux_sessions 14
 # HELP bayeux_sessions_opened_total Sessions opened.
 # TYPE bayeux_sessions_opened_total counter
-bayeux_sessions_opened_total 16
+bayeux_sessions_opened_total 15
 # HELP bayeux_window_batches Batches in the window.
 # TYPE bayeux_window_batches gauge
-bayeux_window_batches 17
+bayeux_window_batches 16
 # HELP bayeux_connects_held Held connects.
 # TYPE bayeux_connects_held gauge
-bayeux_connects_held 18
+bayeux_connects_held 17
 # HELP bayeux_answers_filed Filed answers that nobody has taken.
 # TYPE bayeux_answers_filed gauge
-bayeux_answers_filed 19
+bayeux_answers_filed 18
 # HELP bayeux_responses_total Responses, by status.
 # TYPE bayeux_responses_total counter
-bayeux_responses_total{status="200"} 20
-bayeux_responses_total{status="400"} 21
-bayeux_responses_total{status="403"} 22
-bayeux_responses_total{status="404"} 23
-bayeux_responses_total{status="405"} 24
-bayeux_responses_total{status="413"} 25
+bayeux_responses_total{status="200"} 19
+bayeux_responses_total{status="400"} 20
+bayeux_responses_total{status="403"} 21
+bayeux_responses_total{status="404"} 22
+bayeux_responses_total{status="405"} 23
+bayeux_responses_total{status="413"} 24
+bayeux_responses_total{status="415"} 25
 bayeux_responses_total{status="501"} 26
 bayeux_responses_total{status="503"} 27
-# HELP bayeux_requests_refused_total Requests not admitted, by reason.
+# HELP bayeux_requests_refused_total Requests without an answer, by reason.
 # TYPE bayeux_requests_refused_total counter
-bayeux_requests_refused_total{reason="body"} 28
-bayeux_requests_refused_total{reason="forbidden"} 29
-bayeux_requests_refused_total{reason="bad_moment"} 30
-bayeux_requests_refused_total{reason="ended"} 31
-bayeux_requests_refused_total{reason="closed"} 32
-bayeux_requests_refused_total{reason="behind"} 33
-bayeux_requests_refused_total{reason="overrun"} 34
-bayeux_requests_refused_total{reason="misplaced"} 35
-bayeux_requests_refused_total{reason="memory"} 36
+bayeux_requests_refused_total{status="404",reason="Bayeux is at /cometd"} 28
+bayeux_requests_refused_total{status="405",reason="the method is neither GET nor POST"} 29
+bayeux_requests_refused_total{status="501",reason="the transfer coding is not chunked"} 30
+bayeux_requests_refused_total{status="403",reason="callback-polling is off"} 31
+bayeux_requests_refused_total{status="415",reason="the content type is not application/json"} 32
+bayeux_requests_refused_total{status="400",reason="the body ended early"} 33
+bayeux_requests_refused_total{status="413",reason="the request is too large"} 34
+bayeux_requests_refused_total{status="400",reason="the name of the callback is not valid"} 35
+bayeux_requests_refused_total{status="400",reason="the parameter message is missing"} 36
+bayeux_requests_refused_total{status="503",reason="out of memory"} 37
+bayeux_requests_refused_total{status="400",reason="the messages are not JSON"} 38
+bayeux_requests_refused_total{status="400",reason="a message is not a JSON object"} 39
+bayeux_requests_refused_total{status="400",reason="too many messages in one request"} 40
+bayeux_requests_refused_total{status="400",reason="a message has no channel"} 41
+bayeux_requests_refused_total{status="403",reason="the listener is read-only"} 42
+bayeux_requests_refused_total{status="400",reason="the clock is out of range"} 43
+bayeux_requests_refused_total{status="503",reason="the list is full"} 44
+bayeux_requests_refused_total{status="503",reason="the server is shutting down"} 45
+bayeux_requests_refused_total{status="503",reason="the window is full because a shard lags"} 46
+bayeux_requests_refused_total{status="503",reason="internal error: the window lacks entries that a shard needs"} 47
+bayeux_requests_refused_total{status="503",reason="internal error: the lock of a shard guards another shard"} 48
+bayeux_requests_refused_total{status="503",reason="the answer is unavailable"} 49
 # HELP bayeux_replies_total Successful replies, by kind of message.
 # TYPE bayeux_replies_total counter
-bayeux_replies_total{kind="handshake"} 37
-bayeux_replies_total{kind="connect"} 38
-bayeux_replies_total{kind="subscribe"} 39
-bayeux_replies_total{kind="unsubscribe"} 40
-bayeux_replies_total{kind="disconnect"} 41
-bayeux_replies_total{kind="publish"} 42
-bayeux_replies_total{kind="unknown_meta"} 43
+bayeux_replies_total{kind="handshake"} 50
+bayeux_replies_total{kind="connect"} 51
+bayeux_replies_total{kind="subscribe"} 52
+bayeux_replies_total{kind="unsubscribe"} 53
+bayeux_replies_total{kind="disconnect"} 54
+bayeux_replies_total{kind="publish"} 55
+bayeux_replies_total{kind="unknown_meta"} 56
 # HELP bayeux_errors_total Error replies, by error.
 # TYPE bayeux_errors_total counter
-bayeux_errors_total{error="404::Unknown meta channel"} 44
-bayeux_errors_total{error="400::Second handshake"} 45
-bayeux_errors_total{error="400::Unsupported version"} 46
-bayeux_errors_total{error="400::No supported connection type"} 47
-bayeux_errors_total{error="503::Too many sessions"} 48
-bayeux_errors_total{error="401::No client id"} 49
-bayeux_errors_total{error="402::Unknown client"} 50
-bayeux_errors_total{error="400::Unknown connection type"} 51
-bayeux_errors_total{error="400::Invalid channel"} 52
-bayeux_errors_total{error="400::Invalid pattern"} 53
-bayeux_errors_total{error="400::Too many patterns"} 54
-bayeux_errors_total{error="403::Subscription denied"} 55
-bayeux_errors_total{error="400::Missing subscription"} 56
-bayeux_errors_total{error="400::Missing data"} 57
+bayeux_errors_total{error="404::Unknown meta channel"} 57
+bayeux_errors_total{error="400::Second handshake"} 58
+bayeux_errors_total{error="400::Unsupported version"} 59
+bayeux_errors_total{error="400::No supported connection type"} 60
+bayeux_errors_total{error="503::Too many sessions"} 61
+bayeux_errors_total{error="401::No client id"} 62
+bayeux_errors_total{error="402::Unknown client"} 63
+bayeux_errors_total{error="400::Unknown connection type"} 64
+bayeux_errors_total{error="400::Invalid channel"} 65
+bayeux_errors_total{error="400::Invalid pattern"} 66
+bayeux_errors_total{error="400::Too many patterns"} 67
+bayeux_errors_total{error="403::Subscription denied"} 68
+bayeux_errors_total{error="400::Missing subscription"} 69
+bayeux_errors_total{error="400::Missing data"} 70
 bayeux_errors_total{error="408::Superseded connect"} 0
 bayeux_errors_total{error="413::Queue overflow"} 0
 # HELP bayeux_shard_lag_entries Entries of the list that the shard has not applied.
 # TYPE bayeux_shard_lag_entries gauge
 bayeux_shard_lag_entries{shard="0"} 0
 bayeux_shard_lag_entries{shard="1"} 12
+# HELP bayeux_processing_seconds Time to process a request, without waiting for events.
+# TYPE bayeux_processing_seconds histogram
+bayeux_processing_seconds_bucket{le="0.00001"} 1
+bayeux_processing_seconds_bucket{le="0.000025"} 1
+bayeux_processing_seconds_bucket{le="0.00005"} 3
+bayeux_processing_seconds_bucket{le="0.0001"} 3
+bayeux_processing_seconds_bucket{le="0.00025"} 3
+bayeux_processing_seconds_bucket{le="0.0005"} 3
+bayeux_processing_seconds_bucket{le="0.001"} 3
+bayeux_processing_seconds_bucket{le="0.01"} 6
+bayeux_processing_seconds_bucket{le="0.1"} 6
+bayeux_processing_seconds_bucket{le="1"} 6
+bayeux_processing_seconds_bucket{le="+Inf"} 10
+bayeux_processing_seconds_sum 5.000000123
+bayeux_processing_seconds_count 10
+# HELP bayeux_build_info The version of the server.
+# TYPE bayeux_build_info gauge
+bayeux_build_info{version="1.2.3"} 1
+# HELP bayeux_limit Limits, by what they limit.
+# TYPE bayeux_limit gauge
+bayeux_limit{name="sessions"} 65536
+bayeux_limit{name="patterns"} 1024
+bayeux_limit{name="events"} 1024
+bayeux_limit{name="body"} 1048576
+bayeux_limit{name="shards"} 2
+# HELP bayeux_timeout_seconds The longest hold of a connect.
+# TYPE bayeux_timeout_seconds gauge
+bayeux_timeout_seconds 30.000
+# HELP bayeux_interval_seconds The pause between connects that the server advises.
+# TYPE bayeux_interval_seconds gauge
+bayeux_interval_seconds 0.005
+# HELP bayeux_max_interval_seconds How long a session lives without a message.
+# TYPE bayeux_max_interval_seconds gauge
+bayeux_max_interval_seconds 4294967.295
+# HELP process_cpu_seconds_total Processor time of the process, in seconds.
+# TYPE process_cpu_seconds_total counter
+process_cpu_seconds_total 3.05
+# HELP process_resident_memory_bytes Resident memory of the process.
+# TYPE process_resident_memory_bytes gauge
+process_resident_memory_bytes 8192
+# HELP process_virtual_memory_bytes Virtual memory of the process.
+# TYPE process_virtual_memory_bytes gauge
+process_virtual_memory_bytes 16384
+# HELP process_open_fds Open file descriptors.
+# TYPE process_open_fds gauge
+process_open_fds 12
+# HELP process_max_fds Limit of open file descriptors.
+# TYPE process_max_fds gauge
+process_max_fds 1024
+# HELP process_start_time_seconds Start of the process, in seconds since 1970.
+# TYPE process_start_time_seconds gauge
+process_start_time_seconds 1700000007.08
 "#;
+
+// Texts of files in /proc, of a program with a name that has a space and parentheses.
+const PROCESS: ProcessTexts<'static> = ProcessTexts {
+    process: "77 (a (b) 3) S 1 77 77 0 -1 4194560 1 2 3 4 250 55 6 7 20 0 5 0 708 16384 2 18446744073709551615 1 1 0\n",
+    limits: "Limit                     Soft Limit           Hard Limit           Units     \nMax processes             63432                63432                processes \nMax open files            1024                 1048576              files     \n",
+    system: "cpu  1 2 3 4\nbtime 1700000000\nprocesses 5\n",
+};
+
+// Returns settings with two shards, the default limits, and times of different lengths.
+fn settings_of() -> Option<PageSettings> {
+    Some(PageSettings {
+        version: "1.2.3",
+        config: Config::new(2, 30_000, 5, u32::MAX)?,
+        body: BodyLimit::greatest(),
+    })
+}
 
 #[test]
 fn pages_have_the_rows(rt: HostRuntime) -> Result<(), Fail> {
     let alloc = rt.alloc();
     let mut values = Vec::new(alloc);
-    for value in 1..58 {
+    for value in 1..71 {
         values.push(if value == 2 { u64::MAX } else { value })?;
     }
     let mut lags = Vec::new(alloc);
     lags.push(0)?;
     lags.push(12)?;
-    let page = page_text(alloc, &MetricValues::of(values, lags))?;
+    let Some(settings) = settings_of() else {
+        return Err(Fail::from("the settings are not valid"));
+    };
+    let process = ProcessValues::of(PROCESS, Some(12));
+    let mut times = Vec::new(alloc);
+    for count in [1, 0, 2, 0, 0, 0, 0, 3, 0, 0, 4] {
+        times.push(count)?;
+    }
+    let metrics = MetricValues::of(values, lags, times, 5_000_000_123);
+    let page = page_text(alloc, &metrics, &settings, &process)?;
     assert_eq!(rt; page.as_str(), PAGE);
+    Ok(())
+}
+
+// Times of requests in nanoseconds, each with the least upper bound of a bucket in which it counts.
+const BOUNDED: [(u64, &str); 6] = [
+    (0, "0.00001"),
+    (10_000, "0.00001"),
+    (10_001, "0.000025"),
+    (999_999, "0.001"),
+    (1_000_000_000, "1"),
+    (1_000_000_001, "+Inf"),
+];
+
+// Checks that a time counts in the first bucket with a bound that it does not exceed, and in the
+// sum.
+#[test]
+fn times_count_in_their_buckets(rt: HostRuntime) -> Result<(), Fail> {
+    let alloc = rt.alloc();
+    let Some(settings) = settings_of() else {
+        return Err(Fail::from("the settings are not valid"));
+    };
+    let process = ProcessValues::of(PROCESS, None);
+    for (time, bound) in &BOUNDED {
+        let counts = Counts::new(alloc, 1)?;
+        counts.add_time(Duration::from_nanos(*time));
+        let page = page_text(alloc, &counts.read(alloc)?, &settings, &process)?;
+        let (whole, part) = (time / 1_000_000_000, time % 1_000_000_000);
+        let sum = format!(in alloc; "_seconds_sum {whole}.{part:09}\n")?;
+        assert!(rt; page.as_str().contains(sum.as_str()));
+        let row = format!(in alloc; "_bucket{{le=\"{bound}\"}} 1\n")?;
+        let (before, _) = page.as_str().split_once(row.as_str()).ok_or("no such row")?;
+        assert!(rt; !before.contains("\"} 1\nbayeux_processing"));
+    }
+    Ok(())
+}
+
+#[test]
+fn unknown_values_have_no_rows(rt: HostRuntime) -> Result<(), Fail> {
+    let alloc = rt.alloc();
+    let Some(settings) = settings_of() else {
+        return Err(Fail::from("the settings are not valid"));
+    };
+    let unreadable = ProcessTexts {
+        process: "",
+        limits: "Max open files            unlimited            unlimited            files\n",
+        system: "btime 18446744073709551615\n",
+    };
+    let none = ProcessValues::of(unreadable, None);
+    let page = page_text(
+        alloc,
+        &MetricValues::of(Vec::new(alloc), Vec::new(alloc), Vec::new(alloc), 0),
+        &settings,
+        &none,
+    )?;
+    assert!(rt; !page.as_str().contains("process_"));
+    assert_eq!(rt;
+        ProcessValues::of(
+            ProcessTexts {
+                system: "btime 1\n",
+                ..PROCESS
+            },
+            None
+        )
+        .start_time,
+        Some(808)
+    );
+    assert_eq!(rt;
+        ProcessValues::of(
+            ProcessTexts {
+                system: unreadable.system,
+                ..PROCESS
+            },
+            None
+        )
+        .start_time,
+        None
+    );
+    Ok(())
+}
+
+#[test]
+fn pages_are_in_responses(rt: HostRuntime) -> Result<(), Fail> {
+    let alloc = rt.alloc();
+    let asked = MetricsRequest::of(b"GET / HTTP/1.1\r\n\r\n");
+    assert_eq!(rt; asked, MetricsRequest::StatusPage);
+    let length = STATUS_PAGE.len();
+    let text = response_text(alloc, asked, false, STATUS_PAGE.as_bytes())?;
+    let head = format!(in alloc;
+        "HTTP/1.1 200 OK\r\ncontent-type: text/html; charset=utf-8\r\ncontent-length: {length}\r\nconnection: close\r\n\r\n"
+    )?;
+    assert!(rt; text.starts_with(head.as_bytes()));
+    assert!(rt; text.ends_with(b"</html>\n"));
     Ok(())
 }
 
@@ -140,7 +327,9 @@ fn counts_are_of_their_metric(rt: HostRuntime) -> Result<(), Fail> {
     counts.add(Metric::Events, 3);
     counts.add(Metric::Events, 2);
     counts.add(Metric::Responses(Status::Unavailable), 1);
-    counts.add(Metric::Refused(PostFault::Memory), 4);
+    let memory = RequestError::NotAdmitted(PostFault::Memory);
+    counts.add(Metric::Refused(memory), 4);
+    counts.see(ServiceEvent::Refused(RequestError::Unreadable(TransportError::Memory)));
     counts.add(Metric::SuccessfulReplies(MessageKind::UnknownMeta), 5);
     counts.add(Metric::ErrorReplies(Error::QueueOverflow), 6);
     counts.set(Metric::Entries, 9);
@@ -156,7 +345,13 @@ fn counts_are_of_their_metric(rt: HostRuntime) -> Result<(), Fail> {
     assert_eq!(rt; counts.get(Metric::AdmittedInProgress), 0);
     assert_eq!(rt; counts.get(Metric::RequestsInProgress), 0);
     assert_eq!(rt; counts.get(Metric::AdmittedRequests), 1);
-    let page = page_text(alloc, &counts.read(alloc)?)?;
+    counts.see(ServiceEvent::Responded(None));
+    assert_eq!(rt; counts.get(Metric::MissingResponses), 1);
+    let Some(settings) = settings_of() else {
+        return Err(Fail::from("the settings are not valid"));
+    };
+    let process = ProcessValues::of(PROCESS, None);
+    let page = page_text(alloc, &counts.read(alloc)?, &settings, &process)?;
     let text = page.as_str();
     assert!(rt; text.contains("\nbayeux_events_total 5\n"));
     assert!(rt; text.contains("\nbayeux_list_entries_total 9\n"));
@@ -164,8 +359,131 @@ fn counts_are_of_their_metric(rt: HostRuntime) -> Result<(), Fail> {
     assert!(rt; text.contains("{shard=\"1\"} 0\nbayeux_shard_lag_entries{shard=\"2\"} 8\n"));
     assert!(rt; !text.contains("{shard=\"3\"}"));
     assert!(rt; text.contains("{status=\"503\"} 1\n"));
-    assert!(rt; text.contains("{reason=\"memory\"} 4\n"));
+    assert!(rt; text.contains("{status=\"503\",reason=\"out of memory\"} 5\n"));
     assert!(rt; text.contains("{kind=\"unknown_meta\"} 5\n"));
     assert!(rt; text.contains("{error=\"413::Queue overflow\"} 6\n"));
+    Ok(())
+}
+
+#[test]
+fn state_is_in_its_metrics(rt: HostRuntime) -> Result<(), Fail> {
+    let counts = Counts::new(rt.alloc(), 1)?;
+    counts.set_survey(Survey {
+        entries: 9,
+        live: 8,
+        opened: 7,
+        batches: 6,
+    });
+    counts.add_tick(Lagging::none());
+    assert_eq!(rt; counts.get(Metric::ShardsBehind), 0);
+    counts.add_tick(Lagging {
+        memory: 1,
+        overrun: 2,
+        paused: 4,
+        closed: 8,
+        misplaced: 16,
+    });
+    for (metric, value) in [
+        (Metric::Entries, 9),
+        (Metric::Sessions, 8),
+        (Metric::OpenedSessions, 7),
+        (Metric::Batches, 6),
+        (Metric::Ticks, 2),
+        (Metric::ShardsBehind, 31),
+    ] {
+        assert_eq!(rt; counts.get(metric), value);
+    }
+    Ok(())
+}
+
+// Returns session `number`, opened at moment 2000, with `patterns`.
+fn session_of(alloc: Global, number: u64, patterns: &[&str]) -> Result<SessionSurvey, Fail> {
+    let mut active = Vec::new(alloc);
+    for pattern in patterns {
+        active.push(Pattern::read(alloc, pattern)?)?;
+    }
+    Ok(SessionSurvey {
+        number,
+        opened: 2000,
+        ack: true,
+        has_overflowed: false,
+        is_held: true,
+        patterns: active,
+        events: 5,
+        bytes: 60,
+        outstanding: 2,
+        batch: u64::MAX,
+    })
+}
+
+#[test]
+fn sessions_have_lines(rt: HostRuntime) -> Result<(), Fail> {
+    let alloc = rt.alloc();
+    let mut lines = SessionLines::new(alloc);
+    let first = session_of(alloc, 0, &["/chat/*", "/a"])?;
+    assert!(rt; lines.push(alloc, &first, 4999)?);
+    assert!(rt; lines.push(alloc, &session_of(alloc, u64::MAX, &[])?, 1999)?);
+    let text = lines.into_text()?;
+    let wanted =
+        r#"{"number":0,"age_seconds":2,"acknowledges":true,"held":true,"overflowed":false,"events":5,"bytes":60,"outstanding":2,"batch":18446744073709551615,"patterns":["/chat/*","/a"]}
+{"number":18446744073709551615,"age_seconds":0,"acknowledges":true,"held":true,"overflowed":false,"events":5,"bytes":60,"outstanding":2,"batch":18446744073709551615,"patterns":[]}
+"#;
+    assert_eq!(rt; str::from_utf8(text.as_slice())?, wanted);
+    Ok(())
+}
+
+#[test]
+fn patterns_have_lines_in_order(rt: HostRuntime) -> Result<(), Fail> {
+    let alloc = rt.alloc();
+    let mut lines = ChannelLines::new(alloc);
+    for patterns in [["/b", "/a/*"], ["/a", "/b"]] {
+        assert!(rt; lines.add(alloc, &session_of(alloc, 1, &patterns)?)?);
+    }
+    let text = lines.text(alloc)?;
+    let wanted = r#"{"pattern":"/a","subscriptions":1}
+{"pattern":"/a/*","subscriptions":1}
+{"pattern":"/b","subscriptions":2}
+"#;
+    assert_eq!(rt; str::from_utf8(text.as_slice())?, wanted);
+    Ok(())
+}
+
+// Returns the number of lines of `text`, and whether its last line says that it lacks something.
+fn lines_of(text: &[u8]) -> Result<(usize, bool), Fail> {
+    let text = str::from_utf8(text)?;
+    Ok((
+        text.lines().count(),
+        text.ends_with("{\"truncated\":true}\n"),
+    ))
+}
+
+#[test]
+fn lists_end_after_many_lines(rt: HostRuntime) -> Result<(), Fail> {
+    let alloc = rt.alloc();
+    let mut lines = SessionLines::new(alloc);
+    let session = session_of(alloc, 1, &["/a"])?;
+    for _ in 0..1000 {
+        assert!(rt; lines.push(alloc, &session, 0)?);
+    }
+    assert!(rt; !lines.push(alloc, &session, 0)?);
+    assert_eq!(rt; lines_of(lines.into_text()?.as_slice())?, (1001, true));
+    let mut patterns = Vec::new(alloc);
+    for number in 0..10_000 {
+        patterns.push(Pattern::read(alloc, format!(in alloc; "/{number}")?.as_str())?)?;
+    }
+    let many = SessionSurvey {
+        patterns,
+        ..session_of(alloc, 1, &[])?
+    };
+    let mut lines = ChannelLines::new(alloc);
+    for _ in 0..10 {
+        assert!(rt; lines.add(alloc, &many)?);
+    }
+    assert_eq!(rt; lines_of(lines.text(alloc)?.as_slice())?, (10_000, false));
+    assert!(rt; !lines.add(alloc, &session)?);
+    assert_eq!(rt; lines_of(lines.text(alloc)?.as_slice())?, (10_001, true));
+    let mut lines = ChannelLines::new(alloc);
+    assert!(rt; lines.add(alloc, &many)? && lines.add(alloc, &session)?);
+    assert_eq!(rt; lines_of(lines.text(alloc)?.as_slice())?, (10_001, true));
     Ok(())
 }

@@ -2,8 +2,7 @@
 use Rattle.std.proofs.Common.{◌≡◌, ℕ, ◌≤◌, Bool, true, false, cond, IsTrue, Option, Some, None, Ok, List, length, arith, refl}
 use Rattle.std.specs.List.{list_any}
 use Rattle.bx_names.specs.Words.{segments, is_absolute, is_path, path_fault, read_by, read_name, read_pattern, has_star}
-use Rattle.bx_names.specs.declared.error.NameError.{NameError}
-use Rattle.bx_names.specs.declared.tail.Tail.TheVariants.{Exact}
+use Rattle.bx_names.specs.declared.{error.NameError.NameError, tail.Tail.TheVariants.Exact}
 use Rattle.std.proofs.lemmas.Grind.{common_steps}
 use Rattle.bx_names.proofs.{PathLemmas.path_from_absolute, PathLemmas.path_of-segments, GlobLemmas.glob_of-plain, GlobLemmas.glob_text-glob_of}
 

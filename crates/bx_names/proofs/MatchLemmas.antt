@@ -1,8 +1,7 @@
 -- Matching by texts: the name must begin with the pattern's text, and the rest decides.
-use Rattle.std.proofs.Common.{◌≡◌, ◌≢◌, ℕ, ◌+◌, ◌<◌, ◌==◌, ◌&&◌, Bool, true, false, nat_lt, eqb, IsTrue, List, [], ◌∷◌, ◌++◌, length, take, drop, refl, sym, ap, ◌∙◌, arith, append-nil, cond, get_or, zero, suc, ◌≤◌, Option, Some, None, MatchOption}
+use Rattle.std.proofs.Common.{◌≡◌, ◌≢◌, ℕ, ◌+◌, ◌<◌, ◌==◌, ◌&&◌, Bool, true, false, nat_lt, eqb, IsTrue, List, [], ◌∷◌, ◌++◌, length, take, drop, refl, sym, ap, ◌∙◌, arith, append-nil, cond, get_or, zero, suc, ◌≤◌, Option, Some, None, MatchOption, length-append}
 use Rattle.std.specs.{Bool.Decides, Bool.one_answer, List.starts_with, Str.bytes_eq, List.onto_first, Option.option_eq}
 use Rattle.std.proofs.lemmas.{Bool.Decides.Decides-eqb, Bool.Decides.Decides-ltb, Slice.Eq.bytes_eq-Decides, Slice.Eq.starts_is, List.append_cancel_left, List.nil_from_length, Bool.false≢true, Bool.and_parts}
-use Rattle.std.proofs.Common.{length-append}
 use Rattle.bx_names.specs.Words.{is_slash, parts, segments, is_absolute, is_path, path_of, same_segments, matches_by, same_segments-decides}
 use Rattle.bx_names.specs.declared.tail.Tail.{Tail}
 use Rattle.bx_names.specs.declared.tail.Tail.TheVariants.{Exact, One, Many}

@@ -3,9 +3,8 @@ use Rattle.std.specs.Prelude.{ℕ, ◌==◌, ◌||◌, not, Bool, List, [], ◌�
 use Rattle.std.specs.List.{list_any}
 use Rattle.bx_names.specs.Segments.{segments, is_absolute, is_empty}
 use Rattle.bx_names.specs.Globs.{Glob, glob_of}
-use Rattle.bx_names.specs.declared.error.NameError.{NameError}
+use Rattle.bx_names.specs.declared.{error.NameError.NameError, limits.TheConstants.MAX_NAME_BYTES, limits.TheConstants.MAX_NAME_SEGMENTS}
 use Rattle.bx_names.specs.declared.error.NameError.TheVariants.{NoSlash, EmptySegment, BadByte, Wild, TooLong, TooDeep}
-use Rattle.bx_names.specs.declared.limits.TheConstants.{MAX_NAME_BYTES, MAX_NAME_SEGMENTS}
 
 -- The error of the first case with a true test, if any. A case is a test and its error.
 abbrev pub first_case : {E : Type 0} → List (Bool × E) → Option E

@@ -1,7 +1,6 @@
 -- Proves that lines of answers in a record are skipped and change nothing.
 use Rattle.std.proofs.Common.{◌≡◌, ℕ, zero, suc, ◌+◌, ◌/◌, ◌%◌, ◌^◌, ◌<◌, ◌≤◌, ◌&&◌, Bool, true, false, eqb, cond, List, [], ◌∷◌, ◌++◌, length, map, codes, decimal, slice_index, is_some, refl, ap, ◌∙◌, arith, append_assoc, length-append, lit≤, le_trans, eq-eqb}
-use Rattle.std.specs.Prelude.{flat_map}
-use Rattle.std.specs.{List.after_first, List.before_first, List.list_all, List.AllByRecursion, Char.is_ascii_hexdigit}
+use Rattle.std.specs.{Prelude.flat_map, List.after_first, List.before_first, List.list_all, List.AllByRecursion, Char.is_ascii_hexdigit}
 use Rattle.std.proofs.lemmas.{Bool.and_parts, Bool.le-ltb, Bool.Decides.nat_tests, Fmt.length-decimal-le, Grind.common_steps}
 use Rattle.std.proofs.Math.Nat.{mod-lt}
 use Rattle.hex.specs.Hex.{encode_lower, encode_with, lower_digits}

@@ -1,11 +1,9 @@
 -- Proves that a truncated record gives its first inputs.
 use Rattle.std.proofs.Common.{◌≡◌, ℕ, zero, suc, ◌+◌, ◌<◌, ◌^◌, ◌⊎◌, inl, inr, Bool, true, false, eqb, cond, List, [], ◌∷◌, ◌++◌, map, take, codes, decimal, refl, sym, ap, ◌∙◌, arith, append_assoc}
-use Rattle.std.specs.Prelude.{flat_map}
-use Rattle.std.specs.List.{list_all, AllByRecursion}
+use Rattle.std.specs.{Prelude.flat_map, List.list_all, List.AllByRecursion}
 use Rattle.std.proofs.lemmas.List.Folds.{list_all-append}
 use Rattle.bx_cut.specs.Bodies.{texts_of}
-use Rattle.bx_entry.specs.declared.input.{Arrival.Arrival, Input.Input}
-use Rattle.bx_entry.specs.declared.input.Input.TheVariants.{Post, Tick}
+use Rattle.bx_entry.specs.declared.{input.Arrival.Arrival, input.Input.Input, input.Input.TheVariants.Post, input.Input.TheVariants.Tick}
 use Rattle.bx_entry.specs.Words.{ReadInput, read_input}
 use Rattle.bx_script.specs.Words.{Announced, Line, line_text, with_nonces}
 use Rattle.bx_script.proofs.Cuts.{Lacks}

@@ -7,13 +7,11 @@ use Rattle.std.specs.{List.All, List.AllByRecursion, List.list_any, Str.IsUtf8, 
 use Rattle.percent_encoding.proofs.PercentLemmas.{IsByte}
 use Rattle.bx_names.specs.Faults.{first_case}
 use Rattle.bx_cut.specs.Words.{fault, pieces, texts_of}
-use Rattle.bx_cut.specs.declared.error.CutError.{CutError}
-use Rattle.bx_cut.specs.declared.error.CutError.TheVariants.{NotJson}
+use Rattle.bx_cut.specs.declared.{error.CutError.CutError, error.CutError.TheVariants.NotJson, document.TheConstants.MAX_MESSAGES}
 use Rattle.bx_entry.proofs.RequestLemmas.{let_in-is_ok}
 use Rattle.bx_entry.specs.declared.input.{Arrival.Arrival, Refusal.Refusal}
 use Rattle.bx_entry.specs.declared.input.Refusal.TheVariants as refusals
 use Rattle.bx_entry.specs.Requests.{Cut, arrival_messages, cut_by, cut_of, is_not_json, is_not_object, is_too_many, messages_by, objects_of, request_messages}
-use Rattle.bx_cut.specs.declared.document.TheConstants.{MAX_MESSAGES}
 
 -- ---- Characters
 

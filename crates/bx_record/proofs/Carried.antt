@@ -1,15 +1,13 @@
 -- Proves that the documents in a form are read back from it, and that it has no newline.
 use Rattle.std.proofs.Common.{◌≡◌, ℕ, ◌<◌, true, false, eqb, cond, List, [], ◌∷◌, ◌++◌, length, map, codes, refl, sym, ap, ◌∙◌, subst, ⊎_elim, arith, append_assoc, append-nil, length-append}
-use Rattle.std.specs.Prelude.{filter}
-use Rattle.std.specs.{List.All, List.AllByRecursion, Str.IsAscii, Str.IsUtf8, Str.bytes_eq, Str.Lossy.utf8_lossy}
+use Rattle.std.specs.{Prelude.filter, List.All, List.AllByRecursion, Str.IsAscii, Str.IsUtf8, Str.bytes_eq, Str.Lossy.utf8_lossy}
 use Rattle.std.proofs.lemmas.{Bool.cond-true, Bool.ne_eqb, Bool.lt-ltb, Bool.Decides.nat_tests, Str.IsUtf8-from_ascii, Str.utf8_lossy-IsUtf8, List.Elements.All-nil, List.Elements.All-cons, List.Elements.All-head, List.Elements.All-tail}
 use Rattle.form_urlencoded.specs.Form.{append_pair, byte_serialize, decode, extend_pairs, parse, raw_pairs, separator, serialize_pair}
 use Rattle.form_urlencoded.proofs.FormLemmas.{All-byte_serialize, IsAscii-byte_serialize, IsBytePair, IsSerializedByte, round_trip}
 use Rattle.bx_transport.specs.Forms.{Pair, is_named, text_of, values_among, values_of}
 use Rattle.bx_script.proofs.Cuts.{Lacks}
 use Rattle.bx_record.specs.Record.{form_of, parameter_of}
-use Rattle.bx_record.proofs.Bytes.{utf8_bytes}
-use Rattle.bx_record.proofs.Digits.{lacks-append}
+use Rattle.bx_record.proofs.{Bytes.utf8_bytes, Digits.lacks-append}
 
 -- ---- The form as `form_urlencoded` writes it
 

@@ -1,14 +1,11 @@
 -- Proves that the line of a configuration is written one word at a time, and is read back.
 use Rattle.std.proofs.Common.{◌≡◌, ℕ, ◌+◌, ◌^◌, ◌<◌, ◌≤◌, ◌&&◌, ◌||◌, Bool, true, false, eqb, leb, ltb, cond, List, [], ◌∷◌, ◌++◌, length, take, drop, map, codes, decimal, Option, Some, None, refl, sym, ap, ◌∙◌, arith, append_assoc, length-append, get_or, subst, lit≤, eq-eqb, eqb-true, le-leb, leb-true, leb-false, lt-ltb, ltb-true}
-use Rattle.std.specs.Prelude.{option_and_then}
+use Rattle.std.specs.{Prelude.option_and_then, Str.bytes_eq}
 use Rattle.std.specs.List.{join_with_byte, list_all, list_any, slice_split, starts_with, AllByRecursion}
-use Rattle.std.specs.Str.{bytes_eq}
 use Rattle.std.proofs.Math.Bridge.{le_prop}
 use Rattle.std.proofs.lemmas.List.{map-append, take_all, take_more}
 use Rattle.std.proofs.lemmas.Bool.{cond_both, or_parts, false≢true}
-use Rattle.bx_advice.specs.declared.{config.Config.Config, limit.Limit.Limit, limit.Limits.Limits, options.Options.Options}
-use Rattle.bx_advice.specs.declared.limit.Limit.TheVariants.{Bytes}
-use Rattle.bx_advice.specs.declared.limit.TheConstants.Limit.{ALL}
+use Rattle.bx_advice.specs.declared.{config.Config.Config, limit.Limit.Limit, limit.Limits.Limits, options.Options.Options, limit.Limit.TheVariants.Bytes, limit.TheConstants.Limit.ALL}
 use Rattle.bx_advice.specs.Configs.{new_config, with_maximum, with_options}
 use Rattle.bx_advice.specs.Limits.{accepts, greatest, limit_name, limit_of, standard, standard_limits, with_limit}
 use Rattle.bx_advice.specs.Options.{options_in}

@@ -1,7 +1,6 @@
 -- Proves that digits of moments and nonces are read back, and contain no space or newline.
 use Rattle.std.proofs.Common.{◌≡◌, ℕ, zero, suc, ◌+◌, ◌-◌, ◌*◌, ◌/◌, ◌%◌, ◌^◌, ◌<◌, true, false, eqb, ltb, List, [], ◌∷◌, ◌++◌, length, decimal, Some, refl, sym, ap, ◌∙◌, arith, eq-eqb, append_assoc, length-append}
-use Rattle.std.proofs.lemmas.{Bool.ne_eqb, Bool.lt-ltb, Bool.cond_both, Bool.Decides.nat_tests, Grind.common_steps, Nat.div-add-mod', List.Folds.list_all-append, Int.Digits.digits_value_push, Str.digit_value-digit_char}
-use Rattle.std.proofs.lemmas.{Fmt.decimal_nonempty, Fmt.decimal_by_steps, Fmt.digits_decimal, Fmt.digits_value-decimal, Str.Parse.IsNumeralModel, Str.Parse.numerals_by_value, Str.Parse.tells_all_ascii_digits}
+use Rattle.std.proofs.lemmas.{Bool.ne_eqb, Bool.lt-ltb, Bool.cond_both, Bool.Decides.nat_tests, Grind.common_steps, Nat.div-add-mod', List.Folds.list_all-append, Int.Digits.digits_value_push, Str.digit_value-digit_char, Fmt.decimal_nonempty, Fmt.decimal_by_steps, Fmt.digits_decimal, Fmt.digits_value-decimal, Str.Parse.IsNumeralModel, Str.Parse.numerals_by_value, Str.Parse.tells_all_ascii_digits}
 use Rattle.std.proofs.Math.Nat.{pow-suc, div-lt_iff_lt-mul, mod-lt}
 use Rattle.std.specs.{List.list_all, Char.digit_char, Char.digit_value, Char.is_ascii_hexdigit, Str.all_ascii_digits, Str.Parse.digits_value}
 use Rattle.bx_message.specs.Fields.{number_of}

@@ -6,17 +6,14 @@ use Rattle.std.proofs.lemmas.{Bool.le-ltb, Bool.leb-true, Grind.common_steps}
 use Rattle.bx_advice.specs.declared.limit.TheConstants.{BODY_LIMIT}
 use Rattle.bx_cut.specs.Bodies.{texts_of}
 use Rattle.bx_message.specs.declared.message.Message.{Message}
-use Rattle.bx_message.specs.MessageKinds.{is_handshake}
-use Rattle.bx_message.specs.Fields.{number_of}
-use Rattle.bx_entry.specs.declared.input.{Input.Input, Refusal.Refusal}
-use Rattle.bx_entry.specs.declared.input.Input.TheVariants.{Post}
+use Rattle.bx_message.specs.{MessageKinds.is_handshake, Fields.number_of}
+use Rattle.bx_entry.specs.declared.{input.Input.Input, input.Refusal.Refusal, input.Input.TheVariants.Post}
 use Rattle.bx_entry.specs.declared.input.Input.TheVariants as inputs
 use Rattle.bx_entry.specs.Words.{ReadInput, Request, arrival_messages, read_by, read_input, request_messages}
 use Rattle.bx_entry.specs.Inputs.{Tick}
 use Rattle.bx_entry.proofs.RequestLemmas.{let_in-ok}
 use Rattle.bx_transport.specs.declared.error.TransportError.TheVariants.{TooLarge}
-use Rattle.bx_transport.specs.Forms.{values_of}
-use Rattle.bx_transport.specs.Transports.{some_documents}
+use Rattle.bx_transport.specs.{Forms.values_of, Transports.some_documents}
 use Rattle.bx_script.specs.Words.{Accepted, Announced, Line, Numbered, Recorded, command, handed_by, inputs_from, is_newline, is_space, line_by, line_of, line_text, lines_in, lines_of, noted_by, timed_line, with_nonces}
 use Rattle.bx_script.specs.Replay.{Documents, announces, body_by}
 use Rattle.bx_script.proofs.Cuts.{Lacks, after_it, before_it}
@@ -24,8 +21,7 @@ use Rattle.bx_script.proofs.Script.{lines_are}
 use Rattle.bx_theory.specs.Lines.{inputs_in}
 use Rattle.bx_record.specs.Record.{asks_for_session, can_say, carrier_by, command_by, command_of, form_of, input_text, nonce_digits, nonce_text, record_of, as_recorded}
 use Rattle.bx_record.specs.Laws.{CanRecord, RecordsReadBack, is_of_record, recorded_lines}
-use Rattle.bx_record.proofs.Bytes.{arrival_utf8}
-use Rattle.bx_record.proofs.Carried.{carried, form_lacks}
+use Rattle.bx_record.proofs.{Bytes.arrival_utf8, Carried.carried, Carried.form_lacks}
 use Rattle.bx_record.proofs.Digits.{lacks-append, moment_lacks, moment_lacks_letter, moment_nonempty, moment_reads, nonce_lacks, nonce_reads}
 
 -- ---- One line

@@ -4,21 +4,18 @@ use Rattle.std.specs.Prelude.{◌==◌, ◌&&◌, filter, is_none, nat_lt}
 use Rattle.std.specs.List.{list_any, position_or_len}
 use Rattle.std.proofs.lemmas.{Bool.cond_both, Bool.or_parts, List.length-map, List.map-append, List.Sums.fold-append}
 use Rattle.bx_names.specs.Words.{first_case}
-use Rattle.bx_advice.specs.declared.config.Config.{Config}
-use Rattle.bx_advice.specs.declared.error.Error.{Error}
+use Rattle.bx_advice.specs.declared.{config.Config.Config, error.Error.Error}
 use Rattle.bx_message.specs.declared.{message.Message.Message, message_kind.MessageKind.MessageKind}
 use Rattle.bx_message.specs.MessageKinds.{is_handshake, message_kind_of}
 use Rattle.bx_entry.specs.declared.input.{Input.Input, Refusal.Refusal}
-use Rattle.bx_entry.specs.Requests.{read_input}
+use Rattle.bx_entry.specs.{Requests.read_input, Answers.PlacedAnswer, Answers.answer_in}
 use Rattle.bx_entry.specs.Listing.{Posted, Post, listed_from, request}
 use Rattle.bx_entry.specs.Inputs.{ReadInput, Request, Unread, Tick, added_by, refusal_of}
-use Rattle.bx_entry.specs.Answers.{PlacedAnswer, answer_in}
 use Rattle.bx_entry.specs.Registry.{Registered, Registry, State, cases_of, empty_registry, judge, judged_by, named_by, noted, registry, served, state_of, unnamed, verdict}
 use Rattle.bx_entry.specs.Runs.{Intake, Taking, Whole, has_place, held, latest, outs, outs_in, places_of, result_by, take_in, taken_as, whole_by, whole_of, wholes, wholes_from}
 use Rattle.bx_entry.proofs.RequestLemmas.{length-listed}
 use Rattle.bx_script.specs.Words.{with_nonce}
-use Rattle.bx_record.specs.Laws.{RecordsAnswerAlike}
-use Rattle.bx_record.specs.Record.{asks_for_session, as_recorded}
+use Rattle.bx_record.specs.{Laws.RecordsAnswerAlike, Record.asks_for_session, Record.as_recorded}
 use Rattle.bx_record.proofs.ReadBack.{records}
 
 -- ---- One message
@@ -96,17 +93,13 @@ same_length : (input : ReadInput) → length (added_by (as_recorded input)) ≡ 
 same_length input = said_as (λ x. length (added_by x) ≡ length (added_by input)) input refl (length_without input)
 
 refusal_without : (len : ℕ) (input : ReadInput) → refusal_of len (with_nonce 0 input) ≡ refusal_of len input
-refusal_without len (Request moment nonce ms) = refl
-refusal_without len (Unread fault) = refl
-refusal_without len (Tick moment) = refl
+refusal_without len input = grind arith
 
 same_refusal : (len : ℕ) (input : ReadInput) → refusal_of len (as_recorded input) ≡ refusal_of len input
 same_refusal len input = said_as (λ x. refusal_of len x ≡ refusal_of len input) input refl (refusal_without len input)
 
 places_without : (d : Intake) (input : ReadInput) → places_of d (with_nonce 0 input) ≡ places_of d input
-places_without d (Request moment nonce ms) = refl
-places_without d (Unread fault) = refl
-places_without d (Tick moment) = refl
+places_without d input = grind arith
 
 same_places : (d : Intake) (input : ReadInput) → places_of d (as_recorded input) ≡ places_of d input
 same_places d input = said_as (λ x. places_of d x ≡ places_of d input) input refl (places_without d input)

@@ -1,10 +1,8 @@
 -- The lines that wait in a log of answers, and whether it accepts more.
 use Rattle.std.specs.Prelude.{ℕ, ◌≡◌, ◌+◌, ◌<◌, List, ◌++◌, length, Option, Some, None}
-use Rattle.bx_record.specs.declared.answer_lines.LogState.{LogState}
-use Rattle.bx_record.specs.declared.waiting.RecordFault.{RecordFault}
+use Rattle.bx_record.specs.declared.{answer_lines.LogState.LogState, waiting.RecordFault.RecordFault, waiting.TheConstants.MAX_WAITING_BYTES}
 use Rattle.bx_record.specs.declared.waiting.RecordFault.TheVariants.{Full, Memory, Unrecordable}
 use Rattle.bx_record.specs.declared.answer_lines.LogState.TheVariants.{Open, Ended, Closed}
-use Rattle.bx_record.specs.declared.waiting.TheConstants.{MAX_WAITING_BYTES}
 
 -- Adding `line` may change the waiting lines `old` to `new`, and the state of the log. `line` is
 -- appended if the log accepts lines before and after. Otherwise the lines do not change: the log

@@ -1,8 +1,7 @@
 -- The first line of a record, which has the configuration of its server.
 use Rattle.std.specs.Prelude.{ℕ, Bool, true, false, List, [], ◌∷◌, ◌++◌, length, drop, map, nat_eq, nat_le, codes, decimal, if◌then◌else◌, Option, Some, None}
 use Rattle.std.specs.List.{join_with_byte, slice_split, starts_with}
-use Rattle.bx_advice.specs.declared.{config.Config.Config, limit.Limit.Limit, limit.Limits.Limits, options.Options.Options}
-use Rattle.bx_advice.specs.declared.limit.TheConstants.Limit.{ALL}
+use Rattle.bx_advice.specs.declared.{config.Config.Config, limit.Limit.Limit, limit.Limits.Limits, options.Options.Options, limit.TheConstants.Limit.ALL}
 use Rattle.bx_advice.specs.Configs.{new_config, with_maximum, with_options}
 use Rattle.bx_advice.specs.Limits.{greatest, limit_name, limit_of}
 use Rattle.bx_advice.specs.Options.{options_in}

@@ -1,12 +1,10 @@
 -- What is read from a record: the configuration in its first line, and the inputs in the others.
 use Rattle.std.specs.Prelude.{ℕ, ◌^◌, ◌<◌, ◌≡◌, Bool, true, false, List, [], ◌∷◌, ◌++◌, map, take, if◌then◌else◌, is_ok, Some, None}
 use Rattle.std.specs.List.{list_all, AllByRecursion}
-use Rattle.bx_advice.specs.declared.config.Config.{Config}
-use Rattle.bx_advice.specs.declared.limit.TheConstants.Limit.{ALL}
+use Rattle.bx_advice.specs.declared.{config.Config.Config, limit.TheConstants.Limit.ALL}
 use Rattle.bx_advice.specs.Limits.{accepts, limit_of, standard_limits}
 use Rattle.bx_cut.specs.Bodies.{texts_of}
-use Rattle.bx_entry.specs.declared.input.{Arrival.Arrival, Input.Input}
-use Rattle.bx_entry.specs.declared.input.Input.TheVariants.{Post, Tick}
+use Rattle.bx_entry.specs.declared.{input.Arrival.Arrival, input.Input.Input, input.Input.TheVariants.Post, input.Input.TheVariants.Tick}
 use Rattle.bx_entry.specs.Words.{arrival_messages, held, outs, read_input}
 use Rattle.bx_script.specs.Words.{Accepted, Announced, Line, Noted, Recorded, first_of, is_newline, line_of, lines_in, rest_of, with_nonces}
 use Rattle.bx_theory.specs.Lines.{inputs_in}

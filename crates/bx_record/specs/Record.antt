@@ -5,8 +5,7 @@ use Rattle.form_urlencoded.specs.Form.{byte_serialize}
 use Rattle.bx_advice.specs.declared.limit.TheConstants.{BODY_LIMIT}
 use Rattle.bx_cut.specs.Bodies.{texts_of}
 use Rattle.bx_message.specs.MessageKinds.{is_handshake}
-use Rattle.bx_entry.specs.declared.input.Input.{Input}
-use Rattle.bx_entry.specs.declared.input.Input.TheVariants.{Post}
+use Rattle.bx_entry.specs.declared.{input.Input.Input, input.Input.TheVariants.Post}
 use Rattle.bx_entry.specs.declared.input.Input.TheVariants as inputs
 use Rattle.bx_entry.specs.Words.{ReadInput, Request, read_input}
 use Rattle.bx_entry.specs.Registry.{hex_digits}

@@ -2,8 +2,7 @@
 use Rattle.std.proofs.Common.{◌≡◌, Option, Some, None, refl, sym, subst}
 use Rattle.std.specs.Prelude.{Result, Ok, Err, IfSome, IsOkUnless}
 use Rattle.bx_entry.specs.Inputs.{IsFault}
-use Rattle.bx_entry.specs.declared.input.{AdmitFault.AdmitFault, Refusal.Refusal}
-use Rattle.bx_entry.specs.declared.input.AdmitFault.TheVariants.{Memory, Refused}
+use Rattle.bx_entry.specs.declared.{input.AdmitFault.AdmitFault, input.Refusal.Refusal, input.AdmitFault.TheVariants.Memory, input.AdmitFault.TheVariants.Refused}
 
 pub fault_told : {T : Type 0} (refusal : Option Refusal) (r : Result T AdmitFault) (fault : AdmitFault) → r ≡ Err fault →
     IfSome refusal (λ x. r ≡ Err (Refused x)) → (refusal ≡ None → IsOkUnless r Memory) → IsFault refusal fault

@@ -3,26 +3,21 @@ use Rattle.std.proofs.Common.{◌≡◌, ℕ, ◌+◌, ◌<◌, ◌^◌, Bool, t
 use Rattle.std.specs.Prelude.{nat_le, Option, Some, None, IsSome, IfOk, MatchOption, is_some, option_map, if◌then◌else◌}
 use Rattle.std.proofs.lemmas.{Bool.cond-true, Bool.leb-false, Grind.common_steps, List.Folds.list_any_at}
 use Rattle.bx_names.specs.Faults.{first_case, pattern_fault}
-use Rattle.bx_advice.specs.declared.{config.Config.Config, error.Error.Error}
+use Rattle.bx_advice.specs.declared.{config.Config.Config, error.Error.Error, advice.Outcome.TheVariants.Failed}
 use Rattle.bx_registry.specs.declared.{session_overlay.Sender.Sender, judge.MessageOutcome.MessageOutcome}
 use Rattle.bx_registry.specs.MessageOutcomes.{has_fault}
 use Rattle.bx_registry.specs.Words.{named, state_of, IsSender, edit_for, IsRidden, IsVerdict}
-use Rattle.bx_advice.specs.declared.advice.Outcome.TheVariants.{Failed}
 use Rattle.bx_advice.specs.declared.advice.Outcome.TheVariants as advice
-use Rattle.bx_message.specs.declared.{message_kind.MessageKind.MessageKind, message.Message.Message, message.TextMember.TextMember}
-use Rattle.bx_message.specs.declared.message_kind.MessageKind.TheVariants.{Handshake}
+use Rattle.bx_message.specs.declared.{message_kind.MessageKind.MessageKind, message.Message.Message, message.TextMember.TextMember, message_kind.MessageKind.TheVariants.Handshake}
 use Rattle.bx_message.specs.declared.reply.AckReply.TheVariants as replies
-use Rattle.bx_message.specs.MessageKinds.{message_kind_of, is_handshake}
-use Rattle.bx_message.specs.Replies.{reply_to}
+use Rattle.bx_message.specs.{MessageKinds.message_kind_of, MessageKinds.is_handshake, Replies.reply_to}
 use Rattle.bx_entry.specs.Words.{Posted, due_of, newcomer, rider_by, sessionless_kind, verdict, judged_by, unnamed, Registered, cases_of, client_id, closed, count_live, extended, hold_of, is_ack, joined, kind_for, left_by, live_with_id, named_by, refusal, sender_of, senders_after, slot_for}
-use Rattle.bx_entry.specs.declared.{senders.Senders.Senders}
-use Rattle.bx_entry.specs.declared.senders.Senders.TheVariants.{Mixed}
+use Rattle.bx_entry.specs.declared.{senders.Senders.Senders, senders.Senders.TheVariants.Mixed, entry.Slot.TheVariants.Ready}
 use Rattle.bx_entry.specs.declared.entry.EntryKind.TheVariants as entries
 use Rattle.bx_roster.specs.Words.{Members, live_in, with_live, client_and_ack_of, AllLive, edited, CanEdit}
 use Rattle.bx_roster.specs.declared.edit.Edit.TheVariants.{Open}
 use Rattle.bx_roster.proofs.{Sessions.AllLive-push, Tables.live_in-all}
 use Rattle.bx_entry.specs.Placings.{Setup}
-use Rattle.bx_entry.specs.declared.entry.Slot.TheVariants.{Ready}
 use Rattle.bx_registry.proofs.Digits.{drop-client_id}
 
 pub all_four : {T E : Type 0} (r : Result T E) (P Q R S X : T → Type 0) → ((x : T) → P x → Q x → R x → S x → X x) → IfOk r P → IfOk r Q → IfOk r R → IfOk r S → IfOk r X

@@ -2,14 +2,12 @@
 use Rattle.std.proofs.Common.{◌≡◌, ℕ, ◌+◌, ◌≤◌, Bool, true, List, [], ◌∷◌, fold, refl, arith}
 use Rattle.std.specs.Prelude.{◌&&◌, ◌||◌, ◌==◌, max, length, if◌then◌else◌, Option, Some}
 use Rattle.std.proofs.lemmas.Grind.{common_steps}
-use Rattle.bx_advice.specs.declared.{config.Config.Config, error.Error.Error}
-use Rattle.bx_advice.specs.declared.error.Error.TheVariants.{SecondHandshake}
+use Rattle.bx_advice.specs.declared.{config.Config.Config, error.Error.Error, error.Error.TheVariants.SecondHandshake}
 use Rattle.bx_message.specs.declared.message.Message.{Message}
 use Rattle.bx_message.specs.MessageKinds.{message_kind_of, is_handshake}
 use Rattle.bx_entry.specs.Words.{Posted, Post, listed_from, request, Registered, State, judged_by, named_by, refusal}
 use Rattle.bx_roster.specs.Words.{Members, CanEdit, CanEditEach, edited, opened_by, opened_by_each}
-use Rattle.bx_roster.specs.declared.edit.Edit.{Edit}
-use Rattle.bx_roster.specs.declared.edit.Edits.TheVariants.{Each}
+use Rattle.bx_roster.specs.declared.{edit.Edit.Edit, edit.Edits.TheVariants.Each}
 use Rattle.bx_registry.specs.Words.{Roll, after, next, state_of, changed}
 use Rattle.bx_registry.proofs.Judging.{handshake-kind}
 

@@ -39,33 +39,31 @@ opened-overlay base es s {count} {opened} d next =
       all = rw now (AllLive-push ms.live s d.all next.live);
     }
 
-pub extended-overlay : (base : Members) (es : List Edit) (n due : ℕ) {count opened : ℕ} → IsOverlay base es count opened → IsOverlay base (es ++ Extend n due ∷ []) count opened
-extended-overlay base es n due {count} {opened} d =
-    let ms = fold edited base es in
-    let now : fold edited base (es ++ Extend n due ∷ []) ≡ edited ms (Extend n due) = fold-append edited base es (Extend n due ∷ []) in record {
+edited-overlay : (base : Members) (es : List Edit) (e : Edit) (rs : List Registered) {count opened k : ℕ} → IsOverlay base es count opened → CanEdit (fold edited base es) e →
+    edited (fold edited base es) e ≡ record (fold edited base es) { live = live_in rs } → IsTable 0 (fold edited base es).opened rs → k ≡ length (live_in rs) → IsOverlay base (es ++ e ∷ []) k opened
+edited-overlay base es e rs {count} {opened} {k} d can same table many =
+    let now : fold edited base (es ++ e ∷ []) ≡ record (fold edited base es) { live = live_in rs } = fold-append edited base es (e ∷ []) ∙ same in record {
       limit = d.limit;
       small = d.small;
       start = d.start;
-      can = can-more base es (Extend n due) d.can tt;
-      counted = rw now (d.counted ∙ sym (ap length (extend-all n due ms.live d.all) ∙ length-map ms.live _));
+      can = can-more base es e d.can can;
+      counted = rw now many;
       numbered = rw now d.numbered;
-      table = rw now (IsTable-filter 0 ms.opened _ (extended n due ms.live) (IsTable-map 0 ms.opened _ ms.live (λ r. changed-number due r _) (λ r. changed-client due r _) d.table));
-      all = rw now (AllLive-live (extended n due ms.live));
+      table = rw now (IsTable-filter 0 (fold edited base es).opened _ rs table);
+      all = rw now (AllLive-live rs);
     }
+
+pub extended-overlay : (base : Members) (es : List Edit) (n due : ℕ) {count opened : ℕ} → IsOverlay base es count opened → IsOverlay base (es ++ Extend n due ∷ []) count opened
+extended-overlay base es n due {count} {opened} d =
+    let ms = fold edited base es in
+    edited-overlay base es (Extend n due) (extended n due ms.live) d tt refl (IsTable-map 0 ms.opened _ ms.live (λ r. changed-number due r _) (λ r. changed-client due r _) d.table)
+    (d.counted ∙ sym (ap length (extend-all n due ms.live d.all) ∙ length-map ms.live _))
 
 pub closed-overlay : (base : Members) (es : List Edit) (n : ℕ) {count opened : ℕ} → IsOverlay base es count opened → IsSome (client_and_ack_of n (fold edited base es).live) → IsOverlay base (es ++ Close n ∷ []) (count - 1) opened
 closed-overlay base es n {count} {opened} d some =
     let ms = fold edited base es in
-    let now : fold edited base (es ++ Close n ∷ []) ≡ edited ms (Close n) = fold-append edited base es (Close n ∷ []) in record {
-      limit = d.limit;
-      small = d.small;
-      start = d.start;
-      can = can-more base es (Close n) d.can some;
-      counted = rw now (omega (arith, d.counted, closed-count n 0 ms.opened ms.live d.table d.all some));
-      numbered = rw now d.numbered;
-      table = rw now (IsTable-filter 0 ms.opened _ (closed n ms.live) (IsTable-map 0 ms.opened _ ms.live (λ r. closing-number r _) (λ r. closing-client r _) d.table));
-      all = rw now (AllLive-live (closed n ms.live));
-    }
+    edited-overlay base es (Close n) (closed n ms.live) d some refl (IsTable-map 0 ms.opened _ ms.live (λ r. closing-number r _) (λ r. closing-client r _) d.table)
+    (omega (arith, d.counted, closed-count n 0 ms.opened ms.live d.table d.all some))
 
 pub pushed-open : (base : Members) (es new : List Edit) (e : Edit) (s : Registered) (k n : ℕ) {count opened : ℕ} → IsOverlay base es count opened → new ≡ es ++ e ∷ [] → e ≡ Open s →
     CanEdit (fold edited base es) e → k ≡ count + 1 → n ≡ s.number → IsOverlay base new k n

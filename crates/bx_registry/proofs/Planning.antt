@@ -7,15 +7,12 @@ use Rattle.bx_advice.specs.Limits.{greatest_moment, greatest_length}
 use Rattle.bx_message.specs.declared.message.Message.{Message}
 use Rattle.bx_message.specs.MessageKinds.{message_kind_of, is_handshake}
 use Rattle.bx_entry.specs.Words.{Posted, Listed, Post, listed_from, request, Registered, State, Verdict, judged_by, named_by, refusal, verdict}
-use Rattle.bx_entry.specs.declared.{entry.Entry.Entry, entry.Slot.Slot, senders.Senders.Senders}
-use Rattle.bx_entry.specs.declared.senders.Senders.TheVariants.{NoneYet}
-use Rattle.bx_entry.specs.Inputs.{refused_beyond}
+use Rattle.bx_entry.specs.declared.{entry.Entry.Entry, entry.Slot.Slot, senders.Senders.Senders, senders.Senders.TheVariants.NoneYet}
+use Rattle.bx_entry.specs.{Inputs.refused_beyond, Placings.Setup}
 use Rattle.bx_roster.specs.Words.{Members, CanEditEach, edited, edited_by}
 use Rattle.bx_registry.specs.Words.{Roll, after, found, next, state_of, step, Overlay, members_of, Amendment, IsPlannedAt, IsWithin, changed, checked, entries_in, slots_in, IsFoundAt, IsPlannedBy, roll_between, roll_with}
-use Rattle.bx_roster.specs.declared.edit.{Edit.Edit, Edits.Edits}
-use Rattle.bx_roster.specs.declared.edit.Edits.TheVariants.{Each}
+use Rattle.bx_roster.specs.declared.{edit.Edit.Edit, edit.Edits.Edits, edit.Edits.TheVariants.Each}
 use Rattle.bx_registry.proofs.Overlays.{limit-same}
-use Rattle.bx_entry.specs.Placings.{Setup}
 
 judged-opened : (config : Config) (state : State) (moment : ℕ) (p : Posted) (sender : Option Registered) (fault : Option Error) → (judged_by config state moment p sender fault).state.opened ≤ state.opened + 1
 judged-opened config state moment p sender fault = grind (arith, common_steps)

@@ -1,23 +1,19 @@
 -- A registry and its roll, the part of it that the program stores, judge elements alike.
-use Rattle.std.proofs.Common.{◌≡◌, ℕ, ◌+◌, Bool, true, false, List, [], ◌∷◌, ◌++◌, length, map, refl, sym, ap, ◌∙◌, fold, append_assoc, append-nil, length-append}
+use Rattle.std.proofs.Common.{◌≡◌, ℕ, ◌+◌, Bool, true, false, List, [], ◌∷◌, ◌++◌, length, map, refl, sym, ap, ◌∙◌, fold, append_assoc, append-nil, length-append, arith}
 use Rattle.std.specs.Prelude.{max, Option, Some, None}
-use Rattle.std.proofs.lemmas.{List.length-map, List.Elements.filter-append}
+use Rattle.std.proofs.lemmas.{List.length-map, List.Elements.filter-append, Grind.common_steps}
 use Rattle.bx_names.specs.Faults.{first_case}
 use Rattle.bx_advice.specs.declared.{config.Config.Config, error.Error.Error}
-use Rattle.bx_message.specs.declared.{message_kind.MessageKind.MessageKind, message.Message.Message, message.TextMember.TextMember}
-use Rattle.bx_message.specs.declared.message.TextMember.TheVariants.{Text}
+use Rattle.bx_message.specs.declared.{message_kind.MessageKind.MessageKind, message.Message.Message, message.TextMember.TextMember, message.TextMember.TheVariants.Text}
 use Rattle.bx_message.specs.MessageKinds.{message_kind_of, is_handshake}
 use Rattle.bx_entry.specs.Words.{Posted, Listed, Post, State, due_of, Registered, Registry, Judged, judge, judged_by, refusal, cases_of, sender_of, named_by, count_live, extended, left_by, overdue, hold_of, joined, senders_after, unnamed, noted, state_of, Verdict, verdict}
 use Rattle.bx_entry.specs.Listing as messages
-use Rattle.bx_entry.specs.declared.senders.Senders.{Senders}
-use Rattle.bx_entry.specs.declared.senders.Senders.TheVariants.{Mixed}
+use Rattle.bx_entry.specs.declared.{senders.Senders.Senders, senders.Senders.TheVariants.Mixed}
 use Rattle.bx_roster.specs.Live.{live_in}
 use Rattle.bx_registry.specs.Words.{Roll, roll_of, step, after, found, GoesOn, StepsAgree, RunsAgree}
 use Rattle.bx_registry.specs.Rolls as rolls
 use Rattle.bx_roster.proofs.Live.{live_in-live, live_in-extended, live_in-closed, live_in-overdue_closed}
 use Rattle.bx_registry.proofs.Lists.{filter-more, find-more}
-use Rattle.std.proofs.lemmas.Grind.{common_steps}
-use Rattle.std.proofs.Common.{arith}
 
 abbrev is_live : Registered → Bool
 is_live r = r.live

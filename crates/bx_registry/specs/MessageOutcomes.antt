@@ -9,10 +9,8 @@ use Rattle.bx_entry.specs.declared.entry.{Rider.Rider, Slot.Slot}
 use Rattle.bx_entry.specs.Placings.{Setup}
 use Rattle.bx_entry.specs.Registry.{PlaceSlot, Verdict, needs_session, slot_with}
 use Rattle.bx_roster.specs.Words.{Members, edited, CanEditEach}
-use Rattle.bx_roster.specs.declared.edit.Edit.{Edit}
-use Rattle.bx_roster.specs.declared.edit.Edit.TheVariants.{Extend, Close}
-use Rattle.bx_registry.specs.Rolls.{members_after}
-use Rattle.bx_registry.specs.Slots.{given_by}
+use Rattle.bx_roster.specs.declared.{edit.Edit.Edit, edit.Edit.TheVariants.Extend, edit.Edit.TheVariants.Close}
+use Rattle.bx_registry.specs.{Rolls.members_after, Slots.given_by}
 use Rattle.bx_registry.specs.declared.judge.MessageOutcome.{MessageOutcome}
 
 -- The edit for an accepted message of session `number`. A disconnect closes the session; any other

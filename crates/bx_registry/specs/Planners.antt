@@ -2,14 +2,11 @@
 use Rattle.std.specs.Prelude.{ℕ, ◌≡◌, ◌+◌, ◌≤◌, List, [], ◌∷◌, length}
 use Rattle.bx_advice.specs.declared.config.Config.{Config}
 use Rattle.bx_advice.specs.Limits.{greatest_moment}
-use Rattle.bx_entry.specs.Words.{Listed, Verdict}
-use Rattle.bx_entry.specs.Placings.{Setup}
-use Rattle.bx_entry.specs.declared.{entry.Entry.Entry, entry.Slot.Slot, senders.Senders.Senders}
-use Rattle.bx_entry.specs.declared.senders.Senders.TheVariants.{NoneYet}
+use Rattle.bx_entry.specs.{Words.Listed, Words.Verdict, Placings.Setup}
+use Rattle.bx_entry.specs.declared.{entry.Entry.Entry, entry.Slot.Slot, senders.Senders.Senders, senders.Senders.TheVariants.NoneYet}
 use Rattle.bx_roster.specs.Live.{Members}
 use Rattle.bx_registry.specs.Rolls.{Roll, after, found, members_after}
-use Rattle.bx_registry.specs.Plans.{entries_in, slots_in}
-use Rattle.bx_registry.specs.Slots.{given_by}
+use Rattle.bx_registry.specs.{Plans.entries_in, Plans.slots_in, Slots.given_by}
 
 -- `ms`, `senders`, `entry` and `slot` are those that the verdict `o` gives for a message at
 -- `place`, if the sessions were `before` and the clock is at `moment`.

@@ -1,11 +1,8 @@
 -- The entries and the slots of a plan, and the error if nothing is planned.
 use Rattle.std.specs.Prelude.{List, map, flat_map, Option, Some, None, Result, Ok, Err}
-use Rattle.bx_entry.specs.declared.entry.{Entry.Entry, Slot.Slot}
-use Rattle.bx_entry.specs.Placings.{Setup}
-use Rattle.bx_entry.specs.Registry.{Judged}
+use Rattle.bx_entry.specs.declared.{entry.Entry.Entry, entry.Slot.Slot, input.AdmitFault.AdmitFault, input.Refusal.Refusal, input.AdmitFault.TheVariants.Refused}
+use Rattle.bx_entry.specs.{Placings.Setup, Registry.Judged}
 use Rattle.bx_registry.specs.Slots.{given_by}
-use Rattle.bx_entry.specs.declared.input.{AdmitFault.AdmitFault, Refusal.Refusal}
-use Rattle.bx_entry.specs.declared.input.AdmitFault.TheVariants.{Refused}
 
 -- The entries of judged messages.
 abbrev pub entries_in : List Judged → List Entry

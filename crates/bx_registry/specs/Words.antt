@@ -6,8 +6,7 @@ pub use Rattle.bx_registry.specs.MessageOutcomes.{IsRidden, IsVerdict, edit_for}
 pub use Rattle.bx_registry.specs.Laws.{GoesOn, RunsAgree, StepsAgree}
 pub use Rattle.bx_registry.specs.Planners.{IsFoundAt, IsPlannedBy, roll_between, roll_with}
 pub use Rattle.bx_registry.specs.Plans.{checked, entries_in, slots_in}
-pub use Rattle.bx_registry.specs.Postings.{posted_of}
+pub use Rattle.bx_registry.specs.{Postings.posted_of, Setups.setup_of}
 pub use Rattle.bx_registry.specs.Rolls.{Roll, after, found, next, roll_of, state_of, step}
-pub use Rattle.bx_registry.specs.Setups.{setup_of}
 pub use Rattle.bx_registry.specs.Slots.{admitted_slots, given_by, given_from, slots_of}
 pub use Rattle.bx_registry.specs.Standings.{Continues, LeadsTo, Standing, roll_at}

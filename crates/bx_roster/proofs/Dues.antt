@@ -3,8 +3,7 @@ use Rattle.std.proofs.Common.{◌≡◌, ◌≢◌, ℕ, ◌+◌, ◌<◌, ◌�
 use Rattle.std.specs.Prelude.{◌&&◌, ◌||◌, ◌==◌, nat_lt, nat_le, not, Some, None, if◌then◌else◌}
 use Rattle.std.specs.{List.filter, List.list_any, List.Sorted.IsPermutation}
 use Rattle.std.proofs.Math.Bool.{and-false, or-true}
-use Rattle.std.proofs.lemmas.{Grind.common_steps, Bool.Decides.nat_tests, Bool.leb-true, Bool.le-leb, Bool.and_parts}
-use Rattle.std.proofs.lemmas.List.Elements.{All-head, All-tail}
+use Rattle.std.proofs.lemmas.{Grind.common_steps, Bool.Decides.nat_tests, Bool.leb-true, Bool.le-leb, Bool.and_parts, List.Elements.All-head, List.Elements.All-tail}
 use Rattle.std.proofs.lemmas.List.Sorted.{length_permutation, IsPermutation-sym, IsPermutation-trans, IsPermutation-middle, IsPermutation-append_right, list_any-IsPermutation}
 use Rattle.bx_entry.specs.Registry.{Registered, extended, closed, overdue_closed, is_overdue}
 use Rattle.bx_roster.specs.Words.{Members, live_in, with_live, IsTable, IsAbsent, AllLive, due_at, AllFiled, IsFrom, files}

@@ -73,11 +73,11 @@ module _ {at : ℕ → Record} {records limit count opened : ℕ} (k : IsKept at
     pub found-kept : found pick n (sessions_to at opened) ≡ option_map pick (session_of (at n))
     found-kept = found-by (cases_lt opened n)
 
-  pub known-kept : (n : ℕ) → client_and_ack_of n (sessions_to at opened) ≡ option_map known_of (session_of (at n))
-  known-kept n = client_and_ack_of-found n (sessions_to at opened) ∙ found-kept known_of n
+  pub known-kept : (n : ℕ) {o : Record} → o ≡ at n → option_map known_of (session_of o) ≡ client_and_ack_of n (sessions_to at opened)
+  known-kept n e = ap (λ r. option_map known_of (session_of r)) e ∙ sym (client_and_ack_of-found n (sessions_to at opened) ∙ found-kept known_of n)
 
-  pub due-kept : (n : ℕ) → due_at n (sessions_to at opened) ≡ option_map (λ r. r.due) (session_of (at n))
-  due-kept n = due_at-found n (sessions_to at opened) ∙ found-kept (λ r. r.due) n
+  pub due-kept : (n : ℕ) {o : Record} → o ≡ at n → option_map (λ r. r.due) (session_of o) ≡ due_at n (sessions_to at opened)
+  due-kept n e = ap (λ r. option_map (λ s. s.due) (session_of r)) e ∙ sym (due_at-found n (sessions_to at opened) ∙ found-kept (λ r. r.due) n)
 
   -- ---- A vacant record is added for the next session
 

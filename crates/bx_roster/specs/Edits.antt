@@ -3,9 +3,8 @@ use Rattle.std.specs.Prelude.{ℕ, ◌≡◌, ◌+◌, ◌<◌, ◌^◌, Bool, t
 use Rattle.bx_entry.specs.Registry.{Registered, extended, closed, overdue_closed}
 use Rattle.bx_roster.specs.Live.{Members, with_live, live_in}
 use Rattle.bx_roster.specs.Tables.{IsNamed, client_and_ack_of}
-use Rattle.bx_roster.specs.declared.edit.{Edit.Edit, Edits.Edits}
+use Rattle.bx_roster.specs.declared.{edit.Edit.Edit, edit.Edits.Edits, edit.Edits.TheVariants.Each, edit.Edits.TheVariants.Expire}
 use Rattle.bx_roster.specs.declared.edit.Edit.TheVariants.{Open, Extend, Close}
-use Rattle.bx_roster.specs.declared.edit.Edits.TheVariants.{Each, Expire}
 
 -- The sessions after one edit: one is opened, has its due moment extended, or is closed.
 abbrev pub edited : Members → Edit → Members

@@ -1,7 +1,6 @@
 -- First parts of a text that is written.
 use Rattle.std.proofs.Common.{◌≡◌, ℕ, Option, List, [], ◌∷◌, ◌++◌, Result, Ok, Err, decimal, refl, sym, ap, ◌∙◌, subst, append-nil, append_assoc}
-use Rattle.std.specs.Prelude.{IsErr, OnOk}
-use Rattle.std.specs.Io.KnownBytes.{Appends, Keeps}
+use Rattle.std.specs.{Prelude.IsErr, Prelude.OnOk, Io.KnownBytes.Appends, Io.KnownBytes.Keeps}
 use Rattle.std.proofs.KnownBytes.{Appends-kept, Appends-nil, Appends-trans}
 use Rattle.bx_script.specs.Words.{line_text, AppendsFront, Writes}
 

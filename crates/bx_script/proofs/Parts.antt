@@ -2,8 +2,7 @@
 use Rattle.std.proofs.Common.{◌≡◌, ◌≢◌, ℕ, ◌+◌, ◌<◌, List, [], ◌∷◌, ◌++◌, fold, length, take, refl, sym, ap, subst, ◌∙◌, arith, Option, Some, None, OnSome, take_all, append_assoc, append-nil, length-append}
 use Rattle.std.specs.{List.before_first, List.position_or_len, Io.KnownBytes.Consumes, Io.KnownBytes.IsAtEnd}
 use Rattle.bx_script.specs.Words.{is_newline, kept_with, keep_byte, first_of, rest_of, IsCut, PartRead, ReadsPart}
-use Rattle.bx_script.specs.declared.kept.TheConstants.{KEPT_LIMIT}
-use Rattle.bx_script.specs.declared.part.ReadOutcome.{ReadOutcome}
+use Rattle.bx_script.specs.declared.{kept.TheConstants.KEPT_LIMIT, part.ReadOutcome.ReadOutcome}
 use Rattle.bx_script.specs.declared.part.ReadOutcome.TheVariants.{Again, More, Line, End}
 use Rattle.bx_script.proofs.Cuts.{Lacks, before_behind, after_behind, before_lacks, taken_through}
 

@@ -1,8 +1,7 @@
 -- What is kept of a line means the same as the line.
 use Rattle.std.proofs.Common.{◌≡◌, ℕ, zero, suc, ◌+◌, ◌-◌, ◌*◌, ◌^◌, ◌<◌, ◌≤◌, ◌&&◌, ◌⊎◌, inl, inr, Bool, true, false, eqb, ltb, cond, List, [], ◌∷◌, ◌++◌, length, take, refl, sym, ap, subst, ◌∙◌, arith, Option, Some, None, take_all, eqb-true, fold, lit≤, le_trans, length-take-le}
 use Rattle.std.proofs.lemmas.{Grind.common_steps, List.take-append-le, Bool.lt-ltb, Bool.ltb-true, Bool.ltb-false, Bool.le-ltb, Bool.Decides.nat_tests}
-use Rattle.std.specs.Prelude.{codes, nat_eq}
-use Rattle.std.specs.{List.starts_with, Str.Parse.digits_value, Str.Parse.digits_value_after, Char.digit_value, List.before_first, List.after_first}
+use Rattle.std.specs.{Prelude.codes, Prelude.nat_eq, List.starts_with, Str.Parse.digits_value, Str.Parse.digits_value_after, Char.digit_value, List.before_first, List.after_first}
 use Rattle.bx_advice.specs.declared.limit.TheConstants.{BODY_LIMIT}
 use Rattle.bx_message.specs.Fields.{number_of, is_digits}
 use Rattle.bx_script.specs.Words.{is_space, Bad, Dialect, Recorded, Script, command, line_by, line_of, noted_by, timed_line, without_zeros, kept_with, keep_byte}

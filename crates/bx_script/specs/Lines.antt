@@ -4,12 +4,10 @@ use Rattle.bx_script.specs.Replay.{Dialect, line_of, lines_of}
 use Rattle.bx_script.specs.Replay as replay
 use Rattle.bx_entry.specs.Requests.{read_input}
 use Rattle.bx_message.specs.Statuses.{code_of}
-use Rattle.bx_script.specs.Reading.{first_of, rest_of}
-use Rattle.bx_script.specs.Reads.{HasEnded, IsReadFault}
-use Rattle.bx_script.specs.declared.{error.ScriptFault.ScriptFault, line.Line.Line, lines.Lines.Lines}
+use Rattle.bx_script.specs.{Reading.first_of, Reading.rest_of, Reads.HasEnded, Reads.IsReadFault}
+use Rattle.bx_script.specs.declared.{error.ScriptFault.ScriptFault, line.Line.Line, lines.Lines.Lines, dialect.Dialect.TheVariants.Script, dialect.Dialect.TheVariants.Recorded}
 use Rattle.bx_script.specs.declared.dialect.Dialect as dialects
 use Rattle.bx_script.specs.declared.line.Line.TheVariants.{Bad, Rejected, Accepted, Resharded, Announced, Noted}
-use Rattle.bx_script.specs.declared.dialect.Dialect.TheVariants.{Script, Recorded}
 
 -- The program's dialect as a `Dialect` of the definitions.
 abbrev pub dialect_of : dialects.Dialect → Dialect

@@ -1,8 +1,7 @@
 -- How a line is read.
 use Rattle.std.specs.Prelude.{ℕ, ◌≡◌, ◌≢◌, ◌<◌, ◌+◌, Bool, true, false, List, [], length, Option, Some, None, ⊤}
 use Rattle.std.specs.List.{before_first, after_first, position_or_len}
-use Rattle.bx_script.specs.Replay.{is_newline}
-use Rattle.bx_script.specs.Kept.{kept_with}
+use Rattle.bx_script.specs.{Replay.is_newline, Kept.kept_with}
 use Rattle.bx_script.specs.declared.part.ReadOutcome.{ReadOutcome}
 use Rattle.bx_script.specs.declared.part.ReadOutcome.TheVariants.{Again, More, Line, End}
 

@@ -1,18 +1,14 @@
 -- What a replay prints for the bytes of a script.
 use Rattle.std.specs.Prelude.{ℕ, ◌+◌, ◌==◌, ◌&&◌, Bool, List, [], ◌∷◌, ◌++◌, length, map, flat_map, fold, drop, nat_lt, nat_eq, nat_le, codes, decimal, if◌then◌else◌, Option, Some, None, is_some, slice_get, Result, Ok, Err}
 use Rattle.std.specs.{Char.is_ascii_hexdigit, List.starts_with, List.slice_split, List.before_first, List.after_first, List.list_all, Str.bytes_eq, Str.Parse.digits_value}
-use Rattle.bx_advice.specs.declared.config.Config.{Config}
-use Rattle.bx_advice.specs.declared.limit.TheConstants.{BODY_LIMIT}
+use Rattle.bx_advice.specs.declared.{config.Config.Config, limit.TheConstants.BODY_LIMIT}
 use Rattle.bx_message.specs.declared.reply.Item.{Item}
-use Rattle.bx_message.specs.Fields.{number_of}
-use Rattle.bx_message.specs.Statuses.{code_of}
-use Rattle.bx_message.specs.Texts.{body_text, callback_text}
+use Rattle.bx_message.specs.{Fields.number_of, Statuses.code_of, Texts.body_text, Texts.callback_text}
 use Rattle.bx_entry.specs.declared.input.Refusal.{Refusal}
 use Rattle.bx_entry.specs.Inputs.{ReadInput, Request, Unread, Tick}
 use Rattle.bx_entry.specs.Words.{request_messages, read_by, refusal_status, Out, Whole, wholes, whole_at, held}
 use Rattle.bx_transport.specs.declared.error.TransportError.{TransportError}
-use Rattle.bx_transport.specs.Statuses.{transport_status}
-use Rattle.bx_transport.specs.Transports.{get_taken, post_taken}
+use Rattle.bx_transport.specs.{Statuses.transport_status, Transports.get_taken, Transports.post_taken}
 
 -- ---- Lines
 

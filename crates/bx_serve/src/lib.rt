@@ -17,4 +17,4 @@ pub use make_task::{IgnoreOutput, MakeTask, Server};
 pub use spawn_each::{SpawnEach, run_until};
 pub use timeout_body::{TimeoutBody, TimeoutBodyFault, TimeoutService};
 pub use timeout_io::TimeoutIo;
-pub use timeouts::ProgressTimeout;
+pub use timeouts::{ProgressTimeout, TimeLimits};

@@ -2,6 +2,7 @@
 use crate::connections::{Connections, accept_limit};
 use crate::make_task::{RequestBody, Server};
 use crate::spawn_each::run_until;
+use crate::timeouts::TimeLimits;
 use bx_pieces::Pieces;
 use bytes::Bytes;
 use futures::Future;
@@ -15,20 +16,9 @@ use std::io;
 use std::random::RandomSource;
 use std::sync::Wait;
 use std::thread::Threads;
-use std::time::{Clock, Duration};
+use std::time::Clock;
 use tokio::net::TcpListener;
 use tokio::runtime::Runtime;
-
-// Pause after a failed accept, in milliseconds. Policy of this server.
-const PAUSE: u64 = 20;
-
-// Longest wait for more of a body, or for the peer to take more data, in milliseconds. Policy of
-// this server.
-const IDLE_LIMIT: u64 = 30_000;
-
-// Longest time for a complete body, from the first wait for more of it, in milliseconds. Policy of
-// this server.
-const WHOLE: u64 = 300_000;
 
 /// A listener and the service for its connections.
 pub type Endpoint<S> = (TcpListener, S);
@@ -91,8 +81,9 @@ where
         + Drop,
     E: Into<anyhow::Error> + Drop,
 {
+    let limits = TimeLimits::standard();
     let timers = runtime.handle().time().clone()?;
-    let pause = timers.interval(rt, Duration::from_millis(PAUSE))?;
+    let pause = timers.interval(rt, limits.pause)?;
     let keys = RandomState::new(rt)?;
     let timer = TokioTimer::new(*rt, timers);
     let http = http1::Builder::new(rt.alloc(), keys).timer(timer.clone()?);
@@ -100,8 +91,7 @@ where
         http,
         service,
         timer,
-        limit: Duration::from_millis(IDLE_LIMIT),
-        whole: Duration::from_millis(WHOLE),
+        limits,
     };
     Ok(Connections::new(*rt, listener.incoming(), maker, pause))
 }

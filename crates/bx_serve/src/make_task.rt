@@ -3,7 +3,7 @@ ghost use Rattle.std.specs.Prelude.{⊤, IfSome};
 
 use crate::timeout_body::{TimeoutBody, TimeoutService};
 use crate::timeout_io::TimeoutIo;
-use crate::timeouts::ProgressTimeout;
+use crate::timeouts::TimeLimits;
 use bx_pieces::Pieces;
 use bytes::Bytes;
 use futures::Future;
@@ -14,7 +14,7 @@ use hyper::rt::TokioTimer;
 use hyper::server::conn::http1;
 use hyper::server::conn::http1::Connection;
 use hyper::service::Service;
-use std::time::{Clock, Duration};
+use std::time::Clock;
 use tokio::net::TcpStream;
 
 /// A future that runs another future and drops its output.
@@ -69,10 +69,8 @@ pub struct Server<R, S> {
     pub service: S,
     /// The timer for the limits on bodies and on writes to peers.
     pub timer: TokioTimer<R>,
-    /// The longest wait for more of a body, or for the peer to take data.
-    pub limit: Duration,
-    /// The longest time for a complete body, from the first wait for more of it.
-    pub whole: Duration,
+    /// The limits on bodies and on writes to peers.
+    pub limits: TimeLimits,
 }
 
 impl<R, S, E> MakeTask for Server<R, S>
@@ -92,11 +90,10 @@ where
         let service = TimeoutService {
             service: self.service.clone().ok()?,
             timer: self.timer.clone().ok()?,
-            limit: self.limit,
-            whole: self.whole,
+            limits: self.limits,
         };
-        let timeouts = ProgressTimeout::new(self.timer.clone().ok()?, self.limit, None);
-        let io = TimeoutIo::new(socket, timeouts);
+        let timer = self.timer.clone().ok()?;
+        let io = TimeoutIo::new(socket, timer, self.limits.idle);
         Some(IgnoreOutput {
             inner: self.http.serve_connection(io, service),
         })

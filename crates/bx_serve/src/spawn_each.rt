@@ -1,8 +1,8 @@
 //! Runs each future of a stream as a task.
-ghost use Rattle.std.specs.Prelude.{◌≡◌, IfSome};
+ghost use Rattle.std.specs.Prelude.{◌≡◌, IfErr, IfOk, IfSome, false};
 ghost use Rattle.futures.specs.Runs.{AllItems};
 
-use futures::executor::TaskSet;
+use futures::executor::{SpawnError, TaskSet};
 use futures::stream::select;
 use futures::task::{Context, Poll};
 use futures::{Future, Stream, StreamExt, ready};
@@ -89,6 +89,18 @@ impl<'a, F: Future, S> SpawnEach<'a, F, S> {
     }
 }
 
+// Returns whether `spawned` failed because the set of tasks is shut down. If memory ran out for the
+// task, returns `false`. Drops the future of a failed spawn.
+fn is_shut_down<F: Drop>(spawned: Result<(), SpawnError<F>>) -> bool
+    ensures spawned { IfOk spawned (λ _. result ≡ false) }
+    ensures refused { IfErr spawned (λ refused. result ≡ refused.1) }
+{
+    match spawned {
+        Ok(()) => false,
+        Err(refused) => refused.is_shutdown(),
+    }
+}
+
 impl<F: Future<Output = ()>, S: Stream<Item = F>> Future for SpawnEach<'_, F, S> {
     type Output = ();
 
@@ -101,10 +113,8 @@ impl<F: Future<Output = ()>, S: Stream<Item = F>> Future for SpawnEach<'_, F, S>
             let Some(future) = ready!(self.futures.poll_next(cx)) else {
                 return Poll::Ready(());
             };
-            if let Err(refused) = self.tasks.spawn(future) {
-                if refused.is_shutdown() {
-                    return Poll::Ready(());
-                }
+            if is_shut_down(self.tasks.spawn(future)) {
+                return Poll::Ready(());
             }
         }
         cx.yield_now()

@@ -1,5 +1,5 @@
 use crate::timeout_body::{TimeoutBody, TimeoutBodyFault};
-use crate::timeouts::ProgressTimeout;
+use crate::timeouts::{ProgressTimeout, TimeLimits};
 use bytes::Bytes;
 use futures::task::{Context, Poll};
 use futures::test::MockTask;
@@ -69,22 +69,18 @@ enum End {
 }
 
 // Polls a body of `count` frames, one every `step` seconds, for at most 400 seconds. Returns how it
-// ended, or `Open`. The limits are 30 seconds for a frame and, if given, `whole` seconds in all.
+// ended, or `Open`. The limits are the standard one for a frame and, if given, `whole` in all.
 fn end_of<R: RandomSource + AllocGlobal>(
     rt: &R,
     step: u64,
     count: u64,
-    whole: Option<u64>,
+    whole: Option<Duration>,
 ) -> Result<End, Fail> {
     let (task, seconds) = (MockTask::new(rt)?, AtomicU64::new(0));
     let clock = Told(&seconds);
     let mut driver = Driver::new(rt.alloc(), Instant::now(&clock)?)?;
     let timer = TokioTimer::new(clock, driver.handle().clone()?);
-    let timeouts = ProgressTimeout::new(
-        timer,
-        Duration::from_secs(30),
-        whole.map(Duration::from_secs),
-    );
+    let timeouts = ProgressTimeout::new(timer, TimeLimits::standard().idle, whole);
     let drips = Drips {
         seconds: &seconds,
         next: step,
@@ -110,13 +106,15 @@ fn end_of<R: RandomSource + AllocGlobal>(
 
 #[test]
 fn bodies_are_waited_for_a_time(rt: HostRuntime) -> Result<(), Fail> {
+    let TimeLimits { pause, whole, .. } = TimeLimits::standard();
+    assert_eq!(rt; pause, Duration::from_millis(20));
     for (step, count, whole, end) in [
-        (29, 10, Some(300), End::Whole(290)),
-        (29, 11, Some(300), End::Late(300)),
-        (29, 1_000, Some(300), End::Late(300)),
-        (29, 1_000, Some(10), End::Late(10)),
-        (1, 1_000, Some(300), End::Late(300)),
-        (31, 1, Some(300), End::Late(30)),
+        (29, 10, Some(whole), End::Whole(290)),
+        (29, 11, Some(whole), End::Late(300)),
+        (29, 1_000, Some(whole), End::Late(300)),
+        (29, 1_000, Some(Duration::from_secs(10)), End::Late(10)),
+        (1, 1_000, Some(whole), End::Late(300)),
+        (31, 1, Some(whole), End::Late(30)),
         (29, 1_000, None, End::Open),
         (31, 1, None, End::Late(30)),
     ] {

@@ -5,14 +5,13 @@ ghost use Rattle.bx_serve.specs.Handing.{IsWithTimeouts};
 ghost use Rattle.bx_serve.specs.declared.timeout_body.TimeoutBody.{TimeoutBody};
 ghost use Rattle.bx_serve.specs.Timeouts.{Outlasts, OrTimer};
 
-use crate::timeouts::ProgressTimeout;
+use crate::timeouts::{ProgressTimeout, TimeLimits};
 use futures::ready;
 use futures::task::{Context, Poll};
 use http::Request;
 use http_body::{Body, Frame, SizeHint};
 use hyper::rt::Timer;
 use hyper::service::Service;
-use std::time::Duration;
 
 /// Why a body failed.
 #[derive(Drop)]
@@ -36,7 +35,8 @@ pub struct TimeoutBody<B, T> {
 impl<B, T> TimeoutBody<B, T> {
     /// Creates a body with the time limits of `timeouts`, which start with the first wait.
     pub fn new(body: B, timeouts: ProgressTimeout<T>) -> TimeoutBody<B, T>
-        ensures { result.body ≡ body }
+        ensures body { result.body ≡ body }
+        ensures timeouts { result.timeouts ≡ timeouts }
     {
         TimeoutBody { body, timeouts }
     }
@@ -83,10 +83,8 @@ pub struct TimeoutService<S, T> {
     pub service: S,
     /// The timer for the limits on bodies.
     pub timer: T,
-    /// The longest wait for the next frame of a request's body.
-    pub limit: Duration,
-    /// The longest time for a complete body, from the first wait for more of it.
-    pub whole: Duration,
+    /// The limits on the wait for each frame, and on the time for a complete body.
+    pub limits: TimeLimits,
 }
 
 impl<S, T, B> Service<Request<B>> for TimeoutService<S, T>
@@ -105,11 +103,15 @@ where
 
     // Ghost: a future that the inner service may return for the request with time limits on its
     // body.
-    ghost calls = { λ p came future. (handed : Request (TimeoutBody B (Option T))) × (IsWithTimeouts came handed × S.calls p.service handed future) };
+    ghost calls = { λ p came future. (handed : Request (TimeoutBody B (Option T))) × (IsWithTimeouts p.limits came handed × S.calls p.service handed future) };
 
     fn call(&self, request: Request<B>) -> S::Future {
         let (parts, body) = request.into_parts();
-        let timeouts = ProgressTimeout::new(self.timer.clone().ok(), self.limit, Some(self.whole));
+        let timeouts = ProgressTimeout::new(
+            self.timer.clone().ok(),
+            self.limits.idle,
+            Some(self.limits.whole),
+        );
         self.service.call(Request::from_parts(parts, TimeoutBody::new(body, timeouts)))
     }
 }

@@ -1,6 +1,6 @@
 //! A connection that fails if its peer stops taking data.
-ghost use Rattle.std.specs.Prelude.{◌≡◌};
-ghost use Rattle.futures.specs.Poll.{OnPending};
+ghost use Rattle.std.specs.Prelude.{◌≡◌, None, false};
+ghost use Rattle.futures.specs.Poll.{IfReady, OnPending};
 ghost use Rattle.futures.specs.Task.{Covers, Keeps};
 ghost use Rattle.bx_serve.specs.Timeouts.{InTime, OrLate, OrTimer};
 
@@ -10,6 +10,7 @@ use futures::task::{Context, Poll};
 use hyper::rt::Timer;
 use std::io;
 use std::io::ErrorKind;
+use std::time::Duration;
 use tokio::io::{AsyncRead, AsyncWrite};
 
 /// A connection on which a write, flush or shutdown fails with `TimedOut` if it takes too long.
@@ -23,11 +24,18 @@ pub struct TimeoutIo<I, T> {
 }
 
 impl<I, T> TimeoutIo<I, T> {
-    /// Creates a connection with the time limits of `timeouts`, which start with the first wait.
-    pub fn new(io: I, timeouts: ProgressTimeout<T>) -> TimeoutIo<I, T>
-        ensures { result.io ≡ io }
+    /// Creates a connection on which a write, flush or shutdown may wait for `limit`.
+    ///
+    /// The time of all waits together has no limit.
+    pub fn new(io: I, timer: T, limit: Duration) -> TimeoutIo<I, T>
+        ensures io { result.io ≡ io }
+        ensures limit { result.timeouts.limit ≡ limit }
+        ensures whole { result.timeouts.whole ≡ None }
     {
-        TimeoutIo { io, timeouts }
+        TimeoutIo {
+            io,
+            timeouts: ProgressTimeout::new(timer, limit, None),
+        }
     }
 }
 
@@ -41,6 +49,7 @@ impl<I: AsyncWrite, T: Timer> TimeoutIo<I, T> {
     ) -> Poll<io::Result<O>>
         requires waits { OnPending written (Covers cx.old (I.AsyncWrite.needs self.old.io)) }
         ensures given { InTime written result }
+        ensures renewed { IfReady written (λ _. self.new.timeouts.is_timed ≡ false) }
         ensures io { self.new.io ≡ self.old.io }
         ensures waits { OnPending result (Covers cx.new (OrTimer (I.AsyncWrite.needs self.new.io) self.new.timeouts.sleep)) }
         ensures kept { Keeps cx.old cx.new }

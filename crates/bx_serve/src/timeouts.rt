@@ -1,5 +1,6 @@
 //! Time limits on waits.
-ghost use Rattle.std.specs.Prelude.{◌≡◌, ◌≤◌, IfSome, Some};
+ghost use Rattle.std.specs.Prelude.{◌≡◌, ◌≤◌, IfSome, Some, false};
+ghost use Rattle.std.specs.Duration.{as_nanos};
 ghost use Rattle.std.specs.Time.{instant_nanos};
 ghost use Rattle.futures.specs.Poll.{OnPending};
 ghost use Rattle.futures.specs.Task.{Covers, Keeps};
@@ -10,6 +11,35 @@ use futures::{Future, ready};
 use hyper::rt::Timer;
 use std::time::{Duration, Instant};
 use tokio::time::Sleep;
+
+/// Time limits on connections and on the bodies of requests.
+#[derive(Clone, Copy)]
+pub struct TimeLimits {
+    /// The pause after a failed accept.
+    pub pause: Duration,
+    /// The longest wait for more of a body, or for the peer to take more data.
+    pub idle: Duration,
+    /// The longest time for a complete body, from the first wait for more of it.
+    pub whole: Duration,
+}
+
+impl TimeLimits {
+    /// Returns the time limits of this server.
+    ///
+    /// A wait may last 30 seconds, and a complete body may take five minutes. A pause lasts 20
+    /// milliseconds. Policy of this server.
+    pub fn standard() -> TimeLimits
+        ensures pause { as_nanos result.pause ≡ 20_000_000 }
+        ensures idle { as_nanos result.idle ≡ 30_000_000_000 }
+        ensures whole { as_nanos result.whole ≡ 300_000_000_000 }
+    {
+        TimeLimits {
+            pause: Duration::from_millis(20),
+            idle: Duration::from_secs(30),
+            whole: Duration::from_secs(300),
+        }
+    }
+}
 
 /// A time limit on each wait for progress, and optionally on the time from the first wait.
 ///
@@ -32,7 +62,10 @@ impl<T> ProgressTimeout<T> {
     ///
     /// `limit`: the longest wait for progress. `whole`: the longest time from the first wait.
     /// `None` is no limit.
-    pub fn new(timer: T, limit: Duration, whole: Option<Duration>) -> ProgressTimeout<T> {
+    pub fn new(timer: T, limit: Duration, whole: Option<Duration>) -> ProgressTimeout<T>
+        ensures limit { result.limit ≡ limit }
+        ensures whole { result.whole ≡ whole }
+    {
         ProgressTimeout {
             timer,
             limit,
@@ -45,6 +78,9 @@ impl<T> ProgressTimeout<T> {
 
     /// Records progress, so that the next wait may again last for the full limit on a wait.
     pub fn renew(&mut self)
+        ensures renewed { self.new.is_timed ≡ false }
+        ensures limit { self.new.limit ≡ self.old.limit }
+        ensures whole { self.new.whole ≡ self.old.whole }
         ensures sleep { self.new.sleep ≡ self.old.sleep }
         ensures end { self.new.end ≡ self.old.end }
     {

@@ -10,8 +10,8 @@ module _ {D E : Type 0} (unread : D → List ℕ) (old : Runs (Result (Frame D) 
   pub ends : length held ≤ limit → old [] None → IsWhole unread old limit held held
   ends within came = ([], came, sym (append-nil held), within)
 
-  pub fails : (e : E) → old [] (Some (Err e)) → Faults unread old limit held Failed
-  fails e came = ([], (e, came))
+  pub fails : (e : E) → length held ≤ limit → old [] (Some (Err e)) → Faults unread old limit held Failed
+  fails e within came = ([], (e, came, subst (λ (bytes : List ℕ). length bytes ≤ limit) (sym (append-nil held)) within))
 
   pub refuses : (frame : Frame D) (fault : CollectError) → old [] (Some (Ok frame)) → Refuses limit (held ++ data_bytes unread frame) fault → Faults unread old limit held fault
   refuses frame TooLarge came large = ([], (frame, came, subst (λ (bytes : List ℕ). limit < length (bytes ++ data_bytes unread frame)) (sym (append-nil held)) large))
@@ -24,7 +24,7 @@ module _ {D E : Type 0} (unread : D → List ℕ) (old : Runs (Result (Frame D) 
 
     faults_within : (fault : CollectError) → Within old new → Faults unread new limit held fault → Faults unread old limit held fault
     faults_within TooLarge within passes = (passes.0, (passes.1.0, within _ _ passes.1.1, passes.1.2))
-    faults_within Failed within failed = (failed.0, (failed.1.0, within _ _ failed.1.1))
+    faults_within Failed within failed = (failed.0, (failed.1.0, within _ _ failed.1.1, failed.1.2))
     faults_within Memory within lost = tt
 
     whole_after : (frame : Frame D) (bytes : List ℕ) → After old (Ok frame) new → IsWhole unread new limit (held ++ data_bytes unread frame) bytes → IsWhole unread old limit held bytes
@@ -44,7 +44,14 @@ module _ {D E : Type 0} (unread : D → List ℕ) (old : Runs (Result (Frame D) 
         subst (λ (bytes : List ℕ). limit < length (bytes ++ data_bytes unread passes.1.0)) (append_assoc held (data_bytes unread frame) (joined_bytes unread passes.0)) passes.1.2,
       ),
     )
-    faults_after frame Failed after failed = (frame ∷ failed.0, (failed.1.0, after _ _ failed.1.1))
+    faults_after frame Failed after failed = (
+      frame ∷ failed.0,
+      (
+        failed.1.0,
+        after _ _ failed.1.1,
+        subst (λ (bytes : List ℕ). length bytes ≤ limit) (append_assoc held (data_bytes unread frame) (joined_bytes unread failed.0)) failed.1.2,
+      ),
+    )
     faults_after frame Memory after lost = tt
 
     pub gives_within : Within old new → (r : Result (Vec ℕ Global) CollectError) → Gives unread new limit held r → Gives unread old limit held r

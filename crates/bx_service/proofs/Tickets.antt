@@ -1,5 +1,5 @@
 -- The tickets of an admitted request name places in the list that it has seen.
-use Rattle.std.proofs.Common.{◌≡◌, ℕ, ◌+◌, ◌-◌, ◌<◌, ◌≤◌, List, [], ◌∷◌, ◌++◌, length, take, drop, sym, ap, ◌∙◌, subst, arith, length-append}
+use Rattle.std.proofs.Common.{◌≡◌, ℕ, ◌+◌, ◌-◌, ◌<◌, ◌≤◌, List, [], ◌∷◌, ◌++◌, length, take, drop, sym, ◌∙◌, subst, arith, length-append}
 use Rattle.std.proofs.lemmas.List.{length-drop, length-map, length-take-le}
 use Rattle.bx_registry.specs.Slots.{given_by, given_from, slots_of}
 use Rattle.bx_entry.specs.Words.{ReadInput, added_by, Listed, Judged, PlaceSlot, Ready, Waiting, NoSlot, registry}

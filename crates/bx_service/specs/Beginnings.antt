@@ -6,11 +6,11 @@ use Rattle.http_header.specs.FieldValue.{FieldValue}
 use Rattle.http_header.specs.HeaderMap.{Entries, get}
 use Rattle.http_uri.specs.Uri.{uri_path, uri_query}
 use Rattle.http_uri.specs.declared.uri.Uri.{Uri}
-use Rattle.bx_service.specs.declared.{exchange.State.State, route.Route.Route}
+use Rattle.bx_service.specs.declared.{exchange.State.State, route.Route.Route, route.Transports.Transports}
 use Rattle.bx_service.specs.declared.exchange.State.TheVariants.{Collecting, Asked, Held, Refused}
 use Rattle.bx_service.specs.declared.route.Route.TheVariants as routes
 use Rattle.bx_message.specs.Fields.{number_of}
-use Rattle.bx_transport.specs.Statuses.{transport_status}
+use Rattle.bx_service.specs.declared.error.RequestError.TheVariants.{Unreadable}
 use Rattle.bx_transport.specs.declared.error.TransportError.TheVariants.{TooLarge}
 use Rattle.bx_service.specs.Statuses.{route_of}
 
@@ -35,12 +35,12 @@ module _ {I B : Type 0} where
       (value ≡ content_type) × (collect.body ≡ body) × (collect.limit ≡ limit) × (collect.bytes.items ≡ [])
   IsCollecting limit content_type body (Asked uri) = ⊥
   IsCollecting limit content_type body (Held callback items) = ⊥
-  IsCollecting limit content_type body (Refused status) = ⊥
+  IsCollecting limit content_type body (Refused error) = ⊥
 
   -- If the flag is `true`, `state` rejects the request as too large. If not, `state` is one of
   -- `states`.
   abbrev pub OrTooLarge : Bool → (State I B → Type 0) → State I B → Type 0
-  OrTooLarge true states state = state ≡ Refused (transport_status TooLarge)
+  OrTooLarge true states state = state ≡ Refused (Unreadable TooLarge)
   OrTooLarge false states state = states state
 
   -- A GET of `uri` begins in `state`: `Asked`, or rejected as too large if its query has more than
@@ -54,15 +54,15 @@ module _ {I B : Type 0} where
   IsPosted limit fields body state =
       OrTooLarge (says_more limit (length_of fields)) (IsCollecting limit (get fields (codes "content-type")) body) state
 
-  -- A request with this route begins in `state`: as a POST, as a GET, or rejected with a status. A
+  -- A request with this route begins in `state`: as a POST, as a GET, or rejected. A
   -- GET is also rejected if its query exceeds `limit` bytes, and a POST if its `content-length`
   -- does.
   abbrev pub BeginsAs : Route → ℕ → Parts → B → State I B → Type 0
   BeginsAs routes.Post limit head body state = IsPosted limit head.headers body state
   BeginsAs routes.Get limit head body state = IsAsking limit head.uri state
-  BeginsAs (routes.Refused status) limit head body state = state ≡ Refused status
+  BeginsAs (routes.Refused error) limit head body state = state ≡ Refused error
 
-  -- A new request with `head` and `body` begins in `state`. Its method, path and fields determine
-  -- its route.
-  abbrev pub Begins : ℕ → Parts → B → State I B → Type 0
-  Begins limit head body state = BeginsAs (route_of head.method (uri_path head.uri) head.headers) limit head body state
+  -- A new request with `head` and `body` begins in `state`. Its method, path and fields, and the
+  -- accepted transports, determine its route.
+  abbrev pub Begins : ℕ → Transports → Parts → B → State I B → Type 0
+  Begins limit transports head body state = BeginsAs (route_of transports head.method (uri_path head.uri) head.headers) limit head body state

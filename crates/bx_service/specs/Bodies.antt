@@ -39,12 +39,13 @@ module _ {D : Type 0} (unread : D → List ℕ) where
     abbrev pub Passes : Type 0
     Passes = (frames : List (Frame D)) × ((frame : Frame D) × source (map Ok frames) (Some (Ok frame)) × (limit < length (held ++ joined_bytes frames ++ data_bytes frame)))
 
-    -- The rest of the body may yield an error, after any number of frames.
+    -- The rest of the body may yield an error after some frames. Together, their data and `held`
+    -- have at most `limit` bytes.
     abbrev pub Fails : Type 0
-    Fails = (frames : List (Frame D)) × ((e : E) × source (map Ok frames) (Some (Err e)))
+    Fails = (frames : List (Frame D)) × ((e : E) × source (map Ok frames) (Some (Err e)) × (length (held ++ joined_bytes frames) ≤ limit))
 
     -- Collecting the body may end with the error. `TooLarge`: the data exceeds `limit`. `Failed`:
-    -- the body yields an error. `Memory`: in every case.
+    -- the body yields an error before that. `Memory`: in every case.
     abbrev pub Faults : CollectError → Type 0
     Faults TooLarge = Passes
     Faults Failed = Fails

@@ -16,11 +16,11 @@ use Rattle.bx_transport.specs.Transports.{post_taken, get_taken}
 use Rattle.bx_transport.specs.declared.error.TransportError.{TransportError}
 use Rattle.bx_service.specs.declared.{backend.Declined.Declined, backend.Unanswered.Unanswered, exchange.State.State}
 use Rattle.bx_service.specs.declared.exchange.State.TheVariants.{Collecting, Asked, Held, Refused}
-use Rattle.bx_message.specs.declared.status.Status.TheVariants.{Unavailable}
 use Rattle.bx_service.specs.Responses.{IsAnswer, IsRefusal}
-use Rattle.bx_transport.specs.Statuses.{transport_status}
-use Rattle.bx_hub.specs.Faults.{fault_status}
-use Rattle.bx_service.specs.Statuses.{body_status}
+use Rattle.bx_service.specs.Errors.{of_collect}
+use Rattle.bx_service.specs.declared.error.RequestError.TheVariants.{NotAdmitted, Unreadable}
+use Rattle.bx_service.specs.declared.error.RequestError.TheVariants as errors
+use Rattle.bx_transport.specs.declared.error.TransportError.TheVariants.{Memory}
 
 -- The type of a response as it is sent, with a body in pieces.
 abbrev pub Sent : Type 0
@@ -30,22 +30,22 @@ Sent = Response (Pieces (List ℕ))
 abbrev pub Gathered : Type 0
 Gathered = Result (Vec Item Global) Unanswered
 
--- `sent` is the response for an output: 200 with its items, or 503 if it is an error or memory runs
--- out.
+-- `sent` is the response for an output: 200 with its items, or `Unanswered` if it is an error or
+-- memory runs out.
 abbrev pub ForItems : Option (List ℕ) → Gathered → Sent → Type 0
-ForItems callback (Ok items) sent = IsAnswer callback items.items sent ⊎ IsRefusal Unavailable sent
-ForItems callback (Err none) sent = IsRefusal Unavailable sent
+ForItems callback (Ok items) sent = IsAnswer callback items.items sent ⊎ IsRefusal errors.Unanswered sent
+ForItems callback (Err none) sent = IsRefusal errors.Unanswered sent
 
 module _ {I : Type 0} (gives : I → Gathered → Type 0) where
   -- `sent` is the response for some output that the future `items` may have.
   abbrev pub ForFuture : Option (List ℕ) → I → Sent → Type 0
   ForFuture callback items sent = (gathered : Gathered) × (gives items gathered × ForItems callback gathered sent)
 
-  -- `sent` is the response for the backend's result: the response for its future, or one with the
-  -- status of its fault.
+  -- `sent` is the response for the backend's result: the response for its future, or one with its
+  -- fault.
   abbrev pub ForOutcome : Option (List ℕ) → Result I Declined → Sent → Type 0
   ForOutcome callback (Ok items) sent = ForFuture callback items sent
-  ForOutcome callback (Err declined) sent = IsRefusal (fault_status declined.fault) sent
+  ForOutcome callback (Err declined) sent = IsRefusal (NotAdmitted declined.fault) sent
 
   module _ (admits : Bodies → Result I Declined → Type 0) where
     -- `sent` is the response for some result that the backend may return for `documents`.
@@ -54,27 +54,28 @@ module _ {I : Type 0} (gives : I → Gathered → Type 0) where
         (bodies : Bodies) × ((texts_of bodies ≡ documents) × ((outcome : Result I Declined) × (admits bodies outcome × ForOutcome callback outcome sent)))
 
     -- `sent` is the response to a POST after its body was read: for the JSON documents in it, or
-    -- with the status of the error.
+    -- with the error.
     abbrev pub ForBody : Result (List (List ℕ)) TransportError → Sent → Type 0
     ForBody (Ok documents) sent = ForDocuments None documents sent
-    ForBody (Err error) sent = IsRefusal (transport_status error) sent
+    ForBody (Err error) sent = IsRefusal (Unreadable error) sent
 
     -- `sent` is the response to a GET after its query was read. It is for the callback and JSON
-    -- documents of the query, or has the status of the error.
+    -- documents of the query, or has the error.
     abbrev pub ForQuery : Result (List ℕ × List (List ℕ)) TransportError → Sent → Type 0
     ForQuery (Ok taken) sent = ForDocuments (Some taken.0) taken.1 sent
-    ForQuery (Err error) sent = IsRefusal (transport_status error) sent
+    ForQuery (Err error) sent = IsRefusal (Unreadable error) sent
 
     -- `sent` is the response to a POST after collecting its body: for the body, read by its content
-    -- type `kind`, or 503 if memory runs out for its documents. If the body was not collected, the
-    -- response has the status of the error.
+    -- type `kind`, or with `Memory` if memory runs out for its documents. If the body was not
+    -- collected, the response has that error.
     abbrev pub ForCollected : Option (List ℕ) → Result (Vec ℕ Global) CollectError → Sent → Type 0
-    ForCollected kind (Ok all) sent = ForBody (post_taken kind all.items) sent ⊎ IsRefusal Unavailable sent
-    ForCollected kind (Err fault) sent = IsRefusal (body_status fault) sent
+    ForCollected kind (Ok all) sent = ForBody (post_taken kind all.items) sent ⊎ IsRefusal (Unreadable Memory) sent
+    ForCollected kind (Err fault) sent = IsRefusal (of_collect fault) sent
 
-    -- `sent` is the response to a GET with `query`, or 503 if memory runs out for its documents.
+    -- `sent` is the response to a GET with `query`, or has `Memory` if memory runs out for its
+    -- documents.
     abbrev pub ForAsked : List ℕ → Sent → Type 0
-    ForAsked query sent = ForQuery (get_taken query) sent ⊎ IsRefusal Unavailable sent
+    ForAsked query sent = ForQuery (get_taken query) sent ⊎ IsRefusal (Unreadable Memory) sent
 
     module _ {B D E : Type 0} (unread : D → List ℕ) (yields : B → Runs (Result (Frame D) E)) where
       -- `sent` may be the response to a request in this state. While its body is being collected,
@@ -85,4 +86,4 @@ module _ {I : Type 0} (gives : I → Gathered → Type 0) where
           × ForCollected (option_map (λ (value : FieldValue). value.bytes) kind) collected sent)
       MayAnswer (Asked uri) sent = ForAsked (query_of uri) sent
       MayAnswer (Held callback items) sent = ForFuture (option_map string_bytes callback) items sent
-      MayAnswer (Refused status) sent = IsRefusal status sent
+      MayAnswer (Refused error) sent = IsRefusal error sent

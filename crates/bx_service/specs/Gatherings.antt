@@ -3,7 +3,7 @@ use Rattle.std.specs.Prelude.{ℕ, ◌≡◌, ◌<◌, List, [], ◌∷◌, ◌+
 use Rattle.std.specs.{List.AllByRecursion, List.AllByRecursion-prop, Coded.Unit-prop}
 use Rattle.std.proofs.Props.{props}
 use Rattle.bx_entry.specs.Words.{ReadInput, let_in, read_by, request_messages}
-use Rattle.bx_entry.specs.declared.input.Access.{Access}
+use Rattle.bx_entry.specs.declared.access.Access.{Access}
 use Rattle.bx_entry.specs.declared.entry.{Slot.Slot, Ticket.Ticket}
 use Rattle.bx_entry.specs.declared.entry.Slot.TheVariants.{Ready, Waiting}
 use Rattle.bx_held.specs.Outputs.{MayGive}

@@ -6,19 +6,26 @@ use Rattle.http_header.specs.FieldValue.{FieldValue, plain_value}
 use Rattle.http_header.specs.HeaderMap.{Entries, insert}
 use Rattle.bx_pieces.specs.Tails.{answer_text}
 use Rattle.bx_pieces.specs.declared.pieces.Pieces.{Pieces}
-use Rattle.bx_message.specs.declared.{reply.Item.Item, status.Status.Status}
-use Rattle.bx_message.specs.declared.status.Status.TheVariants.{MethodNotAllowed}
+use Rattle.bx_message.specs.declared.reply.Item.{Item}
+use Rattle.bx_service.specs.Errors.{error_reason, error_status}
+use Rattle.bx_service.specs.declared.error.RequestError.{RequestError}
+use Rattle.bx_service.specs.declared.error.RequestError.TheVariants.{MethodNotAllowed}
 use Rattle.bx_message.specs.Statuses.{code_of}
 
--- The fields of a response without a body: the allowed methods for 405, otherwise none.
-abbrev pub refusal_fields : Status → Entries FieldValue
-refusal_fields MethodNotAllowed = insert [] (codes "allow") (plain_value (codes "GET, POST"))
-refusal_fields _ = []
+-- The fields that a response without a body needs: for 405 the allowed methods.
+abbrev pub needed_fields : RequestError → Entries FieldValue
+needed_fields MethodNotAllowed = insert [] (codes "allow") (plain_value (codes "GET, POST"))
+needed_fields error = []
 
--- `response` has the code of `status`, no body, and no fields except the allowed methods for 405.
-pub record IsRefusal (status : Status) (response : Response (Pieces (List ℕ))) : Type 0 where
-  pub number : (head_of response).status ≡ code_of status
-  pub fields : (head_of response).headers ≡ refusal_fields status
+-- The fields of a response without a body: those that it needs, and the reason in words.
+abbrev pub refusal_fields : RequestError → Entries FieldValue
+refusal_fields error = insert (needed_fields error) (codes "bayeux-error") (plain_value (error_reason error))
+
+-- `response` has the status and the fields of `error`, and no body. If memory runs out for the
+-- reason, it has only the fields that it needs.
+pub record IsRefusal (error : RequestError) (response : Response (Pieces (List ℕ))) : Type 0 where
+  pub number : (head_of response).status ≡ code_of (error_status error)
+  pub fields : ((head_of response).headers ≡ refusal_fields error) ⊎ ((head_of response).headers ≡ needed_fields error)
   pub empty : body_of response ≡ []
 
 -- The content type of a response with items: JavaScript with a callback, otherwise JSON.
@@ -31,7 +38,3 @@ pub record IsAnswer (callback : Option (List ℕ)) (items : List Item) (response
   pub number : (head_of response).status ≡ 200
   pub fields : (head_of response).headers ≡ insert [] (codes "content-type") (plain_value (kind_of callback))
   pub whole : body_of response ≡ answer_text callback items
-
--- `response` has a status and no body, or it has status 200 and a body with items.
-abbrev pub IsResponse : Response (Pieces (List ℕ)) → Type 0
-IsResponse response = ((status : Status) × IsRefusal status response) ⊎ ((callback : Option (List ℕ)) × ((items : List Item) × IsAnswer callback items response))

@@ -1,14 +1,12 @@
--- How requests are routed, and the statuses of those that are not admitted.
-use Rattle.std.specs.Prelude.{ℕ, List, [], ◌∷◌, Bool, true, false, ◌||◌, nat_eq, codes, if◌then◌else◌}
+-- How requests are routed.
+use Rattle.std.specs.Prelude.{ℕ, List, [], ◌∷◌, Bool, true, false, ◌||◌, nat_eq, codes, if◌then◌else◌, option_map}
 use Rattle.std.specs.{List.starts_with, Str.bytes_eq, Str.str_eq_ignore_ascii_case}
 use Rattle.http_header.specs.FieldValue.{FieldValue}
-use Rattle.http_header.specs.HeaderMap.{Entries, get_all}
-use Rattle.bx_service.specs.declared.collect.CollectError.{CollectError}
-use Rattle.bx_service.specs.declared.collect.CollectError.TheVariants as bodies
-use Rattle.bx_message.specs.declared.status.Status.{Status}
-use Rattle.bx_message.specs.declared.status.Status.TheVariants.{BadRequest, NotFound, MethodNotAllowed, NotImplemented}
-use Rattle.bx_transport.specs.Statuses.{transport_status}
-use Rattle.bx_transport.specs.declared.error.TransportError.TheVariants as transports
+use Rattle.http_header.specs.HeaderMap.{Entries, get, get_all}
+use Rattle.bx_service.specs.declared.error.RequestError.TheVariants.{NotFound, MethodNotAllowed, TransferCoding, CallbackPolling, MediaType}
+use Rattle.bx_service.specs.declared.route.Transports.{Transports}
+use Rattle.bx_service.specs.declared.route.Transports.TheVariants.{All, JsonPosts}
+use Rattle.bx_transport.specs.Forms.{has_media_type}
 use Rattle.bx_service.specs.declared.route.Route.{Route}
 use Rattle.bx_service.specs.declared.route.Route.TheVariants as routes
 
@@ -22,19 +20,27 @@ are_plain [] = true
 are_plain (value ∷ []) = str_eq_ignore_ascii_case value.bytes (codes "chunked")
 are_plain (value ∷ other ∷ values) = false
 
--- `route`, or a rejection with 501 if `fields` have a `transfer-encoding` other than one `chunked`.
+-- `route`, or a rejection if `fields` have a `transfer-encoding` other than one `chunked`.
 abbrev pub unless_coded : Entries FieldValue → Route → Route
-unless_coded fields route = if are_plain (get_all fields (codes "transfer-encoding")) then route else routes.Refused NotImplemented
+unless_coded fields route = if are_plain (get_all fields (codes "transfer-encoding")) then route else routes.Refused TransferCoding
+
+-- Whether the field `content-type` has the media type `application/json`.
+abbrev pub is_json : Entries FieldValue → Bool
+is_json fields = has_media_type (codes "application/json") (option_map (λ (value : FieldValue). value.bytes) (get fields (codes "content-type")))
+
+-- The route of a POST with `fields` at a path that is served.
+abbrev pub post_route : Transports → Entries FieldValue → Route
+post_route All fields = routes.Post
+post_route JsonPosts fields = if is_json fields then routes.Post else routes.Refused MediaType
+
+-- The route of a GET at a path that is served.
+abbrev pub get_route : Transports → Route
+get_route All = routes.Get
+get_route JsonPosts = routes.Refused CallbackPolling
 
 -- The route of a request with `method`, `path` and `fields`.
-abbrev pub route_of : List ℕ → List ℕ → Entries FieldValue → Route
-route_of method path fields =
-    if is_served path then (if bytes_eq method (codes "POST") then unless_coded fields routes.Post
-    else (if bytes_eq method (codes "GET") then unless_coded fields routes.Get else routes.Refused MethodNotAllowed))
+abbrev pub route_of : Transports → List ℕ → List ℕ → Entries FieldValue → Route
+route_of transports method path fields =
+    if is_served path then (if bytes_eq method (codes "POST") then unless_coded fields (post_route transports fields)
+    else (if bytes_eq method (codes "GET") then unless_coded fields (get_route transports) else routes.Refused MethodNotAllowed))
     else routes.Refused NotFound
-
--- The status of a POST, by the reason for which its body was not collected.
-abbrev pub body_status : CollectError → Status
-body_status bodies.TooLarge = transport_status transports.TooLarge
-body_status bodies.Failed = BadRequest
-body_status bodies.Memory = transport_status transports.Memory

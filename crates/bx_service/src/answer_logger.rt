@@ -35,7 +35,7 @@ impl<R: Wait + Drop> Observer for AnswerLogger<R> {
             Some(log),
             ServiceEvent::Answered {
                 place: Some(place),
-                items: Some(items),
+                items,
             },
         ) = (&self.log, event)
         {

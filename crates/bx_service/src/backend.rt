@@ -153,10 +153,10 @@ where
 
     ghost stands = { λ items place. place ≡ items.first };
 
-    // Clones the hub's handle before the post, so that no error follows an admission. Locks as
+    // Clones the handles before the post, so that no error follows an admission. Locks as
     // `Hub::post` does.
     fn admit(&self, bodies: Bodies) -> Result<ItemsFuture<L, R>, Declined> {
-        let Ok(hub) = Arc::try_clone(&self.hub) else {
+        let (Ok(hub), Ok(access)) = (Arc::try_clone(&self.hub), copy_of(&self.access)) else {
             return Err(Declined {
                 fault: PostFault::Memory,
                 bodies,
@@ -165,7 +165,7 @@ where
         let arrival = Arrival {
             moment: self.clock.now(),
             nonce: self.nonces.next(),
-            access: self.access,
+            access,
             bodies,
         };
         let mut pass = self.hub.pass();
@@ -187,5 +187,15 @@ where
 
     fn place(&self, items: &ItemsFuture<L, R>) -> Option<u64> {
         items.place()
+    }
+}
+
+// Returns a copy of `access`, which shares its patterns.
+fn copy_of(access: &Access) -> Result<Access, AllocError>
+    ensures { IfOk result (λ copy. copy ≡ access.now) }
+{
+    match access {
+        Access::ReadWrite => Ok(Access::ReadWrite),
+        Access::ReadOnly(patterns) => Ok(Access::ReadOnly(patterns.clone()?)),
     }
 }

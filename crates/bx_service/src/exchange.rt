@@ -9,7 +9,7 @@ ghost use Rattle.bx_service.specs.Polling.{CanPoll};
 ghost use Rattle.bx_cut.specs.Bodies.{texts_of};
 ghost use Rattle.bx_service.specs.Beginnings.{Begins, query_of, says_more};
 ghost use Rattle.bx_service.specs.declared.exchange.State.TheVariants.{Refused};
-ghost use Rattle.bx_transport.specs.Statuses.{transport_status};
+ghost use Rattle.bx_service.specs.declared.error.RequestError.TheVariants.{Unreadable};
 ghost use Rattle.bx_transport.specs.declared.error.TransportError.TheVariants.{TooLarge};
 ghost use Rattle.bx_service.specs.Responses.{IsRefusal};
 ghost use Rattle.bx_service.specs.declared.service.ServiceFault.{ServiceFault};
@@ -18,12 +18,12 @@ ghost use Rattle.bx_service.specs.Exchanges.{ForAsked, ForCollected, ForDocument
 
 use crate::backend::{Backend, Unanswered};
 use crate::collect::{Collect, CollectError};
+use crate::error::RequestError;
 use crate::observer::Observer;
 use crate::probe::RequestProbe;
 use crate::response::{answer, refusal};
-use crate::route::Route;
+use crate::route::{Route, Transports};
 use crate::service::ServiceFault;
-use crate::status::body_status;
 use bx_advice::BodyLimit;
 use bx_cut::Bodies;
 use bx_message::{Item, Status, number_of};
@@ -68,20 +68,26 @@ pub(crate) enum State<I, B> {
         callback: Option<String>,
         items: I,
     },
-    /// The request is rejected: its response has this status and no body.
-    Refused(Status),
+    /// The response has this error and no body.
+    Refused(RequestError),
 }
 
 impl<I: Future, B: Body> State<I, B> {
     /// Creates the state of a new request, from its body and the parts of its head.
     ///
-    /// The state is `Refused` if the path, the method or `Transfer-Encoding` is not served. It is
-    /// also `Refused` if the query of a GET or the `Content-Length` of a POST exceeds `limit`.
-    /// Otherwise it is `Asked` for a GET and `Collecting` for a POST.
-    pub(crate) fn new(alloc: Global, limit: BodyLimit, parts: Parts, body: B) -> State<I, B>
+    /// The state is `Refused` if the path, the method, the transport or `Transfer-Encoding` is not
+    /// served. It is also `Refused` if the query of a GET or the `Content-Length` of a POST exceeds
+    /// `limit`. Otherwise it is `Asked` for a GET and `Collecting` for a POST.
+    pub(crate) fn new(
+        alloc: Global,
+        limit: BodyLimit,
+        transports: Transports,
+        parts: Parts,
+        body: B,
+    ) -> State<I, B>
         requires { B.can_poll body }
         ensures again { CanPoll I.can_poll B.can_poll result }
-        ensures begins { Begins limit parts body result }
+        ensures begins { Begins limit transports parts body result }
     {
         let Parts {
             method,
@@ -89,8 +95,8 @@ impl<I: Future, B: Body> State<I, B> {
             mut headers,
             ..
         } = parts;
-        match Route::of(&method, uri.path(), &headers) {
-            Route::Refused(status) => State::Refused(status),
+        match Route::of(transports, &method, uri.path(), &headers) {
+            Route::Refused(error) => State::Refused(error),
             Route::Get if query_of(&uri).len() > limit.get() => State::too_large(),
             Route::Get => State::Asked(uri),
             Route::Post if says_more(limit, headers.get(CONTENT_LENGTH)) => State::too_large(),
@@ -101,12 +107,12 @@ impl<I: Future, B: Body> State<I, B> {
         }
     }
 
-    // Returns the state of a request that exceeds the limit: `Refused` with 413.
+    // Returns the state of a request that exceeds the limit: `Refused` as too large.
     fn too_large() -> State<I, B>
         ensures again { CanPoll I.can_poll B.can_poll result }
-        ensures refused { result ≡ Refused (transport_status TooLarge) }
+        ensures refused { result ≡ Refused (Unreadable TooLarge) }
     {
-        State::Refused(TransportError::TooLarge.status())
+        State::Refused(RequestError::Unreadable(TransportError::TooLarge))
     }
 }
 
@@ -130,103 +136,19 @@ fn says_more(limit: BodyLimit, length: Option<&HeaderValue>) -> bool
     }
 }
 
-// Posts the messages in `bodies` to `backend`, and reports the outcome to `probe`. Returns the next
-// state of the request: `Held` if it is admitted, otherwise `Refused`.
-fn admitted<S, I, B, D, O>(
-    backend: &S,
-    probe: &mut RequestProbe<O>,
-    callback: Option<String>,
-    bodies: Bodies,
-) -> State<I, B>
-where
-    S: Backend<Items = I>,
-    I: Future<Output = Result<Vec<Item>, Unanswered>>,
-    B: Body<Data = D>,
-    D: Buf + Drop,
-    O: Observer,
-    ensures again { CanPoll I.can_poll B.can_poll result }
-    ensures place { IsPlaced S.stands probe.new.place result }
-    ensures value { (sent : Sent) → MayAnswer I.gives (S.admits backend.now) D.unread B.yields result sent
-        → ForDocuments I.gives (S.admits backend.now) (option_map string_bytes callback) (texts_of bodies) sent }
-{
-    match backend.admit(bodies) {
-        Ok(items) => {
-            probe.admit(backend.place(&items));
-            State::Held { callback, items }
-        }
-        Err(declined) => {
-            probe.refuse(declined.fault);
-            State::Refused(declined.fault.status())
-        }
-    }
-}
-
-// Returns the next state of a POST: `Held` if its messages are admitted, otherwise `Refused`. Posts
-// the messages to `backend` if the body was collected and can be read.
-fn posted<S, I, B, D, O>(
-    alloc: Global,
-    backend: &S,
-    probe: &mut RequestProbe<O>,
-    content_type: Option<&HeaderValue>,
-    collected: Result<Vec<u8>, CollectError>,
-) -> State<I, B>
-where
-    S: Backend<Items = I>,
-    I: Future<Output = Result<Vec<Item>, Unanswered>>,
-    B: Body<Data = D>,
-    D: Buf + Drop,
-    O: Observer,
-    ensures again { CanPoll I.can_poll B.can_poll result }
-    ensures value { (sent : Sent) → MayAnswer I.gives (S.admits backend.now) D.unread B.yields result sent
-        → ForCollected I.gives (S.admits backend.now) (option_map (λ value. value.now.bytes) content_type.entry) collected sent }
-{
-    let body = match collected {
-        Ok(body) => body,
-        Err(fault) => return State::Refused(body_status(fault)),
-    };
-    let content_type = content_type.map(|value| value.as_bytes());
-    match read_post(alloc, content_type, body) {
-        Ok(bodies) => admitted(backend, probe, None, bodies),
-        Err(error) => State::Refused(error.status()),
-    }
-}
-
-// Returns the next state of a GET: `Held` if its messages are admitted, otherwise `Refused`. Posts
-// the messages to `backend` if the query can be read.
-fn asked<S, I, B, D, O>(
-    alloc: Global,
-    backend: &S,
-    probe: &mut RequestProbe<O>,
-    uri: &Uri,
-) -> State<I, B>
-where
-    S: Backend<Items = I>,
-    I: Future<Output = Result<Vec<Item>, Unanswered>>,
-    B: Body<Data = D>,
-    D: Buf + Drop,
-    O: Observer,
-    ensures again { CanPoll I.can_poll B.can_poll result }
-    ensures value { (sent : Sent) → MayAnswer I.gives (S.admits backend.now) D.unread B.yields result sent
-        → ForAsked I.gives (S.admits backend.now) (query_of uri.now) sent }
-{
-    match read_get(alloc, query_of(uri).as_bytes()) {
-        Ok((name, bodies)) => admitted(backend, probe, Some(name), bodies),
-        Err(error) => State::Refused(error.status()),
-    }
-}
-
-// Creates a response with `status` and no body, and reports it to the observer. If memory runs out,
-// reports this and returns `ServiceFault::Memory`.
+// Creates a response with `error` and no body, and reports both to the observer. If memory runs
+// out, reports this and returns `ServiceFault::Memory`.
 fn refused<O: Observer>(
     alloc: Global,
     probe: &RequestProbe<O>,
-    status: Status,
+    error: RequestError,
 ) -> Result<Response<Pieces<Bytes>>, ServiceFault>
-    ensures { IfOk result (IsRefusal status) }
+    ensures { IfOk result (IsRefusal error) }
 {
-    match refusal(alloc, status) {
+    probe.refuse(error);
+    match refusal(alloc, error) {
         Ok(response) => {
-            probe.respond(status);
+            probe.respond(error.status());
             Ok(response)
         }
         Err(_) => Err(probe.give_up()),
@@ -234,8 +156,8 @@ fn refused<O: Observer>(
 }
 
 // Creates the response to an admitted request, and reports its items and the response to the
-// observer. The status is 503 if the items are unavailable or memory runs out. If memory runs out
-// for the 503 too, returns `ServiceFault::Memory`.
+// observer. The error is `Unanswered` if the items are unavailable or memory runs out. If memory
+// runs out for that response too, returns `ServiceFault::Memory`.
 fn answered<O: Observer>(
     alloc: Global,
     probe: &RequestProbe<O>,
@@ -244,16 +166,16 @@ fn answered<O: Observer>(
 ) -> Result<Response<Pieces<Bytes>>, ServiceFault>
     ensures { IfOk result (ForItems (option_map (λ name. name.now) callback.entry) gathered) }
 {
-    probe.answer(&gathered);
     let Ok(items) = gathered else {
-        return refused(alloc, probe, Status::Unavailable);
+        return refused(alloc, probe, RequestError::Unanswered);
     };
+    probe.answer(items.as_slice());
     match answer(alloc, callback, items.as_slice()) {
         Ok(response) => {
             probe.respond(Status::Ok);
             Ok(response)
         }
-        Err(_) => refused(alloc, probe, Status::Unavailable),
+        Err(_) => refused(alloc, probe, RequestError::Unanswered),
     }
 }
 
@@ -265,6 +187,65 @@ where
     D: Buf + Drop,
     O: Observer,
 {
+    // Posts the messages in `bodies` to `backend`, and reports an admission to `probe`. Returns the
+    // next state of the request: `Held` if it is admitted, otherwise `Refused`.
+    fn admitted(
+        backend: &S,
+        probe: &mut RequestProbe<O>,
+        callback: Option<String>,
+        bodies: Bodies,
+    ) -> State<I, B>
+        ensures again { CanPoll I.can_poll B.can_poll result }
+        ensures place { IsPlaced S.stands probe.new.place result }
+        ensures value { (sent : Sent) → MayAnswer I.gives (S.admits backend.now) D.unread B.yields result sent
+            → ForDocuments I.gives (S.admits backend.now) (option_map string_bytes callback) (texts_of bodies) sent }
+    {
+        match backend.admit(bodies) {
+            Ok(items) => {
+                probe.admit(backend.place(&items));
+                State::Held { callback, items }
+            }
+            Err(declined) => State::Refused(RequestError::NotAdmitted(declined.fault)),
+        }
+    }
+
+    // Returns the next state of a POST: `Held` if its messages are admitted, otherwise `Refused`.
+    // Posts the messages to `backend` if the body was collected and can be read.
+    fn posted(
+        alloc: Global,
+        backend: &S,
+        probe: &mut RequestProbe<O>,
+        content_type: Option<&HeaderValue>,
+        collected: Result<Vec<u8>, CollectError>,
+    ) -> State<I, B>
+        ensures again { CanPoll I.can_poll B.can_poll result }
+        ensures value { (sent : Sent) → MayAnswer I.gives (S.admits backend.now) D.unread B.yields result sent
+            → ForCollected I.gives (S.admits backend.now) (option_map (λ value. value.now.bytes) content_type.entry) collected sent }
+    {
+        let body = match collected {
+            Ok(body) => body,
+            Err(error) => return State::Refused(error.into()),
+        };
+        let content_type = content_type.map(|value| value.as_bytes());
+        match read_post(alloc, content_type, body) {
+            Ok(bodies) => Self::admitted(backend, probe, None, bodies),
+            Err(error) => State::Refused(RequestError::Unreadable(error)),
+        }
+    }
+
+    // Returns the next state of a GET: `Held` if its messages are admitted, otherwise `Refused`.
+    // Posts the messages to `backend` if the query can be read.
+    fn asked(alloc: Global, backend: &S, probe: &mut RequestProbe<O>, uri: &Uri) -> State<I, B>
+        ensures again { CanPoll I.can_poll B.can_poll result }
+        ensures value { (sent : Sent) → MayAnswer I.gives (S.admits backend.now) D.unread B.yields result sent
+            → ForAsked I.gives (S.admits backend.now) (query_of uri.now) sent }
+    {
+        match read_get(alloc, query_of(uri).as_bytes()) {
+            Ok((name, bodies)) => Self::admitted(backend, probe, Some(name), bodies),
+            Err(error) => State::Refused(RequestError::Unreadable(error)),
+        }
+    }
+
     // Polls the request until it is `Held` or `Refused`. Pending while its body is being collected.
     fn poll_admitted(&mut self, backend: &S, cx: &mut Context<'_>) -> Poll<()>
         requires { CanPoll I.can_poll B.can_poll self.old.state }
@@ -283,12 +264,12 @@ where
                     Poll::Ready(collected) => collected,
                 };
                 let content_type = content_type.as_ref();
-                let state = posted(alloc, backend, &mut self.probe, content_type, collected);
+                let state = Self::posted(alloc, backend, &mut self.probe, content_type, collected);
                 drop(mem::replace(&mut self.state, state));
                 Poll::Ready(())
             }
             State::Asked(uri) => {
-                let state = asked(alloc, backend, &mut self.probe, uri);
+                let state = Self::asked(alloc, backend, &mut self.probe, uri);
                 drop(mem::replace(&mut self.state, state));
                 Poll::Ready(())
             }
@@ -320,7 +301,7 @@ where
                     Poll::Ready(answered(alloc, &self.probe, callback, gathered))
                 }
             },
-            State::Refused(status) => Poll::Ready(refused(alloc, &self.probe, *status)),
+            State::Refused(error) => Poll::Ready(refused(alloc, &self.probe, *error)),
             _ => Poll::Ready(Err(self.probe.give_up())),
         }
     }

@@ -4,6 +4,7 @@
 mod answer_logger;
 mod backend;
 mod collect;
+mod error;
 mod exchange;
 mod gathering;
 mod observer;
@@ -11,12 +12,13 @@ mod probe;
 mod response;
 mod route;
 mod service;
-mod status;
 
 pub use answer_logger::AnswerLogger;
 pub use backend::{Backend, Clock, Declined, HubBackend, Nonces, Unanswered};
 pub use collect::{Collect, CollectError};
+pub use error::RequestError;
 pub use exchange::Exchange;
 pub use gathering::ItemsFuture;
 pub use observer::{Observer, ServiceEvent};
+pub use route::Transports;
 pub use service::{BayeuxService, ServiceFault};

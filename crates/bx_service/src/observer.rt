@@ -1,5 +1,5 @@
 //! Observers of connections and requests.
-use bx_hub::PostFault;
+use crate::error::RequestError;
 use bx_message::{Item, Status};
 use std::alloc::Global;
 use std::sync::Arc;
@@ -17,15 +17,14 @@ pub enum ServiceEvent<'a> {
     RequestArrived,
     /// A request was admitted. The number is the place of its first message, if any.
     Admitted(Option<u64>),
-    /// A request was not admitted, for this reason.
-    Refused(PostFault),
-    /// The items of a response, which are events and replies, are complete. `items` is `None` if
-    /// they are unavailable.
+    /// A request gets a response without items, because of this error.
+    Refused(RequestError),
+    /// The items of a response, which are events and replies, are complete.
     ///
     /// `place`: the place of the request's first message, if any.
     Answered {
         place: Option<u64>,
-        items: Option<&'a [Item]>,
+        items: &'a [Item],
     },
     /// A response with this status was created. `None`: memory ran out for the response.
     Responded(Option<Status>),

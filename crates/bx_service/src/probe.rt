@@ -2,10 +2,9 @@
 ghost use Rattle.std.specs.Prelude.{◌≡◌};
 ghost use Rattle.bx_service.specs.declared.service.ServiceFault.TheVariants.{Memory};
 
-use crate::backend::Unanswered;
+use crate::error::RequestError;
 use crate::observer::{Observer, ServiceEvent};
 use crate::service::ServiceFault;
-use bx_hub::PostFault;
 use bx_message::{Item, Status};
 use std::alloc::{AllocError, Global};
 use std::sync::Arc;
@@ -112,17 +111,13 @@ impl<O: Observer> RequestProbe<O> {
         self.tell(ServiceEvent::Admitted(place));
     }
 
-    /// Reports that the request was not admitted, because of `fault`.
-    pub(crate) fn refuse(&self, fault: PostFault) {
-        self.tell(ServiceEvent::Refused(fault));
+    /// Reports that the response has no items, because of `error`.
+    pub(crate) fn refuse(&self, error: RequestError) {
+        self.tell(ServiceEvent::Refused(error));
     }
 
-    /// Reports the items of the response, or that they are unavailable.
-    pub(crate) fn answer(&self, gathered: &Result<Vec<Item>, Unanswered>) {
-        let items = match gathered {
-            Ok(items) => Some(items.as_slice()),
-            Err(_) => None,
-        };
+    /// Reports the items of the response.
+    pub(crate) fn answer(&self, items: &[Item]) {
         let place = self.place;
         self.tell(ServiceEvent::Answered { place, items });
     }

@@ -1,34 +1,61 @@
-//! The responses over HTTP: only a status, or the items of an admitted request.
-ghost use Rattle.std.specs.Prelude.{◌≡◌, IfOk, option_map};
-ghost use Rattle.bx_service.specs.Responses.{IsAnswer, IsRefusal};
+//! The responses over HTTP: an error, or the items of an admitted request.
+ghost use Rattle.std.specs.Prelude.{◌≡◌, ◌⊎◌, IfOk, option_map};
+ghost use Rattle.bx_service.specs.Responses.{IsAnswer, IsRefusal, needed_fields, refusal_fields};
 
-use crate::status::code_of;
-use bx_message::{Item, Status};
+use crate::error::{RequestError, code_of};
+use bx_message::Item;
 use bx_pieces::Pieces;
 use bytes::Bytes;
-use http::Response;
-use http::header::{ALLOW, CONTENT_TYPE, HeaderValue};
+use http::header::{ALLOW, CONTENT_TYPE, HeaderName, HeaderValue};
+use http::{HeaderMap, Response};
 use std::alloc::{AllocError, Global};
 
-/// Creates a response with `status` and no body.
+/// Creates a response with the status of `error` and no body.
 ///
-/// The response has the field `Allow` if `status` is 405.
+/// The response has a field `Allow` if the status is 405, and a field `bayeux-error` with the
+/// reason. If memory runs out for the reason, the response lacks this field.
 ///
 /// # Errors
 ///
-/// `AllocError` if memory runs out.
-pub(crate) fn refusal(alloc: Global, status: Status) -> Result<Response<Pieces<Bytes>>, AllocError>
-    ensures { IfOk result (IsRefusal status) }
+/// `AllocError` if memory runs out for the field `Allow`.
+pub(crate) fn refusal(
+    alloc: Global,
+    error: RequestError,
+) -> Result<Response<Pieces<Bytes>>, AllocError>
+    ensures { IfOk result (IsRefusal error) }
 {
+    let fields = refusal_fields(alloc, error)?;
     let mut response = Response::new(alloc, Pieces::none(alloc));
-    *response.status_mut() = code_of(status);
-    if status == Status::MethodNotAllowed {
+    *response.status_mut() = code_of(error.status());
+    *response.headers_mut() = fields;
+    Ok(response)
+}
+
+// Returns the fields of a response with `error`. If memory runs out for the reason, it is missing.
+fn refusal_fields(alloc: Global, error: RequestError) -> Result<HeaderMap, AllocError>
+    ensures { IfOk result (λ fields. (fields ≡ refusal_fields error) ⊎ (fields ≡ needed_fields error)) }
+{
+    let mut fields = needed_fields(alloc, error)?;
+    let name = HeaderName::from_static("bayeux-error");
+    let reason = HeaderValue::from_static(error.reason());
+    match fields.insert(name, reason) {
+        Ok(_) => Ok(fields),
+        Err(_) => Ok(fields),
+    }
+}
+
+// Returns the fields that a response with `error` needs: `Allow` if the status is 405.
+fn needed_fields(alloc: Global, error: RequestError) -> Result<HeaderMap, AllocError>
+    ensures { IfOk result (λ fields. fields ≡ needed_fields error) }
+{
+    let mut fields = HeaderMap::new(alloc);
+    if error == RequestError::MethodNotAllowed {
         let methods = HeaderValue::from_static("GET, POST");
-        if response.headers_mut().insert(ALLOW, methods).is_err() {
+        if fields.insert(ALLOW, methods).is_err() {
             return Err(AllocError);
         }
     }
-    Ok(response)
+    Ok(fields)
 }
 
 /// Creates a response with status 200 and `items`, as a script that calls `callback`, or as JSON.

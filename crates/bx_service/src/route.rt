@@ -1,11 +1,53 @@
 //! Which requests are served, and whether their messages are in the body or in the query.
 ghost use Rattle.std.specs.Prelude.{◌≡◌, codes};
 ghost use Rattle.http_header.specs.HeaderMap.{get_all};
-ghost use Rattle.bx_service.specs.Statuses.{are_plain, is_served, route_of, unless_coded};
+ghost use Rattle.bx_service.specs.Statuses.{are_plain, get_route, is_json, is_served, post_route, route_of, unless_coded};
 
-use bx_message::Status;
-use http::header::TRANSFER_ENCODING;
+use crate::error::RequestError;
+use bx_transport::has_media_type;
+use http::header::{CONTENT_TYPE, TRANSFER_ENCODING};
 use http::{HeaderMap, Method};
+
+/// The transports that a service accepts.
+#[derive(Clone, Copy, Debug, PartialEq, Eq)]
+pub enum Transports {
+    /// Long-polling by POSTs, and callback-polling by GETs.
+    All,
+    /// Long-polling by POSTs with the media type `application/json`.
+    ///
+    /// A page of another site cannot send such a request without the server's consent (CORS).
+    JsonPosts,
+}
+
+impl Transports {
+    // Returns the route of a POST with these fields at a path that is served.
+    fn post_route(self, fields: &HeaderMap) -> Route
+        ensures { result ≡ post_route self fields.now }
+    {
+        match self {
+            Transports::JsonPosts if !is_json(fields) => Route::Refused(RequestError::MediaType),
+            _ => Route::Post,
+        }
+    }
+
+    // Returns the route of a GET at a path that is served.
+    fn get_route(self) -> Route
+        ensures { result ≡ get_route self }
+    {
+        match self {
+            Transports::All => Route::Get,
+            Transports::JsonPosts => Route::Refused(RequestError::CallbackPolling),
+        }
+    }
+}
+
+// Returns `true` if the content type has the media type `application/json`.
+fn is_json(fields: &HeaderMap) -> bool
+    ensures { result ≡ is_json fields.now }
+{
+    let content_type = fields.get(CONTENT_TYPE).map(|value| value.as_bytes());
+    has_media_type(content_type, b"application/json")
+}
 
 /// Where the messages of a request are, or why it is rejected.
 #[derive(Clone, Copy, Debug, PartialEq, Eq)]
@@ -14,37 +56,43 @@ pub(crate) enum Route {
     Post,
     /// The request is a GET, with its messages in the query.
     Get,
-    /// The request is rejected with this status.
-    Refused(Status),
+    /// The request is rejected with this error.
+    Refused(RequestError),
 }
 
 impl Route {
     /// Returns where a request with this method, path and fields has its messages.
     ///
-    /// The request is rejected, with a status, for the first of these reasons that applies:
+    /// The request is rejected for the first of these reasons that applies:
     ///
     /// - 404: the path is not served.
     /// - 405: the method is neither POST nor GET.
     /// - 501: the fields name a transfer coding other than one `chunked`.
+    /// - 415 or 403: `transports` leaves out POSTs of the media type, or GETs.
     ///
     /// RFC 9112, section 6.1, for 501. The rest is a policy of this server.
-    pub(crate) fn of(method: &Method, path: &str, fields: &HeaderMap) -> Route
-        ensures { result ≡ route_of method.now path.now fields.now }
+    pub(crate) fn of(
+        transports: Transports,
+        method: &Method,
+        path: &str,
+        fields: &HeaderMap,
+    ) -> Route
+        ensures { result ≡ route_of transports method.now path.now fields.now }
     {
         if !is_served(path) {
-            return Route::Refused(Status::NotFound);
+            return Route::Refused(RequestError::NotFound);
         }
         let method = method.as_str();
         if method == "POST" {
-            Route::Post.unless_coded(fields)
+            transports.post_route(fields).unless_coded(fields)
         } else if method == "GET" {
-            Route::Get.unless_coded(fields)
+            transports.get_route().unless_coded(fields)
         } else {
-            Route::Refused(Status::MethodNotAllowed)
+            Route::Refused(RequestError::MethodNotAllowed)
         }
     }
 
-    // Returns `self`, or a rejection with 501.
+    // Returns `self`, or a rejection.
     // The rejection is for `fields` with a `Transfer-Encoding` other than one `chunked`.
     fn unless_coded(self, fields: &HeaderMap) -> Route
         ensures { result ≡ unless_coded fields.now self }
@@ -52,7 +100,7 @@ impl Route {
         if are_plain(fields) {
             self
         } else {
-            Route::Refused(Status::NotImplemented)
+            Route::Refused(RequestError::TransferCoding)
         }
     }
 }

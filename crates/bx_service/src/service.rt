@@ -3,12 +3,14 @@ ghost use Rattle.std.specs.Prelude.{◌≡◌, IfOk, IfSome};
 ghost use Rattle.http.specs.Request.{head_of, body_of};
 ghost use Rattle.bx_advice.specs.declared.limit.TheConstants.{BODY_LIMIT};
 ghost use Rattle.bx_service.specs.Beginnings.{Begins};
+ghost use Rattle.bx_service.specs.declared.route.Transports.TheVariants.{All};
 ghost use Rattle.std.specs.Arc.{arc_value};
 
 use crate::backend::{Backend, Unanswered};
 use crate::exchange::{Exchange, State};
 use crate::observer::Observer;
 use crate::probe::ConnectionProbe;
+use crate::route::Transports;
 use bx_advice::BodyLimit;
 use bx_message::Item;
 use bx_pieces::Pieces;
@@ -35,13 +37,15 @@ pub struct BayeuxService<S, O: Observer = ()> {
     alloc: Global,
     backend: Arc<S, Global>,
     limit: BodyLimit,
+    transports: Transports,
     probe: ConnectionProbe<O>,
 }
 
 impl<S: Drop> BayeuxService<S, ()> {
     /// Creates a service over `backend`.
     ///
-    /// The service reads bodies and queries of up to [`bx_advice::BODY_LIMIT`] bytes.
+    /// The service accepts all transports, and reads bodies and queries of up to
+    /// [`bx_advice::BODY_LIMIT`] bytes.
     ///
     /// # Errors
     ///
@@ -63,6 +67,7 @@ impl<S: Drop> BayeuxService<S, ()> {
     pub fn new(alloc: Global, backend: S) -> Result<BayeuxService<S>, AllocError>
         ensures backend { IfOk result (λ service. arc_value service.backend ≡ backend) }
         ensures limit { IfOk result (λ service. service.limit ≡ BODY_LIMIT) }
+        ensures transports { IfOk result (λ service. service.transports ≡ All) }
     {
         BayeuxService::with_observer(alloc, backend, ())
     }
@@ -84,11 +89,13 @@ impl<S: Drop, O: Observer> BayeuxService<S, O> {
     ) -> Result<BayeuxService<S, O>, AllocError>
         ensures backend { IfOk result (λ service. arc_value service.backend ≡ backend) }
         ensures limit { IfOk result (λ service. service.limit ≡ BODY_LIMIT) }
+        ensures transports { IfOk result (λ service. service.transports ≡ All) }
     {
         Ok(BayeuxService {
             alloc,
             backend: Arc::new(alloc, backend)?,
             limit: BodyLimit::greatest(),
+            transports: Transports::All,
             probe: ConnectionProbe::new(alloc, observer)?,
         })
     }
@@ -101,16 +108,26 @@ impl<S: Drop, O: Observer> BayeuxService<S, O> {
         service.limit = limit;
         service
     }
+
+    /// Returns the service with `transports` as the accepted transports.
+    pub fn with_transports(self, transports: Transports) -> BayeuxService<S, O>
+        ensures { result ≡ record self { transports = transports } }
+    {
+        let mut service = self;
+        service.transports = transports;
+        service
+    }
 }
 
 impl<S: Drop, O: Observer> Clone for BayeuxService<S, O> {
-    ghost is_clone = { λ service copy. (arc_value copy.backend ≡ arc_value service.backend) × (copy.limit ≡ service.limit) };
+    ghost is_clone = { λ service copy. (arc_value copy.backend ≡ arc_value service.backend) × (copy.limit ≡ service.limit) × (copy.transports ≡ service.transports) };
 
     fn clone(&self) -> Result<BayeuxService<S, O>, AllocError> {
         Ok(BayeuxService {
             alloc: self.alloc,
             backend: Arc::try_clone(&self.backend)?,
             limit: self.limit,
+            transports: self.transports,
             probe: self.probe.open()?,
         })
     }
@@ -133,9 +150,9 @@ where
     // Ghost: every body of this type can be polled.
     ghost can_call = { λ _. (body : B) → B.can_poll body };
 
-    // Ghost: the request and the limit determine the exchange's first state. Its backend, if any,
-    // is the service's.
-    ghost calls = { λ service request exchange. Begins service.limit (head_of request) (body_of request) exchange.state
+    // Ghost: the request, the limit and the transports determine the exchange's first state. Its
+    // backend, if any, is the service's.
+    ghost calls = { λ service request exchange. Begins service.limit service.transports (head_of request) (body_of request) exchange.state
         × IfSome exchange.backend (λ handle. arc_value handle ≡ arc_value service.backend) };
 
     fn call(&self, request: Request<B>) -> Self::Future {
@@ -149,7 +166,7 @@ where
         Exchange {
             alloc: self.alloc,
             backend,
-            state: State::new(self.alloc, self.limit, parts, body),
+            state: State::new(self.alloc, self.limit, self.transports, parts, body),
             probe,
         }
     }

@@ -18,6 +18,14 @@ const LARGE: usize = 40_000;
 // Number of frames of a response with the events of `items`.
 const FRAMES: usize = 3;
 
+// Number of events in a large response, number of characters in the data of each, and number of
+// bytes in the response. Each event has 28 bytes more, and one byte after it.
+const EVENTS: usize = 256;
+
+const MEGABYTE: usize = 1_000_000;
+
+const LARGEST: u64 = 256_007_425;
+
 /// Creates an event on `/a/b` with a JSON string of `count` times `sign` as its data.
 ///
 /// # Errors
@@ -112,4 +120,19 @@ fn responses_of_several_pieces(rt: HostRuntime) -> Result<(), Fail> {
     check_pieces(&rt, alloc, &task, None, array.as_str())?;
     let script = wanted(alloc, "cb.x([", "\\u2028", "])")?;
     check_pieces(&rt, alloc, &task, Some("cb.x"), script.as_str())
+}
+
+// Checks that a response with as many and as large events as one request can publish can be begun.
+#[test]
+fn response_of_256_megabytes(rt: HostRuntime) -> Result<(), Fail> {
+    let alloc = rt.alloc();
+    let data = json_string(alloc, "x", MEGABYTE)?;
+    let event = bx_calls::event(alloc, "/a/b", data.as_str())?;
+    let mut items = Vec::new(alloc);
+    for _ in 0..EVENTS {
+        items.push(Item::EventItem(event.clone()?))?;
+    }
+    let body = Pieces::<Bytes>::answer(alloc, None, items.as_slice())?;
+    assert_eq!(rt; body.size_hint().exact(), Some(LARGEST));
+    Ok(())
 }

@@ -7,7 +7,7 @@ use crate::requests::{Ask, Given, Want, check_given, check_pending};
 use crate::runs::{COUNT, Held, SMALL, Step, run_at};
 use bx_advice::{BodyLimit, Config, Options};
 use bx_calls::{Tasks, tick};
-use bx_entry::{Access, ByRemainder};
+use bx_entry::{Access, ByRemainder, SharedPatterns};
 use bx_hub::{Hub, HubKind, Kind, OpenGate};
 use bx_service::{Backend, BayeuxService, HubBackend};
 use bx_window::{EmptyWindow, LogId};
@@ -195,7 +195,8 @@ fn run_in_hub<L: LogId, R: Wait + Abort>(
     let pass = hub.pass();
     let hub = Arc::new(alloc, hub)?;
     let backend = backend_of(rt, alloc, &hub, Access::ReadWrite, 0)?;
-    let readers = backend_of(rt, alloc, &hub, Access::ReadOnly, 0)?;
+    let none = SharedPatterns::new(alloc, Vec::new(alloc))?;
+    let readers = backend_of(rt, alloc, &hub, Access::ReadOnly(none), 0)?;
     let too_late = backend_of(rt, alloc, &hub, Access::ReadWrite, (1 << 62) + 1)?;
     let small = backend_of(rt, alloc, &hub, Access::ReadWrite, 0)?;
     let limit = BodyLimit::new(SMALL).ok_or("no such limit")?;

@@ -7,7 +7,8 @@ use bx_hub::PostFault;
 use bx_message::{Item, Status};
 use bx_record::WaitingAnswerLines;
 use bx_service::{
-    AnswerLogger, Backend, BayeuxService, Declined, Observer, ServiceEvent, Unanswered,
+    AnswerLogger, Backend, BayeuxService, Declined, Observer, RequestError, ServiceEvent,
+    Unanswered,
 };
 use futures::Future;
 use futures::task::{Context, Poll};
@@ -29,15 +30,15 @@ impl Observer for Digits {
             ServiceEvent::ConnectionClosed => 2,
             ServiceEvent::RequestArrived => 3,
             ServiceEvent::Admitted(Some(9)) => 4,
-            ServiceEvent::Refused(PostFault::Refused(Refusal::BadMoment)) => 5,
+            ServiceEvent::Refused(
+                RequestError::NotAdmitted(PostFault::Refused(Refusal::BadMoment)),
+            ) => 5,
             ServiceEvent::Answered {
                 place: Some(9),
-                items: Some([]),
+                items: [],
             } => 6,
-            ServiceEvent::Answered {
-                place: Some(9),
-                items: None,
-            } => 7,
+            ServiceEvent::Refused(RequestError::Unanswered) => 7,
+            ServiceEvent::Refused(RequestError::MethodNotAllowed) => 14,
             ServiceEvent::Responded(Some(Status::Ok)) => 8,
             ServiceEvent::Responded(Some(Status::Unavailable)) => 9,
             ServiceEvent::Responded(Some(Status::BadRequest)) => 10,
@@ -124,7 +125,7 @@ fn observers_are_told(rt: HostRuntime) -> Result<(), Fail> {
         (Said::NoItems, post, 0x1_3479_c2),
         (Said::Refusal, post, 0x1_35ad_2),
         (Said::Nothing, post, 0x1_34c2),
-        (Said::Items, put, 0x1_3bd2),
+        (Said::Items, put, 0x1_3ebd_2),
     ] {
         let one = Arc::new(alloc, Digits(AtomicU64::new(0)))?;
         let two = Arc::new(alloc, Digits(AtomicU64::new(0)))?;
@@ -157,20 +158,17 @@ fn shared<T: Send + Sync>(value: T) -> T {
 fn answers_are_logged(rt: HostRuntime) -> Result<(), Fail> {
     let alloc = rt.alloc();
     let one_event = [event(alloc, "x", 1)?];
-    let items = Some(one_event.as_slice());
+    let items = one_event.as_slice();
     let log = Arc::new(alloc, WaitingAnswerLines::new(alloc))?;
     let nobody = shared(AnswerLogger::new(rt, alloc, None));
     let logger = shared(AnswerLogger::new(rt, alloc, Some(Arc::try_clone(&log)?)));
-    let line = format!(in alloc; "A 7 {EVENT_DIGEST}\n")?;
-    for (place, items, logged) in [
-        (Some(7), items, line.as_str()),
-        (None, items, ""),
-        (Some(7), None, ""),
-    ] {
+    let last = u64::MAX;
+    let line = format!(in alloc; "A {last} {EVENT_DIGEST}\n")?;
+    for (place, logged) in [(Some(last), line.as_str()), (None, "")] {
         for event in [
             ServiceEvent::RequestArrived,
             ServiceEvent::Admitted(place),
-            ServiceEvent::Refused(PostFault::Refused(Refusal::BadMoment)),
+            ServiceEvent::Refused(RequestError::Unanswered),
             ServiceEvent::Responded(Some(Status::Ok)),
             ServiceEvent::RequestEnded { was_admitted: true },
         ] {

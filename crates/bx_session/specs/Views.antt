@@ -9,10 +9,12 @@ use Rattle.bx_message.specs.declared.{event.Event.Event, reply.AckReply.AckReply
 use Rattle.bx_session.specs.declared.answered.{Answered.Answered, ConnectResult.ConnectResult, Delivery.Delivery}
 use Rattle.bx_session.specs.declared.answered.Delivery.TheVariants.{Waits, Given, Overflowed}
 
--- A session, and for how many more events it has room without allocating.
+-- A session, for how many more events it has room without allocating, and the moment at which it
+-- was opened.
 pub record WithRoom : Type 0 where
   pub kept : Kept
   pub spare : ℕ
+  pub opened : ℕ
 
 -- The number of batches so far is at most the greatest length of the list.
 abbrev pub Countable : Kept → Type 0

@@ -35,6 +35,8 @@ use std::marker::Model;
 #[derive(Drop)]
 pub struct Session {
     number: u64,
+    // The moment at which the session was opened, in milliseconds since the server started.
+    opened: u64,
     ack: bool,
     has_overflowed: bool,
     held: Option<PendingConnect>,
@@ -65,6 +67,7 @@ impl Model for Session {
         num = s.window.contents.number;
       };
       spare = s.window.spare;
+      opened = s.opened;
     } };
 
     ghost invariant = { λ s.
@@ -76,14 +79,17 @@ impl Model for Session {
 impl Session {
     /// Creates live session `number`, without patterns or events.
     ///
-    /// `ack`: whether the session acknowledges batches. Does not allocate.
+    /// `ack`: whether the session acknowledges batches. `moment`: milliseconds since the server
+    /// started. Does not allocate.
     ///
     /// CometD's acknowledgement extension.
-    pub fn open(alloc: Global, number: u64, ack: bool) -> Session
-        ensures { result.kept ≡ after (λ s. begun ack s s.stage) (kept (unopened number)) }
+    pub fn open(alloc: Global, number: u64, ack: bool, moment: u64) -> Session
+        ensures kept { result.kept ≡ after (λ s. begun ack s s.stage) (kept (unopened number)) }
+        ensures opened { result.opened ≡ moment }
     {
         Session {
             number,
+            opened: moment,
             ack,
             has_overflowed: false,
             held: None,
@@ -100,11 +106,46 @@ impl Session {
         self.number
     }
 
+    /// Returns the moment of opening, in milliseconds since the server started.
+    pub fn opened(&self) -> u64
+        ensures { result ≡ self.now.opened }
+    {
+        self.opened
+    }
+
+    /// Returns `true` if the session acknowledges batches.
+    pub fn acknowledges(&self) -> bool
+        ensures { result ≡ self.now.kept.ack }
+    {
+        self.ack
+    }
+
     /// Returns how many patterns are active.
     pub fn patterns(&self) -> usize
         ensures { result ≡ length self.now.kept.patterns }
     {
         self.patterns
+    }
+
+    /// Returns the number of queued events: the outstanding batch and the waiting events.
+    pub fn queued_events(&self) -> usize
+        ensures { result ≡ length self.now.kept.queue }
+    {
+        self.window.len()
+    }
+
+    /// Returns the length in bytes of the JSON texts of the queued events.
+    pub fn queued_bytes(&self) -> usize
+        ensures { result ≡ bytes_of self.now.kept.queue }
+    {
+        self.window.bytes()
+    }
+
+    /// Returns the number of events in the outstanding batch: sent, but not acknowledged.
+    pub fn outstanding(&self) -> usize
+        ensures { result ≡ self.now.kept.out }
+    {
+        self.window.outstanding()
     }
 
     /// Returns the number of the last batch, or 0 before the first.

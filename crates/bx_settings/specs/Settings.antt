@@ -1,5 +1,5 @@
 -- The settings that positional arguments of the daemon give.
-use Rattle.std.specs.Prelude.{◌≡◌, ℕ, Bool, false, List, [], ◌∷◌, codes, Option, Some, None, option_map}
+use Rattle.std.specs.Prelude.{◌≡◌, ℕ, Bool, true, false, List, [], ◌∷◌, codes, Option, Some, None, option_map}
 use Rattle.std.specs.Net.Grammar.{IsSocketText}
 use Rattle.std.specs.declared.net.socket_addr.SocketAddr.{SocketAddr}
 use Rattle.bx_advice.specs.Options.{options_in}
@@ -7,24 +7,31 @@ use Rattle.bx_advice.specs.declared.config.Config.{Config}
 use Rattle.bx_advice.specs.declared.limit.Limit.TheVariants.{Events}
 use Rattle.bx_advice.specs.declared.limit.TheConstants.{BODY_LIMIT, MAX_SHARDS}
 use Rattle.bx_advice.specs.Configs.{new_config, with_maximum, with_options}
+use Rattle.bx_names.specs.Globs.{Glob}
 use Rattle.bx_message.specs.Fields.{number_of}
 use Rattle.bx_message.specs.Numbers.{◌>>=◌, count_in, limit_in, time_in}
 use Rattle.bx_settings.specs.Seed.{seed_in}
-use Rattle.bx_settings.specs.declared.settings.{Seed.Seed, Settings.Settings}
+use Rattle.bx_settings.specs.declared.settings.{LogFormat.LogFormat, LogLevel.LogLevel, Seed.Seed, Settings.Settings}
+use Rattle.bx_settings.specs.declared.settings.LogFormat.TheVariants.{Text}
+use Rattle.bx_settings.specs.declared.settings.LogLevel.TheVariants.{Info}
 use Rattle.bx_settings.specs.declared.settings.Seed.TheVariants.{FromArguments}
 
 -- Settings of the daemon, with addresses and names of files as bytes.
 pub record PlainSettings : Type 0 where
   pub listen : List ℕ
   pub read_only_listen : Option (List ℕ)
+  pub readers_publish : List Glob
   pub config : Config
   pub body : ℕ
+  pub callback_polling : Bool
   pub seed : Seed
   pub connections : ℕ
   pub metrics : Option (List ℕ)
   pub record_file : Option (List ℕ)
   pub record_answers : Bool
   pub until_eof : Bool
+  pub log : LogFormat
+  pub log_level : LogLevel
 
 -- ---- Values as plain data
 
@@ -33,14 +40,18 @@ abbrev pub plain : Settings → PlainSettings
 plain settings = record {
   listen = settings.listen.now;
   read_only_listen = option_map (λ address. address.now) settings.read_only_listen;
+  readers_publish = settings.readers_publish.items;
   config = settings.config;
   body = settings.body;
+  callback_polling = settings.callback_polling;
   seed = settings.seed;
   connections = settings.connections;
   metrics = option_map (λ address. address.now) settings.metrics;
   record_file = option_map (λ name. name.now) settings.record_file;
   record_answers = settings.record_answers;
   until_eof = settings.until_eof;
+  log = settings.log;
+  log_level = settings.log_level;
 }
 
 -- ---- Arguments
@@ -75,7 +86,7 @@ settings_in (listen ∷ shards ∷ timeout ∷ interval ∷ max_interval ∷ see
   c ← config_in shards timeout interval max_interval o.0 o.1
   bytes ← seed_in seed
   n ← number_of connections
-  Some (record { listen = listen; read_only_listen = None; config = c; body = BODY_LIMIT; seed = FromArguments bytes; connections = n; metrics = None; record_file = None; record_answers = false; until_eof = false })
+  Some (record { listen = listen; read_only_listen = None; readers_publish = []; config = c; body = BODY_LIMIT; callback_polling = true; seed = FromArguments bytes; connections = n; metrics = None; record_file = None; record_answers = false; until_eof = false; log = Text; log_level = Info })
 settings_in args = None
 
 -- A text is an IP address and a port, such as `127.0.0.1:8087` or `[::1]:8087`.

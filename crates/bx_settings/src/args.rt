@@ -1,11 +1,12 @@
 //! Positional arguments of `bayeuxd`.
-ghost use Rattle.std.specs.Prelude.{◌≡◌, IfNone, IfSome, map, option_map, string_bytes};
-ghost use Rattle.bx_settings.specs.Settings.{config_in, Give, optional_in, plain, PlainSettings, settings_in};
+ghost use Rattle.std.specs.Prelude.{◌≡◌, ◌↔◌, IfNone, IfSome, IsTrue, map, option_map, string_bytes};
+ghost use Rattle.bx_settings.specs.Settings.{config_in, Give, IsAddress, optional_in, plain, PlainSettings, settings_in};
 
 use crate::seed::read_digits;
-use crate::settings::{Seed, Settings};
+use crate::settings::{LogFormat, LogLevel, Seed, Settings};
 use bx_advice::{BodyLimit, Config, Limit, MAX_SHARDS, Options};
 use bx_message::{count_in, limit_in, number_of, time_in};
+use std::alloc::Global;
 use std::net::SocketAddr;
 
 /// Parses the positional arguments of `bayeuxd`, or returns `None` if they are wrong.
@@ -21,20 +22,33 @@ use std::net::SocketAddr;
 /// - optionally the number of events that may wait for a session: 1 to 65,536, by default 1,024
 ///
 /// Numbers are decimal digits only. Other settings have their default values.
-pub fn parse_args(args: &[String]) -> Option<Settings<'_>>
+pub fn parse_args(alloc: Global, args: &[String]) -> Option<Settings<'_>>
     ensures some { IfSome result (λ s. Give (map string_bytes args.now) (plain s)) }
     ensures none { IfNone result ((s : PlainSettings) → ¬ (Give (map string_bytes args.now) s)) }
 {
-    match settings_in(args) {
-        Some(settings) if settings.listen.parse::<SocketAddr>().is_ok() => Some(settings),
-        _ => None,
+    match settings_in(alloc, args) {
+        Some(settings) => {
+            if is_address(settings.listen) {
+                Some(settings)
+            } else {
+                None
+            }
+        }
+        None => None,
     }
+}
+
+// Returns `true` if `text` is an IP address and a port.
+fn is_address(text: &str) -> bool
+    ensures { IsTrue result ↔ IsAddress text.now }
+{
+    text.parse::<SocketAddr>().is_ok()
 }
 
 // Returns the settings that the positional arguments `args` give, or `None` if they are wrong.
 //
 // The first argument, the address to listen on, is not checked: any text is accepted.
-fn settings_in(args: &[String]) -> Option<Settings<'_>>
+fn settings_in(alloc: Global, args: &[String]) -> Option<Settings<'_>>
     ensures { option_map plain result ≡ settings_in (map string_bytes args.now) }
 {
     let [
@@ -62,14 +76,18 @@ fn settings_in(args: &[String]) -> Option<Settings<'_>>
     Some(Settings {
         listen: listen.as_str(),
         read_only_listen: None,
+        readers_publish: Vec::new(alloc),
         config,
         body: BodyLimit::greatest(),
+        callback_polling: true,
         seed: Seed::FromArguments(read_digits(seed.as_bytes())?),
         connections: number_of(connections.as_bytes())?,
         metrics: None,
         record_file: None,
         record_answers: false,
         until_eof: false,
+        log: LogFormat::Text,
+        log_level: LogLevel::Info,
     })
 }
 

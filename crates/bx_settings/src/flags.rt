@@ -1,17 +1,26 @@
 //! Command-line flags of `bayeuxd`.
-use crate::settings::{Seed, Settings};
-use crate::time::milliseconds;
+ghost use Rattle.std.specs.Prelude.{◌≡◌, max, min};
+
+use crate::settings::{LogFormat, LogLevel, Seed, Settings};
+use crate::unit::{count_with_unit, milliseconds};
 use bx_advice::{BODY_LIMIT, BodyLimit, Config, Limit, MAX_SHARDS, Options};
 use bx_message::{count_in, number_of};
+use bx_names::{NameError, Pattern};
 use clap::error::ErrorKind;
 use clap::{Arg, ArgAction, ArgMatches, Command, Error};
 use std::alloc::{AllocError, Global};
 
 /// The version that `--version` prints.
-pub const VERSION: &str = "0.1.0";
+pub const VERSION: &str = "0.2.0";
+
+// What a flag for an address accepts, in words for an error message.
+const ADDRESS: &str = "a host and a port such as 127.0.0.1:8087";
 
 // What a flag for a time accepts, in words for an error message.
 const TIME: &str = "a number of milliseconds up to 4294967295, or of seconds such as 30s";
+
+// What a flag for a pattern accepts, in words for an error message.
+const PATTERN: &str = "a pattern of channels such as /chat/*";
 
 /// Parses the command-line flags of `bayeuxd`.
 ///
@@ -32,31 +41,32 @@ pub fn read_flags<'a>(
     let mut command = command(alloc)?;
     let matches = command.try_get_matches_from_mut(args)?;
     let config = read_config(alloc, &mut command, &matches, processors)?;
-    let body = read_number(
-        alloc,
-        &mut command,
-        &matches,
-        "body",
-        BODY_LIMIT,
-        BODY_LIMIT,
-    )?;
-    let Some(connections) = number_of(value_of(&matches, "connections", "0").as_bytes()) else {
-        return Err(wrong(alloc, &mut command, &matches, "connections", "a number")?);
-    };
+    let body = read_body(alloc, &mut command, &matches)?;
+    let listen = read_address(alloc, &mut command, &matches, "listen")?;
+    let read_only_listen = read_address(alloc, &mut command, &matches, "readers")?;
+    let metrics = read_address(alloc, &mut command, &matches, "metrics")?;
+    let readers_publish = read_patterns(alloc, &mut command, &matches, "readers-publish")?;
+    let log = read_log_format(alloc, &mut command, &matches)?;
+    let log_level = read_log_level(alloc, &mut command, &matches)?;
+    let connections = read_connections(alloc, &mut command, &matches)?;
     Ok(Settings {
-        listen: value_of(&matches, "listen", "127.0.0.1:8087"),
-        read_only_listen: matches.get_str("readers"),
+        listen: listen.unwrap_or(""),
+        read_only_listen,
+        readers_publish,
         config,
-        body: BodyLimit::new(body).unwrap_or(BodyLimit::greatest()),
+        body,
+        callback_polling: !matches.get_flag("no-callback-polling"),
         seed: match matches.get_str("seed-file") {
             Some(path) => Seed::File(path),
             None => Seed::FromSystem,
         },
         connections,
-        metrics: matches.get_str("metrics"),
+        metrics,
         record_file: matches.get_str("record"),
         record_answers: matches.get_flag("record-answers"),
         until_eof: matches.get_flag("until-eof"),
+        log,
+        log_level,
     })
 }
 
@@ -69,11 +79,11 @@ fn read_config(
     matches: &ArgMatches<'_>,
     processors: usize,
 ) -> Result<Config, Error> {
-    let timeout = read_time(alloc, command, matches, "timeout", "30s")?;
-    let interval = read_time(alloc, command, matches, "interval", "0")?;
-    let max_interval = read_time(alloc, command, matches, "max-interval", "10s")?;
-    let most = processors.clamp(1, MAX_SHARDS);
-    let shards = read_number(alloc, command, matches, "shards", MAX_SHARDS, most)?;
+    let timeout = read_time(alloc, command, matches, "timeout")?;
+    let interval = read_time(alloc, command, matches, "interval")?;
+    let max_interval = read_time(alloc, command, matches, "max-interval")?;
+    let standard = standard_shards(processors);
+    let shards = read_number(alloc, command, matches, "shards", MAX_SHARDS, standard)?;
     let options = Options {
         ride: matches.get_flag("ride"),
         anonymous: matches.get_flag("anonymous"),
@@ -87,12 +97,45 @@ fn read_config(
     }
     match config {
         Some(config) => Ok(config),
-        None => Err(wrong(alloc, command, matches, "shards", "a configuration")?),
+        None => {
+            let text = matches.get_str("shards").unwrap_or("");
+            Err(wrong(alloc, command, "shards", "a configuration", text)?)
+        }
+    }
+}
+
+// Returns the number of shards without `--shards`: one for each processor, but 1 to 64.
+fn standard_shards(processors: usize) -> usize
+    ensures { result ≡ min (max processors 1) 64 }
+{
+    processors.clamp(1, MAX_SHARDS)
+}
+
+// Returns the address that flag `name` gives, or `None` without the flag and a default.
+//
+// Returns the error for the user if the value has no port.
+fn read_address<'a>(
+    alloc: Global,
+    command: &mut Command<'_>,
+    matches: &ArgMatches<'a>,
+    name: &str,
+) -> Result<Option<&'a str>, Error> {
+    match matches.get_str(name) {
+        Some(address) if !has_port(address) => Err(wrong(alloc, command, name, ADDRESS, address)?),
+        address => Ok(address),
+    }
+}
+
+// Returns `true` if `address` ends with a colon and a port.
+fn has_port(address: &str) -> bool {
+    match address.rsplit_once(":") {
+        Some((_, port)) => count_in(u16::MAX as usize, port.as_bytes()).is_some() || port == "0",
+        None => false,
     }
 }
 
 // Returns the number that flag `name` gives, from 1 to `greatest`. Without the flag, it is
-// `standard`.
+// `standard`. The value may have a unit: `k` for 1,024 and `m` for 1,048,576.
 //
 // Returns the error for the user if the value is wrong.
 fn read_number(
@@ -106,16 +149,16 @@ fn read_number(
     let Some(text) = matches.get_str(name) else {
         return Ok(standard);
     };
-    match count_in(greatest, text.as_bytes()) {
+    match count_with_unit(greatest, text) {
         Some(number) => Ok(number),
         None => {
             let right = format!(in alloc; "a number from 1 to {greatest}")?;
-            Err(wrong(alloc, command, matches, name, right.as_str())?)
+            Err(wrong(alloc, command, name, right.as_str(), text)?)
         }
     }
 }
 
-// Returns the time that flag `name` gives, in milliseconds. Without the flag, it is `standard`.
+// Returns the time that flag `name` gives, in milliseconds.
 //
 // Returns the error for the user if the value is wrong.
 fn read_time(
@@ -123,31 +166,97 @@ fn read_time(
     command: &mut Command<'_>,
     matches: &ArgMatches<'_>,
     name: &str,
-    standard: &'static str,
 ) -> Result<u32, Error> {
-    match milliseconds(value_of(matches, name, standard)) {
+    let text = value_of(matches, name);
+    match milliseconds(text) {
         Some(time) => Ok(time),
-        None => Err(wrong(alloc, command, matches, name, TIME)?),
+        None => Err(wrong(alloc, command, name, TIME, text)?),
     }
 }
 
-// Returns the value of flag `name`, by default `standard`.
-fn value_of<'a>(matches: &ArgMatches<'a>, name: &str, standard: &'static str) -> &'a str {
-    match matches.get_str(name) {
-        Some(text) => text,
-        None => standard,
-    }
-}
-
-// Creates the error for a wrong value of flag `name`. `right`: what values are accepted, in words.
-fn wrong(
+// Returns the patterns that the uses of flag `name` give, in order.
+//
+// Returns the error for the user if a value is not a pattern, or memory runs out.
+fn read_patterns(
     alloc: Global,
     command: &mut Command<'_>,
     matches: &ArgMatches<'_>,
     name: &str,
+) -> Result<Vec<Pattern>, Error> {
+    let mut patterns = Vec::new(alloc);
+    for text in matches.get_strs(name).unwrap_or(&[]) {
+        match Pattern::read(alloc, text) {
+            Ok(pattern) => patterns.push(pattern)?,
+            Err(NameError::Memory) => return Err(AllocError.into()),
+            Err(_) => return Err(wrong(alloc, command, name, PATTERN, text)?),
+        }
+    }
+    Ok(patterns)
+}
+
+// Returns the limit that `--body` gives, or the error for the user if the value is wrong.
+fn read_body(
+    alloc: Global,
+    command: &mut Command<'_>,
+    matches: &ArgMatches<'_>,
+) -> Result<BodyLimit, Error> {
+    let body = read_number(alloc, command, matches, "body", BODY_LIMIT, BODY_LIMIT)?;
+    Ok(BodyLimit::new(body).unwrap_or(BodyLimit::greatest()))
+}
+
+// Returns the number that `--connections` gives, or the error for the user if the value is wrong.
+fn read_connections(
+    alloc: Global,
+    command: &mut Command<'_>,
+    matches: &ArgMatches<'_>,
+) -> Result<u64, Error> {
+    let text = value_of(matches, "connections");
+    match number_of(text.as_bytes()) {
+        Some(connections) => Ok(connections),
+        None => Err(wrong(alloc, command, "connections", "a number", text)?),
+    }
+}
+
+// Returns the format that `--log` gives, or the error for the user if the value is wrong.
+fn read_log_format(
+    alloc: Global,
+    command: &mut Command<'_>,
+    matches: &ArgMatches<'_>,
+) -> Result<LogFormat, Error> {
+    match value_of(matches, "log") {
+        "text" => Ok(LogFormat::Text),
+        "json" => Ok(LogFormat::Json),
+        text => Err(wrong(alloc, command, "log", "text or json", text)?),
+    }
+}
+
+// Returns the level that `--log-level` gives, or the error for the user if the value is wrong.
+fn read_log_level(
+    alloc: Global,
+    command: &mut Command<'_>,
+    matches: &ArgMatches<'_>,
+) -> Result<LogLevel, Error> {
+    match value_of(matches, "log-level") {
+        "error" => Ok(LogLevel::Error),
+        "warn" => Ok(LogLevel::Warn),
+        "info" => Ok(LogLevel::Info),
+        text => Err(wrong(alloc, command, "log-level", "error, warn or info", text)?),
+    }
+}
+
+// Returns the value of flag `name`, which has a default.
+fn value_of<'a>(matches: &ArgMatches<'a>, name: &str) -> &'a str {
+    matches.get_str(name).unwrap_or("")
+}
+
+// Creates the error for a wrong `value` of flag `name`. `right`: what is accepted, in words.
+fn wrong(
+    alloc: Global,
+    command: &mut Command<'_>,
+    name: &str,
     right: &str,
+    value: &str,
 ) -> Result<Error, AllocError> {
-    let value = matches.get_str(name).unwrap_or("");
     let text = format!(in alloc; "--{name}: expected {right}, got {value}")?;
     command.error(ErrorKind::ValueValidation, text.as_str())
 }
@@ -158,24 +267,35 @@ fn command<'a>(alloc: Global) -> Result<Command<'a>, AllocError> {
         .version(VERSION)
         .no_binary_name(true);
     let command = with_times(alloc, with_server(alloc, command)?)?;
-    with_running(alloc, with_options(alloc, with_limits(alloc, command)?)?)
+    let command = with_options(alloc, with_limits(alloc, command)?)?;
+    with_log(alloc, with_running(alloc, command)?)
 }
 
-// Adds `--listen`, `--readers`, `--shards` and `--seed-file` to `command`.
+// Adds `--listen`, `--readers`, `--readers-publish`, `--shards` and `--seed-file` to `command`.
 fn with_server<'a>(alloc: Global, command: Command<'a>) -> Result<Command<'a>, AllocError> {
+    let allowed = value(
+        alloc,
+        "readers-publish",
+        "PATTERN",
+        "Allow publishes at --readers to channels that PATTERN matches; can be repeated",
+    )
+    .action(ArgAction::Append)
+    .requires_arg("readers")?;
     command
         .arg(value(
             alloc,
             "listen",
             "ADDRESS",
-            "Listen at ADDRESS, a host name or IP address with a port [default: 127.0.0.1:8087]",
-        ))?
+            "Listen at ADDRESS, a host name or IP address with a port",
+        )
+        .default_value("127.0.0.1:8087"))?
         .arg(value(
             alloc,
             "readers",
             "ADDRESS",
             "Also listen at ADDRESS, read-only: no publishes to broadcast channels [default: none]",
         ))?
+        .arg(allowed)?
         .arg(value(
             alloc,
             "shards",
@@ -197,20 +317,23 @@ fn with_times<'a>(alloc: Global, command: Command<'a>) -> Result<Command<'a>, Al
             alloc,
             "timeout",
             "TIME",
-            "Hold a connect for at most TIME, in milliseconds, or in seconds such as 30s [default: 30s]",
-        ))?
+            "Hold a connect for at most TIME, in milliseconds, or in seconds such as 30s",
+        )
+        .default_value("30s"))?
         .arg(value(
             alloc,
             "interval",
             "TIME",
-            "Advise clients to wait for TIME between two connects [default: 0]",
-        ))?
+            "Advise clients to wait for TIME between two connects",
+        )
+        .default_value("0"))?
         .arg(value(
             alloc,
             "max-interval",
             "TIME",
-            "Keep a session for TIME after each accepted message [default: 10s]",
-        ))
+            "Keep a session for TIME after each accepted message",
+        )
+        .default_value("10s"))
 }
 
 // Adds the flags for limits to `command`: those of [`Limit::ALL`], and `--body`.
@@ -223,7 +346,7 @@ fn with_limits<'a>(alloc: Global, command: Command<'a>) -> Result<Command<'a>, A
         alloc,
         "body",
         "N",
-        "Allow at most N bytes in the body or query of a request, 1 to 1048576 [default: 1048576]",
+        "Allow at most N bytes in the body or query of a request, 1 to 1m [default: 1m]",
     ))
 }
 
@@ -245,14 +368,16 @@ fn name_of<'a>(limit: Limit) -> &'a str {
 fn help_of<'a>(limit: Limit) -> &'a str {
     match limit {
         Limit::Bytes =>
-            "Allow at most N bytes of waiting events per session, 1 to 4294967295 [default: no limit]",
+            "Allow at most N bytes of waiting events per session, such as 64k [default: no limit]",
         Limit::Sessions => "Allow at most N live sessions, 1 to 65536 [default: 65536]",
         Limit::Patterns => "Allow at most N active patterns per session, 1 to 1024 [default: 1024]",
         Limit::Events => "Allow at most N waiting events per session, 1 to 65536 [default: 1024]",
     }
 }
 
-// Adds the flags for options of the protocol to `command`: `--ride` and `--anonymous`.
+// Adds the flags for options of the protocol to `command`.
+//
+// They are `--ride`, `--anonymous` and `--no-callback-polling`.
 fn with_options<'a>(alloc: Global, command: Command<'a>) -> Result<Command<'a>, AllocError> {
     command
         .arg(switch(
@@ -260,7 +385,12 @@ fn with_options<'a>(alloc: Global, command: Command<'a>) -> Result<Command<'a>, 
             "ride",
             "Send a session's waiting events with the replies to its own requests",
         ))?
-        .arg(switch(alloc, "anonymous", "Accept publishes without a client id"))
+        .arg(switch(alloc, "anonymous", "Accept publishes without a client id"))?
+        .arg(switch(
+            alloc,
+            "no-callback-polling",
+            "Accept only POSTs of application/json, which browsers do not send to other sites",
+        ))
 }
 
 // Adds the flags for operating the server to `command`.
@@ -278,7 +408,7 @@ fn with_running<'a>(alloc: Global, command: Command<'a>) -> Result<Command<'a>, 
         alloc,
         "metrics",
         "ADDRESS",
-        "Serve GET /metrics and GET /healthz at ADDRESS [default: none]",
+        "Serve metrics, and a page that plots them, at ADDRESS [default: none]",
     )
     .alias("figures")?;
     command
@@ -286,8 +416,9 @@ fn with_running<'a>(alloc: Global, command: Command<'a>) -> Result<Command<'a>, 
             alloc,
             "connections",
             "N",
-            "Exit after N connections, 0 for never [default: 0]",
-        ))?
+            "Exit after N connections, 0 for never",
+        )
+        .default_value("0"))?
         .arg(metrics)?
         .arg(value(
             alloc,
@@ -297,6 +428,25 @@ fn with_running<'a>(alloc: Global, command: Command<'a>) -> Result<Command<'a>, 
         ))?
         .arg(answers)?
         .arg(switch(alloc, "until-eof", "Exit when standard input closes"))
+}
+
+// Adds the flags for the log to `command`: `--log` and `--log-level`.
+fn with_log<'a>(alloc: Global, command: Command<'a>) -> Result<Command<'a>, AllocError> {
+    command
+        .arg(value(
+            alloc,
+            "log",
+            "FORMAT",
+            "Write the log as text, or as json: an object per line",
+        )
+        .default_value("text"))?
+        .arg(value(
+            alloc,
+            "log-level",
+            "LEVEL",
+            "Log only errors (error), also warnings (warn), or all (info)",
+        )
+        .default_value("info"))
 }
 
 // Creates the flag `--name`, which takes a value.

@@ -5,9 +5,11 @@ mod args;
 mod flags;
 mod seed;
 mod settings;
-mod time;
+#[cfg(test)]
+mod tests;
+mod unit;
 
 pub use args::parse_args;
 pub use flags::{VERSION, read_flags};
-pub use seed::{read_digits, read_seed};
-pub use settings::{Seed, Settings};
+pub use seed::{draw_seed, read_digits, read_seed};
+pub use settings::{LogFormat, LogLevel, Seed, Settings};

@@ -4,6 +4,7 @@ ghost use Rattle.bx_settings.specs.Seed.{seed_in};
 
 use hex::FromHex;
 use std::io::{ErrorKind, Read};
+use std::random::RandomSource;
 use std::rt::Files;
 use std::{fs, io};
 
@@ -37,4 +38,15 @@ pub fn read_seed<R: Files + Alloc>(rt: &R, path: &str) -> io::Result<[u8; 32]> {
         Some(seed) => Ok(seed),
         None => Err(ErrorKind::InvalidData.into()),
     }
+}
+
+/// Returns a seed of random bytes from the operating system.
+///
+/// # Errors
+///
+/// The error of the system call.
+pub fn draw_seed<R: RandomSource>(rt: &R) -> io::Result<[u8; 32]> {
+    let mut seed = [0; 32];
+    rt.fill_bytes(&mut seed)?;
+    Ok(seed)
 }

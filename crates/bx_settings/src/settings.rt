@@ -1,5 +1,6 @@
 //! The settings of `bayeuxd`, and where its seed is from.
 use bx_advice::{BodyLimit, Config};
+use bx_names::Pattern;
 
 /// The source of the seed of the generator of nonces.
 #[derive(Clone, Copy, Debug, PartialEq, Eq)]
@@ -14,8 +15,28 @@ pub enum Seed<'a> {
     FromArguments([u8; 32]),
 }
 
+/// The format of the log.
+#[derive(Clone, Copy, Debug, PartialEq, Eq)]
+pub enum LogFormat {
+    /// Text: the time, the level, the event, and `key=value` for each value.
+    Text,
+    /// A JSON object for each line.
+    Json,
+}
+
+/// The least severe level of the lines in the log.
+#[derive(Clone, Copy, Debug, PartialEq, Eq)]
+pub enum LogLevel {
+    /// The log has errors only.
+    Error,
+    /// The log has errors and warnings.
+    Warn,
+    /// The log has all lines.
+    Info,
+}
+
 /// The settings of `bayeuxd`.
-#[derive(Clone, Copy, Debug)]
+#[derive(Debug, Drop)]
 pub struct Settings<'a> {
     /// The address that `bayeuxd` listens on, as in `localhost:8087`.
     ///
@@ -23,10 +44,16 @@ pub struct Settings<'a> {
     pub listen: &'a str,
     /// The address of the read-only listener, if any: a host name or IP address, and a port.
     pub read_only_listen: Option<&'a str>,
+    /// The patterns of the broadcast channels to which the read-only listener allows messages.
+    pub readers_publish: Vec<Pattern>,
     /// The server's number of shards, times in milliseconds, limits and options.
     pub config: Config,
     /// The greatest length in bytes of a request's body or query.
     pub body: BodyLimit,
+    /// Whether the server accepts GETs, and POSTs of any media type.
+    ///
+    /// If not, it accepts only POSTs with the media type `application/json`.
+    pub callback_polling: bool,
     /// The source of the seed of the generator of nonces.
     pub seed: Seed<'a>,
     /// The number of connections after which the server ends, or 0 if it serves any number.
@@ -39,4 +66,8 @@ pub struct Settings<'a> {
     pub record_answers: bool,
     /// Whether the server ends at the end of standard input.
     pub until_eof: bool,
+    /// The format of the log.
+    pub log: LogFormat,
+    /// The least severe level of the lines in the log.
+    pub log_level: LogLevel,
 }

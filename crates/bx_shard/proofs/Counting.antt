@@ -1,6 +1,5 @@
 -- A session forms at most one batch at each entry.
 use Rattle.std.proofs.Common.{◌≡◌, ◌≤◌, ◌+◌, ℕ, nat_le, Bool, true, Option, Some, None, IfSome, arith, refl, ap, ◌∙◌}
-use Rattle.std.proofs.Math.Dec.{leb}
 use Rattle.std.proofs.lemmas.{Bool.cond_both, Bool.Decides.nat_tests}
 use Rattle.bx_advice.specs.declared.config.Config.{Config}
 use Rattle.bx_entry.specs.declared.entry.{Entry.Entry, EntryKind.EntryKind}

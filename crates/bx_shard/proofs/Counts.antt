@@ -1,5 +1,5 @@
 -- After each change, the tree still has exactly the patterns of the sessions.
-use Rattle.std.proofs.Common.{arith, ◌≡◌, ℕ, nat_eq, cond, Option, Some, None, option_map, List, [], sym, ◌∙◌}
+use Rattle.std.proofs.Common.{arith, ◌≡◌, ℕ, nat_eq, cond, Option, Some, None, option_map, List, sym, ◌∙◌}
 use Rattle.std.proofs.lemmas.Grind.{common_steps}
 use Rattle.bx_names.specs.Words.{Glob}
 use Rattle.bx_advice.specs.declared.config.Config.{Config}

@@ -1,5 +1,5 @@
 -- What each kind of entry does to a shard's sessions, from the contracts of the calls.
-use Rattle.std.proofs.Common.{arith, Contains, ◌≡◌, ◌≢◌, ◌⊎◌, inl, inr, ℕ, nat_eq, ◌==◌, Bool, true, false, cond, Option, Some, None, option_map, is_some, List, [], map, refl, sym, ap, ◌∙◌, subst}
+use Rattle.std.proofs.Common.{arith, Contains, ◌≡◌, ◌≢◌, ◌⊎◌, inl, inr, ℕ, nat_eq, ◌==◌, Bool, true, false, cond, Option, Some, None, option_map, is_some, List, [], refl, sym, ap, ◌∙◌, subst}
 use Rattle.std.specs.{List.list_any, Option.option_and_then, Option.option_map_or}
 use Rattle.std.proofs.lemmas.{Bool.eqb-true, Bool.eq-eqb, List.Elements.Contains-append_cases}
 use Rattle.bx_names.specs.Globs.{Glob}
@@ -9,7 +9,7 @@ use Rattle.bx_entry.specs.declared.entry.{Entry.Entry, EntryKind.EntryKind}
 use Rattle.bx_entry.specs.declared.entry.EntryKind.TheVariants as kinds
 use Rattle.bx_entry.specs.Words.{Kept, after, kept, resumed, Live, Pending, Session, Stage, begun, closed_by, connected, disconnected, ended, expired, is_live, published, released, step}
 use Rattle.bx_session.specs.declared.answered.Answered.{Answered}
-use Rattle.bx_session.specs.Views.{answered_of, deadline_of, pending}
+use Rattle.bx_session.specs.Views.{deadline_of, pending}
 use Rattle.bx_connects.specs.declared.connects.ConnectState.{ConnectState}
 use Rattle.bx_connects.specs.declared.connects.ConnectState.TheVariants.{Filed}
 use Rattle.bx_connects.specs.Connects.{connect_at, held_by, session_at}
@@ -42,9 +42,6 @@ module _ (n : ℕ) (k : Kept) (patterns : List Glob) (own : IsOwn n k patterns) 
   closed_or_live : (numbers : List ℕ) (t : Session) → t.stage ≡ k.stage → t.number ≡ k.number
       → cond (list_any (λ m. m == n) numbers) None (Some (kept t)) ≡ if_live (kept (closed_by numbers t))
   closed_or_live numbers t stage number = grind arith
-
-  own_answers_only : (m : ℕ) (t : Session) → map answered_of (cond (m == k.number) t (resumed k)).answers ≡ cond (nat_eq m n) (map answered_of t.answers) []
-  own_answers_only m t = grind arith
 
 -- ---- all sessions
 

@@ -19,6 +19,7 @@ pub mod Counts
 pub mod Onwards
 pub mod Singles
 pub mod Stepping
+pub mod Surveying
 pub mod Sweeping
 pub mod Taking
 pub mod Ticking

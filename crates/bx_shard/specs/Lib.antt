@@ -9,5 +9,6 @@ pub mod Sessions
 pub mod Shards
 pub mod States
 pub mod Steps
+pub mod Surveys
 pub mod Upward
 pub mod Words

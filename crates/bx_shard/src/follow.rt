@@ -76,7 +76,7 @@ impl Sessions {
         match &entry.kind {
             EntryKind::Opened { session, ack } => {
                 if belongs && !self.has(*session) {
-                    self.open(alloc, *session, *ack)?;
+                    self.open(alloc, *session, *ack, entry.moment)?;
                 }
             }
             EntryKind::Connect {

@@ -9,6 +9,7 @@ mod publish;
 mod ride;
 mod sessions;
 mod shard;
+mod survey;
 mod tick;
 mod upward;
 
@@ -22,4 +23,5 @@ pub use laws::{
 };
 pub use sessions::Sessions;
 pub use shard::Shard;
+pub use survey::SessionSurvey;
 pub use upward::bring_up;

@@ -13,6 +13,7 @@ ghost use Rattle.bx_connects.specs.declared.connects.ConnectState.TheVariants.{H
 ghost use Rattle.bx_connects.specs.Connects.{connect_at, count_held, filed_as, held_by};
 ghost use Rattle.bx_connects.specs.Waking.{AreWoken, waker_of};
 ghost use Rattle.bx_shard.specs.Sessions.{AreClean, AreCounted, AreHeld, HasRoom, kept_in, patterns_in};
+ghost use Rattle.bx_shard.specs.Surveys.{opened_in};
 ghost use Rattle.bx_shard.specs.Effects.{answers_by, connect_filing, filing_each, forgetting, held_in};
 
 use bx_advice::Config;
@@ -57,16 +58,24 @@ impl Sessions {
 
     /// Opens session `number`, which must not be in this shard.
     ///
-    /// `ack`: whether the session acknowledges batches. On error, no session has changed.
-    pub(crate) fn open(&mut self, alloc: Global, number: u64, ack: bool) -> Result<(), AllocError>
+    /// `ack`: whether the session acknowledges batches. `moment`: milliseconds since the server
+    /// started. On error, no session has changed.
+    pub(crate) fn open(
+        &mut self,
+        alloc: Global,
+        number: u64,
+        ack: bool,
+        moment: u64,
+    ) -> Result<(), AllocError>
         ensures sessions { OnOk result ((n : ℕ) → kept_in self.new n
             ≡ (if nat_eq number n then Some (after (λ s. begun ack s s.stage) (kept (unopened number))) else kept_in self.old n)) }
+        ensures opened { OnOk result (opened_in self.new number ≡ Some moment) }
         ensures err { OnErr result ((n : ℕ) → kept_in self.new n ≡ kept_in self.old n) }
         ensures others { (self.new.config ≡ self.old.config) × (self.new.tree ≡ self.old.tree) × (self.new.connects ≡ self.old.connects) }
         ensures counted { kept_in self.old number ≡ None → AreCounted self.old → AreCounted self.new }
         ensures held { kept_in self.old number ≡ None → AreHeld self.old → AreHeld self.new }
     {
-        let session = Session::open(alloc, number, ack);
+        let session = Session::open(alloc, number, ack, moment);
         self.by_number.insert(number, session)?;
         Ok(())
     }
@@ -260,7 +269,7 @@ impl Sessions {
         if self.has(number) {
             return Ok(());
         }
-        self.open(alloc, number, false)?;
+        self.open(alloc, number, false, 0)?;
         self.tree.copy(alloc, &from.tree, number)
     }
 

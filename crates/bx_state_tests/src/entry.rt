@@ -2,9 +2,11 @@
 use crate::same::same;
 use bx_cut::Bodies;
 use bx_entry::{
-    Access, AdmitFault, AllFirst, Arrival, ByRemainder, ByTable, Placing, Refusal, read_messages,
+    Access, AdmitFault, AllFirst, Arrival, ByRemainder, ByTable, Placing, Refusal, SharedPatterns,
+    read_messages,
 };
 use bx_message::Message;
+use bx_names::Pattern;
 use std::alloc::{AllocError, Global};
 use std::process::Abort;
 use std::test::Fail;
@@ -58,6 +60,15 @@ fn read_at(alloc: Global, access: Access, documents: &[&str]) -> Result<Found, F
         bodies: bodies(alloc, documents)?,
     };
     found_in(&arrival.read(alloc))
+}
+
+// Creates the access of a read-only listener with `patterns`.
+fn readers(alloc: Global, patterns: &[&str]) -> Result<Access, Fail> {
+    let mut read = Vec::new(alloc);
+    for pattern in patterns {
+        read.push(Pattern::read(alloc, pattern)?)?;
+    }
+    Ok(Access::ReadOnly(SharedPatterns::new(alloc, read)?))
 }
 
 // Checks that messages keep their order over all documents.
@@ -174,11 +185,53 @@ fn readers_are_let_in_by_channels(rt: HostRuntime) -> Result<(), Fail> {
     let alloc = rt.alloc();
     for (channel, wanted) in &CHANNELS {
         let text = format!(in alloc; "[{{\"channel\":\"{channel}\"}}]")?;
-        let found = read_at(alloc, Access::ReadOnly, &[text.as_str()])?;
+        let found = read_at(alloc, readers(alloc, &[])?, &[text.as_str()])?;
         same(&rt, found, *wanted, *channel);
         let found = read_at(alloc, Access::ReadWrite, &[text.as_str()])?;
         same(&rt, found, Found::Messages(1), *channel);
     }
+    Ok(())
+}
+
+// The patterns of a read-only listener that allows some broadcast channels.
+const ALLOWED: [&str; 3] = ["/hall", "/room/*", "/open/**"];
+
+// Channels, each with the result of reading a message to it on the read-only listener with
+// `ALLOWED`. A channel name that is not valid matches no pattern.
+const ALLOWED_CHANNELS: [(&str, Found); 16] = [
+    ("/hall", Found::Messages(1)),
+    ("/room/1", Found::Messages(1)),
+    ("/open/1", Found::Messages(1)),
+    ("/open/1/2", Found::Messages(1)),
+    ("/meta/connect", Found::Messages(1)),
+    ("/service/a", Found::Messages(1)),
+    ("/hall/1", FORBIDDEN),
+    ("/Hall", FORBIDDEN),
+    ("/room", FORBIDDEN),
+    ("/room/1/2", FORBIDDEN),
+    ("/open", FORBIDDEN),
+    ("/openly/1", FORBIDDEN),
+    ("/a", FORBIDDEN),
+    ("/open/*", FORBIDDEN),
+    ("/open//1", FORBIDDEN),
+    ("/open/a b", FORBIDDEN),
+];
+
+// Checks which broadcast channels a read-only listener with patterns allows. In a request of
+// several messages, each must be allowed.
+#[test]
+fn readers_publish_by_patterns(rt: HostRuntime) -> Result<(), Fail> {
+    let alloc = rt.alloc();
+    for (channel, wanted) in &ALLOWED_CHANNELS {
+        let text = format!(in alloc; "[{{\"channel\":\"{channel}\"}}]")?;
+        let found = read_at(alloc, readers(alloc, &ALLOWED)?, &[text.as_str()])?;
+        same(&rt, found, *wanted, *channel);
+    }
+    let hall = "[{\"channel\":\"/hall\"}]";
+    let found = read_at(alloc, readers(alloc, &ALLOWED)?, &[hall, CONNECT])?;
+    same(&rt, found, Found::Messages(2), "all are allowed");
+    let found = read_at(alloc, readers(alloc, &ALLOWED)?, &[hall, PUBLISH])?;
+    same(&rt, found, FORBIDDEN, "the second is not allowed");
     Ok(())
 }
 
@@ -238,7 +291,7 @@ fn readers_publish_nothing(rt: HostRuntime) -> Result<(), Fail> {
     for (first, second, at_publishers, at_readers) in &REQUESTS {
         let found = read_at(rt.alloc(), Access::ReadWrite, &[*first, *second])?;
         same(&rt, found, *at_publishers, *first);
-        let found = read_at(rt.alloc(), Access::ReadOnly, &[*first, *second])?;
+        let found = read_at(rt.alloc(), readers(rt.alloc(), &[])?, &[*first, *second])?;
         same(&rt, found, *at_readers, *first);
     }
     Ok(())
@@ -253,7 +306,7 @@ const PUBLISHES: [(usize, Found); 2] = [(256, FORBIDDEN), (257, Found::Fault(Ref
 fn too_many_comes_before_forbidden(rt: HostRuntime) -> Result<(), Fail> {
     for (count, wanted) in &PUBLISHES {
         let text = array_of(rt.alloc(), *count)?;
-        let found = read_at(rt.alloc(), Access::ReadOnly, &[text.as_str()])?;
+        let found = read_at(rt.alloc(), readers(rt.alloc(), &[])?, &[text.as_str()])?;
         same(&rt, found, *wanted, *count);
     }
     Ok(())

@@ -300,7 +300,7 @@ fn run(
     steps: &[(Step, &str)],
     says: &[Says],
 ) -> Result<(), Fail> {
-    run_in(rt, alloc, &mut Session::open(alloc, 7, ack), steps, says)
+    run_in(rt, alloc, &mut Session::open(alloc, 7, ack, 0), steps, says)
 }
 
 const BATCHES: [(Step, &str); 14] = [
@@ -496,7 +496,7 @@ fn check_limit(rt: &impl Abort, alloc: Global, session: &mut Session) -> Result<
 #[test]
 fn patterns_past_their_limit_leave_a_connect_held(rt: HostRuntime) -> Result<(), Fail> {
     let alloc = rt.alloc();
-    check_limit(&rt, alloc, &mut Session::open(alloc, 7, true))
+    check_limit(&rt, alloc, &mut Session::open(alloc, 7, true, 0))
 }
 
 // Checks the reply to a connect that a disconnect ended. It must have the connect's client id and
@@ -526,7 +526,7 @@ fn check_closed(rt: &impl Abort, alloc: Global, session: &mut Session) -> Result
 #[test]
 fn replies_repeat_what_the_connect_had(rt: HostRuntime) -> Result<(), Fail> {
     let alloc = rt.alloc();
-    check_closed(&rt, alloc, &mut Session::open(alloc, 7, true))
+    check_closed(&rt, alloc, &mut Session::open(alloc, 7, true, 0))
 }
 
 // An acknowledging session as its client sees it.
@@ -676,7 +676,7 @@ fn each_event_comes_once_and_in_order(rt: HostRuntime) -> Result<(), Fail> {
         number: 0,
         out: 0,
     };
-    see_steps(&rt, alloc, &mut Session::open(alloc, 7, true), &mut seen)?;
+    see_steps(&rt, alloc, &mut Session::open(alloc, 7, true, 0), &mut seen)?;
     let (done, number) = (seen.done, seen.number);
     same(&rt, done > 10_000, true, ("acknowledged", done));
     same(&rt, number > 1_000, true, ("batches", number));

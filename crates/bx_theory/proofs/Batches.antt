@@ -2,9 +2,7 @@
 use Rattle.std.proofs.Common.{◌≡◌, ℕ, ◌+◌, ◌<◌, ◌≤◌, ◌⊎◌, inl, inr, ⊎_elim, true, false, cond, Option, Some, None, List, [], ◌∷◌, ◌++◌, length, fold, ◌==◌, refl, sym, ap, ◌∙◌, subst, arith, append_assoc, eq-eqb, eq-zero-or-pos}
 use Rattle.std.proofs.lemmas.{Bool.cond_both, Bool.cond-true, Bool.cases_lt, Grind.common_steps, List.Sums.fold-append}
 use Rattle.bx_history.proofs.Tests.{either}
-use Rattle.bx_advice.specs.declared.{config.Config.Config, advice.Outcome.Outcome}
-use Rattle.bx_advice.specs.declared.advice.Outcome.TheVariants.{Connected, Failed}
-use Rattle.bx_advice.specs.declared.error.Error.TheVariants.{SupersededConnect}
+use Rattle.bx_advice.specs.declared.{config.Config.Config, advice.Outcome.Outcome, advice.Outcome.TheVariants.Connected, advice.Outcome.TheVariants.Failed, error.Error.TheVariants.SupersededConnect}
 use Rattle.bx_message.specs.declared.reply.AckReply.TheVariants.{AckNumber, NoAck}
 use Rattle.bx_entry.specs.declared.entry.{Entry.Entry, EntryKind.EntryKind, Rider.Rider}
 use Rattle.bx_entry.specs.declared.entry.EntryKind.TheVariants.{Connect, Publish}
@@ -26,16 +24,19 @@ Forms num u = (u.num ≡ num) ⊎ Formed u
 
 -- ---- Entries that form a batch
 
+formed : (config : Config) (p : Pending) (place : ℕ) (es : List Publication) (u : Session) → es ≡ batch u → u.overflow ≡ false → u.ack ≡ true → Formed (answered config p place es Connected u)
+formed config p place es u same full acks = record {
+  first = filing config p place es Connected u;
+  last = (u.answers, grind (arith, common_steps));
+  same = grind (arith, common_steps);
+  number = grind (arith, common_steps);
+  full = full;
+  acks = acks;
+}
+
 given_forms : (config : Config) (p : Pending) (s : Session) → s.overflow ≡ false → Forms s.num (answered config p p.place (given config s) Connected (gives config s))
 given_forms config p s full = either s.ack (Forms s.num (answered config p p.place (given config s) Connected (gives config s)))
-    (λ h. inr (record {
-      first = filing config p p.place (given config s) Connected (gives config s);
-      last = (s.answers, grind (arith, common_steps));
-      same = grind (arith, common_steps);
-      number = grind (arith, common_steps);
-      full = grind (arith, common_steps);
-      acks = grind (arith, common_steps);
-    }))
+    (λ h. inr (formed config p p.place (given config s) (gives config s) (grind (arith, common_steps)) (grind (arith, common_steps)) (grind (arith, common_steps))))
     (λ h. inl (grind (arith, common_steps)))
 
 answered_or_held_forms : (config : Config) (p : Pending) (s : Session) → s.overflow ≡ false → Forms s.num (answered_or_held config p s)
@@ -54,14 +55,7 @@ delivered_to_forms config e s None h full i = inl refl
 delivered_to_forms config e s (Some p) h full i =
     let u : Session = gives_one (unheld (with_event e s)) in
     either s.ack (Forms s.num (answered config p e.place (e ∷ []) Connected u))
-    (λ a. inr (record {
-      first = filing config p e.place (e ∷ []) Connected u;
-      last = (s.answers, grind (arith, common_steps));
-      same = grind (arith, common_steps);
-      number = grind (arith, common_steps);
-      full = grind (arith, common_steps);
-      acks = grind (arith, common_steps);
-    }))
+    (λ a. inr (formed config p e.place (e ∷ []) u (grind (arith, common_steps)) (grind (arith, common_steps)) (grind (arith, common_steps))))
     (λ a. inl (grind (arith, common_steps)))
 
 published_forms : (config : Config) (e : Publication) (s : Session) → InStep config s → Forms s.num (published config e s)

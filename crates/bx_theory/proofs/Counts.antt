@@ -5,9 +5,7 @@
 use Rattle.std.proofs.Common.{◌≡◌, ℕ, ◌<◌, ◌≤◌, true, false, Option, Some, None, List, [], ◌∷◌, ◌++◌, length, drop, fold, ◌==◌, refl, ◌∙◌, arith}
 use Rattle.std.proofs.lemmas.{Bool.cond_both, Grind.common_steps}
 use Rattle.std.proofs.Math.Seq.{drop-append_seam}
-use Rattle.bx_advice.specs.declared.{config.Config.Config, advice.Outcome.Outcome}
-use Rattle.bx_advice.specs.declared.advice.Outcome.TheVariants.{Failed}
-use Rattle.bx_advice.specs.declared.error.Error.TheVariants.{SupersededConnect, QueueOverflow}
+use Rattle.bx_advice.specs.declared.{config.Config.Config, advice.Outcome.Outcome, advice.Outcome.TheVariants.Failed, error.Error.TheVariants.SupersededConnect, error.Error.TheVariants.QueueOverflow}
 use Rattle.bx_names.specs.Words.{Glob, without_pattern}
 use Rattle.bx_entry.specs.declared.entry.{Entry.Entry, EntryKind.EntryKind, Rider.Rider}
 use Rattle.bx_entry.specs.declared.entry.EntryKind.TheVariants.{Connect, Subscribe, Unsubscribe, Publish}

@@ -4,8 +4,7 @@ use Rattle.std.proofs.lemmas.{Bool.cond_both, Bool.cond-true, Bool.cond-false, G
 use Rattle.std.proofs.lemmas.List.{length-map, length_push, map-append}
 use Rattle.std.specs.List.{AllByRecursion}
 use Rattle.bx_advice.specs.declared.config.Config.{Config}
-use Rattle.bx_message.specs.declared.{message.Message.Message, message.TextMember.TextMember, message_kind.MessageKind.MessageKind}
-use Rattle.bx_message.specs.declared.message.TextMember.TheVariants.{Text}
+use Rattle.bx_message.specs.declared.{message.Message.Message, message.TextMember.TextMember, message_kind.MessageKind.MessageKind, message.TextMember.TheVariants.Text}
 use Rattle.bx_entry.specs.Words.{Listed, Post, Posted, due_of, extended, found_at, hold_of, newcomer, opened, Registry, Registered, Judged, Verdict, judge, left_by, is_overdue, named_by, refused, registry, sender_of, served, sessionless, state_of, overdue_closed, tick_verdict}
 use Rattle.bx_message.specs.MessageKinds.{message_kind_of}
 use Rattle.bx_entry.specs.Listing as messages

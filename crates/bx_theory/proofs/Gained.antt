@@ -1,5 +1,5 @@
 -- The events of a session are the publishes that reach it.
-use Rattle.std.proofs.Common.{◌≡◌, ℕ, ◌+◌, ◌<◌, ◌≤◌, Bool, true, false, cond, not, ◌&&◌, ◌||◌, List, [], ◌∷◌, ◌++◌, fold, refl, sym, ap, ◌∙◌, subst, append-nil, append_assoc, filter_map, arith}
+use Rattle.std.proofs.Common.{◌≡◌, ℕ, ◌+◌, ◌<◌, ◌≤◌, Bool, true, false, cond, not, ◌&&◌, List, [], ◌∷◌, ◌++◌, fold, refl, sym, ap, ◌∙◌, subst, append-nil, append_assoc, filter_map, arith}
 use Rattle.std.proofs.lemmas.{Bool.cond_both, Bool.cond-true, Bool.and_parts, List.Sums.fold-append, Grind.common_steps}
 use Rattle.std.proofs.ByRecursion.{All-append, All-push, All-weaker}
 use Rattle.bx_names.specs.Words.{any_matches, segments, is_broadcast, in_force}
@@ -7,12 +7,10 @@ use Rattle.bx_names.proofs.Actives.{Matching, matching_any, matching_from}
 use Rattle.bx_advice.specs.declared.config.Config.{Config}
 use Rattle.bx_message.specs.declared.event.Event.{Event}
 use Rattle.bx_message.specs.Events.{event_size}
-use Rattle.bx_entry.specs.declared.entry.{Entry.Entry, EntryKind.EntryKind}
-use Rattle.bx_entry.specs.declared.entry.EntryKind.TheVariants.{Publish}
+use Rattle.bx_entry.specs.declared.{entry.Entry.Entry, entry.EntryKind.EntryKind, entry.EntryKind.TheVariants.Publish}
 use Rattle.bx_entry.specs.Sessions.{Session, Publication, is_live, is_hit, has_room, pending_bytes, pending_count, step_by, step, unopened, session, rider_of, window_in}
 use Rattle.bx_entry.proofs.Rooms.{room_count, room_bytes, room_where}
-use Rattle.bx_theory.specs.Readings.{mention_by, last_of}
-use Rattle.bx_theory.specs.Laws.{EachOf, PlacesFrom}
+use Rattle.bx_theory.specs.{Readings.mention_by, Readings.last_of, Laws.EachOf, Laws.PlacesFrom}
 use Rattle.bx_theory.specs.Events.{IsEvent, GetsPublish, Rising, EventsWerePublished, PublishesAreEvents, EventsRise}
 use Rattle.bx_theory.proofs.{Keeps.ride_k, Keeps.overflowed_if_entry_found_no_room, Stages.live_from_opening_to_first_close, Forces.pattern_active_if_last_subscribed}
 

@@ -1,10 +1,7 @@
 -- A session answers each connect and rider once, and those with events in order of place.
 use Rattle.std.proofs.Common.{◌≡◌, ◌≢◌, ◌⊎◌, inl, ◌∙◌, ℕ, ◌+◌, ◌<◌, ◌≤◌, true, false, cond, ◌==◌, is_some, Option, Some, None, List, [], ◌∷◌, ◌++◌, length, drop, find, fold, refl, sym, subst, arith}
 use Rattle.std.proofs.lemmas.{Bool.cond_both, List.drop_all, Grind.common_steps}
-use Rattle.bx_advice.specs.declared.config.Config.{Config}
-use Rattle.bx_advice.specs.declared.advice.Outcome.{Outcome}
-use Rattle.bx_advice.specs.declared.advice.Outcome.TheVariants.{Failed}
-use Rattle.bx_advice.specs.declared.error.Error.TheVariants.{SupersededConnect, QueueOverflow}
+use Rattle.bx_advice.specs.declared.{config.Config.Config, advice.Outcome.Outcome, advice.Outcome.TheVariants.Failed, error.Error.TheVariants.SupersededConnect, error.Error.TheVariants.QueueOverflow}
 use Rattle.bx_entry.specs.declared.entry.{Entry.Entry, EntryKind.EntryKind, Rider.Rider}
 use Rattle.bx_entry.specs.declared.entry.EntryKind.TheVariants.{Connect}
 use Rattle.bx_entry.specs.Sessions.{Session, Publication, Pending, Filed, answered, released, acknowledged, answered_or_held, connected, ridden_by, rider_of, step_by, step, session, unopened}

@@ -1,10 +1,11 @@
 -- What more lines print begins with what fewer lines print.
-use Rattle.std.proofs.Common.{◌≡◌, ℕ, zero, suc, ◌+◌, ◌<◌, ◌≤◌, Bool, cond, Option, List, [], ◌∷◌, ◌++◌, length, map, flat_map, slice_get, codes, decimal, refl, sym, ap, ◌∙◌, subst, arith, append-nil, append_assoc, length-append}
+use Rattle.std.proofs.Common.{◌≡◌, ℕ, ◌+◌, ◌<◌, ◌≤◌, Bool, cond, Option, List, [], ◌∷◌, ◌++◌, length, map, flat_map, slice_get, codes, decimal, refl, sym, ap, ◌∙◌, subst, arith, append-nil, append_assoc, length-append}
 use Rattle.std.proofs.lemmas.{Grind.common_steps, Grind.flat_map-append, List.map-append, List.append_cancel_left, List.length-map, List.Sums.fold-append}
 use Rattle.bx_advice.specs.declared.config.Config.{Config}
 use Rattle.bx_entry.specs.Words.{ReadInput, Registry, registry, Intake, Taking, take_in, taken_in, Out, numbers_from, Whole, whole_of, wholes_from, wholes, is_at, whole_at, outs}
 use Rattle.bx_script.specs.Replay.{Line, Bad, Rejected, Accepted, Resharded, Announced, Noted, Numbered, inputs_from, line_text, out_by, outs_at, printed_from}
 use Rattle.bx_theory.specs.Lines.{inputs_in, printed_so_far, AddsOuts, outs_text, line_prints, InputsGoOn, LinesGoOn, HeldComeLast}
+use Rattle.bx_theory.proofs.Lists.{slice_get_less}
 use Rattle.bx_theory.proofs.Wholes.{Took, took, whole_push, numbers_split, flat_same, Grows, grows, ends_of, many_of}
 
 -- ---- One line, and the lines after it
@@ -87,15 +88,13 @@ whole_below config r intake n j i (d ∷ ds) h =
     (below_if n (is_at j (whole_of config r intake i d).at) (whole_of config r intake i d).out (whole_at j (wholes_from config r intake (i + 1) ds)) here (whole_below config r intake n j (i + 1) ds (omega arith)))
 
 pub get_front : (xs ys : List Numbered) (k : ℕ) → k < length xs → slice_get (xs ++ ys) k ≡ slice_get xs k
-get_front [] ys k h = absurd (omega arith)
-get_front (x ∷ xs) ys zero h = refl
-get_front (x ∷ xs) ys (suc k) h = get_front xs ys k (omega arith)
+get_front xs ys k h = slice_get_less xs ys k h
 
 same_texts : (numbered ones : List Numbered) (os : List Out) → InputsBelow (length numbered) os → outs_text (numbered ++ ones) os ≡ outs_text numbered os
 unfolding InputsBelow
 same_texts numbered ones [] h = refl
 same_texts numbered ones (o ∷ os) h =
-    ap (λ (n : Option Numbered). out_by o n ++ outs_text (numbered ++ ones) os) (get_front numbered ones o.input h.0)
+    ap (λ (n : Option Numbered). out_by o n ++ outs_text (numbered ++ ones) os) (slice_get_less numbered ones o.input h.0)
     ∙ ap (λ (t : List ℕ). out_by o (slice_get numbered o.input) ++ t) (same_texts numbered ones os h.1)
 
 -- ---- Inputs

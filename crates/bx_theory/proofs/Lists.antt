@@ -26,7 +26,7 @@ slice_get_more [] ys k j e = cc
 slice_get_more (x ∷ xs) ys zero j e = e
 slice_get_more (x ∷ xs) ys (suc k) j e = slice_get_more xs ys k j e
 
-pub slice_get_less : (xs ys : List Judged) (k : ℕ) → k < length xs → slice_get (xs ++ ys) k ≡ slice_get xs k
+pub slice_get_less : {A : Type 0} (xs ys : List A) (k : ℕ) → k < length xs → slice_get (xs ++ ys) k ≡ slice_get xs k
 slice_get_less [] ys k h = absurd (omega arith)
 slice_get_less (x ∷ xs) ys zero h = refl
 slice_get_less (x ∷ xs) ys (suc k) h = slice_get_less xs ys k (omega arith)

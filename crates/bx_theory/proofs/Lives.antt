@@ -7,8 +7,7 @@ use Rattle.bx_message.specs.declared.{message_kind.MessageKind.MessageKind, mess
 use Rattle.bx_entry.specs.Words.{Listed, Post, Posted, due_of, found_at, hold_of, is_ack, is_overdue, kind_for, newcomer, opened, overdue, refused, registry, served, sessionless, sessionless_kind, state_of, tick_verdict, Judged, Registered, Registry, Verdict, entries_of}
 use Rattle.bx_message.specs.MessageKinds.{message_kind_of}
 use Rattle.bx_entry.specs.Listing as messages
-use Rattle.bx_entry.specs.declared.entry.{Entry.Entry, EntryKind.EntryKind}
-use Rattle.bx_entry.specs.declared.entry.EntryKind.TheVariants.{Opened, Refused}
+use Rattle.bx_entry.specs.declared.{entry.Entry.Entry, entry.EntryKind.EntryKind, entry.EntryKind.TheVariants.Opened, entry.EntryKind.TheVariants.Refused}
 use Rattle.bx_theory.specs.Readings.{moment_of, opens_by, closes, closes_by, since_opening, unclosed, EachSession, SameLive}
 use Rattle.bx_theory.proofs.Verdicts.{each_judge, each_registry, next_noted}
 use Rattle.bx_theory.proofs.Dues.{NumberedFrom, Mapped, each_session_all, each_session_both, each_session_map, each_session_push, each_session_through, left, moved, numbered, numbered_below, served_sessions, shut, overdue_closed_sessions, unchanged}

@@ -1,11 +1,9 @@
 -- What one entry changes in a session. Events and answers are appended, and counts grow.
 use Rattle.std.proofs.Common.{◌≡◌, ℕ, ◌+◌, ◌<◌, ◌≤◌, true, false, cond, Option, Some, None, List, [], ◌∷◌, ◌++◌, length, take, drop, ◌==◌, refl, sym, ap, ◌∙◌, subst, arith, length-append, length-drop, append-nil, append_assoc}
 use Rattle.std.proofs.lemmas.{Bool.cond_both, Grind.common_steps, List.drop-append-le, List.take-append-le, List.drop_at, List.length_push}
-use Rattle.std.proofs.Math.Seq.{drop-append_seam}
-use Rattle.std.proofs.ByRecursion.{All-weaker}
+use Rattle.std.proofs.{Math.Seq.drop-append_seam, ByRecursion.All-weaker}
 pub use Rattle.std.proofs.ByRecursion.{All-append as each_append}
-use Rattle.bx_advice.specs.declared.config.Config.{Config}
-use Rattle.bx_advice.specs.declared.advice.Outcome.TheVariants.{Connected}
+use Rattle.bx_advice.specs.declared.{config.Config.Config, advice.Outcome.TheVariants.Connected}
 use Rattle.bx_entry.specs.declared.entry.{Entry.Entry, EntryKind.EntryKind, Rider.Rider}
 use Rattle.bx_entry.specs.declared.entry.EntryKind.TheVariants.{Connect, Publish}
 use Rattle.bx_entry.specs.Sessions.{Session, Publication, Pending, Filed, filing, answered, unheld, gives, given, idle, answered_or_held, connected, overflowed, gives_one, with_event, delivered_to, delivered, is_hit, has_room, published, step_by, step, ride_portion, ride_filing, ridden_by, rider_of}
@@ -16,7 +14,8 @@ use Rattle.bx_theory.proofs.{Done.done_by, Done.done_step, Stages.step_number, G
 abbrev pub Still : Session → Session → Type 0
 Still s t = t.num ≡ s.num → 0 < t.out → (t.out ≡ s.out) × (t.done ≡ s.done)
 
-pub record Moved (place : ℕ) (s t : Session) : Type 0 where
+-- What entries change from `s` to `t`. Each new answer has `At`, and together they have `Gives`.
+pub record Goes (At : Filed → Type 0) (Gives : List Filed → Type 0) (s t : Session) : Type 0 where
   pub number : t.number ≡ s.number
   pub done : s.done ≤ t.done
   pub num : s.num ≤ t.num
@@ -24,9 +23,13 @@ pub record Moved (place : ℕ) (s t : Session) : Type 0 where
   pub events : t.events ≡ s.events ++ later
   pub filed : List Filed
   pub answers : t.answers ≡ s.answers ++ filed
-  pub here : Each (λ f. f.place ≡ place) filed
-  pub slices : (low : ℕ) → (t.ack ≡ true → low ≤ t.done) → (t.ack ≡ false → low ≤ s.done) → Each (λ f. Slice t.events low f.publications) filed
+  pub here : Each At filed
+  pub slices : Gives filed
   pub still : Still s t
+
+abbrev pub Moved : ℕ → Session → Session → Type 0
+Moved place s t =
+    Goes (λ f. f.place ≡ place) (λ filed. (low : ℕ) → (t.ack ≡ true → low ≤ t.done) → (t.ack ≡ false → low ≤ s.done) → Each (λ f. Slice t.events low f.publications) filed) s t
 
 -- ---- Lists of answers
 

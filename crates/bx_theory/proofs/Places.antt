@@ -1,9 +1,7 @@
 -- Each answer of a session is to one of its connects or riders.
 use Rattle.std.proofs.Common.{◌≡◌, refl, false, sym, ◌∙◌, true, ◌≤◌, ℕ, ◌+◌, ◌<◌, Bool, cond, Option, Some, None, List, [], ◌∷◌, ◌++◌, length, fold, ◌==◌, subst, arith}
 use Rattle.std.proofs.lemmas.{Bool.cond_both, Grind.common_steps}
-use Rattle.bx_advice.specs.declared.{config.Config.Config, advice.Outcome.Outcome}
-use Rattle.bx_advice.specs.declared.advice.Outcome.TheVariants.{Failed}
-use Rattle.bx_advice.specs.declared.error.Error.TheVariants.{SupersededConnect, QueueOverflow}
+use Rattle.bx_advice.specs.declared.{config.Config.Config, advice.Outcome.Outcome, advice.Outcome.TheVariants.Failed, error.Error.TheVariants.SupersededConnect, error.Error.TheVariants.QueueOverflow}
 use Rattle.bx_entry.specs.declared.entry.{Entry.Entry, EntryKind.EntryKind, Rider.Rider}
 use Rattle.bx_entry.specs.declared.entry.EntryKind.TheVariants.{Connect}
 use Rattle.bx_entry.specs.Sessions.{Session, Pending, answered, released, acknowledged, answered_or_held, connected, step_by, step, unopened, ridden_by, rider_of, Filed}

@@ -9,7 +9,7 @@ use Rattle.bx_entry.specs.Words.{Listed, Post, Posted, Session, Unopened, begun,
 use Rattle.bx_entry.specs.Listing as messages
 use Rattle.bx_entry.specs.declared.{entry.Entry.Entry, entry.Rider.Rider, entry.EntryKind.EntryKind, senders.Senders.Senders}
 use Rattle.bx_message.specs.declared.message_kind.MessageKind.{MessageKind}
-use Rattle.bx_entry.specs.declared.entry.EntryKind.TheVariants.{Connect, Subscribe, Unsubscribe, Publish, Disconnect, Refused, Tick}
+use Rattle.bx_entry.specs.declared.entry.EntryKind.TheVariants.{Tick}
 use Rattle.bx_entry.specs.declared.entry.EntryKind.TheVariants as entries
 use Rattle.bx_theory.specs.Laws.{NoRidersUnasked, RidesPlain, RidersArePlain, LastAnswer, LastGiven, Repetition}
 use Rattle.bx_theory.specs.Readings.{closes_by, moment_of, opens_by, since_opening, EachSession}

@@ -2,8 +2,7 @@
 use Rattle.std.proofs.Common.{take-append-drop, ◌≡◌, ◌↔◌, ℕ, suc, ◌+◌, ◌<◌, ◌||◌, ne_eqb, max, Bool, true, false, cond, not, ◌&&◌, Option, Some, None, List, [], ◌∷◌, ◌++◌, length, take, drop, flat_map, fold, ◌==◌, refl, sym, ap, ◌∙◌, subst, arith, true≢false, append-nil, append_assoc, eqb-true, eq-eqb}
 use Rattle.std.proofs.lemmas.Bool.{cond_both, cond-true, cond-false, and_parts, both_ways, not-true}
 use Rattle.std.proofs.lemmas.{List.length_push, Grind.common_steps, List.Sums.fold-append}
-use Rattle.std.proofs.Math.Seq.{drop-append_seam, take-append_seam}
-use Rattle.std.proofs.ByRecursion.{All-push}
+use Rattle.std.proofs.{Math.Seq.drop-append_seam, Math.Seq.take-append_seam, ByRecursion.All-push}
 use Rattle.std.specs.List.{AllByRecursion}
 use Rattle.bx_advice.specs.declared.{config.Config.Config, error.Error.Error}
 use Rattle.bx_message.specs.declared.{message.Message.Message, message_kind.MessageKind.MessageKind}

@@ -6,19 +6,10 @@ use Rattle.bx_entry.specs.declared.entry.Entry.{Entry}
 use Rattle.bx_entry.specs.Sessions.{Session, Publication, Filed, step, session, unopened}
 use Rattle.bx_theory.specs.Laws.{InStep, Each, Slice, GivesFrom, NeverGivenAgain}
 use Rattle.bx_theory.proofs.Counts.{stays_in_step, all_in_step, unopened_in_step}
-use Rattle.bx_theory.proofs.Moves.{Still, Moved, step_moved, each_map, each_append, lower_slice, longer_slice}
+use Rattle.bx_theory.proofs.Moves.{Goes, Moved, step_moved, each_map, each_append, lower_slice, longer_slice}
 
-pub record Grown (first : ℕ) (s t : Session) : Type 0 where
-  pub number : t.number ≡ s.number
-  pub done : s.done ≤ t.done
-  pub num : s.num ≤ t.num
-  pub later : List Publication
-  pub events : t.events ≡ s.events ++ later
-  pub filed : List Filed
-  pub answers : t.answers ≡ s.answers ++ filed
-  pub here : Each (λ f. first ≤ f.place) filed
-  pub slices : Each (λ f. Slice t.events s.done f.publications) filed
-  pub still : Still s t
+abbrev pub Grown : ℕ → Session → Session → Type 0
+Grown first s t = Goes (λ f. first ≤ f.place) (λ filed. Each (λ f. Slice t.events s.done f.publications) filed) s t
 
 abbrev pub EachEntry : (Entry → Type 0) → List Entry → Type 0
 EachEntry P [] = Unit {0}

@@ -3,8 +3,7 @@ use Rattle.std.proofs.Common.{◌≡◌, ℕ, max, Bool, true, false, cond, not,
 use Rattle.bx_names.specs.Faults.{first_case, name_fault}
 use Rattle.bx_advice.specs.declared.{config.Config.Config, error.Error.Error}
 use Rattle.bx_advice.specs.declared.error.Error.TheVariants.{NoClientId, UnknownClient, InvalidChannel, MissingData}
-use Rattle.bx_message.specs.declared.{message.Message.Message, message.TextMember.TextMember, message_kind.MessageKind.MessageKind}
-use Rattle.bx_message.specs.declared.message.TextMember.TheVariants.{Absent}
+use Rattle.bx_message.specs.declared.{message.Message.Message, message.TextMember.TextMember, message_kind.MessageKind.MessageKind, message.TextMember.TheVariants.Absent}
 use Rattle.bx_message.specs.MessageKinds.{message_kind_of, is_handshake}
 use Rattle.bx_entry.specs.Words.{Post, Posted, State, Verdict, verdict, Registry, Registered, cases_of, event_of, is_text, judged_by, named_by, needs_session, publish_cases, refusal, sender_of, sessionless_kind, unnamed, registry, state_of}
 use Rattle.bx_entry.specs.declared.entry.EntryKind.TheVariants.{Publish, Refused}

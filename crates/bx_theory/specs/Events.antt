@@ -3,10 +3,8 @@ use Rattle.std.specs.Prelude.{ℕ, ◌≡◌, ◌<◌, ◌≤◌, ◌+◌, true,
 use Rattle.bx_names.specs.Words.{Glob, matches, segments, is_broadcast}
 use Rattle.bx_advice.specs.declared.config.Config.{Config}
 use Rattle.bx_message.specs.declared.{event.Event.Event, message_kind.MessageKind.MessageKind}
-use Rattle.bx_message.specs.MessageKinds.{message_kind_of}
-use Rattle.bx_message.specs.Events.{event_size}
-use Rattle.bx_entry.specs.declared.entry.Entry.{Entry}
-use Rattle.bx_entry.specs.declared.entry.EntryKind.TheVariants.{Publish}
+use Rattle.bx_message.specs.{MessageKinds.message_kind_of, Events.event_size}
+use Rattle.bx_entry.specs.declared.{entry.Entry.Entry, entry.EntryKind.TheVariants.Publish}
 use Rattle.bx_entry.specs.Words.{Posted, Listed, Post, Judged, Waiting, event_of, registry, entries, PlacedAnswer, answer}
 use Rattle.bx_entry.specs.Sessions.{Publication, pending_bytes, pending_count, unopened, session}
 use Rattle.bx_theory.specs.Laws.{EachOf, PlacesFrom}

@@ -8,8 +8,7 @@ use Rattle.bx_advice.specs.declared.config.Config.{Config}
 use Rattle.bx_message.specs.declared.reply.AckReply.TheVariants.{AckNumber}
 use Rattle.bx_entry.specs.Sessions.{Filed, Session, batch, session}
 use Rattle.bx_entry.specs.Words.{Judged, Listed, PlaceSlot, PlacedAnswer, Waiting, answer, entries, events_of, registry}
-use Rattle.bx_entry.specs.declared.entry.Entry.{Entry}
-use Rattle.bx_entry.specs.declared.entry.EntryKind.TheVariants.{Connect}
+use Rattle.bx_entry.specs.declared.{entry.Entry.Entry, entry.EntryKind.TheVariants.Connect}
 use Rattle.bx_theory.specs.Laws.{AllBelow, LastAnswer, Repeats}
 
 -- ---- Answers

@@ -4,8 +4,7 @@ use Rattle.std.specs.List.{AllByRecursion}
 use Rattle.bx_advice.specs.declared.config.Config.{Config}
 use Rattle.bx_entry.specs.Words.{Listed, entries, PlacedAnswer, answer}
 use Rattle.bx_message.specs.declared.reply.AckReply.TheVariants.{AckNumber}
-use Rattle.bx_entry.specs.declared.entry.{Entry.Entry, Rider.Rider}
-use Rattle.bx_entry.specs.declared.entry.EntryKind.TheVariants.{Connect}
+use Rattle.bx_entry.specs.declared.{entry.Entry.Entry, entry.Rider.Rider, entry.EntryKind.TheVariants.Connect}
 use Rattle.bx_entry.specs.Sessions.{Session, Publication, Filed, Unopened, step, session, rider_of}
 
 -- ---- Counts

@@ -2,13 +2,10 @@
 use Rattle.std.specs.Prelude.{ℕ, ◌≡◌, ◌≤◌, ◌==◌, ◌&&◌, ◌||◌, not, max, is_some, is_none, Bool, true, false, List, [], ◌∷◌, ◌++◌, length, map, filter, filter_map, fold, nat_le, nat_lt, if◌then◌else◌, Option, Some, None, ⊤}
 use Rattle.std.specs.List.{list_any}
 use Rattle.bx_names.specs.Words.{name_fault, Glob, in_force, with_pattern}
-use Rattle.bx_advice.specs.declared.{config.Config.Config, advice.Outcome.Outcome}
+use Rattle.bx_advice.specs.declared.{config.Config.Config, advice.Outcome.Outcome, error.Error.TheVariants.SupersededConnect}
 use Rattle.bx_advice.specs.declared.advice.Outcome.TheVariants.{Connected, Disconnected, Failed}
-use Rattle.bx_advice.specs.declared.error.Error.TheVariants.{SupersededConnect}
-use Rattle.bx_message.specs.Replies.{connect_reply}
-use Rattle.bx_message.specs.declared.{message.Message.Message, message_kind.MessageKind.MessageKind}
-use Rattle.bx_message.specs.declared.message.TextMember.TheVariants.{Absent}
-use Rattle.bx_message.specs.MessageKinds.{message_kind_of}
+use Rattle.bx_message.specs.{Replies.connect_reply, MessageKinds.message_kind_of}
+use Rattle.bx_message.specs.declared.{message.Message.Message, message_kind.MessageKind.MessageKind, message.TextMember.TheVariants.Absent}
 use Rattle.bx_entry.specs.Words.{Listed, Post, Posted, due_of, Registered, Registry, Judged, event_of, registry, entries_of, entries}
 use Rattle.bx_entry.specs.Listing as messages
 use Rattle.bx_entry.specs.declared.entry.{Entry.Entry, EntryKind.EntryKind}

@@ -23,14 +23,14 @@ before_blanks text = take (length text - suffix_len is_ascii_whitespace text) te
 abbrev pub media_type_of : List ℕ → List ℕ
 media_type_of content_type = before_blanks (behind_blanks (before_first is_semicolon content_type))
 
--- Whether a content type is that of a form, ignoring ASCII case.
-abbrev pub is_form_type : List ℕ → Bool
-is_form_type content_type = bytes_eq (map to_ascii_lowercase (media_type_of content_type)) (codes "application/x-www-form-urlencoded")
+-- Whether the media type in a content type, if any, is `name`, ignoring ASCII case.
+abbrev pub has_media_type : List ℕ → Option (List ℕ) → Bool
+has_media_type name None = false
+has_media_type name (Some content_type) = bytes_eq (map to_ascii_lowercase (media_type_of content_type)) (map to_ascii_lowercase name)
 
 -- Whether a body with this content type is a form. Without a content type it is not.
 abbrev pub is_form : Option (List ℕ) → Bool
-is_form None = false
-is_form (Some content_type) = is_form_type content_type
+is_form content_type = has_media_type (codes "application/x-www-form-urlencoded") content_type
 
 -- ---- Parameters
 

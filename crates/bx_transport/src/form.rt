@@ -1,8 +1,8 @@
-// Content types, and the parameters of forms and queries.
+//! Content types, and the parameters of forms and queries.
 ghost use Rattle.std.specs.Prelude.{◌≡◌, ◌++◌, ◌∷◌, [], IfOk, OnOk, map, option_map, position, codes, string_bytes};
 ghost use Rattle.std.specs.List.{before_first};
 ghost use Rattle.std.specs.Cow.{cow_str_bytes};
-ghost use Rattle.bx_transport.specs.Forms.{is_form, is_semicolon, last_of, latest, media_type_of, text_of, values_among, values_of};
+ghost use Rattle.bx_transport.specs.Forms.{has_media_type, is_form, is_semicolon, last_of, latest, media_type_of, text_of, values_among, values_of};
 
 use form_urlencoded::{decode, raw_pairs};
 use std::alloc::{AllocError, Global};
@@ -15,8 +15,18 @@ const FORM_TYPE: &[u8] = b"application/x-www-form-urlencoded";
 pub(crate) fn is_form(content_type: Option<&[u8]>) -> bool
     ensures { result ≡ is_form (option_map (λ t. t.now) content_type.entry) }
 {
+    has_media_type(content_type, FORM_TYPE)
+}
+
+/// Returns `true` if the media type in `content_type` is `name`, in any letter case.
+///
+/// `content_type`: the value of a header `Content-Type`, if any. The parameters of the media type
+/// do not matter.
+pub fn has_media_type(content_type: Option<&[u8]>, name: &[u8]) -> bool
+    ensures { result ≡ has_media_type name.now (option_map (λ t. t.now) content_type.entry) }
+{
     match content_type {
-        Some(content_type) => media_type(content_type).eq_ignore_ascii_case(FORM_TYPE),
+        Some(content_type) => media_type(content_type).eq_ignore_ascii_case(name),
         None => false,
     }
 }

@@ -9,6 +9,7 @@ mod request;
 mod response;
 
 pub use error::TransportError;
+pub use form::has_media_type;
 pub use laws::scripts_read_the_same;
 pub use request::{read_get, read_post};
 pub use response::{callback_of, push_script_safe};

@@ -1,8 +1,7 @@
 -- Changes to the patterns of one session, in its list and in the index.
 use Rattle.std.proofs.Common.{arith, ◌≡◌, ◌≢◌, ◌≤◌, ◌<◌, ◌+◌, ℕ, Bool, true, false, not, ◌==◌, ◌&&◌, ◌||◌, List, [], ◌∷◌, ◌++◌, length, take, refl, sym, ap, ◌∙◌, append_assoc, length-append}
 use Rattle.std.specs.List.{fold}
-use Rattle.std.proofs.lemmas.{Bool.Decides.nat_tests, List.Folds.list_any-append, List.take_at, List.take-append-le}
-use Rattle.std.proofs.lemmas.Grind.{common_steps}
+use Rattle.std.proofs.lemmas.{Bool.Decides.nat_tests, List.Folds.list_any-append, List.take_at, List.take-append-le, Grind.common_steps}
 use Rattle.bx_names.specs.Words.{Glob, same_glob, same_glob-decides, in_force, with_pattern}
 use Rattle.bx_tree.specs.declared.nodes.Nodes.{Nodes}
 use Rattle.bx_tree.specs.Words.{AreWhole, IsIndexAt, KeepsOthers, stands_for}

@@ -1,11 +1,10 @@
 -- After a change, the index has exactly the active patterns.
 use Rattle.std.proofs.Common.{arith, ◌≡◌, ◌≢◌, ℕ, Bool, true, false, not, ◌==◌, ◌&&◌, List, [], ◌∷◌, refl, sym, ap, ◌∙◌}
 use Rattle.std.specs.Bool.{one_answer}
-use Rattle.std.proofs.lemmas.{Bool.eqb-true, Bool.eq-eqb, Bool.or_parts, Map.Views.any-filter_same}
+use Rattle.std.proofs.lemmas.{Bool.eqb-true, Bool.eq-eqb, Bool.or_parts, Map.Views.any-filter_same, Grind.common_steps}
 use Rattle.bx_names.specs.Words.{Glob, same_glob, same_glob-decides, in_force, without_pattern}
 use Rattle.bx_tree.specs.declared.nodes.Nodes.{Nodes}
 use Rattle.bx_tree.specs.Words.{AreWhole, patterns_of, stands_for, IsIndexOf}
-use Rattle.std.proofs.lemmas.Grind.{common_steps}
 
 -- ---- truth values
 

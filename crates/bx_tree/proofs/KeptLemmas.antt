@@ -1,11 +1,9 @@
 -- After a change at one path, no list is empty.
-use Rattle.std.proofs.Common.{◌≡◌, ℕ, Bool, true, false, IsTrue, Option, Some, Result, Ok, Err, OnOk, OnErr, List, [], ◌∷◌, length, ◌↔◌, String, string_bytes, refl, ap, ◌∙◌}
+use Rattle.std.proofs.Common.{◌≡◌, ℕ, Bool, true, false, IsTrue, Option, Some, Result, Ok, Err, OnOk, OnErr, List, [], ◌∷◌, length, ◌↔◌, String, string_bytes, refl, ap, ◌∙◌, arith}
 use Rattle.std.specs.{Map.update, Map.lookup, Ordering.nat_cmp, String.string_cmp, Cmp.Lexicographic.slice_cmp, Str.bytes_eq}
 use Rattle.std.specs.BTreeMap.{BTreeMap, UpdatesBy, get_by_text, is_at}
-use Rattle.std.proofs.lemmas.Map.Text.{btree_map_updates_text}
+use Rattle.std.proofs.lemmas.{Map.Text.btree_map_updates_text, Grind.common_steps}
 use Rattle.bx_tree.specs.Kept.{is_occupied, is_kept}
-use Rattle.std.proofs.lemmas.Grind.{common_steps}
-use Rattle.std.proofs.Common.{arith}
 
 pub occupied_if_some : (test : ℕ → Bool) (ns : List (ℕ × ℕ)) (stamp : ℕ) → lookup test ns ≡ Some stamp → is_occupied ns ≡ true
 occupied_if_some test [] stamp h = cc

@@ -1,5 +1,5 @@
 -- How a change in one of the three maps changes which sessions are stored for each pattern.
-use Rattle.std.proofs.Common.{◌≡◌, ℕ, Bool, true, false, ◌==◌, ◌&&◌, List}
+use Rattle.std.proofs.Common.{◌≡◌, ℕ, Bool, true, false, ◌==◌, ◌&&◌, List, arith}
 use Rattle.std.specs.Str.{bytes_eq}
 use Rattle.std.proofs.Math.Bool.{and-false}
 use Rattle.bx_names.specs.Words.{path_of, Glob, same_tail, same_glob}
@@ -9,7 +9,6 @@ use Rattle.bx_tree.specs.declared.nodes.Nodes.{Nodes}
 use Rattle.bx_tree.specs.Words.{AreWhole, stands_at, lists_of, stands_for}
 use Rattle.bx_tree.proofs.WholeLemmas.{paths_decide}
 use Rattle.std.proofs.lemmas.Grind.{common_steps}
-use Rattle.std.proofs.Common.{arith}
 
 and_true : (b : Bool) → (b && true) ≡ b
 and_true b = grind (arith, common_steps)

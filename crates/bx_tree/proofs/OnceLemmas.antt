@@ -3,8 +3,7 @@ use Rattle.std.proofs.Common.{arith, ◌≡◌, ℕ, suc, ◌<◌, ◌≤◌, le
 use Rattle.std.specs.List.{All, filter, fold}
 use Rattle.std.specs.{Map.keys_of, Map.lookup, Map.remove_entry, Map.values_of, Cmp.nat_cmp_is, Ordering.nat_cmp, BTreeMap.insert_entry, BTreeMap.is_at}
 use Rattle.std.specs.declared.cmp.Ordering.TheVariants.{Greater}
-use Rattle.std.proofs.lemmas.{Bool.or_parts, List.Folds.list_any-append, List.Sums.fold_more}
-use Rattle.std.proofs.lemmas.Grind.{common_steps}
+use Rattle.std.proofs.lemmas.{Bool.or_parts, List.Folds.list_any-append, List.Sums.fold_more, Grind.common_steps}
 use Rattle.bx_names.specs.Words.{Glob, same_glob, same_glob-decides, in_force, with_pattern, without_pattern}
 use Rattle.bx_tree.specs.Words.{AreOnce}
 use Rattle.bx_tree.proofs.IndexLemmas.{in_force-less, same_glob-sym, without_absent}

@@ -2,8 +2,7 @@
 use Rattle.std.proofs.Common.{◌≡◌, ℕ, eqb, Bool, false, not, cond, ◌==◌, ◌&&◌, ◌||◌, Option, Some, None, is_some, Result, Ok, Err, OnErr, List, length, refl, ap, ◌∙◌, arith}
 use Rattle.std.specs.{Map.lookup, Map.update, Option.option_map_or, Ordering.is_eq, Ordering.nat_cmp, Str.bytes_eq}
 use Rattle.std.specs.BTreeMap.{BTreeMap, UpdatesBy, is_at}
-use Rattle.std.proofs.lemmas.{Bool.Decides.nat_tests, Slice.Eq.bytes_eq-Decides}
-use Rattle.std.proofs.lemmas.Grind.{common_steps}
+use Rattle.std.proofs.lemmas.{Bool.Decides.nat_tests, Slice.Eq.bytes_eq-Decides, Grind.common_steps}
 use Rattle.bx_tree.specs.Lists.{has_number}
 
 -- ---- numbers with their stamps
@@ -48,6 +47,10 @@ or_idle b = grind arith
 
 pub not_idle : (b : Bool) → (b && not false) ≡ b
 not_idle b = grind arith
+
+pub gone_at : (path : List ℕ) (number : ℕ) (before after : List ℕ → Option (BTreeMap ℕ ℕ)) (numbers left : BTreeMap ℕ ℕ) → Some numbers ≡ before path → UpdatesBy nat_cmp (nat_cmp number) numbers left None → ((other : List ℕ) → bytes_eq path other ≡ false → after other ≡ before other) → ((n : ℕ) → has (after path) n ≡ has_number left n) → (other : List ℕ) (n : ℕ) → has (after other) n ≡ (has (before other) n && not (bytes_eq path other && (n == number)))
+gone_at path number before after numbers left was updates others own =
+    changed_at (λ a b. a && not b) not_idle path number before after others (λ n. own n ∙ removed numbers left number updates n ∙ ap (λ o. has o n && not (n == number)) was)
 
 pub unchanged_at : (path : List ℕ) (before after : List ℕ → Option (BTreeMap ℕ ℕ)) → ((other : List ℕ) → bytes_eq path other ≡ false → after other ≡ before other) → ((n : ℕ) → has (after path) n ≡ has (before path) n) → (other : List ℕ) (n : ℕ) → has (after other) n ≡ has (before other) n
 unchanged_at path before after others own other n = grind (arith, common_steps, bytes_eq-Decides)

@@ -1,13 +1,11 @@
 -- Segments without slashes, and the paths that they make.
-use Rattle.std.proofs.Common.{◌≡◌, ℕ, zero, suc, Bool, Ok, List, [], ◌∷◌, take, length, ◌<◌, cond, refl, sym, ap, subst, ◌∙◌, append-nil}
+use Rattle.std.proofs.Common.{◌≡◌, ℕ, zero, suc, Bool, Ok, List, [], ◌∷◌, take, length, ◌<◌, cond, refl, sym, ap, subst, ◌∙◌, append-nil, arith}
 use Rattle.std.specs.{List.onto_first, Bool.one_answer, Str.bytes_eq}
-use Rattle.std.proofs.lemmas.Slice.Eq.{bytes_eq-Decides}
+use Rattle.std.proofs.lemmas.{Slice.Eq.bytes_eq-Decides, Grind.common_steps}
 use Rattle.bx_names.specs.Words.{is_slash, parts, segments, path_of, Glob, ending_in, same_segments, read_name, read_pattern, same_segments-decides}
 use Rattle.bx_names.specs.declared.tail.Tail.{Tail}
 use Rattle.bx_names.proofs.{PathLemmas.parts-append, PathLemmas.parts_some, FaultLemmas.name_text, FaultLemmas.read_by-ok}
 use Rattle.bx_tree.specs.Whole.{AreWhole}
-use Rattle.std.proofs.lemmas.Grind.{common_steps}
-use Rattle.std.proofs.Common.{arith}
 
 -- ---- segments of names and patterns
 

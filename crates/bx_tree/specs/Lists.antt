@@ -5,8 +5,7 @@ use Rattle.bx_names.specs.Words.{path_of, Glob, in_force}
 use Rattle.bx_names.specs.declared.tail.Tail.{Tail}
 use Rattle.bx_names.specs.declared.tail.Tail.TheVariants.{Exact, One, Many}
 use Rattle.bx_tree.specs.declared.nodes.{path_lists.PathLists.PathLists, Nodes.Nodes}
-use Rattle.bx_tree.specs.Whole.{AreWhole}
-use Rattle.bx_tree.specs.Patterns.{patterns_of}
+use Rattle.bx_tree.specs.{Whole.AreWhole, Patterns.patterns_of}
 
 -- Whether `number` is a key of the map `numbers`, whatever its value.
 abbrev pub has_number : BTreeMap ℕ ℕ → ℕ → Bool

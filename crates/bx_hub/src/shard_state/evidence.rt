@@ -5,6 +5,7 @@
 ghost use Rattle.std.specs.Prelude.{◌≡◌, ◌≢◌, ◌≤◌, ◌<◌, length, drop, is_some, Some, None, IfSome, IfNone};
 ghost use mathlib.Core.List.{IsPrefix};
 ghost use Rattle.bx_hub.specs.Faults.{IsAt, IsStopped, IsStoppedIn};
+ghost use Rattle.bx_hub.specs.declared.activity.Activity.TheVariants.{Active};
 ghost use Rattle.bx_hub.specs.declared.fault.HubFault.TheVariants as faults;
 ghost use Rattle.bx_window.specs.Steps.{list_of};
 
@@ -191,8 +192,9 @@ impl<L: LogId> NoAnswer<L> {
 
 /// Evidence that no answer is filed under a ticket.
 ///
-/// The ticket's shard had applied all of the longest front that it had learned. The answer is not
-/// due yet, was taken or swept, or the ticket is not that of a connect or rider of the shard.
+/// The ticket's shard was active, and had applied all of the longest front that it had learned.
+/// The answer is not due yet, was taken or swept, or the ticket is not that of a connect or rider
+/// of the shard.
 ///
 /// Ghost: the ticket and that front.
 #[derive(Drop)]
@@ -208,10 +210,11 @@ impl<L: LogId> Unfiled<L> {
 
     /// Creates evidence that no answer is filed under `ticket`.
     ///
-    /// `shard_state`: the ticket's shard, which must be at the end of the longest front that it has
-    /// learned.
+    /// `shard_state`: the ticket's shard, which must be active and at the end of the longest front
+    /// that it has learned.
     pub(super) fn of<P: Placing>(shard_state: &ShardState<L, P>, ticket: &Ticket) -> Unfiled<L>
         requires own { ticket.now.shard ≡ shard_state.now.shard.index }
+        requires active { shard_state.now.activity ≡ Active }
         requires level { shard_state.now.shard.place ≡ length (list_of shard_state.now.prefix) }
         requires unfiled { filed_answer (connect_in (state P.place_of shard_state.now.shard) ticket.now.place) ≡ None }
         ensures { (result.ticket.value ≡ ticket.now) × (result.front.value ≡ shard_state.now.prefix) }

@@ -1,8 +1,7 @@
-use Rattle.std.proofs.Common.{sym, ◌∙◌}
+use Rattle.std.proofs.Common.{sym, ◌∙◌, arith}
 use Rattle.bx_cut.proofs.Reach.{first_boundary}
 use Rattle.bx_cut.proofs.scan.after_first.Goals as goal
 use Rattle.std.proofs.lemmas.Grind.{common_steps}
-use Rattle.std.proofs.Common.{arith}
 
 pub split_at-requires : goal.split_at-requires
 split_at-requires c = first_boundary c.args.byte c.args.text.now c.utf8.text (sym c.begins_with.ensures ∙ c.if-begins_with.true) c.requires

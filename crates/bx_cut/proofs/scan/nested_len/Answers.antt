@@ -1,7 +1,6 @@
 use Rattle.std.proofs.Common.{◌≡◌, ℕ, ◌+◌, ◌-◌, ◌≤◌, false, List, length, take, drop, ap, ◌∙◌, subst, arith}
 use Rattle.std.proofs.lemmas.{List.take_all, List.length-drop, List.drop-drop, Grind.common_steps}
-use Rattle.json.specs.Lex.{in_string}
-use Rattle.json.specs.Align.{span}
+use Rattle.json.specs.{Lex.in_string, Align.span}
 use Rattle.bx_cut.proofs.Reach.{nest-outside, nest-string}
 use Rattle.bx_cut.proofs.scan.nested_len.Goals as goal
 

@@ -1,6 +1,5 @@
 use Rattle.std.proofs.Common.{◌≡◌, ◌+◌, cond, drop}
-use Rattle.json.specs.Lex.{in_string, in_escape}
-use Rattle.json.specs.Align.{span}
+use Rattle.json.specs.{Lex.in_string, Lex.in_escape, Align.span}
 use Rattle.bx_cut.proofs.scan.string_len.Given as goal
 
 abbrev pub invariant-loop-at : goal.invariant-loop-at

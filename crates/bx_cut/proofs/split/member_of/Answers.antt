@@ -1,9 +1,9 @@
-use Rattle.std.proofs.Common.{Option, None, ◌≡◌, ℕ, cond, List, [], ◌∷◌, ◌++◌, Bool, Some, option_map, sym, ap, ◌∙◌, rules}
+use Rattle.std.proofs.Common.{Option, None, ◌≡◌, ℕ, cond, List, [], ◌∷◌, ◌++◌, Some, option_map, ap, ◌∙◌, rules, arith}
+use Rattle.std.proofs.lemmas.Grind.{common_steps}
 use Rattle.std.specs.Borrow.{Bor}
 use Rattle.bx_cut.specs.Words.{Member, split_member, member_text, members, members_inside, last_member, member_view}
 use Rattle.bx_cut.proofs.{Lists.found-none, Lists.found-last, Lists.found-more, Lists.Shortens-split_member, Names.one_more, Insides.found_reads, Insides.found_bare}
 use Rattle.bx_cut.proofs.split.member_of.Goals as goal
-use Rattle.bx_cut.proofs.split.member_of.Goals.{then-spells, else-spells}
 
 pub returns-in_default-past-clause-value : goal.returns-in_default-past-clause-value
 returns-in_default-past-clause-value c =
@@ -12,11 +12,7 @@ returns-in_default-past-clause-value c =
     let p : Member × List ℕ = (member_view c.in-Some.member, c.in-Some.after.now) in
     let before = option_map (λ (x : Bor (List ℕ)). x.now) c.loop-member.found in
     let after = option_map (λ (x : Bor (List ℕ)). x.now) c.if-spells.found in
-    let step : after ≡ cond c.spells.result (Some p.0.1) before =
-    elim c.if-spells.branch [
-      | then-spells w ↦ ap (option_map (λ (x : Bor (List ℕ)). x.now)) w.found-is ∙ ap (λ (b : Bool). cond b (Some p.0.1) before) (sym w.if-spells.true)
-      | else-spells w ↦ ap (option_map (λ (x : Bor (List ℕ)). x.now)) w.found-is ∙ ap (λ (b : Bool). cond b (Some p.0.1) before) (sym w.if-spells.false)
-    ] in
+    let step : after ≡ cond c.spells.result (Some p.0.1) before = grind (arith, common_steps) in
     let found = one_more c.args.name.now seen.0 p.0 before after c.spells.result c.spells.ensures.value seen.2 step in
     let all = found-last split_member Shortens-split_member seen.0 t p (members c.args.object.now) c.in-Some.ensures.value c.in_default-past.ensures.value seen.1 in
     found ∙ ap (last_member c.args.name.now) all
@@ -28,11 +24,7 @@ loop-member-preserved c =
     let p : Member × List ℕ = (member_view c.in-Some.member, c.in-Some.after.now) in
     let before = option_map (λ (x : Bor (List ℕ)). x.now) c.loop-member.found in
     let after = option_map (λ (x : Bor (List ℕ)). x.now) c.if-spells.found in
-    let step : after ≡ cond c.spells.result (Some p.0.1) before =
-    elim c.if-spells.branch [
-      | then-spells w ↦ ap (option_map (λ (x : Bor (List ℕ)). x.now)) w.found-is ∙ ap (λ (b : Bool). cond b (Some p.0.1) before) (sym w.if-spells.true)
-      | else-spells w ↦ ap (option_map (λ (x : Bor (List ℕ)). x.now)) w.found-is ∙ ap (λ (b : Bool). cond b (Some p.0.1) before) (sym w.if-spells.false)
-    ] in
+    let step : after ≡ cond c.spells.result (Some p.0.1) before = grind (arith, common_steps) in
     let found = one_more c.args.name.now seen.0 p.0 before after c.spells.result c.spells.ensures.value seen.2 step in
     let more = found-more split_member Shortens-split_member seen.0 t p c.in-Some-past.next.now (members c.args.object.now) c.in-Some.ensures.value c.in-Some-past.ensures.value seen.1 in
     (search rules, (seen.0 ++ p.0 ∷ [], more, found))

@@ -1,9 +1,8 @@
 use Rattle.std.proofs.Common.{◌≡◌, ◌+◌, ◌-◌, List, ℕ, sym, ◌∙◌, subst, arith}
 use Rattle.std.specs.{Str.IsCharBoundary}
-use Rattle.std.proofs.lemmas.Str.{IsCharBoundary-after_ascii}
+use Rattle.std.proofs.lemmas.{Str.IsCharBoundary-after_ascii, Grind.common_steps}
 use Rattle.bx_cut.proofs.Contents.{at-quote, at-backslash, at-fault}
 use Rattle.bx_cut.proofs.string.next_part.Goals as goal
-use Rattle.std.proofs.lemmas.Grind.{common_steps}
 
 pub returns-then-begins_with : goal.returns-then-begins_with
 returns-then-begins_with c = at-quote c.args.text.now (sym c.begins_with.ensures ∙ c.if-begins_with.true)

@@ -1,11 +1,9 @@
-use Rattle.std.proofs.Common.{ℕ, List, [], option_and_then, sym, ap, ◌∙◌}
-use Rattle.std.proofs.lemmas.{Bool.true≢false, Option.none-some}
+use Rattle.std.proofs.Common.{ℕ, List, [], option_and_then, sym, ap, ◌∙◌, arith}
+use Rattle.std.proofs.lemmas.{Bool.true≢false, Option.none-some, Grind.common_steps}
 use Rattle.json.specs.Text.{content, plain}
 use Rattle.bx_cut.specs.Words.{spelled}
 use Rattle.bx_cut.proofs.Contents.{after-end, after-quote, after-run, at-quote, plain-then-quote, prepend-nil, run-plain}
 use Rattle.bx_cut.proofs.string.plain_text_of.Goals as goal
-use Rattle.std.proofs.lemmas.Grind.{common_steps}
-use Rattle.std.proofs.Common.{arith}
 
 pub returns-then-begins_with-clause-value : goal.returns-then-begins_with-clause-value
 returns-then-begins_with-clause-value c =

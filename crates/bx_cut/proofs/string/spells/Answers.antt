@@ -1,14 +1,11 @@
-use Rattle.std.proofs.Common.{false, None, option_and_then, ◌≡◌, ◌++◌, sym, ap, ◌∙◌, rules}
-use Rattle.std.proofs.lemmas.List.{append_assoc}
+use Rattle.std.proofs.Common.{false, None, option_and_then, ◌≡◌, ◌++◌, sym, ap, ◌∙◌, rules, arith}
+use Rattle.std.proofs.lemmas.{List.append_assoc, Grind.common_steps}
 use Rattle.std.specs.Char.{encode_utf8}
 use Rattle.bx_cut.specs.Strings.{spelled}
 use Rattle.bx_cut.proofs.Contents.{not-spelled, plain-none, after-run, after-end, after-escape, after-fault, never, fault-not-spelled, end-spelled}
 use Rattle.json.specs.Text.{content, plain, prepend}
-use Rattle.bx_cut.proofs.Insides.{spells_reads}
+use Rattle.bx_cut.proofs.{Insides.spells_reads, string.spells.Goals.After-as_bytes, string.spells.Goals.After-as_bytes-in-Escape}
 use Rattle.bx_cut.proofs.string.spells.Goals as goal
-use Rattle.bx_cut.proofs.string.spells.Goals.{After-as_bytes, After-as_bytes-in-Escape}
-use Rattle.std.proofs.lemmas.Grind.{common_steps}
-use Rattle.std.proofs.Common.{arith}
 
 ran : (c : After-as_bytes) → spelled c.args.value.now ≡ prepend (c.loop-left.invariant.1.0 ++ c.as_bytes.result.now) (content plain c.split_at.result.1.now)
 ran c = after-run c.loop-left.rest.now _ _ _ _ _ c.plain_len.ensures.value (c.as_bytes.ensures.value ∙ c.split_at.ensures.front) c.split_at.ensures.back c.loop-left.invariant.1.2

@@ -3,9 +3,8 @@ use Rattle.std.specs.Char.{encode_utf8}
 use Rattle.bx_cut.specs.Strings.{spelled}
 use Rattle.bx_cut.proofs.Contents.{plain-none, after-run, after-end, after-escape, after-fault}
 use Rattle.json.specs.Text.{content, plain, prepend}
-use Rattle.bx_cut.proofs.Insides.{text_is}
+use Rattle.bx_cut.proofs.{Insides.text_is, string.text_of.Goals.After-push_str}
 use Rattle.bx_cut.proofs.string.text_of.Goals as goal
-use Rattle.bx_cut.proofs.string.text_of.Goals.{After-push_str}
 
 ran : (c : After-push_str) → spelled c.args.value.now ≡ prepend (string_bytes c.loop-text.text ++ c.split_at.result.0.now) (content plain c.split_at.result.1.now)
 ran c = after-run c.loop-text.rest.now _ _ _ _ _ c.plain_len.ensures.value c.split_at.ensures.front c.split_at.ensures.back c.loop-text.invariant.1

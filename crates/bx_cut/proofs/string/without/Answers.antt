@@ -1,7 +1,6 @@
 use Rattle.std.proofs.Common.{sym, ◌∙◌, arith}
-use Rattle.std.proofs.lemmas.{Bool.true≢false, Bool.Decides.Decides-eqb, List.take_all, List.length-drop, Slice.Eq.starts_is}
+use Rattle.std.proofs.lemmas.{Bool.true≢false, Bool.Decides.Decides-eqb, List.take_all, List.length-drop, Slice.Eq.starts_is, Grind.common_steps}
 use Rattle.bx_cut.proofs.string.without.Goals as goal
-use Rattle.std.proofs.lemmas.Grind.{common_steps}
 
 pub returns-then-starts_with : goal.returns-then-starts_with
 returns-then-starts_with c = grind (arith, common_steps, take_all, length-drop, starts_is)

@@ -1,27 +1,31 @@
 -- Each run is computed.
-use Rattle.bx_laws.proofs.Computed.{script_lines, line_forms, nonce_forms, note_forms, nonces_wait, script_printed, nonce_printed, note_printed}
+use Rattle.std.specs.{Prelude.refl, Fmt.digits}
+use Rattle.json.specs.Print.{escape_byte}
 use Rattle.bx_laws.proofs.worked.scripts.Goals as goal
 
 pub returns-clause-script_lines : goal.returns-clause-script_lines
-returns-clause-script_lines c = script_lines
+returns-clause-script_lines c = refl
 
 pub returns-clause-line_forms : goal.returns-clause-line_forms
-returns-clause-line_forms c = line_forms
+returns-clause-line_forms c = refl
 
 pub returns-clause-nonce_forms : goal.returns-clause-nonce_forms
-returns-clause-nonce_forms c = nonce_forms
+returns-clause-nonce_forms c = refl
 
 pub returns-clause-note_forms : goal.returns-clause-note_forms
-returns-clause-note_forms c = note_forms
+returns-clause-note_forms c = refl
 
 pub returns-clause-nonces_wait : goal.returns-clause-nonces_wait
-returns-clause-nonces_wait c = nonces_wait
+returns-clause-nonces_wait c = refl
 
 pub returns-clause-script_printed : goal.returns-clause-script_printed
-returns-clause-script_printed c = script_printed
+unfolding digits escape_byte
+returns-clause-script_printed c = refl
 
 pub returns-clause-nonce_printed : goal.returns-clause-nonce_printed
-returns-clause-nonce_printed c = nonce_printed
+unfolding digits escape_byte
+returns-clause-nonce_printed c = refl
 
 pub returns-clause-note_printed : goal.returns-clause-note_printed
-returns-clause-note_printed c = note_printed
+unfolding digits escape_byte
+returns-clause-note_printed c = refl

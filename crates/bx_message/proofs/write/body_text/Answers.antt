@@ -1,8 +1,7 @@
 use Rattle.std.proofs.Common.{arith}
 use Rattle.bx_message.specs.Texts.{item_text}
-use Rattle.bx_message.proofs.ObjectLemmas.{array-first, array-more}
+use Rattle.bx_message.proofs.{ObjectLemmas.array-first, ObjectLemmas.array-more, write.body_text.Goals.then-i-gt0+in_ok-push-2, write.body_text.Goals.else-i-gt0}
 use Rattle.bx_message.proofs.write.body_text.Goals as goal
-use Rattle.bx_message.proofs.write.body_text.Goals.{then-i-gt0+in_ok-push-2, else-i-gt0}
 
 pub loop-i-preserved : goal.loop-i-preserved
 loop-i-preserved c =

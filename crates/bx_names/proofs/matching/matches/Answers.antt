@@ -1,11 +1,9 @@
-use Rattle.std.proofs.Common.{◌≡◌, sym, ap, ◌∙◌, ◌++◌, rules}
+use Rattle.std.proofs.Common.{◌≡◌, sym, ap, ◌∙◌, ◌++◌, rules, arith}
 use Rattle.bx_names.specs.Segments.{is_absolute}
-use Rattle.bx_names.proofs.FaultLemmas.{name_text}
+use Rattle.bx_names.proofs.{FaultLemmas.name_text, matching.matches.Goals.In-Some}
 use Rattle.bx_names.proofs.MatchLemmas.{matches-miss, matches-exact, matches-many, matches-one, matches_at}
 use Rattle.bx_names.proofs.matching.matches.Goals as goal
-use Rattle.bx_names.proofs.matching.matches.Goals.{In-Some}
 use Rattle.std.proofs.lemmas.Grind.{common_steps}
-use Rattle.std.proofs.Common.{arith}
 
 cut : (c : In-Some) → c.as_str.result.now ≡ c.split-tail.result.0.now ++ c.in-Some.rest.now
 cut c = c.in-Some.ensures.cases.1.1 ∙ ap (λ rest. c.split-tail.result.0.now ++ rest) (sym c.in-Some.ensures.cases.2)

@@ -1,6 +1,5 @@
 use Rattle.std.proofs.Common.{◌∷◌, ◌++◌, decimal, codes, get_or, ap, ◌∙◌}
-use Rattle.bx_advice.specs.declared.limit.Limit.TheVariants.{Bytes}
-use Rattle.bx_advice.specs.declared.limit.TheConstants.Limit.{ALL}
+use Rattle.bx_advice.specs.declared.{limit.Limit.TheVariants.Bytes, limit.TheConstants.Limit.ALL}
 use Rattle.bx_advice.specs.Limits.{limit_name}
 use Rattle.bx_record.specs.Configs.{limit_word, options_word, setting}
 use Rattle.bx_record.proofs.Configs.{first_word, limit_added, limits_added, next_word}

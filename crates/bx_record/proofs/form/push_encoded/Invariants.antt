@@ -1,6 +1,5 @@
 use Rattle.std.proofs.Common.{◌≡◌, ◌++◌}
-use Rattle.form_urlencoded.specs.Form.{byte_serialize}
-use Rattle.form_urlencoded.specs.Serialize.{serialized_text}
+use Rattle.form_urlencoded.specs.{Form.byte_serialize, Serialize.serialized_text}
 use Rattle.bx_record.proofs.form.push_encoded.Given as goal
 
 abbrev pub invariant-loop-piece : goal.invariant-loop-piece

@@ -4,8 +4,7 @@ use Rattle.bx_entry.specs.Words.{named_by}
 use Rattle.bx_registry.specs.Words.{posted_of, members_of, setup_of}
 use Rattle.bx_registry.proofs.Judging.{all_four, refused-verdict, opened-verdict, served-verdict, sessionless-verdict, found-known}
 use Rattle.bx_registry.proofs.judge.judge.Goals as goal
-use Rattle.bx_registry.proofs.judge.judge.Goals.{After-is_some}
-use Rattle.bx_registry.proofs.judge.judge.Given.{Over}
+use Rattle.bx_registry.proofs.{judge.judge.Goals.After-is_some, judge.judge.Given.Over}
 
 known : (g : Over) (c : After-is_some g) →
     c.is_some.result ≡ is_some (named_by (members_of c.args.overlay.now).live c.args.posted.message_kind c.args.posted.message.now)

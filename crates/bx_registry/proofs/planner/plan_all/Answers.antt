@@ -1,6 +1,6 @@
 use Rattle.std.proofs.Common.{◌≡◌, ◌+◌, ◌-◌, ◌∷◌, List, ℕ, Bool, length, drop, ap, sym, subst, ◌∙◌, arith}
 use Rattle.std.specs.Prelude.{◌&&◌, ◌==◌}
-use Rattle.std.proofs.lemmas.List.{drop_all, drop_more}
+use Rattle.std.proofs.lemmas.{List.drop_all, List.drop_more, Grind.common_steps}
 use Rattle.bx_message.specs.declared.message.Message.{Message}
 use Rattle.bx_message.specs.MessageKinds.{is_handshake, message_kind_of}
 use Rattle.bx_entry.specs.Words.{Posted, verdict}
@@ -8,7 +8,6 @@ use Rattle.bx_registry.specs.Words.{posted_of, setup_of, state_of, IsFoundAt, me
 use Rattle.bx_entry.proofs.RequestLemmas.{length-listed}
 use Rattle.bx_registry.proofs.Planning.{after-request, all_planned, one_next}
 use Rattle.bx_registry.proofs.planner.plan_all.Goals as goal
-use Rattle.std.proofs.lemmas.Grind.{common_steps}
 
 pub plan_next-requires-clause-opened : goal.plan_next-requires-clause-opened
 plan_next-requires-clause-opened g c = grind (arith, common_steps, length-listed)

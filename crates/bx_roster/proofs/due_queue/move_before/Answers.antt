@@ -1,9 +1,8 @@
 use Rattle.std.proofs.Common.{◌≡◌, ◌+◌, ◌<◌, ◌++◌, ◌∷◌, [], Bool, List, vec_capacity, vec_len, heap_items, heap_len, IsPermutation, ap, cond, sym, subst, ◌∙◌, arith, ℕ, append_assoc, append-nil}
-use Rattle.std.proofs.lemmas.{List.Sorted.IsPermutation-pop_more}
+use Rattle.std.proofs.lemmas.{List.Sorted.IsPermutation-pop_more, Grind.common_steps}
 use Rattle.bx_roster.specs.Queues.{IsLateBy}
 use Rattle.bx_roster.specs.declared.due_queue.Due.{Due}
 use Rattle.bx_roster.proofs.due_queue.move_before.Goals as goal
-use Rattle.std.proofs.lemmas.Grind.{common_steps}
 
 late-more : (moment : ℕ) (first late new : List Due) (due : Due) → new ≡ late ++ due ∷ [] → due.moment.0 < moment → IsLateBy moment first late → IsLateBy moment first new
 late-more moment first late new due is before by = grind (arith, common_steps, append_assoc)

@@ -1,11 +1,9 @@
-use Rattle.std.proofs.Common.{◌≤◌, ◌∷◌, refl, sym}
-use Rattle.std.proofs.lemmas.{List.Elements.All-cons, List.Sorted.All-permutation}
+use Rattle.std.proofs.Common.{◌≤◌, ◌∷◌, refl, sym, arith}
+use Rattle.std.proofs.lemmas.{List.Elements.All-cons, List.Sorted.All-permutation, Grind.common_steps}
 use Rattle.bx_roster.specs.Words.{entries}
 use Rattle.bx_roster.specs.declared.due_queue.Due.{Due}
 use Rattle.bx_roster.proofs.Dues.{filed-permuted, filed-moved, filed-gone, filed-absent, entries-filed, closed-overdue_closed, none-absent}
 use Rattle.bx_roster.proofs.table.settle.Goals as goal
-use Rattle.std.proofs.lemmas.Grind.{common_steps}
-use Rattle.std.proofs.Common.{arith}
 
 pub returns-in-Some-clause-filed : goal.returns-in-Some-clause-filed
 returns-in-Some-clause-filed c =

@@ -1,9 +1,8 @@
-use Rattle.std.proofs.Common.{◌∷◌, ◌∙◌, sym}
+use Rattle.std.proofs.Common.{◌∷◌, ◌∙◌, sym, arith}
 use Rattle.bx_roster.specs.Queues.{entries}
 use Rattle.bx_roster.proofs.Dues.{entries-taken, filed-permuted, settled}
 use Rattle.bx_roster.proofs.table.settle_late.Goals as goal
 use Rattle.std.proofs.lemmas.Grind.{common_steps}
-use Rattle.std.proofs.Common.{arith}
 
 pub settle-requires-clause-filed : goal.settle-requires-clause-filed
 settle-requires-clause-filed c =

@@ -1,11 +1,9 @@
-use Rattle.std.proofs.Common.{◌≡◌, Option, Some, Result, Ok, Err, sym, subst}
+use Rattle.std.proofs.Common.{◌≡◌, Option, Some, Result, Ok, Err, sym, subst, arith}
 use Rattle.std.specs.Result.{IfErr, IsErrAnd}
-use Rattle.bx_cut.specs.declared.error.CutError.{CutError}
-use Rattle.bx_cut.specs.declared.error.CutError.TheVariants.{Memory}
+use Rattle.bx_cut.specs.declared.{error.CutError.CutError, error.CutError.TheVariants.Memory}
 use Rattle.bx_cut.proofs.{Checks.fault-text, Checks.fault-no_text, Laws.pieces_read, Laws.pieces_lie}
 use Rattle.bx_cut.proofs.document.Document.read.Goals as goal
 use Rattle.std.proofs.lemmas.Grind.{common_steps}
-use Rattle.std.proofs.Common.{arith}
 
 passed : {T : Type 0} (r : Result T CutError) (x : CutError) (o : Option CutError) → IsErrAnd r (λ e. e ≡ x) → ((x ≡ Memory → ⊥) → o ≡ Some x) → IfErr r (λ e. (e ≡ Memory → ⊥) → o ≡ Some e)
 passed (Ok a) x o h f = tt

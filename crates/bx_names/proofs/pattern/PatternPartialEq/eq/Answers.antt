@@ -1,9 +1,8 @@
 use Rattle.std.proofs.Common.{◌≡◌, string_bytes}
 use Rattle.std.specs.Bool.{Decides, one_answer}
 use Rattle.bx_names.specs.Words.{segments, glob_of, same_glob, same_glob-decides}
-use Rattle.bx_names.proofs.{PathLemmas.path_from_absolute, GlobLemmas.texts-decide, FaultLemmas.sound_text}
+use Rattle.bx_names.proofs.{PathLemmas.path_from_absolute, GlobLemmas.texts-decide, FaultLemmas.sound_text, pattern.PatternPartialEq.eq.Goals.After-eq}
 use Rattle.bx_names.proofs.pattern.PatternPartialEq.eq.Goals as goal
-use Rattle.bx_names.proofs.pattern.PatternPartialEq.eq.Goals.{After-eq}
 
 decides : (c : After-eq) → Decides c.eq.result (c.args.self.now ≡ c.args.other.now)
 decides c =

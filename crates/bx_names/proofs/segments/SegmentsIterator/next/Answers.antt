@@ -1,11 +1,9 @@
-use Rattle.std.proofs.Common.{◌≡◌, ◌∷◌, [], length, rules, ap, sym, ◌∙◌}
+use Rattle.std.proofs.Common.{◌≡◌, ◌∷◌, [], length, rules, ap, sym, ◌∙◌, arith}
 use Rattle.std.specs.Option.{option_map_or}
 use Rattle.bx_names.specs.Segments.{parts}
-use Rattle.bx_names.proofs.PathLemmas.{parts_at_slash, parts_at_end}
+use Rattle.bx_names.proofs.{PathLemmas.parts_at_slash, PathLemmas.parts_at_end, segments.SegmentsIterator.next.Goals.In-Some}
 use Rattle.bx_names.proofs.segments.SegmentsIterator.next.Goals as goal
-use Rattle.bx_names.proofs.segments.SegmentsIterator.next.Goals.{In-Some}
 use Rattle.std.proofs.lemmas.Grind.{common_steps}
-use Rattle.std.proofs.Common.{arith}
 
 left_at_slash : (c : In-Some) → c.args.self.now ≡ c.in-Some.first.now ∷ parts c.in-Some.others.now
 left_at_slash c = sym c.self.view_is ∙ ap (λ r. option_map_or (λ rest. parts rest.now) r []) c.in_ok-rest.was ∙ parts_at_slash c.in_ok-rest.rest.now (c.in-Some.first, c.in-Some.others) c.in-Some.ensures.cases

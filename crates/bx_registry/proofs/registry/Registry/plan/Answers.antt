@@ -1,11 +1,9 @@
 use Rattle.std.proofs.Common.{◌≡◌, ◌+◌, ◌≤◌, ◌++◌, ℕ, List, false, length, sym, subst, ap, ◌∙◌, arith}
 use Rattle.std.specs.Prelude.{◌==◌}
 use Rattle.bx_advice.specs.Limits.{greatest_length}
-use Rattle.bx_entry.specs.Listing.{Listed, request}
-use Rattle.bx_entry.specs.Placings.{Setup, placed_by}
+use Rattle.bx_entry.specs.{Listing.Listed, Listing.request, Placings.Setup, Placings.placed_by}
 use Rattle.bx_roster.specs.Words.{Members, opened_by_each, room_of}
-use Rattle.bx_roster.specs.declared.edit.Edit.{Edit}
-use Rattle.bx_roster.specs.declared.edit.Edits.TheVariants.{Each}
+use Rattle.bx_roster.specs.declared.{edit.Edit.Edit, edit.Edits.TheVariants.Each}
 use Rattle.bx_registry.specs.Words.{Amendment, CanCommit, Overlay, IsPlannedBy, Roll, Standing, admitted_slots, found, members_of, roll_between, slots_in}
 use Rattle.bx_registry.specs.declared.plan.Plan.{Plan}
 use Rattle.bx_entry.proofs.RequestLemmas.{length-listed}

@@ -4,7 +4,7 @@ use Rattle.bx_entry.specs.Listing.{Listed, Tick}
 use Rattle.bx_roster.specs.declared.edit.Edits.TheVariants.{Expire}
 use Rattle.bx_registry.specs.Words.{Amendment, CanCommit, Continues, Roll, Standing, after, changed, entries_in, found, roll_between}
 use Rattle.bx_registry.specs.declared.plan.Plan.{Plan}
-use Rattle.bx_registry.proofs.{Longer.continues, Planning.admitted, Planning.planned_limit}
+use Rattle.bx_registry.proofs.{Longer.continues, Planning.admitted}
 use Rattle.bx_registry.proofs.registry.Registry.plan_tick.Goals as goal
 
 pub returns-clause-continues : goal.returns-clause-continues

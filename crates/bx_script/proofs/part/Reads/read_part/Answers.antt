@@ -1,6 +1,5 @@
-use Rattle.std.proofs.Common.{subst}
+use Rattle.std.proofs.{Common.subst, BufReadLemmas.Consumes_shown}
 use Rattle.std.specs.Io.BufRead.{FillKeeps}
-use Rattle.std.proofs.BufReadLemmas.{Consumes_shown}
 use Rattle.bx_script.proofs.Parts.{reads_part}
 use Rattle.bx_script.proofs.part.Reads.read_part.Goals as goal
 

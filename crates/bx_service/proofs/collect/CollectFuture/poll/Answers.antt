@@ -6,7 +6,7 @@ use Rattle.bx_service.proofs.collect.CollectFuture.poll.Goals as goal
 
 pub returns-in-Some-Err-clause-value : goal.returns-in-Some-Err-clause-value
 returns-in-Some-Err-clause-value g c =
-    c.loop.invariant.3 (Err Failed) (fails g.D.Buf.unread (g.B.Body.yields c.loop.self.body) c.loop.self.limit c.loop.self.bytes.items c.in-Some-Err.field-0-0 (search rules))
+    c.loop.invariant.3 (Err Failed) (fails g.D.Buf.unread (g.B.Body.yields c.loop.self.body) c.loop.self.limit c.loop.self.bytes.items c.in-Some-Err.field-0-0 (search rules) (search rules))
 
 pub returns-in-None-clause-value : goal.returns-in-None-clause-value
 returns-in-None-clause-value g c =

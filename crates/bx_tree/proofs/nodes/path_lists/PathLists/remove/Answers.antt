@@ -1,7 +1,7 @@
-use Rattle.std.proofs.Common.{Some, None, not, ◌&&◌, ◌==◌, refl, sym, ap, ◌∙◌, rules}
+use Rattle.std.proofs.Common.{Some, None, refl, sym, ap, ◌∙◌, rules}
 use Rattle.std.specs.BTreeMap.{get_by_text}
 use Rattle.std.proofs.lemmas.Map.Text.{btree_map_updates_text}
-use Rattle.bx_tree.proofs.StandsLemmas.{removed, has_none, has, at_path, elsewhere, changed_at, not_idle}
+use Rattle.bx_tree.proofs.StandsLemmas.{has_none, has, at_path, elsewhere, gone_at}
 use Rattle.bx_tree.specs.Kept.{is_kept}
 use Rattle.bx_tree.proofs.KeptLemmas.{occupied_unless_empty, kept_after}
 use Rattle.bx_tree.proofs.nodes.path_lists.PathLists.remove.Goals as goal
@@ -30,29 +30,22 @@ invariant_of-self-else-is_empty c =
 pub returns-then-is_empty-clause-gone : goal.returns-then-is_empty-clause-gone
 returns-then-is_empty-clause-gone c =
     let path = c.args.path.now in
-    let number = c.args.number in
     let left = c.remove-stamp.new.self in
     let before = get_by_text c.args.self.now.by_path in
     let mid = get_by_text (c.get_mut.follows.lender left) in
     let after = get_by_text c.remove.new.self in
     let told = btree_map_updates_text path c.args.self.now.by_path (c.get_mut.follows.lender left) (Some left) ((c.get_mut.follows.holds left).3 (search rules)) in
     let gone = btree_map_updates_text path (c.get_mut.follows.lender left) c.remove.new.self None c.remove.ensures.updates in
-    changed_at (λ a b. a && not b) not_idle path number before after
+    gone_at path c.args.number before after c.in-Some.numbers.now left c.in-Some.ensures.value c.remove-stamp.ensures.updates
     (λ other e. elsewhere path mid after None gone other e ∙ elsewhere path before mid (Some left) told other e)
-    (λ n. ap (λ o. has o n) (at_path path mid after None gone)
-    ∙ sym (has_none left n (c.is_empty.ensures.0 c.if-is_empty.true))
-    ∙ removed c.in-Some.numbers.now left number c.remove-stamp.ensures.updates n
-    ∙ ap (λ o. has o n && not (n == number)) c.in-Some.ensures.value)
+    (λ n. ap (λ o. has o n) (at_path path mid after None gone) ∙ sym (has_none left n (c.is_empty.ensures.0 c.if-is_empty.true)))
 
 pub returns-else-is_empty-clause-gone : goal.returns-else-is_empty-clause-gone
 returns-else-is_empty-clause-gone c =
     let path = c.args.path.now in
-    let number = c.args.number in
     let left = c.remove-stamp.new.self in
     let before = get_by_text c.args.self.now.by_path in
     let after = get_by_text (c.get_mut.follows.lender left) in
     let told = btree_map_updates_text path c.args.self.now.by_path (c.get_mut.follows.lender left) (Some left) ((c.get_mut.follows.holds left).3 (search rules)) in
-    changed_at (λ a b. a && not b) not_idle path number before after (elsewhere path before after (Some left) told) (λ n.
-    ap (λ o. has o n) (at_path path before after (Some left) told)
-    ∙ removed c.in-Some.numbers.now left number c.remove-stamp.ensures.updates n
-    ∙ ap (λ o. has o n && not (n == number)) c.in-Some.ensures.value)
+    gone_at path c.args.number before after c.in-Some.numbers.now left c.in-Some.ensures.value c.remove-stamp.ensures.updates
+    (elsewhere path before after (Some left) told) (λ n. ap (λ o. has o n) (at_path path before after (Some left) told))

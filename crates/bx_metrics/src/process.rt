@@ -1,0 +1,162 @@
+//! What Linux reports of this program: processor time, memory and file descriptors.
+use crate::page::{Unit, push_head, push_value};
+use std::alloc::{AllocError, Global};
+
+// Bytes of a page of memory. The server runs on x86-64 only.
+const PAGE_BYTES: u64 = 4096;
+
+// Clock ticks in a second, in which /proc counts times. Linux shows every program this value.
+const TICKS: u64 = 100;
+
+// Indexes of fields in /proc/self/stat, counted from the state, which follows the program's name.
+const USER_TIME: usize = 11;
+
+const SYSTEM_TIME: usize = 12;
+
+const START_TIME: usize = 19;
+
+const VIRTUAL_BYTES: usize = 20;
+
+const RESIDENT_PAGES: usize = 21;
+
+// The names, types, help texts and units of the metrics of a process. The names are those of
+// Prometheus' client libraries.
+const ROWS: [(&str, &str, &str, Unit); 6] = [
+    (
+        "process_cpu_seconds_total",
+        "counter",
+        "Processor time of the process, in seconds.",
+        Unit::Hundredth,
+    ),
+    (
+        "process_resident_memory_bytes",
+        "gauge",
+        "Resident memory of the process.",
+        Unit::One,
+    ),
+    (
+        "process_virtual_memory_bytes",
+        "gauge",
+        "Virtual memory of the process.",
+        Unit::One,
+    ),
+    (
+        "process_open_fds",
+        "gauge",
+        "Open file descriptors.",
+        Unit::One,
+    ),
+    (
+        "process_max_fds",
+        "gauge",
+        "Limit of open file descriptors.",
+        Unit::One,
+    ),
+    (
+        "process_start_time_seconds",
+        "gauge",
+        "Start of the process, in seconds since 1970.",
+        Unit::Hundredth,
+    ),
+];
+
+/// The texts of files in /proc, or empty texts for files that cannot be read.
+#[derive(Clone, Copy)]
+pub struct ProcessTexts<'a> {
+    /// The text of `/proc/self/stat`.
+    pub process: &'a str,
+    /// The text of `/proc/self/limits`.
+    pub limits: &'a str,
+    /// The text of `/proc/stat`.
+    pub system: &'a str,
+}
+
+/// The values of the metrics of this process, each `None` if it is unknown.
+#[derive(Clone, Copy, Debug, PartialEq, Eq)]
+pub struct ProcessValues {
+    /// Processor time so far, in hundredths of a second.
+    pub processor_time: Option<u64>,
+    /// Resident memory in bytes.
+    pub resident_bytes: Option<u64>,
+    /// Virtual memory in bytes.
+    pub virtual_bytes: Option<u64>,
+    /// The number of open file descriptors.
+    pub open_files: Option<u64>,
+    /// The limit of open file descriptors.
+    pub max_files: Option<u64>,
+    /// When the process started, in hundredths of a second since 1970.
+    pub start_time: Option<u64>,
+}
+
+impl ProcessValues {
+    /// Parses the values in `texts`. `open_files`: the number of open file descriptors, if known.
+    ///
+    /// A value that is missing in `texts` or out of range is `None`.
+    ///
+    /// Linux's manual page proc(5).
+    pub fn of(texts: ProcessTexts<'_>, open_files: Option<u64>) -> ProcessValues {
+        let process = texts.process;
+        ProcessValues {
+            processor_time: sum_of(field(process, USER_TIME), field(process, SYSTEM_TIME)),
+            resident_bytes: product_of(field(process, RESIDENT_PAGES), PAGE_BYTES),
+            virtual_bytes: field(process, VIRTUAL_BYTES),
+            open_files,
+            max_files: number_after(texts.limits, "Max open files "),
+            start_time: sum_of(
+                product_of(number_after(texts.system, "btime "), TICKS),
+                field(process, START_TIME),
+            ),
+        }
+    }
+
+    /// Appends a row for each known value, with its `# HELP` and `# TYPE` lines.
+    ///
+    /// # Errors
+    ///
+    /// `AllocError` if memory runs out.
+    pub(crate) fn push_rows(&self, alloc: Global, page: &mut String) -> Result<(), AllocError> {
+        let values = [
+            self.processor_time,
+            self.resident_bytes,
+            self.virtual_bytes,
+            self.open_files,
+            self.max_files,
+            self.start_time,
+        ];
+        for ((name, type_name, help, unit), value) in ROWS.iter().zip(values) {
+            if let Some(value) = value {
+                push_head(alloc, page, name, type_name, help)?;
+                push_value(alloc, page, name, value, *unit)?;
+            }
+        }
+        Ok(())
+    }
+}
+
+// Returns the number at index `place` of the fields after the program's name in /proc/self/stat.
+//
+// The name is in parentheses, and may itself have spaces and parentheses.
+fn field(process: &str, place: usize) -> Option<u64> {
+    let (_, fields) = process.rsplit_once(')')?;
+    fields.split_ascii_whitespace().nth(place)?.parse().ok()
+}
+
+// Returns the first number after `name` in the first line of `text` that begins with `name`.
+fn number_after(text: &str, name: &str) -> Option<u64> {
+    for line in text.lines() {
+        if let Some(rest) = line.strip_prefix(name) {
+            return rest.split_ascii_whitespace().next()?.parse().ok();
+        }
+    }
+    None
+}
+
+// Returns the sum of two known numbers, or `None` if it is too large.
+fn sum_of(one: Option<u64>, other: Option<u64>) -> Option<u64> {
+    one?.checked_add(other?)
+}
+
+// Returns the product of a known number and `factor`, or `None` if it is too large.
+fn product_of(number: Option<u64>, factor: u64) -> Option<u64> {
+    number?.checked_mul(factor)
+}

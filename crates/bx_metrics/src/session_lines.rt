@@ -1,0 +1,110 @@
+//! The list of sessions, in lines of JSON.
+use bx_hub::SessionSurvey;
+use json::{Token, Writer};
+use std::alloc::{AllocError, Global};
+
+/// The maximum length of a list in bytes, after which it has at most two more lines.
+///
+/// Policy of this server.
+pub(crate) const MAX_LIST_BYTES: usize = 1_048_576;
+
+/// The last line of a list that lacks something.
+pub(crate) const TRUNCATED: &[u8] = b"{\"truncated\":true}\n";
+
+// The maximum number of sessions in the list. Policy of this server.
+const MAX_SESSIONS: usize = 1000;
+
+/// A list of sessions, with a line of JSON for each.
+#[derive(Drop)]
+pub struct SessionLines {
+    text: Vec<u8>,
+    count: usize,
+    is_truncated: bool,
+}
+
+impl SessionLines {
+    /// Creates an empty list.
+    pub fn new(alloc: Global) -> SessionLines {
+        SessionLines {
+            text: Vec::new(alloc),
+            count: 0,
+            is_truncated: false,
+        }
+    }
+
+    /// Appends a line about `session`. `now`: milliseconds since the server started.
+    ///
+    /// Returns `false` if the list has no room for it: it has 1,000 sessions, or over a mebibyte.
+    /// Then the last line says so, and further sessions need not be pushed.
+    ///
+    /// # Errors
+    ///
+    /// `AllocError` if memory runs out; the list is unchanged.
+    pub fn push(
+        &mut self,
+        alloc: Global,
+        session: &SessionSurvey,
+        now: u64,
+    ) -> Result<bool, AllocError> {
+        if self.count >= MAX_SESSIONS || self.text.len() > MAX_LIST_BYTES {
+            self.is_truncated = true;
+            return Ok(false);
+        }
+        let line = session_line(alloc, session, now)?;
+        self.text.extend_from_slice(line.as_slice())?;
+        self.count += 1;
+        Ok(true)
+    }
+
+    /// Returns the text of the list.
+    ///
+    /// # Errors
+    ///
+    /// `AllocError` if memory runs out.
+    pub fn into_text(self) -> Result<Vec<u8>, AllocError> {
+        let SessionLines {
+            mut text,
+            is_truncated,
+            ..
+        } = self;
+        if is_truncated {
+            text.extend_from_slice(TRUNCATED)?;
+        }
+        Ok(text)
+    }
+}
+
+// Formats the line about `session`. `now`: milliseconds since the server started.
+fn session_line(alloc: Global, session: &SessionSurvey, now: u64) -> Result<Vec<u8>, AllocError> {
+    let mut line = Writer::new(Vec::new(alloc));
+    line.begin_object()?;
+    line.key("number")?;
+    line.u64(session.number)?;
+    line.key("age_seconds")?;
+    line.u64(now.saturating_sub(session.opened) / 1000)?;
+    line.key("acknowledges")?;
+    line.token(Token::Bool(session.ack))?;
+    line.key("held")?;
+    line.token(Token::Bool(session.is_held))?;
+    line.key("overflowed")?;
+    line.token(Token::Bool(session.has_overflowed))?;
+    for (name, value) in [
+        ("events", session.events as u64),
+        ("bytes", session.bytes as u64),
+        ("outstanding", session.outstanding as u64),
+        ("batch", session.batch),
+    ] {
+        line.key(name)?;
+        line.u64(value)?;
+    }
+    line.key("patterns")?;
+    line.begin_array()?;
+    for pattern in &session.patterns {
+        line.string(pattern.as_str())?;
+    }
+    line.end_array()?;
+    line.end_object()?;
+    let mut line = line.into_inner();
+    line.push(b'\n')?;
+    Ok(line)
+}
