@@ -1,7 +1,7 @@
 """Checks of how a page looks: on a narrow screen, in light and dark, and to a screen reader."""
 import time
 
-from base import CheckFailed
+from base import CheckFailed, wait_until
 from browser import emulate
 
 # The least contrast, as WCAG 2 defines it, of small and of large text with its background.
@@ -52,16 +52,24 @@ def check_accessibility(window):
     """
     for scheme in ("light", "dark"):
         emulate(window, *NARROW, scheme)
+        # By then the colours have begun to change. On a busy machine they need longer until the end.
         time.sleep(1.2)
-        for text, ratio, size, is_large in window.run(CONTRASTS):
-            if ratio < (LARGE_CONTRAST if is_large else CONTRAST):
-                raise CheckFailed(f"in {scheme} the contrast of {text!r} is {ratio:.2f}")
-            if size < MIN_LETTERS:
-                raise CheckFailed(f"the letters of {text!r} are {size} points high")
-        found = window.run(TOO_WIDE, MIN_TARGET)
-        if found:
-            raise CheckFailed(f"on a narrow screen these do not fit, or are too small: {found}")
+        try:
+            wait_until("", lambda: not faults(window))
+        except CheckFailed:
+            raise CheckFailed(f"in {scheme}, on a narrow screen: {faults(window)}") from None
     emulate(window)
+
+
+def faults(window):
+    """Returns what is hard to read, or does not fit, in the page as it is shown."""
+    found = [f"does not fit, or is too small: {it}" for it in window.run(TOO_WIDE, MIN_TARGET)]
+    for text, ratio, size, is_large in window.run(CONTRASTS):
+        if ratio < (LARGE_CONTRAST if is_large else CONTRAST):
+            found.append(f"the contrast of {text!r} is {ratio:.2f}")
+        if size < MIN_LETTERS:
+            found.append(f"the letters of {text!r} are {size} points high")
+    return found
 
 
 def check_accessible_names(window, selectors):

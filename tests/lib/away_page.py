@@ -1,6 +1,7 @@
 """Tests of pages that the user leaves, and of pages that lose the network and get it back."""
 import contextlib
 import re
+import time
 
 from base import TOP, CheckFailed, wait_until
 from browser import Window
@@ -175,21 +176,22 @@ def freeze(page):
 def try_returns(fixture):
     """Checks that a client continues at once when the network or the user returns.
 
-    The server was restarted meanwhile, as if the session had ended, and `ongap` gets the moment of
+    The server was restarted meanwhile, as if the session had ended, and `ongap` gets a moment before
     the last event.
     """
     for go_away in (go_offline, hide, freeze):
         try_return(fixture, go_away)
+    try_late_response(fixture)
     try_return_to_window(fixture)
 
 
 def try_return(fixture, go_away):
     """Checks this for one way to be away. `go_away`: begins it, and returns a function that ends it."""
     page = Window(fixture.browser, fixture.site.address)
+    start = page.run("return Date.now()")
     client = Client(page, "/a", share=False)
     page.run(ENDLESS_PAUSES)
     page.run("clients[0].subscribe('/a', (data) => (window.times ||= {})[data] = Date.now())")
-    start = page.run("return Date.now()")
     fixture.server.publish("/a", 1)
     wait_until("the event comes", lambda: client.log() == [1])
     come_back = go_away(page)
@@ -205,6 +207,27 @@ def try_return(fixture, go_away):
     since, end = page.run("return [clients[0].since instanceof Date ? clients[0].since.getTime() : 0, window.times[1]]")
     if client.log().count("gap") != 1 or not start <= since <= end:
         raise CheckFailed(f"{go_away.__name__}: the client reported {client.log()}, and a gap at {since}, not from {start} to {end}")
+    page.close()
+
+
+def try_late_response(fixture):
+    """Checks that `ongap` gets a moment before the first lost event if a frozen page has got a response."""
+    before = set(fixture.site.waiting)
+    page = Window(fixture.browser, fixture.site.address)
+    client = Client(page, "/a", share=False)
+    wait_until("a connect is held", lambda: fixture.site.waiting - before)
+    held = fixture.site.waiting - before
+    resume = freeze(page)
+    fixture.server.publish("/a", 1)
+    wait_until("the response is sent", lambda: not held & fixture.site.waiting)
+    fixture.server.restart()
+    lost = time.time() * 1000
+    fixture.server.publish("/a", 2)
+    resume()
+    wait_until("it reports a gap", lambda: client.log() and client.log()[-1] == "gap")
+    since = page.run("return clients[0].since.getTime()")
+    if since > lost:
+        raise CheckFailed(f"an event was lost {since - lost:.0f} ms before the moment that the client reported")
     page.close()
 
 

@@ -2,6 +2,7 @@
 import argparse
 import os
 import pathlib
+import resource
 import signal
 import socket
 import subprocess
@@ -16,8 +17,8 @@ PROGRAM = f"{TOP}/crates/bayeuxd/out/bayeuxd"
 SKIPPED = 77
 # Clears the current line of a terminal.
 CLEAR_LINE = "\r\x1b[K"
-# How long `wait_until` waits, in seconds.
-TIMEOUT_SECONDS = 25
+# How long `wait_until` waits by default, in seconds.
+TIMEOUT_SECONDS = 60
 
 
 class CheckFailed(Exception):
@@ -129,18 +130,24 @@ def report_counts(name, what, results):
     return 1 if wrong else 0
 
 
-def wait_until(what, condition):
+def limit_file_size(size):
+    """Limits files to `size` bytes, in a process that is about to start a program. A write then fails."""
+    signal.signal(signal.SIGXFSZ, signal.SIG_IGN)
+    resource.setrlimit(resource.RLIMIT_FSIZE, (size, size))
+
+
+def wait_until(what, condition, seconds=TIMEOUT_SECONDS):
     """Waits until `condition()` returns a true value, and returns that value.
 
-    Raises `CheckFailed` after `TIMEOUT_SECONDS` seconds. `what`: the condition in words, for the message.
+    Raises `CheckFailed` after `seconds` seconds. `what`: the condition in words, for the message.
     """
-    deadline = time.monotonic() + TIMEOUT_SECONDS
+    deadline = time.monotonic() + seconds
     while True:
         result = condition()
         if result:
             return result
         if time.monotonic() > deadline:
-            raise CheckFailed(f"not in {TIMEOUT_SECONDS} seconds: {what}")
+            raise CheckFailed(f"not in {seconds} seconds: {what}")
         time.sleep(0.05)
 
 
@@ -164,6 +171,12 @@ def can_connect(port):
     """Returns `True` if a process listens on `port` of 127.0.0.1."""
     with socket.socket() as it:
         return it.connect_ex(("127.0.0.1", port)) == 0
+
+
+def child_of(process_id):
+    """Waits until a process has a child, and returns the id of its first child."""
+    children = pathlib.Path(f"/proc/{process_id}/task/{process_id}/children")
+    return int(wait_until("a child", lambda: children.read_text(encoding="ascii").split())[0])
 
 
 def end(process):

@@ -60,10 +60,56 @@ window.hasArrived = () => performance.getEntriesByType('resource').some(({ name 
 askByScript(arguments[0], [], 0).catch(({ message }) => (window.why = message));
 """
 
+# Makes the client lose its session before the next connect, as if a publish were rejected.
+LOSE_SESSION = """
+const [it] = clients, { adjust } = it;
+it.adjust = async () => Object.assign(it, { adjust, clientId: null });
+"""
+
 # Makes the window that has the session wait before it subscribes.
 SLOW_ADJUST = """
 window.waiting = [];
 clients[0].adjust = () => new Promise((go) => waiting.push(go)).then(() => BayeuxClient.prototype.adjust.call(clients[0]));
+"""
+
+
+# Patterns and channels, and whether they match (docs/PROTOCOL.md).
+MATCHES = [
+    ("/a", "/a", True),
+    ("/a", "/ab", False),
+    ("/a", "/a/b", False),
+    ("/a/*", "/a/b", True),
+    ("/a/*", "/a/b/c", False),
+    ("/a/*", "/a", False),
+    ("/a/*", "/ab", False),
+    ("/a/**", "/a/b", True),
+    ("/a/**", "/a/b/c/d", True),
+    ("/a/**", "/a", False),
+    ("/a/**", "/b/a/c", False),
+    ("/*", "/a", True),
+    ("/*", "/a/b", False),
+    ("/**", "/a/b", True),
+]
+# Starts a client that does not pause, and records its pauses in milliseconds. `arguments`: the number
+# of failures so far, whether requests succeed, and the number of pauses.
+PAUSES = """
+const [failures, isServed, count] = arguments, it = new BayeuxClient('/cometd', { share: false });
+const setTimer = window.setTimeout, advice = { interval: 2000, timeout: 0 };
+window.pauses = [];
+window.setTimeout = (go, milliseconds) => pauses.push(milliseconds) < count && setTimer(go, 0);
+it.failures = failures;
+it.items = async ([{ channel }]) => {
+  await new Promise((go) => setTimer(go, 1));
+  if (!isServed) throw new Error('not served');
+  return [{ channel, successful: true, clientId: '1', advice }];
+};
+it.start();
+"""
+# More patterns than two requests have, and how many of them are subscribed when the promise resolves.
+MANY_PATTERNS = """
+window.it = new BayeuxClient('/cometd', { share: false });
+for (let number = 0; number < 40; number++) it.subscribe(`/many/${number}`, (data) => (window.found = data));
+it.start().then(() => (window.subscribed = it.subscribed.size));
 """
 
 
@@ -128,6 +174,32 @@ def try_arguments(fixture):
     page.close()
 
 
+def try_matches(fixture):
+    """Checks which channels a pattern matches, how long the client pauses, and that it subscribes to 40 patterns before it is started."""
+    page = Window(fixture.browser, fixture.site.address)
+    for pattern, channel, is_match in MATCHES:
+        if page.run("return isMatch(...arguments)", pattern, channel) != is_match:
+            raise CheckFailed(f"{pattern} and {channel}: not {is_match}")
+    page.run(MANY_PATTERNS)
+    if wait_until("the promise resolves", lambda: page.run("return window.subscribed")) != 40:
+        raise CheckFailed(f"the promise has resolved, and only {page.run('return window.subscribed')} of 40 patterns are subscribed")
+    fixture.server.publish("/many/39", "last")
+    wait_until("the event comes", lambda: page.run("return window.found") == "last")
+    page.close()
+
+
+def try_pauses(fixture):
+    """Checks that the client pauses between two connects as the server advises, and after failures for at most ten seconds."""
+    page = Window(fixture.browser, fixture.site.address)
+    for failures, is_served, is_right in ((0, True, lambda it: it == 2000), (20, False, lambda it: 0 < it <= 10_000)):
+        page.run(PAUSES, failures, is_served, 3)
+        wait_until("it has paused three times", lambda: page.run("return pauses.length") == 3)
+        if not all(map(is_right, page.run("return pauses"))):
+            raise CheckFailed(f"after {failures} failures it pauses for {page.run('return pauses')} milliseconds")
+        page.driver.refresh()
+    page.close()
+
+
 def try_start(fixture):
     """Checks that the promise of `start` resolves once the client is connected, and rejects if it is stopped first."""
     page = Window(fixture.browser, fixture.site.address)
@@ -161,8 +233,19 @@ def try_start_in_second_window(fixture):
     wait_until("the promise resolves", lambda: pages[1].run("return window.isStarted"))
     if pages[0].run("return [...clients[0].subscribed]") != ["/a", "/b"]:
         raise CheckFailed("the promise has resolved, and the session is not subscribed")
+    Client(pages[1], "/a/**/b").wait_for_log("connected /a/**/b: 400::Invalid pattern")
     for page in pages:
         page.close()
+
+
+def try_lost_session(fixture):
+    """Checks that the client reports the right error if a publish finds that the session is gone."""
+    page = Window(fixture.browser, fixture.site.address)
+    client = Client(page, "/a", share=False)
+    page.run(LOSE_SESSION)
+    fixture.server.publish("/a", 1)
+    client.wait_for_log(1, "interrupted 402::Unknown client", "gap")
+    page.close()
 
 
 def try_listeners(site, client):
@@ -184,6 +267,8 @@ def try_listeners(site, client):
     wait_until("it unsubscribes with the last listener", lambda: unsubscribed(site) == ["/a"])
     client.do("publishLogged('/*', 3)")
     client.wait_for_log(["400::Invalid channel", False])
+    client.window.run("addEventListener('unhandledrejection', ({ reason }) => (window.unhandled = reason.message)); clients[0].publish('/*', 4)")
+    wait_until("the console shows a failure that is not handled", lambda: client.window.run("return window.unhandled") == "400::Invalid channel")
 
 
 def try_gaps(fixture, client):
@@ -218,10 +303,13 @@ def try_silence(fixture):
     Six clients that do not share a session take all connections. A publish then fails because there
     is no answer in time.
     """
-    page = Window(fixture.browser, fixture.site.address)
-    client = [Client(page, share=False) for _ in range(6)][0]
-    wait_until("all wait", lambda: page.run("return clients.every((it) => it.log.length === 2)"))
-    time.sleep(1)
+    page, site, before = Window(fixture.browser, fixture.site.address), fixture.site, set(fixture.site.waiting)
+    client = Client(page, share=False)
+    # All begin within a moment, so that no connect ends while the publish waits.
+    for _ in range(5):
+        page.run(NEW_CLIENT + "client.start();", "/cometd", {"share": False})
+    wait_until("all are connected", lambda: page.run("return clients.every((it) => it.log.length === 2)"))
+    wait_until("all wait", lambda: len(site.waiting - before) == 6)
     client.do("publishLogged('/a', 1)")
     client.wait_for_log("interrupted no answer in time", ["no answer in time", True])
     wait_until("it is connected again", client.is_connected)

@@ -2,6 +2,7 @@
 import json
 import os
 import re
+import select
 import signal
 import socket
 import subprocess
@@ -12,7 +13,7 @@ import time
 from base import CLEAR_LINE, CheckFailed, run_check, wait_until
 
 # How long a connection waits for the daemon before a check fails, in seconds.
-TIMEOUT_SECONDS = 20.0
+TIMEOUT_SECONDS = 60.0
 # The seed of the daemons. No two bytes are equal, so that a byte read at a wrong place is noticed.
 SEED = bytes(range(1, 33)).hex()
 FORM = b"application/x-www-form-urlencoded"
@@ -80,9 +81,13 @@ class Daemon:
         return self.logged_address("readers listening address=")
 
     def log_tail(self):
-        """Returns the last 2,000 bytes that the daemon wrote to standard error."""
+        """Returns the last 2,000 bytes that the daemon wrote to standard error, without the times of log lines."""
+        return self.full_log()[-2000:]
+
+    def full_log(self):
+        """Returns all that the daemon wrote to standard error, without the times of log lines."""
         self.errors.seek(0)
-        return self.errors.read()[-2000:]
+        return re.sub(rb"(?m)^[0-9-]{10}T[0-9:.]{12}Z ", b"", self.errors.read())
 
     def check_alive(self):
         """Raises `CheckFailed` if the process has ended."""
@@ -126,13 +131,15 @@ class FlagDaemon(Daemon):
     """A daemon that is started with `flags`.
 
     It ends at the end of its standard input, or after the number of connections in `flags`, if they
-    have one. `streams`: keyword arguments of `Popen`.
+    have one. Without a `--max-interval`, no session expires during a check, also on a slow machine.
+    `streams`: keyword arguments of `Popen`.
     """
 
     def __init__(self, program, *flags, **streams):
         # pylint: disable=super-init-not-called
         until = [] if "--connections" in flags else ["--until-eof"]
-        self.begin([program, "--listen", "localhost:0", *until, *flags], stdin=subprocess.PIPE, **streams)
+        lasting = [] if any(it.startswith("--max-interval") for it in flags) else ["--max-interval", "600s"]
+        self.begin([program, "--listen", "localhost:0", *until, *lasting, *flags], stdin=subprocess.PIPE, **streams)
 
     def end(self):
         self.process.stdin.close()
@@ -146,7 +153,7 @@ class NonExpiringDaemon(FlagDaemon):
     """
 
     def __init__(self, program, *flags):
-        super().__init__(program, "--timeout", "600s", "--max-interval", "600s", "--metrics", "127.0.0.1:0", *flags)
+        super().__init__(program, "--timeout", "600s", "--metrics", "127.0.0.1:0", *flags)
         self.metrics = self.logged_address("metrics listening address=")
 
 
@@ -178,12 +185,27 @@ class Connection:
     """A connection to a daemon.
 
     `timeout`: how long a send or a read may take, in seconds. After that it raises `CheckFailed`.
+    `was_reset`: whether a read found that the daemon has reset the connection.
     """
 
     def __init__(self, address, timeout=TIMEOUT_SECONDS):
-        self.socket = socket.create_connection(address, timeout=timeout)
+        self.address, self.timeout = address, timeout
+        self.open()
+
+    def open(self):
+        """Opens the connection."""
+        self.socket = socket.create_connection(self.address, timeout=self.timeout)
         self.socket.setsockopt(socket.IPPROTO_TCP, socket.TCP_NODELAY, 1)
-        self.input = b""
+        self.input, self.was_reset = b"", False
+
+    def renew(self):
+        """Opens the connection again if the daemon has ended it, as it does with one that is idle for 30 seconds.
+
+        No response may be outstanding.
+        """
+        if select.select([self.socket], [], [], 0)[0]:
+            self.socket.close()
+            self.open()
 
     def __enter__(self):
         return self
@@ -207,6 +229,7 @@ class Connection:
         except socket.timeout as error:
             raise CheckFailed(f"no answer; so far {self.input[:200]!r}") from error
         except ConnectionError:
+            self.was_reset = True
             return False
         self.input += data
         return bool(data)
@@ -269,16 +292,22 @@ def get(query, path=b"/cometd"):
     return b"GET %s%s HTTP/1.1\r\nhost: h\r\n\r\n" % (path, query)
 
 
-def expect_status(connection, request, status):
+def expect_status(connection, request, status, reason=None):
     """Returns the body of the response to `request`. Raises `CheckFailed` if its status is another one.
 
-    Only a 200 may have a body. A 405 must have the allowed methods.
+    Only a 200 may have a body. A 405 must have the allowed methods. If `reason` is given, the response must have it. A 200 must have none.
+    A 200 must have a date, and so must an error of the server's own (RFC 9110, section 6.6.1).
     """
     connection.send(request)
     response = connection.response()
     methods = b"GET, POST" if status == 405 else None
     if (response.status, response.fields.get(b"allow"), bool(response.body)) != (status, methods, status == 200):
         raise CheckFailed(f"not {status} for {request[:200]!r}, of {len(request)} bytes: {response.status} {response.fields} {response.body[:80]!r}")
+    found = response.fields.get(b"bayeux-error", b"").decode()
+    if b"date" not in response.fields and (found or status == 200):
+        raise CheckFailed(f"no date for {request[:200]!r}: {response.status} {response.fields}")
+    if found != (reason or "") and (reason is not None or status == 200):
+        raise CheckFailed(f"not the reason {reason!r} for {request[:200]!r}: {found!r}")
     return response.body
 
 
@@ -357,6 +386,12 @@ def check_serves(address, channel):
         if items[-1]["id"] != 7:
             raise CheckFailed(f"not the id of the connect: {items}")
         expect_success(connection.ask([{"channel": "/meta/disconnect", **session}]), 1)
+
+
+def has_sanitizer(program):
+    """Returns `True` if `program` was compiled with AddressSanitizer."""
+    with open(program, "rb") as file:
+        return b"__asan_init" in file.read()
 
 
 def run_with_daemon(name, daemon, check):

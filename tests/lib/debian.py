@@ -10,7 +10,7 @@ import subprocess
 import sys
 import tempfile
 
-from base import TIMEOUT_SECONDS, CheckFailed
+from base import TIMEOUT_SECONDS, TOP, CheckFailed
 
 TOOLS = {"mmdebstrap": "mmdebstrap", "unshare": "util-linux", "ip": "iproute2"}
 
@@ -29,6 +29,19 @@ def release():
     if fields.get("ID") != "debian":
         raise CannotRun("this machine has no Debian, whose release would be taken")
     return fields["VERSION_CODENAME"]
+
+
+def find_package(path):
+    """Returns the path of the package to test: `path`, or if it is `None` the release's, or what scripts/package built.
+
+    The release's package counts only if it has the version in VERSION. Raises `CannotRun` if there is no package.
+    """
+    name = f"gadzilk_{(TOP / 'VERSION').read_text(encoding='ascii').strip()}_amd64.deb"
+    paths = [path] if path else [TOP / "dist" / name, TOP / "out" / name]
+    found = next((it for it in paths if it.is_file()), None)
+    if not found:
+        raise CannotRun(f"there is no {paths[-1]}: scripts/package builds it")
+    return found
 
 
 def check_tools():

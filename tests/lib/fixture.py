@@ -13,7 +13,7 @@ class Fixture:
     """
 
     def __init__(self, program, folder):
-        self.server = Server(program, "--shards", "4", "--timeout", "20s")
+        self.server = Server(program, "--shards", "4", "--timeout", "20s", "--max-interval", "600s")
         self.relay = Relay(self.server)
         self.site = Site(self.relay)
         with contextlib.ExitStack() as stack:

@@ -1,4 +1,5 @@
 """The page of metrics of a daemon (`--metrics`)."""
+import json
 import re
 import time
 
@@ -6,18 +7,21 @@ from base import CheckFailed
 from daemon import TIMEOUT_SECONDS, Connection, get
 
 # The two kinds of lines of a page: a comment, and a value with its name and labels.
-COMMENT = re.compile(r"# (HELP|TYPE) ([a-z_]+) (?:counter|gauge|[A-Z][^\\]*\.)")
-SAMPLE = re.compile(r'([a-z_]+)(|\{[a-z]+="[^"\\]+"\}) ([0-9]+)')
+COMMENT = re.compile(r"# (HELP|TYPE) ([a-z_]+) (?:counter|gauge|histogram|[A-Z][^\\]*\.)")
+SAMPLE = re.compile(r'([a-z_]+)(|\{[a-z]+="[^"\\]+"(?:,[a-z]+="[^"\\]+")*\}) ([0-9]+(?:\.[0-9]+)?)')
 
 
 def ask_for(address, request):
     """Sends `request` to the metrics listener at `address`, and returns the response.
 
-    Raises `CheckFailed` if there is not exactly one response before the listener ends the connection.
+    Raises `CheckFailed` if there is not exactly one response before the listener ends the connection, or if it resets
+    the connection.
     """
     with Connection(address) as connection:
         connection.send(request)
         responses = connection.read_to_end()
+        if connection.was_reset:
+            raise CheckFailed(f"a reset for {request[:80]!r}, of {len(request)} bytes")
     if len(responses) != 1:
         raise CheckFailed(f"not one response for {request!r}: {len(responses)}")
     return responses[0]
@@ -28,7 +32,7 @@ def read_page(text):
 
     Raises `CheckFailed` if the page is not in Prometheus' text format 0.0.4.
     """
-    values, family, comments = {}, None, set()
+    values, family, members, comments = {}, None, [], set()
     if not text.endswith("\n"):
         raise CheckFailed(f"no end of a line at the end of the page: {text[-80:]!r}")
     for line in text[:-1].split("\n"):
@@ -39,10 +43,11 @@ def read_page(text):
                 raise CheckFailed(f"a comment at the wrong place: {line!r}")
             comments.add((keyword, name))
             family = name
-        elif not sample or sample.group(1) != family or sample.group(1, 2) in values or ("TYPE", family) not in comments:
+            members = [f"{name}{it}" for it in ("_bucket", "_sum", "_count") if line.endswith(" histogram")]
+        elif not sample or sample.group(1) not in (family, *members) or sample.group(1, 2) in values or ("TYPE", family) not in comments:
             raise CheckFailed(f"a line of no known form, or at the wrong place: {line!r}")
         else:
-            values[sample.group(1, 2)] = int(sample.group(3))
+            values[sample.group(1, 2)] = json.loads(sample.group(3))
     return values
 
 

@@ -138,8 +138,9 @@ class Site(http.server.ThreadingHTTPServer):
         self.relay = relay
         self.status = 200
         self.documents = {}
-        # The header fields and the messages of each POST.
-        self.received = []
+        # The header fields and the messages of each POST, and the connections with a POST that has
+        # no response yet.
+        self.received, self.waiting = [], set()
         self.address = f"http://127.0.0.1:{self.server_address[1]}"
         threading.Thread(target=self.serve_forever, daemon=True).start()
 
@@ -172,18 +173,24 @@ class SiteHandler(http.server.BaseHTTPRequestHandler):
         body = self.rfile.read(int(self.headers["Content-Length"]))
         site, messages = self.server, json.loads(body)
         site.received.append((self.headers, messages))
-        status, reply = site.status, b""
-        if status == 200:
-            request = urllib.request.Request(f"http://127.0.0.1:{site.relay.port}/cometd", body, {"Content-Type": "application/json"})
-            try:
-                with urllib.request.urlopen(request, timeout=TIMEOUT_SECONDS) as response:
-                    reply = response.read()
-            except urllib.error.HTTPError as refused:
-                status = refused.code
-            except OSError:
-                status = 502
+        site.waiting.add(self)
+        try:
+            status, reply = self.ask(body) if site.status == 200 else (site.status, b"")
+        finally:
+            site.waiting.discard(self)
         with contextlib.suppress(OSError):
             self.respond(status, reply, "application/json")
+
+    def ask(self, body):
+        """Posts `body` to the server, and returns the status and the body of the response."""
+        request = urllib.request.Request(f"http://127.0.0.1:{self.server.relay.port}/cometd", body, {"Content-Type": "application/json"})
+        try:
+            with urllib.request.urlopen(request, timeout=TIMEOUT_SECONDS) as response:
+                return 200, response.read()
+        except urllib.error.HTTPError as refused:
+            return refused.code, b""
+        except OSError:
+            return 502, b""
 
     def respond(self, status, content, kind):
         self.send_response(status)

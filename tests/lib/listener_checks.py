@@ -1,0 +1,143 @@
+"""Checks of what the metrics listener of a daemon shows besides counts: lists, settings, and the process."""
+import json
+import resource
+import time
+
+from base import TOP, CheckFailed, wait_until
+from daemon import HANDSHAKE, Connection, FlagDaemon, NonExpiringDaemon, expect_events, expect_success, get, open_session, poll, post, send_connect, subscribe
+from metrics import ask_for, expect_values, scrape
+
+# How many sessions are opened or closed at a time.
+AT_ONCE = 200
+# Flags with limits and times, and the metrics with their values.
+LIMITS = ["--limit=3", "--bytes=6000", "--patterns=7", "--sessions=8", "--body=9000", "--shards=2", "--timeout=1500ms", "--interval=2s", "--max-interval=4294967295"]
+LIMITED = {
+    **{("bayeux_limit", f'{{name="{name}"}}'): value for name, value in (("events", 3), ("bytes", 6000), ("patterns", 7), ("sessions", 8), ("body", 9000), ("shards", 2))},
+    ("bayeux_timeout_seconds", ""): 1.5,
+    ("bayeux_interval_seconds", ""): 2,
+    ("bayeux_max_interval_seconds", ""): 4294967.295,
+}
+# How much the metrics of memory may differ from what the system reports shortly afterwards, in
+# bytes, or a tenth if that is more, and the start of the process from the time here, in seconds.
+MEMORY_CHANGE, START_CHANGE = 64 << 20, 5
+# The sessions of the check of lists, in the order in which they are opened. Two events wait for each
+# of the first two. One of these has got them, and has not acknowledged them.
+SENT = [{"channel": "/chat/x", "data": data} for data in (1, 2)]
+SENT_BYTES = sum(len(json.dumps(event, separators=(",", ":"))) for event in SENT)
+QUIET = {"acknowledges": False, "held": False, "overflowed": False, "events": 0, "bytes": 0, "outstanding": 0, "batch": 0, "patterns": []}
+LISTED = [
+    {**QUIET, "acknowledges": True, "events": 2, "bytes": SENT_BYTES, "outstanding": 2, "batch": 1, "patterns": ["/chat/*", "/a"]},
+    {**QUIET, "events": 2, "bytes": SENT_BYTES, "patterns": ["/chat/*"]},
+    {**QUIET, "held": True},
+    {**QUIET, "overflowed": True},
+]
+CHANNELS = [{"pattern": "/a", "subscriptions": 1}, {"pattern": "/chat/*", "subscriptions": 2}]
+# The greatest number of sessions in their list, and of patterns of a session, the length of a long
+# pattern, and the number of sessions with as many long patterns that the list can have.
+MOST_LISTED, PATTERNS, LONG, LONG_LISTED = 1000, 1024, 250, 5
+TRUNCATED = {"truncated": True}
+
+
+def expect_near(name, found, wanted, change):
+    """Raises `CheckFailed` if `found` and `wanted` differ by more than `change`."""
+    if abs(found - wanted) > change:
+        raise CheckFailed(f"{name}: not {wanted} or at most {change} from it: {found}")
+
+
+def check_process(program):
+    with open(TOP / "VERSION", encoding="ascii") as text:
+        version = text.read().strip()
+    start = time.time()
+    with FlagDaemon(program, "--metrics", "localhost:0", *LIMITS) as daemon:
+        metrics, used = daemon.logged_address("metrics listening address="), daemon.processor_seconds()
+        values = expect_values(metrics, {("bayeux_build_info", f'{{version="{version}"}}'): 1, **LIMITED})
+        found = {name: value for (name, _), value in values.items() if name.startswith("process_")}
+        if not used <= found["process_cpu_seconds_total"] <= daemon.processor_seconds():
+            raise CheckFailed(f"processor time: not from {used} to {daemon.processor_seconds()}: {found}")
+        with open(f"/proc/{daemon.process.pid}/status", encoding="ascii") as text:
+            status = dict(line.split(":", 1) for line in text)
+        for name, line in (("resident", "VmRSS"), ("virtual", "VmSize")):
+            size = 1024 * int(status[line].split()[0])
+            expect_near(name, found[f"process_{name}_memory_bytes"], size, max(MEMORY_CHANGE, size // 10))
+        expect_near("start", found["process_start_time_seconds"], start, START_CHANGE)
+        # The metrics also count the connection that asks for them.
+        wait_until("the number of open files", lambda: scrape(metrics)[("process_open_fds", "")] == daemon.descriptors() + 1)
+        expect_near("most files", found["process_max_fds"], resource.prlimit(daemon.process.pid, resource.RLIMIT_NOFILE)[0], 0)
+    with FlagDaemon(program, "--metrics", "localhost:0") as daemon:
+        unlimited = ("bayeux_limit", '{name="bytes"}')
+        if unlimited in scrape(daemon.logged_address("metrics listening address=")):
+            raise CheckFailed("a limit of bytes though none was given")
+
+
+def read_list(metrics, path):
+    """Returns the lines of a list at the metrics listener. Raises `CheckFailed` if there is no list."""
+    response = ask_for(metrics, get(b"", path))
+    if (response.status, response.fields[b"content-type"]) != (200, b"application/x-ndjson") or response.body[-1:] not in (b"", b"\n"):
+        raise CheckFailed(f"no list at {path!r}: {response.status} {response.fields}")
+    return [json.loads(line) for line in response.body.splitlines()]
+
+
+def expect_lists(daemon, client, start):
+    """Checks the lists of a few sessions. `start`: when the first one was opened, at the earliest."""
+    sessions = [open_session(client, ext={"ack": True}), *(open_session(client) for _ in LISTED[1:])]
+    for pattern, session in (("/chat/*", 0), ("/a", 0), ("/chat/*", 1), ("/many", 3)):
+        subscribe(client, pattern, sessions[session])
+    expect_success(client.ask([{**event, **sessions[2]} for event in SENT]), 2)
+    expect_events(poll(client, sessions[0]), SENT)
+    expect_success(client.ask([{"channel": "/many", "data": data, **sessions[2]} for data in (1, 2, 3)]), 3)
+    with Connection(daemon.address) as holder:
+        send_connect(holder, sessions[2])
+        wait_until("a session holds a connect", lambda: any(it["held"] for it in read_list(daemon.metrics, b"/sessions")))
+        text = ask_for(daemon.metrics, get(b"", b"/sessions")).body.decode()
+        if any(it["clientId"] in text for it in sessions):
+            raise CheckFailed(f"a client id in the list of sessions: {text}")
+        found = sorted(read_list(daemon.metrics, b"/sessions"), key=lambda it: it["number"])
+        ages = [it.pop("age_seconds") for it in found]
+        if not all(0 <= it <= time.monotonic() - start for it in ages) or len({it.pop("number") for it in found}) != len(LISTED):
+            raise CheckFailed(f"wrong ages, or two sessions with one number: {ages} {found}")
+        if found != LISTED:
+            raise CheckFailed(f"not the sessions {LISTED}: {found}")
+        if read_list(daemon.metrics, b"/channels") != CHANNELS:
+            raise CheckFailed(f"not the channels {CHANNELS}: {read_list(daemon.metrics, b'/channels')}")
+
+
+def open_many(connection, count):
+    """Opens `count` sessions, and returns the members with their client ids."""
+    connection.renew()
+    sessions = []
+    for at in range(0, count, AT_ONCE):
+        more = min(AT_ONCE, count - at)
+        connection.send(post(json.dumps([HANDSHAKE]).encode()) * more)
+        sessions += [{"clientId": expect_success(connection.response().items(), 1)[0]["clientId"]} for _ in range(more)]
+    return sessions
+
+
+def close_all(connection, sessions):
+    """Ends all `sessions`."""
+    connection.renew()
+    for at in range(0, len(sessions), AT_ONCE):
+        some = sessions[at : at + AT_ONCE]
+        expect_success(connection.ask([{"channel": "/meta/disconnect", **it} for it in some]), len(some))
+
+
+def check_lists(program):
+    start = time.monotonic()
+    with NonExpiringDaemon(program, "--shards", "2", "--limit", "2") as daemon, Connection(daemon.address) as client:
+        expect_lists(daemon, client, start)
+    with NonExpiringDaemon(program, "--shards", "3") as daemon, Connection(daemon.address) as client:
+        sessions = open_many(client, MOST_LISTED)
+        if len(found := read_list(daemon.metrics, b"/sessions")) != MOST_LISTED or TRUNCATED in found:
+            raise CheckFailed(f"not {MOST_LISTED} sessions: {len(found)} {found[-1]}")
+        sessions += open_many(client, 1)
+        if len(found := read_list(daemon.metrics, b"/sessions")) != MOST_LISTED + 1 or found[-1] != TRUNCATED:
+            raise CheckFailed(f"not {MOST_LISTED} sessions, and that there are more: {len(found)} {found[-1]}")
+        close_all(client, sessions)
+        # The lines of five sessions are longer than a MiB.
+        for number, session in enumerate(open_many(client, LONG_LISTED + 1)):
+            patterns = [f"/{number}/{at:04}/{'x' * (LONG - 8)}" for at in range(PATTERNS)]
+            expect_success(client.ask([{"channel": "/meta/subscribe", "subscription": patterns[at : at + 64], **session} for at in range(0, PATTERNS, 64)]), PATTERNS // 64)
+        if len(found := read_list(daemon.metrics, b"/sessions")) != LONG_LISTED + 1 or found[-1] != TRUNCATED:
+            raise CheckFailed(f"not the first {LONG_LISTED} sessions: {len(found)} {str(found[-1])[:80]}")
+        found = read_list(daemon.metrics, b"/channels")
+        if found[-1] != TRUNCATED or [it["pattern"] for it in found[:PATTERNS]] != [f"/0/{at:04}/{'x' * (LONG - 8)}" for at in range(PATTERNS)]:
+            raise CheckFailed(f"not the first patterns, and that there are more: {len(found)} {found[:2]} {found[-1]}")

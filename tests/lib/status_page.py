@@ -1,0 +1,76 @@
+"""Tests of the status page, which a server has at its metrics listener."""
+import contextlib
+import threading
+import urllib.error
+import urllib.request
+
+from accessibility import check_accessibility, check_accessible_names
+from base import TIMEOUT_SECONDS, expect_equal, free_port, wait_until
+from browser import Window
+from daemon import CONNECT, HANDSHAKE
+
+TITLES = ["Requests", "Events", "Sessions", "Held connects", "Refusals", "Shard lag"]
+# Returns, for each chart, how often its curves begin, and how many points they have.
+CURVES = """
+return [...document.querySelectorAll('.card')].map((it) => [...it.querySelectorAll('.curve')].map((path) => path.getAttribute('d')).join(''))
+  .map((it) => [it.split('M').length - 1, it.split(/[LM]/).length - 1]);
+"""
+
+
+def value_of(window, title):
+    """Returns the text of the value above the chart `title`."""
+    return dict(zip(window.texts("h2"), window.texts(".value")))[title]
+
+
+def listen(server):
+    """Opens a session that listens to /status in another thread, until the server ends."""
+    session = {"clientId": server.ask(HANDSHAKE)[0]["clientId"]}
+    server.ask({"channel": "/meta/subscribe", "subscription": "/status", **session})
+
+    def poll():
+        with contextlib.suppress(OSError):
+            while server.ask({**CONNECT, **session})[-1]["successful"]:
+                pass
+
+    threading.Thread(target=poll, daemon=True).start()
+
+
+def try_values(server, window):
+    """Checks that each chart shows what clients do."""
+    expect_equal("the charts", window.texts("h2"), TITLES)
+    wait_until("the page shows a session", lambda: value_of(window, "Sessions") == "0")
+    listen(server)
+    wait_until("the page shows a session and its connect", lambda: [value_of(window, it) for it in ("Sessions", "Held connects")] == ["1", "1"])
+
+    def shows_events():
+        server.publish("/status", "an event")
+        return "0" not in [value_of(window, it) for it in ("Requests", "Events")]
+
+    wait_until("the page shows requests and events", shows_events)
+    with contextlib.suppress(urllib.error.HTTPError):
+        urllib.request.urlopen(f"http://127.0.0.1:{server.port}/", timeout=TIMEOUT_SECONDS)
+    wait_until("the page shows the request that was refused", lambda: any(it.startswith("404 Bayeux is at /cometd: ") for it in window.texts(".key li")))
+    wait_until("no shard lags", lambda: [it for it in window.texts(".key li") if "shard" in it] == [f"shard {it}: 0" for it in range(4)])
+    wait_until("each chart has a curve", lambda: all(points > 1 for _, points in window.run(CURVES)))
+
+
+def try_status(fixture):
+    """Checks that the status page shows the metrics of a server, and that it says so if there are none.
+
+    It must be readable in light and dark.
+    """
+    metrics = f"127.0.0.1:{free_port()}"
+    fixture.server.restart("--metrics", metrics)
+    window = Window(fixture.browser, f"http://{metrics}/")
+    window.wait_state("connected")
+    try_values(fixture.server, window)
+    check_accessible_names(window, [".plot svg"])
+    check_accessibility(window)
+    before = [begins for begins, _ in window.run(CURVES)]
+    fixture.server.restart()
+    wait_until("the page says that there are no more metrics", lambda: "".join(window.texts("#state")).startswith("no metrics since "))
+    expect_equal("the values without metrics", set(window.texts(".value")), {"–"})
+    fixture.server.restart("--metrics", metrics)
+    wait_until("the curves go on after a gap", lambda: all(now > then for (now, _), then in zip(window.run(CURVES), before)))
+    window.close()
+    fixture.server.restart()
