@@ -91,11 +91,20 @@ function showEnd() {
   element('messages').scrollTop = element('messages').scrollHeight;
 }
 
-// Keeps the end in view if the list becomes smaller, such as when a phone is turned.
+// Keeps the end in view if the list changes its size, such as when a phone is turned. A scroll event
+// that comes with a new size is not the user's.
 function keepEnd() {
-  let wasAtEnd = true;
-  element('messages').addEventListener('scroll', () => (wasAtEnd = isAtEnd()));
-  new ResizeObserver(() => wasAtEnd && showEnd()).observe(element('messages'));
+  const list = element('messages');
+  let isEndKept = true;
+  let size = '';
+  const sizeNow = () => `${list.clientWidth} ${list.clientHeight}`;
+  list.addEventListener('scroll', () => {
+    if (sizeNow() === size) isEndKept = isAtEnd();
+  });
+  new ResizeObserver(() => {
+    size = sizeNow();
+    if (isEndKept) showEnd();
+  }).observe(list);
 }
 
 // Returns a hue, in degrees, that is the same for a name in all windows.

@@ -37,8 +37,8 @@ declare class BayeuxClient {
   headers: Record<string, string>;
   onstate: (state: BayeuxState, why: string) => void;
   /**
-   * Is called if events may be missing: a new session has replaced an earlier one. `since`: when the
-   * last event arrived.
+   * Is called if events may be missing: a new session has replaced an earlier one. No event is
+   * missing from before `since`.
    */
   ongap: (since: Date) => void;
   /** Is called when the user leaves the page. Returns the messages to publish then. */

@@ -245,8 +245,8 @@ class BayeuxWindows {
 
   // Sends the others this window's state and session, and `events`, if this window leads.
   shareState(events = []) {
-    const { state, why, knownId, clientId, advice, mayPublish, hasBatches, lastBatch, subscribed } = this.client;
-    const session = { clientId, advice, mayPublish, hasBatches, lastBatch };
+    const { state, why, knownId, clientId, advice, mayPublish, hasBatches, lastBatch, lastEventTime, subscribed } = this.client;
+    const session = { clientId, advice, mayPublish, hasBatches, lastBatch, lastEventTime };
     if (this.isLeading) this.post('news', { state, why, knownId, session, subscribed: [...subscribed], events });
   }
 
@@ -324,7 +324,8 @@ class BayeuxWindows {
   }
 
   join() {
-    if (!this.isLeading) this.sendPatterns().catch(() => {});
+    const report = ({ pattern, message }) => pattern && this.client.onstate(this.client.state, message);
+    if (!this.isLeading) this.sendPatterns().catch(report);
   }
 
   /** Returns the patterns of all other windows. */
@@ -372,7 +373,7 @@ class BayeuxClient {
     this.onstate = () => {};
     /**
      * Is called if events may be missing: a new session has replaced an earlier one. Gets the Date
-     * of the last event that arrived, or of the subscription if none has.
+     * at which the request for the last event began, or that of the subscription without an event.
      */
     this.ongap = () => {};
     /** Is called when the user leaves the page. Returns the messages to publish, as for `stop`. */
@@ -470,10 +471,11 @@ class BayeuxClient {
     const messages = this.windows?.hasOthers() ? publishes : [...publishes, { channel: '/meta/disconnect' }];
     if (this.clientId === null || messages.length === 0) return;
     const body = JSON.stringify(messages.map((message) => ({ ...message, clientId: this.clientId })));
-    const headers = this.connectionType === 'long-polling' ? this.headers : {};
-    // A beacon cannot have headers, and node has none.
-    const isBeacon = Object.keys(headers).length === 0 && 'sendBeacon' in (globalThis.navigator ?? {});
-    if (isBeacon) navigator.sendBeacon(this.url, body);
+    const isPolling = this.connectionType === 'long-polling';
+    const headers = isPolling ? { 'Content-Type': 'application/json', ...this.headers } : {};
+    // A beacon cannot have headers, and node has none. Another origin allows only plain text.
+    const isBeacon = (!isPolling || Object.keys(this.headers).length === 0) && 'sendBeacon' in (globalThis.navigator ?? {});
+    if (isBeacon) navigator.sendBeacon(this.url, isPolling ? new Blob([body], { type: 'application/json' }) : body);
     else fetch(this.url, { method: 'POST', keepalive: true, headers, body }).catch(() => {});
   }
 
@@ -531,7 +533,8 @@ class BayeuxClient {
       if (this.clientId === null) return Promise.reject(failureOf('not connected', false));
       return this.windows.ask('publish', { channel, data });
     }
-    return this.send(channel, data);
+    // A promise of its own, so that the console shows a failure that the page does not handle.
+    return this.send(channel, data).then();
   }
 
   send(channel, data, atSending = () => {}) {
@@ -608,6 +611,8 @@ class BayeuxClient {
         if (this.clientId === null) await this.handshake(isOver);
         await this.adjust();
         if (isOver()) return;
+        // A publish can find meanwhile that the session is gone.
+        if (this.clientId === null) throw failureOf('402::Unknown client', false);
         this.recordSession(this.clientId);
         await this.connect();
         if (isOver()) return;
@@ -689,6 +694,7 @@ class BayeuxClient {
   // Sends messages, passes events to their listeners, and returns the replies.
   async askAll(messages, hold = 0) {
     const { clientId } = this;
+    const begin = Date.now();
     if (clientId !== null) messages.forEach((message) => (message.clientId = clientId));
     const items = await this.items(messages, hold);
     const replies = items.filter((item) => 'successful' in item);
@@ -699,6 +705,8 @@ class BayeuxClient {
     for (const { ext } of replies) if (typeof ext?.ack === 'number') this.lastBatch = ext.ack;
     const events = items.filter((item) => !('successful' in item));
     events.forEach((event) => this.deliver(event));
+    // A frozen page gets a response long after it came. Events may be missing since the request.
+    if (events.length > 0) this.lastEventTime = begin;
     if (events.length > 0) this.windows?.shareState(events);
     if (clientId !== null && replies.some((reply) => reply.advice?.reconnect === 'handshake')) {
       // The session is gone, but the server can be reached. So the next pause may be short.
@@ -720,15 +728,14 @@ class BayeuxClient {
   // Applies the leader's state, session and events. With a new leader, a batch may arrive twice.
   mirror({ state, why, knownId, session, subscribed, events }) {
     const isNew = session.clientId !== this.clientId || !session.hasBatches || session.lastBatch > this.lastBatch;
+    this.recordSession(knownId);
     Object.assign(this, session);
     this.subscribed = new Set(subscribed);
-    this.recordSession(knownId);
     if (isNew) events.forEach((event) => this.deliver(event));
     this.setState(state, why);
   }
 
   deliver({ channel, data }) {
-    this.lastEventTime = Date.now();
     for (const [pattern, listeners] of this.listeners) {
       if (!isMatch(pattern, channel)) continue;
       // Each call is its own task, so that a listener that throws does not stop the others.

@@ -15,7 +15,8 @@ function card(name, lines, help, time) {
   const root = element('card').content.firstElementChild.cloneNode(true);
   root.querySelector('h2').textContent = name.replace('bayeux_', '').replace(/_total$/, ' (total)').replaceAll('_', ' ');
   root.querySelector('code').textContent = name;
-  root.querySelector('.meaning').textContent = help[name] || '';
+  // The metrics of a histogram share its meaning.
+  root.querySelector('.meaning').textContent = help[name] || help[name.replace(/_(?:bucket|sum|count)$/, '')] || '';
   // If there are several lines, those with 0 are left out.
   const shown = lines.length > 1 ? lines.filter(({ value }) => value !== 0) : lines;
   if (shown.length === 0) shown.push({ label: 'each', value: 0 });

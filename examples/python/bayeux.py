@@ -68,7 +68,7 @@ class Client:
         self.close()
 
     def listen(self, *patterns):
-        """Yields the channel and the data of each event. After a lost connection or session it waits and tries again."""
+        """Yields the channel and the data of each event. After a lost connection or session it waits, for at most 10 seconds, and tries again."""
         pause, subscribed = 0.25, None
         while True:
             try:
@@ -106,7 +106,7 @@ def main(args):
         case ["listen", first, *others]:
             with Client() as client:
                 for where, what in client.listen(first, *others):
-                    print(where, json.dumps(what), flush=True)
+                    print(where, json.dumps(what, ensure_ascii=False), flush=True)
         case ["publish", where, text]:
             data = parse(text)
             with Client() as client:
@@ -121,6 +121,6 @@ if __name__ == "__main__":
     except KeyboardInterrupt:
         pass
     except urllib.error.URLError as failure:
-        sys.exit(f"bayeux.py: {URL}: {failure}; BAYEUX_URL names another server")
+        sys.exit(f"bayeux.py: {URL}: {failure}; set BAYEUX_URL to use another server")
     except (OSError, ValueError, Refused) as failure:
         sys.exit(f"bayeux.py: {failure}")
