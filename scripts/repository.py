@@ -67,6 +67,12 @@ def files_of(name):
     return found
 
 
+def kit_id(kit):
+    """Returns the line that identifies the toolchain in the folder `kit`."""
+    with open(f"{kit}/KIT-ID", encoding="ascii") as text:
+        return text.read().strip()
+
+
 def toolchain():
     """Returns the folder of the toolchain. Exits with a message if its command `rt` is not on the path or has another version."""
     found = shutil.which("rt")
@@ -74,25 +80,24 @@ def toolchain():
         sys.exit("gadzilk: the toolchain's command rt is not on the path; see README.md")
     kit = os.path.dirname(os.path.dirname(os.path.realpath(found)))
     try:
-        with open(f"{kit}/KIT-ID", encoding="ascii") as text:
-            kit_id = text.read().strip()
+        version = kit_id(kit)
     except OSError:
-        kit_id = "an unknown toolchain"
-    if LOGIC not in kit_id:
-        sys.exit(f"gadzilk: expected rt of {LOGIC}, got {kit_id}; put the folder of the right one first on the path")
+        version = "an unknown toolchain"
+    if LOGIC not in version:
+        sys.exit(f"gadzilk: expected rt of {LOGIC}, got {version}; put the folder of the right one first on the path")
     return kit
 
 
 class Checksums:
     """Checksums of everything that a crate is built from: its files, its dependencies, the crates below it, and the toolchain.
 
-    `kit`: the toolchain's folder. A sum is computed once, so a new object is needed to see later changes.
+    `kit`: the toolchain's folder, or `None` for checksums of the text alone. A sum is computed once, so a new object is needed to
+    see later changes.
     """
 
-    def __init__(self, kit):
+    def __init__(self, kit=None):
         self.dependencies, self.found = dependencies(), {}
-        with open(f"{kit}/KIT-ID", "rb") as text:
-            self.kit = text.read()
+        self.kit = kit_id(kit).encode() if kit else b""
 
     def checksum(self, name):
         """Returns the checksum of crate `name`, as hexadecimal digits."""
