@@ -68,10 +68,12 @@ function addressOf(url) {
   throw argumentError('url', kind, url);
 }
 
-/** Throws a TypeError if a member of `options` has a wrong type. */
+/** Throws a TypeError if `options` has an unknown member, or a member of a wrong type. */
 function checkOptions(options) {
   if (typeof options !== 'object' || options === null) throw argumentError('options', 'an object or a connection type', options);
-  const { connectionType, headers, share, name } = options;
+  const { connectionType, headers, share, name, ...others } = options;
+  const [unknown] = Object.keys(others);
+  if (unknown !== undefined) throw new TypeError(`options.${unknown}: unknown, expected connectionType, headers, share or name`);
   const types = Object.keys(TRANSPORTS).filter((type) => IS_PAGE || type !== 'callback-polling');
   if (connectionType !== undefined && !types.includes(connectionType)) {
     throw argumentError('options.connectionType', types.map((type) => `"${type}"`).join(' or '), connectionType);

@@ -27,6 +27,7 @@ WRONG_CALLS = {
     "new BayeuxClient('/cometd', 'websocket')": 'options.connectionType: expected "long-polling" or "callback-polling", got "websocket"',
     "new BayeuxClient('/cometd', { headers: new Headers() })": "options.headers: expected an object with a string for each header field, got an object",
     "new BayeuxClient('/cometd', { headers: { 'X-A': 1 } })": "options.headers: expected an object with a string for each header field, got an object",
+    "new BayeuxClient('/cometd', { header: {} })": "options.header: unknown, expected connectionType, headers, share or name",
     "new BayeuxClient('/cometd', { share: 'no' })": 'options.share: expected true or false, got "no"',
     "new BayeuxClient('/cometd', { name: 5 })": "options.name: expected a string, got 5",
     "it.subscribe('/a')": "listener: expected a function, got undefined",
