@@ -185,7 +185,7 @@ impl<L: HubKind, R: Wait + Log + Drop> Source for HubRecord<L, R> {
     fn take_answers(&mut self, empty: Vec<u8>) -> Vec<u8> {
         let TakenAnswerLines { bytes, fault, .. } = self.log.take(&self.rt, empty);
         if let Some(fault) = fault {
-            let why = why_of(fault);
+            let why = fault.reason();
             warn!(&self.rt; target: "bayeuxd", reason = why; "recording of answers ended early");
         }
         bytes
@@ -204,7 +204,7 @@ fn tell<R: Log>(rt: &R, written: &WriteSummary<Ended>) {
         WriterEnd::StopRequested =>
             info!(rt; target: "bayeuxd", bytes = count; "recording complete"),
         WriterEnd::Ended(Ended { fault, place }) => {
-            let why = why_of(*fault);
+            let why = fault.reason();
             warn!(rt; target: "bayeuxd", bytes = count, place, reason = why; "recording ended early");
         }
         WriterEnd::AlreadyEnded => {
@@ -213,14 +213,5 @@ fn tell<R: Log>(rt: &R, written: &WriteSummary<Ended>) {
         WriterEnd::WriteFailed(error) => {
             warn!(rt; target: "bayeuxd", bytes = count, reason:% = error; "recording ended early");
         }
-    }
-}
-
-// Returns the log text for `fault`.
-fn why_of(fault: RecordFault) -> &'static str {
-    match fault {
-        RecordFault::Full => "more than 64 MiB waiting to be written",
-        RecordFault::Unrecordable => "a request is too large for a record line",
-        RecordFault::Memory => "out of memory",
     }
 }

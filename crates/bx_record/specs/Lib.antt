@@ -1,4 +1,5 @@
 pub mod Configs
+pub mod Faults
 pub mod Record
 pub mod Answers
 pub mod AnswerLog

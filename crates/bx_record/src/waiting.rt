@@ -2,6 +2,7 @@
 ghost use Rattle.std.specs.Prelude.{◌≡◌, ◌≢◌, ◌+◌, ◌<◌, ◌≤◌, ◌++◌, [], length, IfErr, OnErr, OnOk};
 ghost use Rattle.bx_record.specs.declared.waiting.RecordFault.TheVariants.{Full, Memory, Unrecordable};
 ghost use Rattle.bx_record.specs.declared.waiting.TheConstants.{MAX_WAITING_BYTES};
+ghost use Rattle.bx_record.specs.Faults.{fault_reason};
 
 use std::alloc::{AllocError, Global};
 use std::marker::Model;
@@ -22,6 +23,21 @@ pub enum RecordFault {
     Unrecordable,
     /// Memory ran out for a line of the record.
     Memory,
+}
+
+impl RecordFault {
+    /// Returns the reason in words, such as "out of memory".
+    ///
+    /// Policy of this server.
+    pub fn reason(self) -> &'static str
+        ensures { result.now ≡ fault_reason self }
+    {
+        match self {
+            RecordFault::Full => "more than 64 MiB waiting to be written",
+            RecordFault::Unrecordable => "a request is too large for a record line",
+            RecordFault::Memory => "out of memory",
+        }
+    }
 }
 
 impl From<AllocError> for RecordFault {

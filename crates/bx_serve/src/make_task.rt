@@ -93,7 +93,7 @@ where
             limits: self.limits,
         };
         let timer = self.timer.clone().ok()?;
-        let io = TimeoutIo::new(socket, timer, self.limits.idle);
+        let io = TimeoutIo::new(socket, timer, self.limits);
         Some(IgnoreOutput {
             inner: self.http.serve_connection(io, service),
         })

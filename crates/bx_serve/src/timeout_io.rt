@@ -4,13 +4,12 @@ ghost use Rattle.futures.specs.Poll.{IfReady, OnPending};
 ghost use Rattle.futures.specs.Task.{Covers, Keeps};
 ghost use Rattle.bx_serve.specs.Timeouts.{InTime, OrLate, OrTimer};
 
-use crate::timeouts::ProgressTimeout;
+use crate::timeouts::{ProgressTimeout, TimeLimits};
 use futures::ready;
 use futures::task::{Context, Poll};
 use hyper::rt::Timer;
 use std::io;
 use std::io::ErrorKind;
-use std::time::Duration;
 use tokio::io::{AsyncRead, AsyncWrite};
 
 /// A connection on which a write, flush or shutdown fails with `TimedOut` if it takes too long.
@@ -24,17 +23,17 @@ pub struct TimeoutIo<I, T> {
 }
 
 impl<I, T> TimeoutIo<I, T> {
-    /// Creates a connection on which a write, flush or shutdown may wait for `limit`.
+    /// Creates a connection on which a write, flush or shutdown may wait for `limits.idle`.
     ///
     /// The time of all waits together has no limit.
-    pub fn new(io: I, timer: T, limit: Duration) -> TimeoutIo<I, T>
+    pub fn new(io: I, timer: T, limits: TimeLimits) -> TimeoutIo<I, T>
         ensures io { result.io ≡ io }
-        ensures limit { result.timeouts.limit ≡ limit }
+        ensures limit { result.timeouts.limit ≡ limits.idle }
         ensures whole { result.timeouts.whole ≡ None }
     {
         TimeoutIo {
             io,
-            timeouts: ProgressTimeout::new(timer, limit, None),
+            timeouts: ProgressTimeout::new(timer, limits.idle, None),
         }
     }
 }

@@ -150,6 +150,7 @@ fn plan_of_first(alloc: Global, registry: &mut Registry) -> Result<Plan, AdmitFa
 fn check_unchanged(rt: &impl Abort, alloc: Global, registry: &mut Registry) -> Result<(), Fail> {
     check_plan(rt, alloc, &plan_of_first(alloc, registry)?)?;
     same(rt, registry.entries(), 0, "entries");
+    same(rt, registry.sessions(), 0, "live sessions");
     same(rt, registry.live(1), false, "session 1");
     Ok(())
 }

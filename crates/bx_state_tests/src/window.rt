@@ -135,6 +135,18 @@ fn a_full_window_takes_no_more(rt: HostRuntime) -> Result<(), Fail> {
     run(&rt, alloc, &mut Window::new(alloc), &FULL)
 }
 
+const MANY: [(Move, &str); 2] = [
+    (Move::Push(0, 300), "300, batch 0 of 0: none;"),
+    (Move::Give(256), "300, batch 1 of 256: 0..255;"),
+];
+
+// Checks that a batch has the oldest events, as many as it may have, if more are waiting.
+#[test]
+fn a_batch_has_as_many_events_as_it_may(rt: HostRuntime) -> Result<(), Fail> {
+    let alloc = rt.alloc();
+    run(&rt, alloc, &mut Window::new(alloc), &MANY)
+}
+
 // Appends the greatest number of events that a configuration allows. Checks that the window is full
 // after the last of them, and not before.
 fn check_most(rt: &impl Abort, alloc: Global, window: &mut Window) -> Result<(), Fail> {
