@@ -22,13 +22,13 @@ use crate::submission::{ConsumedSubmission, Submission};
 use crate::survey::Survey;
 use crate::walk::{ChangeReport, LowestPosition};
 use bx_advice::Config;
-use bx_entry::{AdmitFault, Admitted, Input, Placing, Refusal};
+use bx_entry::{AdmitFault, Admitted, Batch, Input, Placing, Refusal};
 use bx_history::History;
 use bx_record::{RecordFault, TakenText, TextPosition};
 use bx_registry::{Plan, Registry};
 use bx_window::{Front, LogId, LogWriter, PublishFault, UnpublishedBatch};
 use std::alloc::{AllocError, Global};
-use std::sync::Wait;
+use std::sync::{Arc, Wait};
 
 /// The unwritten rest of a record that a fault ended, and that fault.
 #[derive(Drop)]
@@ -404,6 +404,16 @@ impl<L: LogId, R: Wait + Drop> Admission<L, R> {
             Ok(()) => Ok(lowest),
             Err(_) => Err(AllocError),
         }
+    }
+
+    /// Moves the batches that were trimmed since the last call to `taken`.
+    ///
+    /// The caller drops them after admission is unlocked. Allocates only if `taken` has too little
+    /// room.
+    pub(crate) fn take_trimmed(&mut self, taken: &mut Vec<Arc<Batch, Global>>)
+        ensures same { (self.new.registry ≡ self.old.registry) × (self.new.writer ≡ self.old.writer) × (self.new.closed ≡ self.old.closed) × (self.new.recording ≡ self.old.recording) × (self.new.record_end ≡ self.old.record_end) }
+    {
+        self.writer.take_trimmed(taken);
     }
 
     /// Returns how many entries, live sessions, sessions ever opened and batches in the window

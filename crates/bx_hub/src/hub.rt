@@ -35,6 +35,9 @@ use std::sync::{Arc, Mutex, MutexGuard, Wait};
 // memory of the window is then reused while it is in a processor's cache. Policy of this server.
 const TRIM_EVERY: u64 = 64;
 
+// Room for the batches of a trim. While no shard lags, trims drop fewer batches.
+const TRIM_ROOM: usize = 128;
+
 /// The part of a hub's list that a caller has seen.
 ///
 /// It never shrinks. Each call that takes the pass can extend it, also by entries of other callers.
@@ -196,7 +199,7 @@ impl<L: HubKind, R: Wait + Drop> Hub<L, R> {
         let advanced = self.advance_all(rt, alloc, &*pass);
         drop(consumed);
         if first % TRIM_EVERY + slots.len() as u64 >= TRIM_EVERY {
-            self.let_go(rt);
+            self.let_go(rt, alloc);
         }
         Ok(PostReceipt {
             first,
@@ -243,7 +246,7 @@ impl<L: HubKind, R: Wait + Drop> Hub<L, R> {
             }
         };
         let advanced = self.advance_all(rt, alloc, &*pass);
-        self.let_go(rt);
+        self.let_go(rt, alloc);
         Ok(TickReceipt {
             place: first,
             advanced,
@@ -307,8 +310,9 @@ impl<L: HubKind, R: Wait + Drop> Hub<L, R> {
     }
 
     // Drops the window's batches that all shards have applied. If memory runs out or a shard is not
-    // found, drops nothing; a later call drops the batches then.
-    fn let_go<W: Wait>(&self, rt: &W) {
+    // found, drops nothing; a later call drops the batches then. The memory of the dropped batches
+    // is freed by the next call, after it has unlocked admission.
+    fn let_go<W: Wait>(&self, rt: &W, alloc: Global) {
         let mut least = LowestPosition::new();
         for index in 0..self.shards.len() {
             let Ok(shard_state) = self.lock_shard(rt, index) else {
@@ -318,7 +322,12 @@ impl<L: HubKind, R: Wait + Drop> Hub<L, R> {
             drop(shard_state);
             least.add(position);
         }
-        let _ = self.admission.lock(rt).trim(least);
+        let mut taken = Vec::with_capacity(alloc, TRIM_ROOM).unwrap_or(Vec::new(alloc));
+        let mut admission = self.admission.lock(rt);
+        admission.take_trimmed(&mut taken);
+        let _ = admission.trim(least);
+        drop(admission);
+        drop(taken);
     }
 
     // Advances every shard to the end of `pass` and returns the lowest position. A shard that stops

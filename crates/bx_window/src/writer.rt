@@ -60,6 +60,9 @@ pub struct Writer<L: LogId, R: Wait + Drop, T: Absorb<O, State = [LogStep; 0]> +
     handle: WriteHandle<T, O, R>,
     book: Book<L>,
     firsts: HeapCircularBuffer<u64>,
+    // The trimmed batches that were not taken yet, then the window's. `None` if the batch's
+    // reference count was full when the batch was published.
+    kept: HeapCircularBuffer<Option<Arc<Batch, Global>>>,
     late: Option<Late<O>>,
 }
 
@@ -107,6 +110,7 @@ pub fn log_pair<L: LogId, R: Wait + Drop>(
     let first = empty_ring(alloc, &front)?;
     let second = empty_ring(alloc, &front)?;
     let firsts = HeapCircularBuffer::with_capacity(alloc, MAX_BATCHES)?;
+    let kept = HeapCircularBuffer::with_capacity(alloc, 2 * MAX_BATCHES)?;
     let mut handle = WriteHandle::new(alloc, rt, first, second, readers)?;
     make_room(&mut handle, &front)?;
     let mut all = Vec::new(alloc);
@@ -118,6 +122,7 @@ pub fn log_pair<L: LogId, R: Wait + Drop>(
         handle,
         book,
         firsts,
+        kept,
         late: None,
     };
     Ok((writer, all))
@@ -206,10 +211,12 @@ impl<L: LogId, R: Wait + Drop> Writer<L, R, Ring<L>, RingChange<L>> {
         };
         let first = batch.first;
         let count = batch.entries.len() as u64;
+        let kept = Arc::try_clone(&batch).ok();
         self.book.add(&elements, &inputs, count);
         let published = PublishedBatch::new(batch, self.book.front());
         self.late = show(&mut self.handle, RingChange::Add(published));
         put_last(&mut self.firsts, first);
+        self.kept.push_back(kept);
         Ok(())
     }
 
@@ -253,6 +260,18 @@ impl<L: LogId, R: Wait + Drop> Writer<L, R, Ring<L>, RingChange<L>> {
         self.late = show(&mut self.handle, RingChange::Trim(trimmed));
         drop_first(&mut self.firsts, count);
         Ok(())
+    }
+
+    /// Moves the batches that were trimmed since the last call to `taken`.
+    ///
+    /// The ring's copies drop a trimmed batch while the writer shows this change and the next one.
+    /// The writer keeps it until it is taken, so that its memory is freed when the caller drops
+    /// `taken`, for example after unlocking the writer. Allocates only if `taken` has too little
+    /// room. If memory runs out for a batch, drops it.
+    pub fn take_trimmed(&mut self, taken: &mut Vec<Arc<Batch, Global>>)
+        ensures { self.new ≡ self.old }
+    {
+        move_oldest(&mut self.kept, self.firsts.len(), taken);
     }
 }
 
@@ -311,4 +330,14 @@ fn put_last(firsts: &mut HeapCircularBuffer<u64>, first: u64)
     ensures capacity { firsts.new.capacity ≡ firsts.old.capacity }
 {
     firsts.push_back(first);
+}
+
+// Moves the items of `kept`, except for the newest `len`, to `taken`. If memory runs out for an
+// item, drops it.
+fn move_oldest<T: Drop>(kept: &mut HeapCircularBuffer<Option<T>>, len: usize, taken: &mut Vec<T>) {
+    for _ in len..kept.len() {
+        if let Some(Some(item)) = kept.pop_front() {
+            let _ = taken.push(item);
+        }
+    }
 }
