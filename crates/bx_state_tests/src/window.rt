@@ -140,9 +140,9 @@ const MANY: [(Move, &str); 2] = [
     (Move::Give(256), "300, batch 1 of 256: 0..255;"),
 ];
 
-// Checks that a batch has the oldest events, as many as it may have, if more are waiting.
+// Checks that a batch has the oldest 256 of 300 events.
 #[test]
-fn a_batch_has_as_many_events_as_it_may(rt: HostRuntime) -> Result<(), Fail> {
+fn a_batch_has_the_oldest_events(rt: HostRuntime) -> Result<(), Fail> {
     let alloc = rt.alloc();
     run(&rt, alloc, &mut Window::new(alloc), &MANY)
 }
