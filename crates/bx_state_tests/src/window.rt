@@ -135,7 +135,7 @@ fn a_full_window_takes_no_more(rt: HostRuntime) -> Result<(), Fail> {
     run(&rt, alloc, &mut Window::new(alloc), &FULL)
 }
 
-const MANY: [(Move, &str); 2] = [
+const WAITING: [(Move, &str); 2] = [
     (Move::Push(0, 300), "300, batch 0 of 0: none;"),
     (Move::Give(256), "300, batch 1 of 256: 0..255;"),
 ];
@@ -144,7 +144,7 @@ const MANY: [(Move, &str); 2] = [
 #[test]
 fn a_batch_has_the_oldest_events(rt: HostRuntime) -> Result<(), Fail> {
     let alloc = rt.alloc();
-    run(&rt, alloc, &mut Window::new(alloc), &MANY)
+    run(&rt, alloc, &mut Window::new(alloc), &WAITING)
 }
 
 // Appends the greatest number of events that a configuration allows. Checks that the window is full
