@@ -183,21 +183,23 @@ fn matching(rt: HostRuntime) -> Result<(), Fail> {
     Ok(())
 }
 
-// Checks which channels are meta, service and broadcast channels.
+// Checks which channels are meta, service and broadcast channels, and their numbers of segments.
 #[test]
 fn kinds(rt: HostRuntime) -> Result<(), Fail> {
     let table = [
-        ("/meta/x", ChannelKind::Meta),
-        ("/service/x", ChannelKind::Service),
-        ("/meta", ChannelKind::Broadcast),
-        ("/service", ChannelKind::Broadcast),
-        ("/metal/x", ChannelKind::Broadcast),
-        ("/a/meta/x", ChannelKind::Broadcast),
+        ("/a/b", ChannelKind::Broadcast, 2),
+        ("/meta/x", ChannelKind::Meta, 2),
+        ("/service/x", ChannelKind::Service, 2),
+        ("/meta", ChannelKind::Broadcast, 1),
+        ("/service", ChannelKind::Broadcast, 1),
+        ("/metal/x", ChannelKind::Broadcast, 2),
+        ("/a/meta/x", ChannelKind::Broadcast, 3),
     ];
-    for (text, kind) in table {
+    for (text, kind, count) in table {
         same(&rt, kind_of(text), kind, text);
         let name = ChannelName::read(rt.alloc(), text)?;
         same(&rt, name.kind(), kind, text);
+        same(&rt, name.segment_count(), count, text);
     }
     same(&rt, kind_of("/meta/"), ChannelKind::Meta, "a text");
     let pattern = Pattern::read(rt.alloc(), "/meta/*")?;
