@@ -94,7 +94,7 @@ MATCHES = [
 # Starts a client that does not pause, and records its pauses in milliseconds. `arguments`: the number
 # of failures so far, whether requests succeed, and the number of pauses.
 PAUSES = """
-const [failures, isServed, count] = arguments, it = new BayeuxClient('/cometd', { share: false });
+const [failures, isServed, count] = arguments, it = window.pausing = new BayeuxClient('/cometd', { share: false });
 const setTimer = window.setTimeout, advice = { interval: 2000, timeout: 0 };
 window.pauses = [];
 window.setTimeout = (go, milliseconds) => pauses.push(milliseconds) < count && setTimer(go, 0);
@@ -106,10 +106,13 @@ it.items = async ([{ channel }]) => {
 };
 it.start();
 """
-# More patterns than two requests have, and how many of them are subscribed when the promise resolves.
+# More patterns than one request may have messages, which is 256. Records how many of them are subscribed
+# when the promise resolves. `arguments`: the number of patterns.
+MANY = 300
 MANY_PATTERNS = """
+const [count] = arguments;
 window.it = new BayeuxClient('/cometd', { share: false });
-for (let number = 0; number < 40; number++) it.subscribe(`/many/${number}`, (data) => (window.found = data));
+for (let number = 0; number < count; number++) it.subscribe(`/many/${number}`, (data) => (window.found = data));
 it.start().then(() => (window.subscribed = it.subscribed.size));
 """
 
@@ -176,27 +179,32 @@ def try_arguments(fixture):
 
 
 def try_matches(fixture):
-    """Checks which channels a pattern matches, how long the client pauses, and that it subscribes to 40 patterns before it is started."""
+    """Checks which channels a pattern matches, and that the client subscribes to `MANY` patterns that it has before it is started."""
     page = Window(fixture.browser, fixture.site.address)
     for pattern, channel, is_match in MATCHES:
         if page.run("return isMatch(...arguments)", pattern, channel) != is_match:
             raise CheckFailed(f"{pattern} and {channel}: not {is_match}")
-    page.run(MANY_PATTERNS)
-    if wait_until("the promise resolves", lambda: page.run("return window.subscribed")) != 40:
-        raise CheckFailed(f"the promise has resolved, and only {page.run('return window.subscribed')} of 40 patterns are subscribed")
-    fixture.server.publish("/many/39", "last")
+    page.run(MANY_PATTERNS, MANY)
+    if wait_until("the promise resolves", lambda: page.run("return window.subscribed")) != MANY:
+        raise CheckFailed(f"the promise has resolved, and only {page.run('return window.subscribed')} of {MANY} patterns are subscribed")
+    fixture.server.publish(f"/many/{MANY - 1}", "last")
     wait_until("the event comes", lambda: page.run("return window.found") == "last")
     page.close()
 
 
 def try_pauses(fixture):
-    """Checks that the client pauses between two connects as the server advises, and after failures for at most ten seconds."""
+    """Checks that the client pauses between two connects as the server advises, and after failures for at most ten seconds.
+
+    A connect ends a series of failures.
+    """
     page = Window(fixture.browser, fixture.site.address)
-    for failures, is_served, is_right in ((0, True, lambda it: it == 2000), (20, False, lambda it: 0 < it <= 10_000)):
+    for failures, is_served, is_right in ((5, True, lambda it: it == 2000), (20, False, lambda it: 0 < it <= 10_000)):
         page.run(PAUSES, failures, is_served, 3)
         wait_until("it has paused three times", lambda: page.run("return pauses.length") == 3)
         if not all(map(is_right, page.run("return pauses"))):
             raise CheckFailed(f"after {failures} failures it pauses for {page.run('return pauses')} milliseconds")
+        if is_served and page.run("return pausing.failures"):
+            raise CheckFailed(f"after {failures} failures and a connect it still counts {page.run('return pausing.failures')}")
         page.driver.refresh()
     page.close()
 

@@ -1,6 +1,7 @@
 """Checks of what the metrics listener of a daemon shows besides counts: lists, settings, and the process."""
 import json
 import resource
+import socket
 import time
 
 from base import TOP, CheckFailed, wait_until
@@ -36,6 +37,8 @@ CHANNELS = [{"pattern": "/a", "subscriptions": 1}, {"pattern": "/chat/*", "subsc
 # pattern, and the number of sessions with as many long patterns that the list can have.
 MOST_LISTED, PATTERNS, LONG, LONG_LISTED = 1000, 1024, 250, 5
 TRUNCATED = {"truncated": True}
+# The segments and the buffer of a connection over which the system takes little that its peer does not read, in bytes.
+SMALL_SEGMENT, SMALL_BUFFER = 536, 4096
 
 
 def expect_near(name, found, wanted, change):
@@ -120,18 +123,38 @@ def close_all(connection, sessions):
         expect_success(connection.ask([{"channel": "/meta/disconnect", **it} for it in some]), len(some))
 
 
+def expect_truncated(daemon, client):
+    """Checks that the list of sessions has `MOST_LISTED`, and says so if there are more. Closes the sessions."""
+    sessions = open_many(client, MOST_LISTED)
+    if len(found := read_list(daemon.metrics, b"/sessions")) != MOST_LISTED or TRUNCATED in found:
+        raise CheckFailed(f"not {MOST_LISTED} sessions: {len(found)} {found[-1]}")
+    sessions += open_many(client, 1)
+    if len(found := read_list(daemon.metrics, b"/sessions")) != MOST_LISTED + 1 or found[-1] != TRUNCATED:
+        raise CheckFailed(f"not {MOST_LISTED} sessions, and that there are more: {len(found)} {found[-1]}")
+    close_all(client, sessions)
+
+
+def expect_no_wait_for_reader(metrics):
+    """Checks that the metrics listener serves the next client although the one before asked for a long list, and reads nothing.
+
+    `metrics`: the address of the metrics listener.
+    """
+    with socket.socket() as stuck:
+        stuck.setsockopt(socket.IPPROTO_TCP, socket.TCP_MAXSEG, SMALL_SEGMENT)
+        stuck.setsockopt(socket.SOL_SOCKET, socket.SO_RCVBUF, SMALL_BUFFER)
+        stuck.connect(metrics)
+        stuck.sendall(get(b"", b"/sessions"))
+        scrape(metrics)
+
+
 def check_lists(program):
     start = time.monotonic()
     with NonExpiringDaemon(program, "--shards", "2", "--limit", "2") as daemon, Connection(daemon.address) as client:
         expect_lists(daemon, client, start)
     with NonExpiringDaemon(program, "--shards", "3") as daemon, Connection(daemon.address) as client:
-        sessions = open_many(client, MOST_LISTED)
-        if len(found := read_list(daemon.metrics, b"/sessions")) != MOST_LISTED or TRUNCATED in found:
-            raise CheckFailed(f"not {MOST_LISTED} sessions: {len(found)} {found[-1]}")
-        sessions += open_many(client, 1)
-        if len(found := read_list(daemon.metrics, b"/sessions")) != MOST_LISTED + 1 or found[-1] != TRUNCATED:
-            raise CheckFailed(f"not {MOST_LISTED} sessions, and that there are more: {len(found)} {found[-1]}")
-        close_all(client, sessions)
+        expect_truncated(daemon, client)
+    with NonExpiringDaemon(program, "--shards", "1") as daemon, Connection(daemon.address) as client:
+        expect_truncated(daemon, client)
         # The lines of five sessions are longer than a MiB.
         for number, session in enumerate(open_many(client, LONG_LISTED + 1)):
             patterns = [f"/{number}/{at:04}/{'x' * (LONG - 8)}" for at in range(PATTERNS)]
@@ -141,3 +164,4 @@ def check_lists(program):
         found = read_list(daemon.metrics, b"/channels")
         if found[-1] != TRUNCATED or [it["pattern"] for it in found[:PATTERNS]] != [f"/0/{at:04}/{'x' * (LONG - 8)}" for at in range(PATTERNS)]:
             raise CheckFailed(f"not the first patterns, and that there are more: {len(found)} {found[:2]} {found[-1]}")
+        expect_no_wait_for_reader(daemon.metrics)

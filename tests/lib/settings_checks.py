@@ -38,7 +38,9 @@ SETTINGS = [
     ([], {}),
     (["--until-eof"], {"until_eof": "true"}),
     (["--listen", "localhost:0"], {"listen": "localhost:0"}),
+    (["--listen", "[::1]:0"], {"listen": "[::1]:0"}),
     (["--readers", "localhost:0"], {"readers": "localhost:0"}),
+    (["--readers", "[::1]:0"], {"readers": "[::1]:0"}),
     (["--readers", "127.0.0.1:0", "--listen", "localhost:0"], {"readers": "127.0.0.1:0", "listen": "localhost:0"}),
     (["--shards", "3"], {"shards": "3"}),
     (["--shards", "64"], {"shards": "64"}),
@@ -69,9 +71,18 @@ SETTINGS = [
     (["--no-callback-polling"], {"callback_polling": "false"}),
     (["--connections", "4"], {"connections": "4"}),
     (["--metrics", "localhost:0"], {"metrics": "localhost:0"}),
+    (["--metrics", "[::1]:0"], {"metrics": "[::1]:0"}),
     (["--figures", "localhost:0"], {"metrics": "localhost:0"}),
     (["--log", "text", "--log-level", "info"], {}),
     (["127.0.0.1:0", "2", "30000", "0", "10000", "0f" * 32, "1"], {"listen": "127.0.0.1:0", "shards": "2", "connections": "1"}),
+]
+# Flags, the text of a warning, and whether the log has it with these flags.
+ENDING = b'sessions end between two connects interval=5s max_interval=5s hint="raise --max-interval"\n'
+WARNINGS = [
+    (["--interval", "5s", "--max-interval", "5s"], ENDING, True),
+    (["--interval", "5s", "--max-interval", "5001"], ENDING, False),
+    (["--max-interval", "6"], b'time is below one second max_interval=6ms hint="for seconds, write 6s"\n', True),
+    (["--interval", "500", "--max-interval", "1000"], b"time is below one second", False),
 ]
 ADVICE = {"reconnect": "retry", "interval": 0, "timeout": 30000}
 # The exact messages about wrong positional arguments, and if the daemon cannot listen.
@@ -202,10 +213,10 @@ def check_settings(program):
             wrong = [f"{name}={found.get(name)}" for name, value in wanted.items() if found.get(name) != value]
             if wrong:
                 raise CheckFailed(f"neither given nor a default: {' '.join(wrong)} with {flags}")
-    for flags, warns in ((["--interval", "5s", "--max-interval", "5s"], True), (["--interval", "5s", "--max-interval", "5001"], False)):
+    for flags, warning, warns in WARNINGS:
         with FlagDaemon(program, *flags) as daemon:
-            if (b'sessions end between two connects interval=5s max_interval=5s hint="raise --max-interval"\n' in daemon.log_tail()) != warns:
-                raise CheckFailed(f"a warning for {flags} in place of {warns}: {daemon.log_tail()!r}")
+            if (warning in daemon.log_tail()) != warns:
+                raise CheckFailed(f"not {warns}, that the log has {warning!r} with {flags}: {daemon.log_tail()!r}")
     expect_advice(program, ["--ride"], ADVICE)
     expect_advice(program, ["--interval", "2s", "--timeout", "7s"], {**ADVICE, "interval": 2000, "timeout": 7000})
 

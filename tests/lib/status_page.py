@@ -15,6 +15,11 @@ CURVES = """
 return [...document.querySelectorAll('.card')].map((it) => [...it.querySelectorAll('.curve')].map((path) => path.getAttribute('d')).join(''))
   .map((it) => [it.split('M').length - 1, it.split(/[LM]/).length - 1]);
 """
+# Returns what the page shows per second of a counter that grows by 300 in three seconds.
+RATE = """
+samples = [0, 3000].map((time) => ({ time, values: parse(`grows ${time / 10}`) }));
+return seriesOf({ metric: 'grows', isRate: true })[0].points[1].value;
+"""
 
 
 def value_of(window, title):
@@ -57,7 +62,7 @@ def try_values(server, window):
 def try_status(fixture):
     """Checks that the status page shows the metrics of a server, and that it says so if there are none.
 
-    It must be readable in light and dark.
+    It must be readable in light and dark, and show counters per second.
     """
     metrics = f"127.0.0.1:{free_port()}"
     fixture.server.restart("--metrics", metrics)
@@ -72,5 +77,6 @@ def try_status(fixture):
     expect_equal("the values without metrics", set(window.texts(".value")), {"–"})
     fixture.server.restart("--metrics", metrics)
     wait_until("the curves go on after a gap", lambda: all(now > then for (now, _), then in zip(window.run(CURVES), before)))
+    expect_equal("a counter that grows by 300 in three seconds", window.run(RATE), 100)
     window.close()
     fixture.server.restart()

@@ -228,12 +228,28 @@ fn pages_have_the_rows(rt: HostRuntime) -> Result<(), Fail> {
     Ok(())
 }
 
-// Times of requests in nanoseconds, each with the least upper bound of a bucket in which it counts.
-const BOUNDED: [(u64, &str); 6] = [
+// Times of requests in nanoseconds, each with the least upper bound of a bucket in which it counts:
+// the shortest time, each bound, and the time after it.
+const BOUNDED: [(u64, &str); 21] = [
     (0, "0.00001"),
     (10_000, "0.00001"),
     (10_001, "0.000025"),
-    (999_999, "0.001"),
+    (25_000, "0.000025"),
+    (25_001, "0.00005"),
+    (50_000, "0.00005"),
+    (50_001, "0.0001"),
+    (100_000, "0.0001"),
+    (100_001, "0.00025"),
+    (250_000, "0.00025"),
+    (250_001, "0.0005"),
+    (500_000, "0.0005"),
+    (500_001, "0.001"),
+    (1_000_000, "0.001"),
+    (1_000_001, "0.01"),
+    (10_000_000, "0.01"),
+    (10_000_001, "0.1"),
+    (100_000_000, "0.1"),
+    (100_000_001, "1"),
     (1_000_000_000, "1"),
     (1_000_000_001, "+Inf"),
 ];
