@@ -47,6 +47,14 @@ def expect_near(name, found, wanted, change):
         raise CheckFailed(f"{name}: not {wanted} or at most {change} from it: {found}")
 
 
+def has_memory(pid, values):
+    """Returns `True` if the metrics `values` are near the resident and the virtual memory of the process `pid`."""
+    with open(f"/proc/{pid}/status", encoding="ascii") as text:
+        status = dict(line.split(":", 1) for line in text)
+    sizes = {name: 1024 * int(status[line].split()[0]) for name, line in (("resident", "VmRSS"), ("virtual", "VmSize"))}
+    return all(abs(values[f"process_{name}_memory_bytes", ""] - size) <= max(MEMORY_CHANGE, size // 10) for name, size in sizes.items())
+
+
 def check_process(program):
     with open(TOP / "VERSION", encoding="ascii") as text:
         version = text.read().strip()
@@ -57,11 +65,8 @@ def check_process(program):
         found = {name: value for (name, _), value in values.items() if name.startswith("process_")}
         if not used <= found["process_cpu_seconds_total"] <= daemon.processor_seconds():
             raise CheckFailed(f"processor time: not from {used} to {daemon.processor_seconds()}: {found}")
-        with open(f"/proc/{daemon.process.pid}/status", encoding="ascii") as text:
-            status = dict(line.split(":", 1) for line in text)
-        for name, line in (("resident", "VmRSS"), ("virtual", "VmSize")):
-            size = 1024 * int(status[line].split()[0])
-            expect_near(name, found[f"process_{name}_memory_bytes"], size, max(MEMORY_CHANGE, size // 10))
+        # The memory still changes while threads begin to work.
+        wait_until("the metrics of memory are near those of /proc", lambda: has_memory(daemon.process.pid, scrape(metrics)))
         expect_near("start", found["process_start_time_seconds"], start, START_CHANGE)
         # The metrics also count the connection that asks for them.
         wait_until("the number of open files", lambda: scrape(metrics)[("process_open_fds", "")] == daemon.descriptors() + 1)
