@@ -14,8 +14,6 @@ mod pauses;
 #[cfg(test)]
 mod recorded;
 #[cfg(test)]
-mod same;
-#[cfg(test)]
 mod sessions;
 #[cfg(test)]
 mod steps;

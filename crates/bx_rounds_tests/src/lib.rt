@@ -13,8 +13,6 @@ mod replays;
 #[cfg(test)]
 mod requests;
 #[cfg(test)]
-mod same;
-#[cfg(test)]
 mod script;
 #[cfg(test)]
 mod world;

@@ -10,8 +10,6 @@ mod registry;
 #[cfg(test)]
 mod riders;
 #[cfg(test)]
-mod same;
-#[cfg(test)]
 mod session;
 #[cfg(test)]
 mod tree;

@@ -12,6 +12,4 @@ mod message;
 #[cfg(test)]
 mod names;
 #[cfg(test)]
-mod same;
-#[cfg(test)]
 mod transport;

@@ -16,6 +16,4 @@ mod locks;
 #[cfg(test)]
 mod rounds;
 #[cfg(test)]
-mod same;
-#[cfg(test)]
 mod threads;

@@ -1,4 +1,6 @@
-//! Comparison of a found value with the expected one.
+//! Comparison of a found value with the expected one, for the crates of tests.
+#![tactic(auto)]
+
 use std::fmt::Debug;
 use std::process::Abort;
 
