@@ -5,6 +5,7 @@
 //! Functions with `rt` take locks and wake tasks as [`Hub::post`] and [`Hub::poll_answer`] do.
 #![tactic(auto)]
 
+mod hubs;
 mod tasks;
 pub mod texts;
 mod ticker;
@@ -14,6 +15,7 @@ use bx_entry::{Access, Arrival, ByTable, Slot, Ticket};
 use bx_hub::{Hub, HubFault, HubKind, Pass, PostFault, Tick};
 use bx_message::{Answer, Event, Item, RawJson, SharedEvent, Text, body_text};
 use bx_names::ChannelName;
+pub use hubs::{HubWork, config_of, work_in_hub, work_in_open_hub};
 use std::alloc::{AllocError, Global};
 use std::sync::Wait;
 pub use tasks::{Task, Tasks, waker_of};
