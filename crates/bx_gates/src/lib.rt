@@ -2,7 +2,6 @@
 #![tactic(auto)]
 
 use bx_shard::Gate;
-use std::process::Abort;
 use std::sync::atomic::{AtomicBool, AtomicU16, Ordering};
 use std::thread::yield_now;
 
@@ -14,9 +13,8 @@ const LOOKS: u32 = 10_000_000;
 /// A set of workers is a number, of which bit k is set for worker k.
 #[derive(Drop)]
 pub struct Meeting {
-    // The workers that must pass.
     team: u16,
-    // The only worker that waits, or `None` if all wait for the whole team.
+    // The only worker that waits, or `None` if all wait for `team`.
     held: Option<usize>,
     came: AtomicU16,
     went: AtomicU16,
@@ -35,23 +33,20 @@ impl Meeting {
         }
     }
 
-    /// Creates a gate for `team` that stops worker `held` until another worker has finished.
-    pub fn holding(team: u16, held: usize) -> Meeting {
+    /// Creates a gate that stops worker `held` until another worker has finished.
+    pub fn holding(held: usize) -> Meeting {
         Meeting {
             held: Some(held),
-            ..Meeting::of(team)
+            ..Meeting::of(0)
         }
     }
 
-    /// Checks that exactly the team's workers finished their work, and that none gave up.
-    pub fn check<R: Abort>(&self, rt: &R) {
-        let (team, held) = (self.team, self.held);
-        assert!(rt;
-            !self.gave_up.load(Ordering::SeqCst),
-            "team {team:b}, held {held:?}"
-        );
-        let went = self.went.load(Ordering::SeqCst);
-        assert_eq!(rt; went, team, "team {team:b}, held {held:?}");
+    /// Returns the workers that finished their work, or `None` if a worker gave up.
+    pub fn finished(&self) -> Option<u16> {
+        if self.gave_up.load(Ordering::SeqCst) {
+            return None;
+        }
+        Some(self.went.load(Ordering::SeqCst))
     }
 
     fn may_continue(&self, worker: usize) -> bool {

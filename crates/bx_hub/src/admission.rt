@@ -317,9 +317,9 @@ impl<L: LogId, R: Wait + Drop> Admission<L, R> {
             Submission::Request(request) => self.registry.plan(
                 alloc,
                 placing,
-                request.arrival().moment,
-                request.arrival().nonce,
-                request.messages(),
+                request.arrival.moment,
+                request.arrival.nonce,
+                request.messages.as_slice(),
             ),
             Submission::Tick(tick) => self.registry.plan_tick(alloc, tick.moment()),
         }

@@ -13,8 +13,8 @@ use crate::kind::HubKind;
 use crate::parsed_request::{ParsedRequest, Rejection};
 use crate::recording::{NotRecording, RecordFront};
 use crate::shard_state::{
-    AddedWakers, ChangeEvidence, NoAnswer, ShardAdvance, ShardChange, ShardPosition, ShardState,
-    Unfiled, WatchEvidence,
+    AddedWakers, ChangeEvidence, NoAnswer, PolledAnswer, ShardAdvance, ShardChange, ShardPosition,
+    ShardState, Unfiled, WatchEvidence,
 };
 use crate::submission::{ConsumedSubmission, Submission, Tick};
 use crate::survey::{ShardSurvey, Survey};
@@ -505,11 +505,7 @@ impl<L: HubKind, R: Wait + Drop> Hub<L, R> {
         pass: &mut Front<L>,
         ticket: Ticket,
         wakers: &mut Wakers,
-    ) -> (
-        Result<Option<Answer>, NoAnswer<L>>,
-        Option<Unfiled<L>>,
-        Option<AddedWakers>,
-    )
+    ) -> (PolledAnswer<L>, Option<Unfiled<L>>, Option<AddedWakers>)
         requires { ticket.shard < length self.now.shards.items }
         ensures seen { IsPrefix pass.old pass.new }
         ensures answer { IfOk result.0 (λ o. IfSome o (λ a. answer_over L.config pass.new ticket.place ≡ Some a)) }

@@ -15,8 +15,10 @@ use std::alloc::Global;
 /// Admission consumes it, so it is appended to the list at most once.
 #[derive(Drop)]
 pub(crate) struct ParsedRequest {
-    arrival: Arrival,
-    messages: Vec<Message>,
+    /// The request as it arrived.
+    pub(crate) arrival: Arrival,
+    /// The messages that were read from the request, in order.
+    pub(crate) messages: Vec<Message>,
     ghost read: { arrival_messages arrival ≡ Ok messages.items },
 }
 
@@ -45,26 +47,5 @@ impl ParsedRequest {
             Ok(messages) => Ok(ParsedRequest { arrival, messages }),
             Err(fault) => Err((arrival, Rejection::unread(fault))),
         }
-    }
-
-    /// Returns the request as it arrived.
-    pub(crate) fn arrival(&self) -> &Arrival
-        ensures { result.now ≡ self.now.arrival }
-    {
-        &self.arrival
-    }
-
-    /// Returns the messages that were read from the request, in order.
-    pub(crate) fn messages(&self) -> &[Message]
-        ensures { result.now ≡ self.now.messages.items }
-    {
-        self.messages.as_slice()
-    }
-
-    /// Converts `self` back to the request as it arrived.
-    pub(crate) fn into_arrival(self) -> Arrival
-        ensures { result ≡ self.arrival }
-    {
-        self.arrival
     }
 }

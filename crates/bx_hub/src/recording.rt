@@ -187,7 +187,7 @@ fn text_of(alloc: Global, listed: &Submission) -> Result<Vec<u8>, RecordFault>
 {
     match listed {
         Submission::Request(request) => {
-            match request_text(alloc, request.arrival(), request.messages())? {
+            match request_text(alloc, &request.arrival, request.messages.as_slice())? {
                 Some(text) => Ok(text),
                 None => Err(RecordFault::Unrecordable),
             }

@@ -37,6 +37,9 @@ use std::alloc::{AllocError, Global};
 use std::snapshot::Snapshot;
 use std::sync::Arc;
 
+/// The answer under a ticket, `None` if none is filed, or evidence of why there is none.
+pub(crate) type PolledAnswer<L> = Result<Option<Answer>, NoAnswer<L>>;
+
 /// A shard, its reader of the window, and the longest front of the list that it has learned.
 ///
 /// When the shard learns a front from a caller, its reader has then seen that front too. The
@@ -103,13 +106,6 @@ impl<L: LogId, P: Placing> ShardState<L, P> {
         ensures longer { IsPrefix self.now.prefix result }
     {
         self.reader.note()
-    }
-
-    /// Returns the longest front of the list that the shard has learned.
-    pub(crate) fn learned(&self) -> &Front<L>
-        ensures { result.now ≡ self.now.prefix }
-    {
-        &self.prefix
     }
 
     /// Returns the shard's index.
@@ -395,11 +391,7 @@ impl<L: LogId, P: Placing> ShardState<L, P> {
         pass: &mut Front<L>,
         ticket: Ticket,
         wakers: &mut Wakers,
-    ) -> (
-        Result<Option<Answer>, NoAnswer<L>>,
-        Option<Unfiled<L>>,
-        AddedWakers,
-    )
+    ) -> (PolledAnswer<L>, Option<Unfiled<L>>, AddedWakers)
         requires { ticket.shard ≡ self.old.shard.index }
         ensures seen { IsPrefix pass.old pass.new }
         ensures answer { IfOk result.0 (λ o. IfSome o (λ a. answer_over L.config pass.new ticket.place ≡ Some a)) }

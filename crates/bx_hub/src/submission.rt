@@ -61,7 +61,7 @@ impl Submission {
         ensures { MatchBool result (inputs_by self.now ≡ input_in self.now ∷ []) (inputs_by self.now ≡ []) }
     {
         match self {
-            Submission::Request(request) => !request.messages().is_empty(),
+            Submission::Request(request) => !request.messages.is_empty(),
             Submission::Tick(_) => true,
         }
     }
@@ -78,7 +78,7 @@ impl Submission {
         ensures { result ≡ arrival_of self }
     {
         match self {
-            Submission::Request(request) => Some(request.into_arrival()),
+            Submission::Request(request) => Some(request.arrival),
             Submission::Tick(_tick) => None,
         }
     }

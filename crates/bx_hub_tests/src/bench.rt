@@ -1,11 +1,11 @@
 //! A hub under test, its caller's pass, and two waiting tasks that its gate inspects.
+use crate::same::same;
 use crate::steps::Shown;
 use bx_calls::texts::{CONNECT, CONNECT_THIRD, HANDSHAKE, PING, SUBSCRIBE, SUBSCRIBE_THIRD};
 use bx_calls::{Refused, Task, Tasks, is_of, long_ping, post, publish, waker_of};
 use bx_entry::{Arrival, ByTable, Ticket};
 use bx_hub::{Gate, Hub, HubKind, Lagging, Pass, PostFault, RecordFront, Watch};
 use bx_record::{Chunk, RecordFault};
-use bx_same::same;
 use futures::task::Waker;
 use std::alloc::{AllocGlobal, Global};
 use std::process::Abort;

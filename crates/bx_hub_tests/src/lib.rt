@@ -14,6 +14,8 @@ mod pauses;
 #[cfg(test)]
 mod recorded;
 #[cfg(test)]
+mod same;
+#[cfg(test)]
 mod sessions;
 #[cfg(test)]
 mod steps;

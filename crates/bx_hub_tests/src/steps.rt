@@ -4,12 +4,12 @@ ghost use Rattle.std.specs.Arc.{arc_value};
 ghost use Rattle.bx_entry.specs.Placings.{by_table};
 
 use crate::bench::{Bench, Looking, Waiting, Watched, behind};
+use crate::same::same;
 use bx_advice::{Config, Options};
 use bx_calls::{Found, Task, arrival, find, hold, in_turn, publish, shards_for, tick};
 use bx_entry::{ByTable, Ticket};
 use bx_hub::{Hub, HubKind, Kind, PostFault, ShardSurvey, Survey};
 use bx_record::RecordFault;
-use bx_same::same;
 use bx_window::{EmptyWindow, LogId};
 use std::alloc::{AllocGlobal, Global};
 use std::marker::Brand;

@@ -1,8 +1,8 @@
 //! Tests of what the readers of a window find, as tables of steps.
 ghost use Rattle.std.specs.Prelude.{◌≡◌, [], IfOk};
 
+use crate::same::same;
 use bx_calls::{Taken, Ticker};
-use bx_same::same;
 use bx_window::{EmptyWindow, Front, LogId, LogReader, Next, PublishFault, entry_of, log_pair};
 use std::alloc::{AllocError, Global};
 use std::marker::Brand;

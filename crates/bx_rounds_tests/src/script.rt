@@ -1,8 +1,8 @@
 //! Tests of reading the lines of a script, and of writing the answers to them.
+use crate::same::same;
 use bx_advice::BODY_LIMIT;
 use bx_entry::{Input, Refusal};
 use bx_message::{Sequence, Status, number_of};
-use bx_same::same;
 use bx_script::{
     Dialect, Line, Lines, Output, ScriptFault, write_bad, write_held, write_result, write_status,
 };

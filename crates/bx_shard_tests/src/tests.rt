@@ -1,4 +1,5 @@
 //! Tests of one shard: when tasks are woken, and which answers are filed.
+use crate::same::same;
 use bx_advice::{Config, Outcome};
 use bx_entry::{ByRemainder, Entry, EntryKind, Rider, Ticket};
 use bx_message::{
@@ -6,7 +7,6 @@ use bx_message::{
     reply_text,
 };
 use bx_names::{ChannelName, Pattern};
-use bx_same::same;
 use bx_shard::{Shard, Wakers, Watch};
 use futures::task::{Poll, Source, Waker};
 use futures::test::MockTask;

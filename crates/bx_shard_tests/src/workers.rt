@@ -3,11 +3,11 @@ ghost use Rattle.std.specs.Prelude.{◌≡◌, length, IfOk};
 ghost use Rattle.bx_entry.specs.Placings.{all_first};
 ghost use Rattle.bx_shard_tests.specs.Numbered.{AreFresh, AreNumbered};
 
+use crate::same::same;
 use crate::tests::{Deed, kind};
 use bx_advice::{Config, WorkerCount};
 use bx_entry::{ByRemainder, Entry, EntryKind, Placing, Ticket};
 use bx_gates::Meeting;
-use bx_same::same;
 use bx_shard::{Gate, OpenGate, Shard, bring_up};
 use std::alloc::{AllocError, Global};
 use std::sync::Arc;
@@ -109,10 +109,10 @@ fn workers_run_at_the_same_time(rt: HostRuntime) -> Result<(), Fail> {
     let alloc = rt.alloc();
     let placing = Arc::new(alloc, ByRemainder)?;
     for held in [0, 1] {
-        let gate = Meeting::holding(0b11, held);
+        let gate = Meeting::holding(held);
         let (_shards, behind) = brought_up(&rt, alloc, &placing, &gate, (2, 2))?;
         same(&rt, behind, 0, held);
-        gate.check(&rt);
+        same(&rt, gate.finished(), Some(0b11), held);
     }
     Ok(())
 }

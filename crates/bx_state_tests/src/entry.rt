@@ -1,4 +1,5 @@
 //! Tests of requests with several documents, of the read-only listener, and of placings.
+use crate::same::same;
 use bx_cut::Bodies;
 use bx_entry::{
     Access, AdmitFault, AllFirst, Arrival, ByRemainder, ByTable, Placing, Refusal, SharedPatterns,
@@ -6,7 +7,6 @@ use bx_entry::{
 };
 use bx_message::Message;
 use bx_names::Pattern;
-use bx_same::same;
 use std::alloc::{AllocError, Global};
 use std::process::Abort;
 use std::test::Fail;

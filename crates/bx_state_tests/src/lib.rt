@@ -10,6 +10,8 @@ mod registry;
 #[cfg(test)]
 mod riders;
 #[cfg(test)]
+mod same;
+#[cfg(test)]
 mod session;
 #[cfg(test)]
 mod tree;

@@ -1,11 +1,11 @@
 //! Tests of the registry: its plans, and what commits change.
 ghost use Rattle.bx_registry.specs.Standings.{LeadsTo};
 
+use crate::same::same;
 use bx_advice::{Config, Error, Limits, Outcome};
 use bx_entry::{AdmitFault, ByRemainder, Entry, EntryKind, Refusal, Slot};
 use bx_message::{AckMember, Message, Sequence, Text, TextMember, reply_text};
 use bx_registry::{Plan, Registry};
-use bx_same::same;
 use std::alloc::{AllocError, Global};
 use std::process::Abort;
 use std::test::Fail;

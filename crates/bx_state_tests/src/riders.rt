@@ -1,10 +1,10 @@
 //! Tests of riders: which message of a request is one, and how messages are answered.
 use crate::registry::{commit, config, hello, message};
+use crate::same::same;
 use bx_advice::Options;
 use bx_entry::{ByRemainder, Entry, Slot, Ticket};
 use bx_message::{AckMember, Message, RawJson, Text, TextMember};
 use bx_registry::{Plan, Registry};
-use bx_same::same;
 use std::alloc::{AllocError, Global};
 use std::process::Abort;
 use std::test::Fail;

@@ -2,10 +2,10 @@
 ghost use Rattle.std.specs.Prelude.{◌≡◌, IfOk, false};
 ghost use Rattle.bx_tree.specs.Patterns.{patterns_of};
 
+use crate::same::same;
 use bx_advice::{Config, Outcome, Reconnect};
 use bx_message::{AckReply, Event, RawJson, Reply, SharedEvent, Text};
 use bx_names::{ChannelName, Pattern};
-use bx_same::same;
 use bx_session::{Answered, ConnectResult, Delivery, PendingConnect, Session};
 use bx_tree::Tree;
 use std::alloc::{AllocError, Global};

@@ -3,8 +3,8 @@
 //! In these tests, a number such as 1 names a session.
 ghost use Rattle.std.specs.Prelude.{◌<◌};
 
+use crate::same::same;
 use bx_names::{ChannelName, Pattern, matches};
-use bx_same::same;
 use bx_tree::Tree;
 use std::alloc::{AllocError, Global};
 use std::process::Abort;

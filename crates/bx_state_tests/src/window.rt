@@ -3,10 +3,10 @@
 //! The window is the session's queue of events.
 ghost use Rattle.std.specs.Prelude.{◌≡◌};
 
+use crate::same::same;
 use crate::session::{event, push_numbers};
 use bx_advice::Limit;
 use bx_batches::Window;
-use bx_same::same;
 use std::alloc::Global;
 use std::process::Abort;
 use std::test::Fail;

@@ -1,9 +1,9 @@
 //! Tests of splitting bodies into messages, and of looking up members and texts.
+use crate::same::same;
 use bx_cut::{
     Bodies, CutError, Document, MAX_MESSAGES, elements_of, member_of, plain_text_of, spells,
     text_of,
 };
-use bx_same::same;
 use std::alloc::{AllocError, Global};
 use std::process::Abort;
 use std::test::Fail;

@@ -12,4 +12,6 @@ mod message;
 #[cfg(test)]
 mod names;
 #[cfg(test)]
+mod same;
+#[cfg(test)]
 mod transport;

@@ -1,4 +1,5 @@
 //! Tests of parsing messages, and of formatting replies, events and responses.
+use crate::same::same;
 use bx_advice::{Config, Error, Outcome};
 use bx_cut::{Document, Piece};
 use bx_message::{
@@ -6,7 +7,6 @@ use bx_message::{
     SharedEvent, Text, TextMember, body_text, event_text, reply_text,
 };
 use bx_names::ChannelName;
-use bx_same::same;
 use std::alloc::{AllocError, Global};
 use std::process::Abort;
 use std::test::Fail;

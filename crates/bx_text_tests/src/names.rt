@@ -1,9 +1,9 @@
 //! Tests of channel names, patterns and their limits, and of matching names against patterns.
+use crate::same::same;
 use bx_names::{
     ChannelKind, ChannelName, MAX_NAME_BYTES, MAX_NAME_SEGMENTS, NameError, Pattern, Tail, kind_of,
     matches, name_fault, pattern_fault,
 };
-use bx_same::same;
 use std::alloc::{AllocError, Global};
 use std::process::Abort;
 use std::test::Fail;

@@ -1,9 +1,9 @@
 //! Tests of reading documents from bodies and queries, and of writing responses.
+use crate::same::same;
 use bx_advice::{BODY_LIMIT, Config, Outcome};
 use bx_cut::Bodies;
 use bx_message::{AckReply, Event, Item, RawJson, Reply, SharedEvent, Text, body_text};
 use bx_names::ChannelName;
-use bx_same::same;
 use bx_transport::{TransportError, callback_of, read_get, read_post};
 use std::alloc::{AllocError, Global};
 use std::process::Abort;

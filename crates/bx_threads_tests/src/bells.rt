@@ -2,12 +2,12 @@
 ghost use Rattle.std.specs.Prelude.{◌≡◌};
 ghost use Rattle.bx_entry.specs.Placings.{by_remainder};
 
+use crate::same::same;
 use bx_advice::Config;
 use bx_calls::texts::{ANSWER, HANDSHAKE, PUBLISH};
 use bx_calls::{Found, find, hold, post};
 use bx_entry::{ByRemainder, Ticket};
 use bx_hub::{Gate, Hub, HubKind, Kind, Watch};
-use bx_same::same;
 use bx_window::{EmptyWindow, LogId};
 use futures::task::{Doorbell, Poll, Solo, Source, Waker};
 use libc::net::{EFD_CLOEXEC, eventfd};

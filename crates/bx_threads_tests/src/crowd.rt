@@ -1,12 +1,12 @@
 //! Test of eight threads that use one hub with four shards.
 
 use crate::hubs::{Work, work_in_new_hub};
+use crate::same::same;
 use bx_calls::post;
 use bx_calls::texts::{
     CONNECT_AT_ONCE, CONNECT_OTHER_AT_ONCE, HANDSHAKE, SUBSCRIBE, SUBSCRIBE_OTHER,
 };
 use bx_hub::{Hub, HubKind, Pass, Tick};
-use bx_same::same;
 use std::alloc::Global;
 use std::process::Abort;
 use std::sync::Wait;

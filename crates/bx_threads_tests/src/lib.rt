@@ -16,4 +16,6 @@ mod locks;
 #[cfg(test)]
 mod rounds;
 #[cfg(test)]
+mod same;
+#[cfg(test)]
 mod threads;

@@ -3,12 +3,12 @@
 ghost use Rattle.std.specs.Prelude.{◌≡◌};
 ghost use Rattle.bx_entry.specs.Placings.{by_remainder, by_remainder-below};
 
+use crate::same::same;
 use bx_advice::Config;
 use bx_calls::post;
 use bx_calls::texts::{CONNECT, HANDSHAKE, PING};
 use bx_entry::{ByRemainder, Placing, Ticket};
 use bx_hub::{Gate, Hub, HubKind, Kind, Tick};
-use bx_same::same;
 use bx_window::{EmptyWindow, LogId};
 use std::alloc::{AllocError, Global};
 use std::marker::Brand;

@@ -2,11 +2,11 @@
 //! event answers the connect.
 
 use crate::hubs::{Work, work_in_new_hub};
+use crate::same::same;
 use bx_calls::texts::{CONNECT, HANDSHAKE, SUBSCRIBE};
 use bx_calls::{Found, find, post};
 use bx_entry::Ticket;
 use bx_hub::{Hub, HubKind, Pass, Watch};
-use bx_same::same;
 use futures::task::{Doorbell, Poll, Queue, Source, Waker};
 use std::alloc::{AllocError, Global};
 use std::process::Abort;

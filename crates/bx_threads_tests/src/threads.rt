@@ -1,11 +1,11 @@
 //! Test of two threads, each with its own pass.
 
 use crate::hubs::{Work, work_in_new_hub};
+use crate::same::same;
 use bx_calls::texts::ANSWER;
 use bx_calls::{Found, find, hold, publish};
 use bx_entry::Ticket;
 use bx_hub::{Hub, HubKind, Pass, Tick};
-use bx_same::same;
 use std::alloc::Global;
 use std::process::Abort;
 use std::sync::Wait;

@@ -4,6 +4,9 @@
 //! Ghost parts take no memory.
 ghost use Rattle.std.specs.Prelude.{◌≡◌, ◌≢◌, ◌≤◌, ◌<◌, length, drop, is_some, Some, None, IfSome, IfNone};
 ghost use mathlib.Core.List.{IsPrefix};
+ghost use Rattle.bx_connects.specs.Connects.{filed_answer};
+ghost use Rattle.bx_shard.specs.Seen.{state};
+ghost use Rattle.bx_shard.specs.States.{connect_in};
 ghost use Rattle.bx_hub.specs.Faults.{IsAt, IsStopped, IsStoppedIn};
 ghost use Rattle.bx_hub.specs.declared.activity.Activity.TheVariants.{Active};
 ghost use Rattle.bx_hub.specs.declared.fault.HubFault.TheVariants as faults;
@@ -137,10 +140,6 @@ pub struct NoAnswer<L: LogId> {
 }
 
 impl<L: LogId> NoAnswer<L> {
-    ghost use Rattle.bx_connects.specs.Connects.{filed_answer};
-    ghost use Rattle.bx_shard.specs.Seen.{state};
-    ghost use Rattle.bx_shard.specs.States.{connect_in};
-
     /// Creates evidence that `fault` stopped `shard_state` and that no answer is filed under
     /// `ticket`.
     ///
@@ -204,10 +203,6 @@ pub struct Unfiled<L: LogId> {
 }
 
 impl<L: LogId> Unfiled<L> {
-    ghost use Rattle.bx_connects.specs.Connects.{filed_answer};
-    ghost use Rattle.bx_shard.specs.Seen.{state};
-    ghost use Rattle.bx_shard.specs.States.{connect_in};
-
     /// Creates evidence that no answer is filed under `ticket`.
     ///
     /// `shard_state`: the ticket's shard, which must be active and at the end of the longest front
@@ -221,7 +216,7 @@ impl<L: LogId> Unfiled<L> {
     {
         Unfiled {
             ticket: Snapshot::of(ticket),
-            front: Snapshot::of(shard_state.learned()),
+            front: Snapshot::of(&shard_state.prefix),
         }
     }
 }
@@ -241,8 +236,6 @@ pub struct WatchEvidence<L: LogId> {
 impl<L: LogId> WatchEvidence<L> {
     ghost use Rattle.bx_hub.specs.Watches.{HoldsOf, IsShut};
     ghost use Rattle.bx_connects.specs.declared.watch.Watch.TheVariants as watches;
-    ghost use Rattle.bx_shard.specs.Seen.{state};
-    ghost use Rattle.bx_shard.specs.States.{connect_in};
 
     // Creates evidence that `said` is the result of registering `waker` under `ticket`.
     fn new(ticket: &Ticket, waker: Snapshot<Waker>, said: &Watch) -> WatchEvidence<L>
@@ -337,7 +330,6 @@ pub struct ChangeEvidence<L: LogId> {
 
 impl<L: LogId> ChangeEvidence<L> {
     ghost use Rattle.bx_hub.specs.Changes.{IsAfter};
-    ghost use Rattle.bx_shard.specs.Seen.{state};
 
     /// Creates evidence that `change` was applied to `shard_state` and dropped `dropped` answers.
     pub(super) fn of<P: Placing>(

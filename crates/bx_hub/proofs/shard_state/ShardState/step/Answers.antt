@@ -1,8 +1,8 @@
 use Rattle.std.proofs.Common.{◌≡◌, ◌<◌, ◌+◌, ◌-◌, ◌∙◌, ℕ, length, slice_get, Some, ap, subst, arith}
 use Rattle.bx_shard.specs.Seen.{state}
 use Rattle.bx_window.specs.Places.{IsOf}
-use Rattle.bx_window.specs.Steps.{list_of, setup_of}
-use Rattle.bx_hub.proofs.Held.{entry_here, stands_applied, stands_of}
+use Rattle.bx_window.specs.Steps.{list_of}
+use Rattle.bx_hub.proofs.Held.{entry_here, stands_applied, stands_in}
 use Rattle.bx_hub.proofs.shard_state.ShardState.step.Goals as goal
 
 pub apply-requires-clause-next : goal.apply-requires-clause-next
@@ -19,19 +19,15 @@ apply-requires-clause-end g c =
 pub invariant_of-self : goal.invariant_of-self
 invariant_of-self g c =
     let d = c.args.self.now in
-    let config = g.L.LogId.config in
-    let setup = setup_of config g.L.LogId.placing in
-    let st = state g.P.Placing.place_of d.shard in
     let new = state g.P.Placing.place_of c.apply.new.self in
     let e = c.entry_of.result.now in
     let at : c.args.place ≡ d.shard.place = c.requires.next in
     let of = subst (λ (n : ℕ). IsOf c.args.batch.now n) at c.requires.place in
     let is = subst (λ (n : ℕ). slice_get c.args.batch.now.entries (n - c.args.batch.now.first) ≡ Some e) at c.entry_of.ensures in
     let within = subst (λ (n : ℕ). n < length (list_of d.prefix)) at c.requires.within in
-    let old = stands_of setup d.reader d.prefix d.taken st d.learnt d.within d.holds in
-    let s = stands_applied setup d.reader d.prefix d.taken st new c.args.batch.now e c.apply.result (omega (arith, config.limits.some_batch)) old within (of, c.requires.stands) is
+    let t = stands_applied new c.args.batch.now e c.apply.result (stands_in d) (omega (arith, g.L.LogId.config.limits.some_batch)) within (of, c.requires.stands) is
     c.apply.ensures.done c.apply.ensures.refused c.apply.ensures.sound in
-    record { learnt = d.learnt; within = s.within; holds = s.holds }
+    record { learnt = d.learnt; within = t.within; holds = t.holds }
 
 pub returns-in-Ok-clause-ok : goal.returns-in-Ok-clause-ok
 returns-in-Ok-clause-ok g c =

@@ -1,8 +1,8 @@
 use Rattle.std.proofs.Common.{◌≤◌, IfOk, IfNone, length, subst}
 use Rattle.bx_window.specs.Steps.{setup_of}
-use Rattle.bx_shard.specs.Seen.{state}
 use Rattle.bx_shard.specs.declared.sessions.Sessions.{Sessions}
-use Rattle.bx_hub.proofs.Held.{held, stands_of}
+use Rattle.bx_hub.specs.Held.{held_of}
+use Rattle.bx_hub.proofs.Held.{stands_in}
 use Rattle.bx_hub.proofs.Surveys.{Shows, session_of}
 use Rattle.bx_hub.proofs.shard_state.ShardState.survey_session.Goals as goal
 
@@ -16,7 +16,4 @@ returns-clause-none g c =
 pub returns-clause-session : goal.returns-clause-session
 returns-clause-session g c =
     let d = c.args.self.now in
-    let setup = setup_of g.L.LogId.config g.L.LogId.placing in
-    let s = state g.P.Placing.place_of d.shard in
-    session_of setup (held d.reader d.prefix d.taken s) c.sessions.result.now c.args.index c.survey.result c.sessions.ensures
-    (stands_of setup d.reader d.prefix d.taken s d.learnt d.within d.holds) c.survey.ensures.shown
+    session_of (setup_of g.L.LogId.config g.L.LogId.placing) (held_of d) c.sessions.result.now c.args.index c.survey.result c.sessions.ensures (stands_in d) c.survey.ensures.shown

@@ -1,6 +1,4 @@
-//! Comparison of a found value with the expected one, for the crates of tests.
-#![tactic(auto)]
-
+//! Comparison of a found value with the expected one.
 use std::fmt::Debug;
 use std::process::Abort;
 
