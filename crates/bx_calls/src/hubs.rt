@@ -10,14 +10,14 @@ use std::alloc::{AllocError, Global};
 use std::marker::Brand;
 use std::sync::{Arc, Wait};
 
-/// Work with a new hub, whose kind only the hub's maker knows.
+/// Work with a new hub of any kind.
 pub trait HubWork<R: Wait + Drop>: Drop {
     /// The result of the work.
     type Value;
     /// Evidence that the work failed, or that memory ran out.
     type Fault: From<AllocError>;
 
-    /// Does the work with `hub`, whose list is empty.
+    /// Performs the work with `hub`. The hub's list is empty.
     ///
     /// # Errors
     ///
@@ -37,7 +37,7 @@ pub fn config_of(shards: usize) -> Option<Config> {
     Config::new(shards, 30_000, 0, 10_000)
 }
 
-/// Does `work` with a new hub that places sessions by remainder and stops no caller.
+/// Performs `work` with a new hub that places sessions by remainder and stops no caller.
 ///
 /// # Errors
 ///
@@ -51,7 +51,7 @@ pub fn work_in_open_hub<R: Wait + Copy + Drop, W: HubWork<R>>(
     work_in_hub(rt, alloc, config, ByRemainder, OpenGate, work)
 }
 
-/// Does `work` with a new hub, whose shards call `gate` before and after they apply entries.
+/// Performs `work` with a new hub. Its shards call `gate` before and after they apply entries.
 ///
 /// # Errors
 ///

@@ -77,9 +77,16 @@ impl<R: Wait + Copy + Drop> HubWork<R> for Requests {
         alloc: Global,
         hub: Hub<L, R>,
     ) -> Result<String> {
-        let hub = Arc::new(alloc, hub)?;
-        let clone = Arc::try_clone(&hub)?;
-        let backend = HubBackend::new(rt, alloc, clone, Access::ReadWrite, Still, Zeros);
+        let shared = Arc::new(alloc, hub)?;
+        let hub = &shared;
+        let backend = HubBackend::new(
+            rt,
+            alloc,
+            Arc::try_clone(hub)?,
+            Access::ReadWrite,
+            Still,
+            Zeros,
+        );
         let service = BayeuxService::new(alloc, backend)?;
         let host = Host {
             alloc,
@@ -88,7 +95,7 @@ impl<R: Wait + Copy + Drop> HubWork<R> for Requests {
             task: &self.task,
             waiting: &self.waiting,
         };
-        serve_all(&rt, &host, &hub)
+        serve_all(&rt, &host, hub)
     }
 }
 
