@@ -77,18 +77,12 @@ fn main(host: HostRuntime) -> ExitCode {
         Ok(parts) => parts,
         Err(status) => return status,
     };
-    log_settings(&rt, &settings);
     let listening = match listen(&rt, parts.listen_address, parts.readers) {
         Ok(listening) => listening,
         Err(fault) => return not_served(&rt, fault),
     };
-    let metrics = match metrics_of(&rt, &settings) {
-        Ok(metrics) => metrics,
-        Err(status) => return status,
-    };
-    // The record file is created last, so that a failed listener leaves no file.
-    let record_file = match record_of(&rt, &settings) {
-        Ok(file) => file,
+    let (metrics, record_file) = match outputs_of(&rt, &settings) {
+        Ok(outputs) => outputs,
         Err(status) => return status,
     };
     // The thread is spawned here, because only `main` can pass the right to read standard input to
@@ -112,13 +106,7 @@ fn main(host: HostRuntime) -> ExitCode {
         record_file,
         shutdown: parts.end,
     };
-    match server.serve(&parts.counts, &mut io::writer(&rt)) {
-        Ok(()) => {
-            info!(rt; target: "bayeuxd", "ended");
-            ExitCode::SUCCESS
-        }
-        Err(error) => not_served(&rt, ServeFault::CannotServe(error)),
-    }
+    ended(&rt, server.serve(&parts.counts, &mut io::writer(&rt)))
 }
 
 // Adds the log that `settings` describe to `host`.
@@ -143,9 +131,9 @@ struct Parts<'a> {
     end: Receiver<()>,
 }
 
-// Creates the parts of the server. On error, reports what is wrong and returns the exit status.
+// Creates the parts of the server, and logs its settings. On error, reports what is wrong and
+// returns the exit status.
 fn parts_of<'a>(rt: &Host, settings: &Settings<'a>) -> Result<Parts<'a>, ExitCode> {
-    let alloc = rt.alloc();
     let seed = match seed_of(rt, settings.seed) {
         Ok(seed) => seed,
         Err(error) => return Err(refused_at(rt, NO_SEED, seed_name(settings.seed), &error)),
@@ -157,29 +145,46 @@ fn parts_of<'a>(rt: &Host, settings: &Settings<'a>) -> Result<Parts<'a>, ExitCod
     };
     let (Ok(counts), Ok((shutdown, end))) = (
         counts_of(rt, settings.config.shards),
-        oneshot::channel(alloc),
+        oneshot::channel(rt.alloc()),
     ) else {
         return Err(failed(rt, OUT_OF_MEMORY));
     };
+    log_settings(rt, settings);
     Ok(Parts {
-        arguments: ServeSettings {
-            config: settings.config,
-            body: settings.body,
-            transports: if settings.callback_polling {
-                Transports::All
-            } else {
-                Transports::JsonPosts
-            },
-            seed,
-            connections: settings.connections,
-            until_eof: settings.until_eof,
-        },
+        arguments: arguments_of(settings, seed),
         listen_address,
         readers,
         counts,
         shutdown,
         end,
     })
+}
+
+// Returns the settings with which the server runs. `seed`: the seed for nonces.
+fn arguments_of(settings: &Settings<'_>, seed: [u8; 32]) -> ServeSettings {
+    ServeSettings {
+        config: settings.config,
+        body: settings.body,
+        transports: if settings.callback_polling {
+            Transports::All
+        } else {
+            Transports::JsonPosts
+        },
+        seed,
+        connections: settings.connections,
+        until_eof: settings.until_eof,
+    }
+}
+
+// The metrics listener and the record file of a server, each `None` if the settings name none.
+type Outputs = (Option<MetricsListener>, Option<NewRecordFile<File>>);
+
+// Listens for metrics and creates the record file, if the settings name them. On error, reports
+// what is wrong and returns the exit status.
+fn outputs_of(rt: &Host, settings: &Settings<'_>) -> Result<Outputs, ExitCode> {
+    let metrics = metrics_of(rt, settings)?;
+    // The record file is created last, so that a failed listener leaves no file.
+    Ok((metrics, record_of(rt, settings)?))
 }
 
 // Listens for metrics, if `--metrics` names an address. On error, prints what is wrong and returns
@@ -213,6 +218,17 @@ fn record_of(rt: &Host, settings: &Settings<'_>) -> Result<Option<NewRecordFile<
             }
             Err(exit)
         }
+    }
+}
+
+// Logs the end of the server, or reports why serving failed. Returns the exit status.
+fn ended(rt: &Host, served: io::Result<()>) -> ExitCode {
+    match served {
+        Ok(()) => {
+            info!(rt; target: "bayeuxd", "ended");
+            ExitCode::SUCCESS
+        }
+        Err(error) => not_served(rt, ServeFault::CannotServe(error)),
     }
 }
 

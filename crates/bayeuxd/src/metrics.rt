@@ -10,11 +10,11 @@ use bx_metrics::{
 };
 use bx_service::Clock;
 use log::{Log, info};
-use std::alloc::AllocGlobal;
+use std::alloc::{AllocGlobal, Global};
 use std::io::{Read, Write};
 use std::net::{Net, SocketAddr, TcpListener, TcpStream};
 use std::rt::Files;
-use std::sync::Wait;
+use std::sync::{Arc, Wait};
 use std::time::{Duration, Instant};
 use std::{fs, io, thread, time};
 
@@ -55,81 +55,81 @@ impl MetricsListener {
     }
 }
 
-/// Answers requests at `listener` until the program ends.
-///
-/// Answers one request on each connection, one connection at a time, and updates the uptime before.
-/// A request gets no response if its head takes too long, a system call fails or memory runs out.
-///
-/// `hub`: the hub with the sessions to list. `clock`: the clock that the hub's moments come from.
-/// `settings`: what the page of metrics shows of the server's settings. `process`: returns what it
-/// shows of the process.
-///
-/// # Blocking
-///
-/// Waits for connections and requests. Locks a shard while it copies one of its sessions.
-pub fn answer_all<L, H, R, P>(
-    rt: &R,
-    hub: &Hub<L, H>,
-    clock: &SinceStart<R>,
-    counts: &Counts,
-    settings: &PageSettings,
-    process: &P,
-    listener: &MetricsListener,
-)
-where
-    L: HubKind,
-    H: Wait + Drop,
-    R: Wait + time::Clock + AllocGlobal,
-    P: Fn() -> ProcessValues,
-    requires { P.IsAlwaysCallable process.now }
-{
-    for stream in listener.listener.incoming() {
-        let Ok(stream) = stream else {
-            thread::sleep(rt, Duration::from_millis(PAUSE));
-            continue;
-        };
-        if let Ok(passed) = clock.start.elapsed(rt) {
-            counts.set(Metric::Uptime, passed.as_secs());
-        }
-        let _ = answer(rt, hub, clock, counts, settings, process, stream);
-    }
+/// What the thread that answers at the metrics listener uses.
+#[derive(Drop)]
+pub struct MetricsParts<L: HubKind, R: Wait + Drop, P> {
+    /// The right to wait, to read the clock, and to allocate.
+    pub rt: R,
+    /// The hub with the sessions to list.
+    pub hub: Arc<Hub<L, R>, Global>,
+    /// The clock that the hub's moments come from.
+    pub clock: SinceStart<R>,
+    /// The metrics.
+    pub counts: Arc<Counts, Global>,
+    /// What the page of metrics shows of the server's settings.
+    pub settings: PageSettings,
+    /// Returns what the page of metrics shows of the process.
+    pub process: P,
 }
 
-// Reads the request on one connection and writes its response. Fails if this takes too long, a
-// system call fails or memory runs out.
-fn answer<L, H, R, P>(
-    rt: &R,
-    hub: &Hub<L, H>,
-    clock: &SinceStart<R>,
-    counts: &Counts,
-    settings: &PageSettings,
-    process: &P,
-    mut stream: TcpStream,
-) -> io::Result<()>
+impl<L, R, P> MetricsParts<L, R, P>
 where
     L: HubKind,
-    H: Wait + Drop,
-    R: Wait + time::Clock + AllocGlobal,
+    R: Wait + time::Clock + AllocGlobal + Drop,
     P: Fn() -> ProcessValues,
-    requires { P.IsAlwaysCallable process.now }
 {
-    stream.set_write_timeout(Some(Duration::from_millis(PATIENCE)))?;
-    let mut head = [0; HEAD];
-    let length = read_head(rt, &mut stream, &mut head)?;
-    let (alloc, shards) = (rt.alloc(), settings.config.shards);
-    let asked = MetricsRequest::of(&head[..length]);
-    let page = match asked {
-        MetricsRequest::StatusPage => Vec::from_slice(alloc, STATUS_PAGE.as_bytes())?,
-        MetricsRequest::Metrics => {
-            let metrics = counts.read(alloc)?;
-            page_text(alloc, &metrics, settings, &process())?.into_bytes()
+    /// Answers requests at `listener` until the program ends.
+    ///
+    /// Answers one request on each connection, one connection at a time, and updates the uptime
+    /// before. A request gets no response if its head takes too long, a system call fails or memory
+    /// runs out.
+    ///
+    /// # Blocking
+    ///
+    /// Waits for connections and requests. Locks a shard while it copies one of its sessions.
+    pub fn answer_all(&self, listener: &MetricsListener)
+        requires { P.IsAlwaysCallable self.now.process }
+    {
+        for stream in listener.listener.incoming() {
+            let Ok(stream) = stream else {
+                thread::sleep(&self.rt, Duration::from_millis(PAUSE));
+                continue;
+            };
+            if let Ok(passed) = self.clock.start.elapsed(&self.rt) {
+                self.counts.set(Metric::Uptime, passed.as_secs());
+            }
+            let _ = self.answer(stream);
         }
-        MetricsRequest::Sessions => sessions_text(rt, alloc, hub, shards, clock.now())?,
-        MetricsRequest::Channels => channels_text(rt, alloc, hub, shards)?,
-        MetricsRequest::Health | MetricsRequest::Other | MetricsRequest::NoGet => Vec::new(alloc),
-    };
-    let text = response_text(alloc, asked, counts.listens(), page.as_slice())?;
-    stream.write_all(text.as_slice())
+    }
+
+    // Reads the request on one connection and writes its response. Fails if this takes too long, a
+    // system call fails or memory runs out.
+    fn answer(&self, mut stream: TcpStream) -> io::Result<()>
+        requires { P.IsAlwaysCallable self.now.process }
+    {
+        stream.set_write_timeout(Some(Duration::from_millis(PATIENCE)))?;
+        let mut head = [0; HEAD];
+        let rt = &self.rt;
+        let length = read_head(rt, &mut stream, &mut head)?;
+        let (alloc, shards) = (rt.alloc(), self.settings.config.shards);
+        let asked = MetricsRequest::of(&head[..length]);
+        let page = match asked {
+            MetricsRequest::StatusPage => Vec::from_slice(alloc, STATUS_PAGE.as_bytes())?,
+            MetricsRequest::Metrics => {
+                let metrics = self.counts.read(alloc)?;
+                page_text(alloc, &metrics, &self.settings, &(self.process)())?.into_bytes()
+            }
+            MetricsRequest::Sessions => {
+                sessions_text(rt, alloc, &*self.hub, shards, self.clock.now())?
+            }
+            MetricsRequest::Channels => channels_text(rt, alloc, &*self.hub, shards)?,
+            MetricsRequest::Health | MetricsRequest::Other | MetricsRequest::NoGet => {
+                Vec::new(alloc)
+            }
+        };
+        let text = response_text(alloc, asked, self.counts.listens(), page.as_slice())?;
+        stream.write_all(text.as_slice())
+    }
 }
 
 /// Reads what Linux reports of this process. Values in files that cannot be read are unknown.

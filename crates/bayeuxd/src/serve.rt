@@ -4,7 +4,7 @@ ghost use Rattle.bx_entry.specs.Placings.{by_remainder};
 
 use crate::clock::{RandomNonces, SinceStart};
 use crate::end::CloseOnShutdown;
-use crate::metrics::{MetricsListener, answer_all};
+use crate::metrics::{MetricsListener, MetricsParts};
 use crate::recorder::{NewRecordFile, Recorder};
 use crate::refusals::{ListenerRefusals, RefusalLogger};
 use crate::ticker::{Ticker, TickerParts};
@@ -239,32 +239,20 @@ where
             listener,
             readers,
         } = listening;
-        let alloc = rt.alloc();
         let ServeSettings { config, seed, .. } = arguments;
-        let hub = Hub::<ServerKind<L>, R>::new(alloc, rt, opened, config, placing, OpenGate)?;
+        let hub = Hub::<ServerKind<L>, R>::new(rt.alloc(), rt, opened, config, placing, OpenGate)?;
         let shared = SharedParts::new(rt, hub, SinceStart { rt, start }, seed, counts)?;
         if let Some(listener) = metrics {
             shared.start_metrics(arguments, process, listener)?;
         }
         // The recorder starts before anything is appended to the list, such as the first tick.
         let recorder = Recorder::start(rt, &shared.hub, record_file)?;
-        let ListenerRefusals { main, read_only } = shared.refusals.try_clone()?;
-        let first = shared.parts_for(listener, Access::ReadWrite, main, recorder.answers()?)?;
-        let other = match readers {
-            Some(listener) => {
-                let access = Access::ReadOnly(SharedPatterns::new(alloc, readers_publish)?);
-                Some(shared.parts_for(listener, access, read_only, recorder.answers()?)?)
-            }
-            None => None,
-        };
+        let (first, other) = shared.endpoints(listener, readers, readers_publish, &recorder)?;
         let ticker = shared.start_ticker(config.limits.sessions)?;
         arguments.limit_shutdown(&mut runtime);
         let end = shared.close_on(shutdown)?;
         counts.set_listens(true);
-        tell(&rt, "listening", &first.listener, writer)?;
-        if let Some(other) = &other {
-            tell(&rt, "readers listening", &other.listener, writer)?;
-        }
+        tell_all(&rt, &first, other.as_ref(), writer)?;
         let served = serve_endpoints(rt, &mut runtime, first, other, arguments, end);
         counts.set_listens(false);
         ticker.end(&rt);
@@ -272,6 +260,20 @@ where
         recorder.end(&rt);
         served
     }
+}
+
+// Logs the addresses of the listeners of `first` and `other`, and prints them to `writer`.
+fn tell_all<R: Log, W: Write, S, O>(
+    rt: &R,
+    first: &EndpointParts<S, O>,
+    other: Option<&EndpointParts<S, O>>,
+    writer: &mut W,
+) -> io::Result<()> {
+    tell(rt, "listening", &first.listener, writer)?;
+    if let Some(other) = other {
+        tell(rt, "readers listening", &other.listener, writer)?;
+    }
+    Ok(())
 }
 
 // Logs the address of `listener` and prints it to `writer`, each time after `what`.
@@ -329,6 +331,12 @@ type EndpointObserver<R> = (
     Arc<RefusalLogger<R>, Global>,
 );
 
+// A listener of this server, with its backend and its observer.
+type HubEndpoint<L, R> = EndpointParts<
+    TimedBackend<HubBackend<L, R, SinceStart<R>, RandomNonces<R>>, R>,
+    EndpointObserver<R>,
+>;
+
 impl<L: HubKind, R: Wait + Clock + AllocGlobal + Log + Copy + Drop> SharedParts<L, R> {
     // Creates the parts for `hub`. `seed`: the seed for nonces.
     fn new(
@@ -349,6 +357,26 @@ impl<L: HubKind, R: Wait + Clock + AllocGlobal + Log + Copy + Drop> SharedParts<
         })
     }
 
+    // Creates the backend and the observer for `listener` and, if given, for `readers`, the
+    // read-only listener. `publish`: the patterns of the channels that `readers` allows.
+    fn endpoints(
+        &self,
+        listener: TcpListener,
+        readers: Option<TcpListener>,
+        publish: Vec<Pattern>,
+        recorder: &Recorder,
+    ) -> io::Result<(HubEndpoint<L, R>, Option<HubEndpoint<L, R>>)> {
+        let alloc = self.rt.alloc();
+        let ListenerRefusals { main, read_only } = self.refusals.try_clone()?;
+        let first = self.parts_for(listener, Access::ReadWrite, main, recorder.answers()?)?;
+        let Some(listener) = readers else {
+            return Ok((first, None));
+        };
+        let access = Access::ReadOnly(SharedPatterns::new(alloc, publish)?);
+        let other = self.parts_for(listener, access, read_only, recorder.answers()?)?;
+        Ok((first, Some(other)))
+    }
+
     // Creates the backend and the observer for `listener`, and returns all three. `access`: what
     // the listener allows. `refusals`: the log of the listener's refusals. `answers`: the log of
     // answers' digests, if they are recorded.
@@ -358,12 +386,7 @@ impl<L: HubKind, R: Wait + Clock + AllocGlobal + Log + Copy + Drop> SharedParts<
         access: Access,
         refusals: Arc<RefusalLogger<R>, Global>,
         answers: Option<Arc<WaitingAnswerLines, Global>>,
-    ) -> io::Result<
-        EndpointParts<
-            TimedBackend<HubBackend<L, R, SinceStart<R>, RandomNonces<R>>, R>,
-            EndpointObserver<R>,
-        >,
-    > {
+    ) -> io::Result<HubEndpoint<L, R>> {
         let (rt, alloc) = (self.rt, self.rt.alloc());
         let nonces = RandomNonces {
             rt,
@@ -428,15 +451,20 @@ where
     ) -> io::Result<()>
         requires process { (f : _) → P.pre f }
     {
-        let (rt, clock) = (self.rt, self.clock);
-        let (hub, counts) = (Arc::try_clone(&self.hub)?, Arc::try_clone(&self.counts)?);
-        let settings = arguments.page_settings();
+        let parts = MetricsParts {
+            rt: self.rt,
+            hub: Arc::try_clone(&self.hub)?,
+            clock: self.clock,
+            counts: Arc::try_clone(&self.counts)?,
+            settings: arguments.page_settings(),
+            process,
+        };
         let _answering = thread::spawn(
-            &rt,
+            &self.rt,
             move ||
                 requires { (f : _) → P.pre f }
             {
-                answer_all(&rt, &*hub, &clock, &*counts, &settings, &process, &listener);
+                parts.answer_all(&listener);
             },
         )?;
         Ok(())
