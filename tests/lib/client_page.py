@@ -156,6 +156,8 @@ def try_client(fixture):
     """Checks the script and the module, header fields, the removal of listeners, and gaps."""
     page = Window(fixture.browser, fixture.site.address)
     client = Client(page, "/a", headers={"X-Token": "of my own"}, name="Ben")
+    if client.do("isShared"):
+        raise CheckFailed("a client with header fields of its own shares its session with windows that may have others")
     wait_until("the module is the same client", lambda: page.run("return window.modules?.every((it) => it === BayeuxClient)"))
     try_listeners(fixture.site, client)
     try_gaps(fixture, client)
@@ -203,6 +205,8 @@ def try_pauses(fixture):
         wait_until("it has paused three times", lambda: page.run("return pauses.length") == 3)
         if not all(map(is_right, page.run("return pauses"))):
             raise CheckFailed(f"after {failures} failures it pauses for {page.run('return pauses')} milliseconds")
+        if not is_served and len(set(page.run("return pauses"))) == 1:
+            raise CheckFailed("all pauses have the same length, so all clients return at once after a restart of the server")
         if is_served and page.run("return pausing.failures"):
             raise CheckFailed(f"after {failures} failures and a connect it still counts {page.run('return pausing.failures')}")
         page.driver.refresh()
@@ -400,6 +404,8 @@ class SharedSession:
         self.pages[0].run("clients.forEach((it) => (it.suspend = () => {}))")
         del self.clients[:3]
         self.publish_while(1, lambda: self.pages.pop(0).close())
+        gone = {f"/own/{number}" for number in range(4)}
+        wait_until("the patterns of the closed window are unsubscribed", lambda: gone <= set(unsubscribed(self.site)))
 
     def publish_while(self, number, action):
         """Publishes eight events, calls `action` meanwhile, and waits for a new leading client.

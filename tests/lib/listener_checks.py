@@ -1,5 +1,6 @@
 """Checks of what the metrics listener of a daemon shows besides counts: lists, settings, and the process."""
 import json
+import os
 import resource
 import socket
 import time
@@ -68,6 +69,10 @@ def check_process(program):
         # The memory still changes while threads begin to work.
         wait_until("the metrics of memory are near those of /proc", lambda: has_memory(daemon.process.pid, scrape(metrics)))
         expect_near("start", found["process_start_time_seconds"], start, START_CHANGE)
+        # A thread for each processor serves connections. The others are the first, and those of ticks, metrics and standard input.
+        threads, least = len(os.listdir(f"/proc/{daemon.process.pid}/task")), len(os.sched_getaffinity(0)) + 4
+        if threads < least:
+            raise CheckFailed(f"{threads} threads, and not {least}")
         # The metrics also count the connection that asks for them.
         wait_until("the number of open files", lambda: scrape(metrics)[("process_open_fds", "")] == daemon.descriptors() + 1)
         expect_near("most files", found["process_max_fds"], resource.prlimit(daemon.process.pid, resource.RLIMIT_NOFILE)[0], 0)

@@ -83,6 +83,7 @@ WARNINGS = [
     (["--interval", "5s", "--max-interval", "5001"], ENDING, False),
     (["--max-interval", "6"], b'time is below one second max_interval=6ms hint="for seconds, write 6s"\n', True),
     (["--interval", "500", "--max-interval", "1000"], b"time is below one second", False),
+    (["--timeout", "0"], b"time is below one second", False),
 ]
 ADVICE = {"reconnect": "retry", "interval": 0, "timeout": 30000}
 # The exact messages about wrong positional arguments, and if the daemon cannot listen.

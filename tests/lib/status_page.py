@@ -78,5 +78,6 @@ def try_status(fixture):
     fixture.server.restart("--metrics", metrics)
     wait_until("the curves go on after a gap", lambda: all(now > then for (now, _), then in zip(window.run(CURVES), before)))
     expect_equal("a counter that grows by 300 in three seconds", window.run(RATE), 100)
+    expect_equal("uptimes", window.run("return [5, 65, 3600, 90061].map(formatTime)"), ["5 s", "1 min 5 s", "1 h 0 min", "1 d 1 h"])
     window.close()
     fixture.server.restart()

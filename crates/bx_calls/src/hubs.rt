@@ -45,7 +45,7 @@ pub fn config_of(shards: usize) -> Option<Config> {
     Config::new(shards, 30_000, 0, 10_000)
 }
 
-/// Does `work` with a new hub that places sessions by remainder and stops no caller.
+/// Performs `work` with a new hub that places sessions by remainder and stops no caller.
 ///
 /// # Errors
 ///
@@ -59,7 +59,7 @@ pub fn work_in_open_hub<R: Wait + Copy + Drop, W: HubWork<R>>(
     work_in_hub(rt, alloc, config, ByRemainder, OpenGate, work)
 }
 
-/// Does `work` with a new hub, whose shards call `gate` before and after they apply entries.
+/// Performs `work` with a new hub. Its shards call `gate` before and after they apply entries.
 ///
 /// # Errors
 ///

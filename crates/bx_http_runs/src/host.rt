@@ -71,10 +71,8 @@ where
         let mut connection = self.http.serve_connection(wire, service);
         let done = self.post_while(&mut connection, body, text);
         let written = connection.into_parts().io.into_written();
-        match done {
-            Ok(()) => Ok(written),
-            Err(error) => Err(error),
-        }
+        done?;
+        Ok(written)
     }
 
     fn post_while<F>(&self, held: &mut F, body: &str, text: &mut String) -> Result<()>

@@ -160,9 +160,7 @@ where
     {
         for form in &FORMS {
             let (name, bytes) = form.split_once(": ").ok_or(anyhow!("no name"))?;
-            text.push_str("\na request ")?;
-            text.push_str(name)?;
-            text.push_str("\n")?;
+            text.push_str(format!(in self.alloc; "\na request {name}\n")?.as_str())?;
             self.add_form(bytes, text)?;
         }
         Ok(())

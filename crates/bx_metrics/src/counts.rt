@@ -138,9 +138,12 @@ fn loaded(alloc: Global, counts: &Vec<AtomicU64>) -> Result<Vec<u64>, AllocError
 #[derive(Drop)]
 pub struct MetricValues {
     values: Vec<u64>,
-    lags: Vec<u64>,
-    times: Vec<u64>,
-    time: u64,
+    /// The number of entries that each shard lacks, by shard.
+    pub(crate) lags: Vec<u64>,
+    /// The number of requests in each bucket of the histogram.
+    pub(crate) times: Vec<u64>,
+    /// The time that all requests took, in nanoseconds.
+    pub(crate) time: u64,
 }
 
 impl MetricValues {
@@ -159,27 +162,6 @@ impl MetricValues {
             times,
             time,
         }
-    }
-
-    /// Returns the number of requests in each bucket of the histogram.
-    pub(crate) fn times(&self) -> &[u64]
-        ensures { result.now ≡ self.now.times.items }
-    {
-        self.times.as_slice()
-    }
-
-    /// Returns the time that all requests took, in nanoseconds.
-    pub(crate) fn time(&self) -> u64
-        ensures { result ≡ self.now.time }
-    {
-        self.time
-    }
-
-    /// Returns the number of entries that each shard lacks, by shard.
-    pub(crate) fn lags(&self) -> &[u64]
-        ensures { result.now ≡ self.now.lags.items }
-    {
-        self.lags.as_slice()
     }
 
     /// Returns the value at index `place` in the order of the metrics page, or 0 if it is missing.

@@ -44,10 +44,10 @@ pub fn page_text(
         page.push_str(format!(in alloc; "{name}{label} {value}\n")?.as_str())?;
     }
     push_head(alloc, &mut page, LAG, "gauge", LAG_HELP)?;
-    for (shard, lag) in metrics.lags().iter().enumerate() {
+    for (shard, lag) in metrics.lags.iter().enumerate() {
         page.push_str(format!(in alloc; "{LAG}{{shard=\"{shard}\"}} {lag}\n")?.as_str())?;
     }
-    push_histogram(alloc, &mut page, metrics.times(), metrics.time())?;
+    push_histogram(alloc, &mut page, metrics.times.as_slice(), metrics.time)?;
     settings.push_rows(alloc, &mut page)?;
     process.push_rows(alloc, &mut page)?;
     Ok(page)

@@ -8,16 +8,15 @@ const PAGE_BYTES: u64 = 4096;
 // Clock ticks in a second, in which /proc counts times. Linux shows every program this value.
 const TICKS: u64 = 100;
 
-// Indexes of fields in /proc/self/stat, counted from the state, which follows the program's name.
-const USER_TIME: usize = 11;
-
-const SYSTEM_TIME: usize = 12;
-
-const START_TIME: usize = 19;
-
-const VIRTUAL_BYTES: usize = 20;
-
-const RESIDENT_PAGES: usize = 21;
+// Fields of /proc/self/stat, by their index from the state, which follows the program's name.
+#[derive(Clone, Copy)]
+enum Stat {
+    UserTime = 11,
+    SystemTime = 12,
+    StartTime = 19,
+    VirtualBytes = 20,
+    ResidentPages = 21,
+}
 
 // The names, types, help texts and units of the metrics of a process. The names are those of
 // Prometheus' client libraries.
@@ -97,14 +96,17 @@ impl ProcessValues {
     pub fn of(texts: ProcessTexts<'_>, open_files: Option<u64>) -> ProcessValues {
         let process = texts.process;
         ProcessValues {
-            processor_time: sum_of(field(process, USER_TIME), field(process, SYSTEM_TIME)),
-            resident_bytes: product_of(field(process, RESIDENT_PAGES), PAGE_BYTES),
-            virtual_bytes: field(process, VIRTUAL_BYTES),
+            processor_time: sum_of(
+                field(process, Stat::UserTime),
+                field(process, Stat::SystemTime),
+            ),
+            resident_bytes: product_of(field(process, Stat::ResidentPages), PAGE_BYTES),
+            virtual_bytes: field(process, Stat::VirtualBytes),
             open_files,
             max_files: number_after(texts.limits, "Max open files "),
             start_time: sum_of(
                 product_of(number_after(texts.system, "btime "), TICKS),
-                field(process, START_TIME),
+                field(process, Stat::StartTime),
             ),
         }
     }
@@ -133,12 +135,13 @@ impl ProcessValues {
     }
 }
 
-// Returns the number at index `place` of the fields after the program's name in /proc/self/stat.
+// Returns the number in `wanted`, a field of /proc/self/stat.
 //
 // The name is in parentheses, and may itself have spaces and parentheses.
-fn field(process: &str, place: usize) -> Option<u64> {
+fn field(process: &str, wanted: Stat) -> Option<u64> {
     let (_, fields) = process.rsplit_once(')')?;
-    fields.split_ascii_whitespace().nth(place)?.parse().ok()
+    let number = fields.split_ascii_whitespace().nth(wanted as usize)?;
+    number.parse().ok()
 }
 
 // Returns the first number after `name` in the first line of `text` that begins with `name`.

@@ -195,13 +195,15 @@ const PROCESS: ProcessTexts<'static> = ProcessTexts {
     system: "cpu  1 2 3 4\nbtime 1700000000\nprocesses 5\n",
 };
 
-// Returns settings with two shards, the default limits, and times of different lengths.
-fn settings_of() -> Option<PageSettings> {
-    Some(PageSettings {
+// Returns the page of `metrics` and `process`, with settings of two shards, the default limits, and
+// times of different lengths.
+fn page_of(alloc: Global, metrics: &MetricValues, process: &ProcessValues) -> Result<String, Fail> {
+    let settings = PageSettings {
         version: "1.2.3",
-        config: Config::new(2, 30_000, 5, u32::MAX)?,
+        config: Config::new(2, 30_000, 5, u32::MAX).ok_or("the settings are not valid")?,
         body: BodyLimit::greatest(),
-    })
+    };
+    Ok(page_text(alloc, metrics, &settings, process)?)
 }
 
 #[test]
@@ -211,19 +213,10 @@ fn pages_have_the_rows(rt: HostRuntime) -> Result<(), Fail> {
     for value in 1..71 {
         values.push(if value == 2 { u64::MAX } else { value })?;
     }
-    let mut lags = Vec::new(alloc);
-    lags.push(0)?;
-    lags.push(12)?;
-    let Some(settings) = settings_of() else {
-        return Err(Fail::from("the settings are not valid"));
-    };
-    let process = ProcessValues::of(PROCESS, Some(12));
-    let mut times = Vec::new(alloc);
-    for count in [1, 0, 2, 0, 0, 0, 0, 3, 0, 0, 4] {
-        times.push(count)?;
-    }
+    let lags = vec![in alloc; 0, 12]?;
+    let times = vec![in alloc; 1, 0, 2, 0, 0, 0, 0, 3, 0, 0, 4]?;
     let metrics = MetricValues::of(values, lags, times, 5_000_000_123);
-    let page = page_text(alloc, &metrics, &settings, &process)?;
+    let page = page_of(alloc, &metrics, &ProcessValues::of(PROCESS, Some(12)))?;
     assert_eq!(rt; page.as_str(), PAGE);
     Ok(())
 }
@@ -259,14 +252,11 @@ const BOUNDED: [(u64, &str); 21] = [
 #[test]
 fn times_count_in_their_buckets(rt: HostRuntime) -> Result<(), Fail> {
     let alloc = rt.alloc();
-    let Some(settings) = settings_of() else {
-        return Err(Fail::from("the settings are not valid"));
-    };
     let process = ProcessValues::of(PROCESS, None);
     for (time, bound) in &BOUNDED {
         let counts = Counts::new(alloc, 1)?;
         counts.add_time(Duration::from_nanos(*time));
-        let page = page_text(alloc, &counts.read(alloc)?, &settings, &process)?;
+        let page = page_of(alloc, &counts.read(alloc)?, &process)?;
         let (whole, part) = (time / 1_000_000_000, time % 1_000_000_000);
         let sum = format!(in alloc; "_seconds_sum {whole}.{part:09}\n")?;
         assert!(rt; page.as_str().contains(sum.as_str()));
@@ -280,44 +270,19 @@ fn times_count_in_their_buckets(rt: HostRuntime) -> Result<(), Fail> {
 #[test]
 fn unknown_values_have_no_rows(rt: HostRuntime) -> Result<(), Fail> {
     let alloc = rt.alloc();
-    let Some(settings) = settings_of() else {
-        return Err(Fail::from("the settings are not valid"));
-    };
     let unreadable = ProcessTexts {
         process: "",
         limits: "Max open files            unlimited            unlimited            files\n",
         system: "btime 18446744073709551615\n",
     };
     let none = ProcessValues::of(unreadable, None);
-    let page = page_text(
-        alloc,
-        &MetricValues::of(Vec::new(alloc), Vec::new(alloc), Vec::new(alloc), 0),
-        &settings,
-        &none,
-    )?;
+    let metrics = MetricValues::of(Vec::new(alloc), Vec::new(alloc), Vec::new(alloc), 0);
+    let page = page_of(alloc, &metrics, &none)?;
     assert!(rt; !page.as_str().contains("process_"));
-    assert_eq!(rt;
-        ProcessValues::of(
-            ProcessTexts {
-                system: "btime 1\n",
-                ..PROCESS
-            },
-            None
-        )
-        .start_time,
-        Some(808)
-    );
-    assert_eq!(rt;
-        ProcessValues::of(
-            ProcessTexts {
-                system: unreadable.system,
-                ..PROCESS
-            },
-            None
-        )
-        .start_time,
-        None
-    );
+    for (system, start_time) in [("btime 1\n", Some(808)), (unreadable.system, None)] {
+        let process = ProcessValues::of(ProcessTexts { system, ..PROCESS }, None);
+        assert_eq!(rt; process.start_time, start_time, "with {system}");
+    }
     Ok(())
 }
 
@@ -363,11 +328,11 @@ fn counts_are_of_their_metric(rt: HostRuntime) -> Result<(), Fail> {
     assert_eq!(rt; counts.get(Metric::AdmittedRequests), 1);
     counts.see(ServiceEvent::Responded(None));
     assert_eq!(rt; counts.get(Metric::MissingResponses), 1);
-    let Some(settings) = settings_of() else {
-        return Err(Fail::from("the settings are not valid"));
-    };
-    let process = ProcessValues::of(PROCESS, None);
-    let page = page_text(alloc, &counts.read(alloc)?, &settings, &process)?;
+    let page = page_of(
+        alloc,
+        &counts.read(alloc)?,
+        &ProcessValues::of(PROCESS, None),
+    )?;
     let text = page.as_str();
     assert!(rt; text.contains("\nbayeux_events_total 5\n"));
     assert!(rt; text.contains("\nbayeux_list_entries_total 9\n"));

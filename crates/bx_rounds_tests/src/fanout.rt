@@ -4,18 +4,18 @@
 ghost use Rattle.std.specs.Prelude.{◌≤◌};
 
 use crate::requests::request;
+use crate::same::same;
 use bx_advice::{Config, Options, ShardCount, WorkerCount};
 use bx_entry::{ByTable, Input};
 use bx_fanout::{Out, Round};
+use bx_gates::Meeting;
 use bx_message::body_text;
 use bx_shard::{Gate, OpenGate};
-use std::alloc::{AllocError, Global};
-use std::hint;
+use std::alloc::Global;
 use std::process::Abort;
 use std::sync::Arc;
-use std::sync::atomic::{AtomicBool, AtomicU16, Ordering};
 use std::test::Fail;
-use std::thread::{Threads, yield_now};
+use std::thread::Threads;
 
 // Number of sessions that tests open before `INPUTS`, each by a request. They subscribe to nothing.
 // With them, a round expects at least 1,024 deliveries for the publish of `INPUTS`, and so uses all
@@ -33,14 +33,8 @@ const HANDSHAKE: &str =
 // handshakes, and a subscription and a connect of the first new session. Then a publish of the
 // second new session answers the connect.
 const INPUTS: [(u64, &str); 5] = [
-    (
-        0,
-        r#"{"channel":"/meta/handshake","version":"1.0","supportedConnectionTypes":["long-polling"]}"#,
-    ),
-    (
-        0,
-        r#"{"channel":"/meta/handshake","version":"1.0","supportedConnectionTypes":["long-polling"]}"#,
-    ),
+    (0, HANDSHAKE),
+    (0, HANDSHAKE),
     (
         0,
         r#"{"channel":"/meta/subscribe","clientId":"000000000000000000000000000000000000000000000401","subscription":"/a/*"}"#,
@@ -109,7 +103,7 @@ const ALONE: [(u64, &str); 1] = [(
 // A run of a round, and what it must result in. The first two fields: the moment and body of each
 // input, and the number and response of each out. The last two: how many inputs the round has
 // started after the run, and the numbers of those that it then holds.
-type HoldRun = (
+type Run = (
     &'static [(u64, &'static str)],
     &'static [(usize, &'static str)],
     usize,
@@ -127,7 +121,7 @@ const SUPERSEDED_FIRST: &str =
 
 // One run of three inputs: a handshake and two connects of its session. The second connect answers
 // the first, and is held.
-const TOGETHER: [HoldRun; 1] = [(
+const TOGETHER: [Run; 1] = [(
     &[(0, HANDSHAKE), (1, CONNECT_FIRST), (2, CONNECT_FIRST)],
     &[(0, OPENED_FIRST), (1, SUPERSEDED_FIRST)],
     3,
@@ -136,7 +130,7 @@ const TOGETHER: [HoldRun; 1] = [(
 
 // Three runs of one input each: a handshake and two connects of its session. The second connect
 // answers the first, and is held.
-const APART: [HoldRun; 3] = [
+const APART: [Run; 3] = [
     (&[(0, HANDSHAKE)], &[(0, OPENED_FIRST)], 1, &[]),
     (&[(1, CONNECT_FIRST)], &[], 2, &[1]),
     (&[(2, CONNECT_FIRST)], &[(1, SUPERSEDED_FIRST)], 3, &[2]),
@@ -147,13 +141,11 @@ const APART: [HoldRun; 3] = [
 // others use both.
 const TABLES: [&[u8]; 3] = [&[0, 1, 2], &[], &[1, 2, 2]];
 
-// How often a waiting worker checks whether it may continue, before it gives up.
-const LOOKS: u32 = 10_000_000;
-
-// Returns the first `count` of `INPUTS` as requests.
-fn inputs(alloc: Global, count: usize) -> Result<Vec<Input>, Fail> {
-    requests(alloc, INPUTS.get(..count).ok_or("too few inputs")?)
-}
+// The options of a round without riders.
+const PLAIN: Options = Options {
+    ride: false,
+    anonymous: false,
+};
 
 // Creates a request for each moment and body in `table`.
 fn requests(alloc: Global, table: &[(u64, &str)]) -> Result<Vec<Input>, Fail> {
@@ -164,44 +156,17 @@ fn requests(alloc: Global, table: &[(u64, &str)]) -> Result<Vec<Input>, Fail> {
     Ok(inputs)
 }
 
-// Creates `CROWD` requests, each with a handshake.
-fn crowd(alloc: Global) -> Result<Vec<Input>, AllocError> {
-    let mut inputs = Vec::new(alloc);
-    for _ in 0..CROWD {
-        inputs.push(request(alloc, 0, HANDSHAKE)?)?;
-    }
-    Ok(inputs)
-}
-
 // Creates a round of `shards` shards and `workers` workers, which places sessions by `table`.
 fn round(
     alloc: Global,
     (shards, workers): (usize, usize),
+    options: Options,
     table: &[u8],
 ) -> Result<Round<ByTable>, Fail> {
     let config = Config::new(shards, 30_000, 0, 10_000).ok_or("no configuration")?;
-    round_of(alloc, config, workers, table)
-}
-
-// Creates a round of four shards and `workers` workers that allows riders.
-fn riding_round(alloc: Global, workers: usize) -> Result<Round<ByTable>, Fail> {
-    let config = Config::new(4, 30_000, 0, 10_000).ok_or("no configuration")?;
-    let options = Options {
-        ride: true,
-        anonymous: false,
-    };
-    round_of(alloc, config.with(options), workers, &[3, 1, 0, 2])
-}
-
-fn round_of(
-    alloc: Global,
-    config: Config,
-    workers: usize,
-    table: &[u8],
-) -> Result<Round<ByTable>, Fail> {
     let placing = Arc::new(alloc, ByTable::new(alloc, table)?)?;
     let workers = WorkerCount::new(workers).ok_or("no such number of workers")?;
-    Ok(Round::new(alloc, config, placing, workers)?)
+    Ok(Round::new(alloc, config.with(options), placing, workers)?)
 }
 
 // Runs `inputs` in one run, in which workers call `gate`, and appends the outs to `outs`. Fails
@@ -229,84 +194,26 @@ fn open_crowd<R: Threads + Sync>(
     alloc: Global,
     round: &mut Round<ByTable>,
 ) -> Result<(), Fail> {
-    let mut outs = Vec::new(alloc);
-    run(rt, alloc, &OpenGate, round, &crowd(alloc)?, &mut outs)
+    let handshakes = vec![in alloc; (0, HANDSHAKE); CROWD]?;
+    let inputs = requests(alloc, &handshakes)?;
+    run(rt, alloc, &OpenGate, round, &inputs, &mut Vec::new(alloc))
 }
 
-// Checks that a new round, after the crowd's handshakes, appends `OUTS` for `INPUTS`. Each run has
-// at most `at_once` of the inputs. `sizes`: the numbers of shards and of workers. `table`: the
-// placing.
-fn check_round<R: Abort + Threads + Sync>(
-    rt: &R,
-    alloc: Global,
-    sizes: (usize, usize),
-    table: &[u8],
-    at_once: usize,
-) -> Result<(), Fail>
-    requires { 1 ≤ at_once }
-{
-    let mut round = round(alloc, sizes, table)?;
-    check_given(rt, alloc, &mut round, at_once)
-}
-
-fn check_given<R: Abort + Threads + Sync>(
-    rt: &R,
-    alloc: Global,
-    round: &mut Round<ByTable>,
-    at_once: usize,
-) -> Result<(), Fail>
-    requires { 1 ≤ at_once }
-{
-    open_crowd(rt, alloc, round)?;
-    let inputs = inputs(alloc, INPUTS.len())?;
-    let mut outs = Vec::new(alloc);
-    for part in inputs.chunks(at_once) {
-        run(rt, alloc, &OpenGate, round, part, &mut outs)?;
-    }
-    check(rt, alloc, &outs, &OUTS)
-}
-
-// Checks that a new round appends `OUTS` for `INPUTS`. The run up to the held connect uses the gate
-// `few`, and the run of the publish uses `many`. A run of a tick follows, with `few`. `sizes`: the
-// numbers of shards and of workers. `table`: the placing.
-fn check_gated<R: Abort + Threads + Sync, F: Gate + Sync, G: Gate + Sync>(
-    rt: &R,
-    alloc: Global,
-    (few, many): (&F, &G),
-    sizes: (usize, usize),
-    table: &[u8],
-) -> Result<(), Fail> {
-    let mut round = round(alloc, sizes, table)?;
-    check_passed(rt, alloc, few, many, &mut round)
-}
-
-fn check_passed<R: Abort + Threads + Sync, F: Gate + Sync, G: Gate + Sync>(
-    rt: &R,
-    alloc: Global,
-    few: &F,
-    many: &G,
-    round: &mut Round<ByTable>,
-) -> Result<(), Fail> {
-    let mut outs = Vec::new(alloc);
-    hold(rt, alloc, few, round, &mut outs)?;
-    answer_held(rt, alloc, many, round, &mut outs)?;
-    check(rt, alloc, &outs, &OUTS)?;
-    run(rt, alloc, few, round, &[Input::Tick(20)], &mut outs)
-}
-
-fn check<R: Abort>(
+// Checks the numbers and the responses of `outs`.
+fn check_outs<R: Abort>(
     rt: &R,
     alloc: Global,
     outs: &[Out],
     right: &[(usize, &str)],
 ) -> Result<(), Fail> {
-    assert_eq!(rt; outs.len(), right.len());
+    same(rt, outs.len(), right.len(), "outs");
     for (out, (number, body)) in outs.iter().zip(right) {
-        assert_eq!(rt; out.input, *number);
-        assert_eq!(rt;
+        same(rt, out.input, *number, "the number of an out");
+        same(
+            rt,
             written(alloc, out)?.as_slice(),
             body.as_bytes(),
-            "input {number}"
+            *number,
         );
     }
     Ok(())
@@ -320,84 +227,6 @@ fn written(alloc: Global, out: &Out) -> Result<Vec<u8>, Fail> {
     }
 }
 
-// Checks that one run and several runs append the same outs. The rounds have 1 or 16 workers, and
-// each of three placings.
-#[test]
-fn one_run_gives_what_several_give(rt: HostRuntime) -> Result<(), Fail> {
-    let alloc = rt.alloc();
-    for table in TABLES {
-        for (workers, at_once) in [(1, 5), (1, 1), (16, 5), (16, 1)] {
-            check_round(&rt, alloc, (2, workers), table, at_once)?;
-        }
-    }
-    Ok(())
-}
-
-// Checks the outs of `INPUTS` and of `RIDING`, and then that the connect `ALONE` gets none. In the
-// run of `RIDING`, exactly the workers in `team` must take part, and in that of `ALONE` only worker
-// 0. Bit k of `team` is set for worker k.
-fn check_riding<R: Abort + Threads + Sync>(
-    rt: &R,
-    alloc: Global,
-    round: &mut Round<ByTable>,
-    team: u16,
-) -> Result<(), Fail> {
-    open_crowd(rt, alloc, round)?;
-    check_outs(rt, alloc, &OpenGate, round, &INPUTS, &OUTS)?;
-    check_team(rt, alloc, round, team, &RIDING, &RIDDEN)?;
-    check_team(rt, alloc, round, 0b1, &ALONE, &[])
-}
-
-// Checks that a run of the inputs `asked` appends the outs `right`. The workers that take part must
-// be exactly those in `team`. Bit k of `team` is set for worker k.
-fn check_team<R: Abort + Threads + Sync>(
-    rt: &R,
-    alloc: Global,
-    round: &mut Round<ByTable>,
-    team: u16,
-    asked: &[(u64, &str)],
-    right: &[(usize, &str)],
-) -> Result<(), Fail> {
-    let meeting = meeting_of(team);
-    check_outs(rt, alloc, &meeting, round, asked, right)?;
-    check_met(rt, &meeting);
-    Ok(())
-}
-
-// Checks that one run of the inputs `asked` appends the outs `right`.
-fn check_outs<R: Abort + Threads + Sync, G: Gate + Sync>(
-    rt: &R,
-    alloc: Global,
-    gate: &G,
-    round: &mut Round<ByTable>,
-    asked: &[(u64, &str)],
-    right: &[(usize, &str)],
-) -> Result<(), Fail> {
-    let mut outs = Vec::new(alloc);
-    let inputs = requests(alloc, asked)?;
-    run(rt, alloc, gate, round, &inputs, &mut outs)?;
-    check(rt, alloc, &outs, right)
-}
-
-fn check_riding_by<R: Abort + Threads + Sync>(
-    rt: &R,
-    alloc: Global,
-    workers: usize,
-    team: u16,
-) -> Result<(), Fail> {
-    let mut round = riding_round(alloc, workers)?;
-    check_riding(rt, alloc, &mut round, team)
-}
-
-// Checks that a rider's reply carries the waiting events, with one worker and with four.
-#[test]
-fn events_ride_by_one_worker_and_by_four(rt: HostRuntime) -> Result<(), Fail> {
-    for (workers, team) in [(1, 0b1), (4, 0b1111)] {
-        check_riding_by(&rt, rt.alloc(), workers, team)?;
-    }
-    Ok(())
-}
-
 // Checks that `round` has started `intake` inputs, and holds exactly those with the numbers `held`.
 fn check_held<R: Abort>(
     rt: &R,
@@ -406,141 +235,143 @@ fn check_held<R: Abort>(
     intake: usize,
     held: &[usize],
 ) -> Result<(), Fail> {
-    assert_eq!(rt; round.started_inputs(), intake);
-    assert_eq!(rt; round.held(alloc)?.as_slice(), held, "behind {intake}");
+    same(rt, round.started_inputs(), intake, "started inputs");
+    same(
+        rt,
+        round.held(alloc)?.as_slice(),
+        held,
+        ("held after", intake),
+    );
     Ok(())
 }
 
-// Checks the outs of each of `runs` in the new round `round`. Also checks, after each run, how many
-// inputs are started, and which are held.
-fn check_holds<R: Abort + Threads + Sync>(
+// Checks that a run of a round results in what it must.
+fn check_run<R: Abort + Threads + Sync, G: Gate + Sync>(
     rt: &R,
     alloc: Global,
+    gate: &G,
     round: &mut Round<ByTable>,
-    runs: &[HoldRun],
+    (asked, right, intake, held): Run,
 ) -> Result<(), Fail> {
-    check_held(rt, alloc, round, 0, &[])?;
-    for (asked, right, intake, held) in runs {
-        check_outs(rt, alloc, &OpenGate, round, *asked, *right)?;
-        check_held(rt, alloc, round, *intake, *held)?;
+    let mut outs = Vec::new(alloc);
+    run(rt, alloc, gate, round, &requests(alloc, asked)?, &mut outs)?;
+    check_outs(rt, alloc, &outs, right)?;
+    check_held(rt, alloc, round, intake, held)
+}
+
+// Checks a run as `check_run`, in which exactly the workers in `team` must take part. Bit k of
+// `team` is set for worker k.
+fn check_team<R: Abort + Threads + Sync>(
+    rt: &R,
+    alloc: Global,
+    team: u16,
+    round: &mut Round<ByTable>,
+    run: Run,
+) -> Result<(), Fail> {
+    let meeting = Meeting::of(team);
+    check_run(rt, alloc, &meeting, round, run)?;
+    same(rt, meeting.finished(), Some(team), "the team");
+    Ok(())
+}
+
+// Checks that `round`, which is new, appends `OUTS` for `INPUTS` after the crowd's handshakes. Each
+// run has at most `at_once` of the inputs.
+fn check_parts<R: Abort + Threads + Sync>(
+    rt: &R,
+    alloc: Global,
+    mut round: Round<ByTable>,
+    at_once: usize,
+) -> Result<(), Fail>
+    requires { 1 ≤ at_once }
+{
+    open_crowd(rt, alloc, &mut round)?;
+    let mut outs = Vec::new(alloc);
+    for part in requests(alloc, &INPUTS)?.chunks(at_once) {
+        run(rt, alloc, &OpenGate, &mut round, part, &mut outs)?;
+    }
+    check_outs(rt, alloc, &outs, &OUTS)
+}
+
+// Checks that one run and several runs append the same outs. The rounds have 1 or 16 workers, and
+// each of three placings.
+#[test]
+fn one_run_gives_what_several_give(rt: HostRuntime) -> Result<(), Fail> {
+    let alloc = rt.alloc();
+    for table in TABLES {
+        for (workers, at_once) in [(1, 5), (1, 1), (16, 5), (16, 1)] {
+            let round = round(alloc, (2, workers), PLAIN, table)?;
+            check_parts(&rt, alloc, round, at_once)?;
+        }
     }
     Ok(())
 }
 
-fn check_holds_by<R: Abort + Threads + Sync>(
+// Checks the outs of `INPUTS` and of `RIDING`, and then that the connect `ALONE` gets none. In the
+// run of `RIDING`, exactly the workers in `team` must take part, and in that of `ALONE` only worker
+// 0.
+fn check_riding<R: Abort + Threads + Sync>(
+    rt: &R,
+    alloc: Global,
+    mut round: Round<ByTable>,
+    team: u16,
+) -> Result<(), Fail> {
+    open_crowd(rt, alloc, &mut round)?;
+    let first = (INPUTS.as_slice(), OUTS.as_slice(), 1_029, [].as_slice());
+    check_run(rt, alloc, &OpenGate, &mut round, first)?;
+    check_team(rt, alloc, team, &mut round, (&RIDING, &RIDDEN, 1_031, &[]))?;
+    check_team(rt, alloc, 0b1, &mut round, (&ALONE, &[], 1_032, &[1_031]))
+}
+
+// Checks that a rider's reply carries the waiting events, with one worker and with four.
+#[test]
+fn events_ride_by_one_worker_and_by_four(rt: HostRuntime) -> Result<(), Fail> {
+    let riding = Options {
+        ride: true,
+        anonymous: false,
+    };
+    for (workers, team) in [(1, 0b1), (4, 0b1111)] {
+        let round = round(rt.alloc(), (4, workers), riding, &[3, 1, 0, 2])?;
+        check_riding(&rt, rt.alloc(), round, team)?;
+    }
+    Ok(())
+}
+
+// Checks each of `runs` in a new round of two shards.
+fn check_holds<R: Abort + Threads + Sync>(
     rt: &R,
     alloc: Global,
     workers: usize,
-    runs: &[HoldRun],
+    runs: &[Run],
 ) -> Result<(), Fail> {
-    let mut round = round(alloc, (2, workers), &[0, 1])?;
-    check_holds(rt, alloc, &mut round, runs)
+    let mut round = round(alloc, (2, workers), PLAIN, &[0, 1])?;
+    check_held(rt, alloc, &round, 0, &[])?;
+    for run in runs {
+        check_run(rt, alloc, &OpenGate, &mut round, *run)?;
+    }
+    Ok(())
 }
 
 // Checks that a round reports which connects it holds, after one run and after several.
 #[test]
 fn a_held_connect_is_reported_with_the_outs(rt: HostRuntime) -> Result<(), Fail> {
     for workers in [1, 2] {
-        check_holds_by(&rt, rt.alloc(), workers, &TOGETHER)?;
-        check_holds_by(&rt, rt.alloc(), workers, &APART)?;
+        check_holds(&rt, rt.alloc(), workers, &TOGETHER)?;
+        check_holds(&rt, rt.alloc(), workers, &APART)?;
     }
     Ok(())
 }
 
-// A gate that stops worker `held` before its work until another worker is done. If that takes too
-// long, it sets `gave_up`.
-#[derive(Drop)]
-struct Holding {
-    held: usize,
-    is_free: AtomicBool,
-    gave_up: AtomicBool,
-}
-
-fn gate_for(held: usize) -> Holding {
-    Holding {
-        held,
-        is_free: AtomicBool::new(false),
-        gave_up: AtomicBool::new(false),
-    }
-}
-
-impl Gate for Holding {
-    fn before(&self, worker: usize) {
-        if worker != self.held {
-            return;
-        }
-        for _ in 0..LOOKS {
-            if self.is_free.load(Ordering::SeqCst) {
-                return;
-            }
-            hint::spin_loop();
-        }
-        self.gave_up.store(true, Ordering::SeqCst);
-    }
-
-    fn after(&self, worker: usize) {
-        if worker != self.held {
-            self.is_free.store(true, Ordering::SeqCst);
-        }
-    }
-}
-
-// Checks that the workers of a run work concurrently, which no contract states. If one thread did
-// the work of both workers in turn, the held one would give up.
-#[test]
-fn workers_run_at_the_same_time(rt: HostRuntime) -> Result<(), Fail> {
-    let alloc = rt.alloc();
-    for held in [0, 1] {
-        let gate = gate_for(held);
-        check_gated(&rt, alloc, (&OpenGate, &gate), (2, 2), &[0, 1, 2])?;
-        assert!(rt;
-            gate.is_free.load(Ordering::SeqCst),
-            "worker {held} was alone"
-        );
-        assert!(rt; !gate.gave_up.load(Ordering::SeqCst), "worker {held}");
-    }
-    Ok(())
-}
-
-// Returns a round of 64 shards with a held connect. The round has 4 shards when the connect is
-// held, and its sessions are then redistributed. Appends the outs so far to `outs`.
-fn redistributed<R: Threads + Sync, G: Gate + Sync>(
-    rt: &R,
-    alloc: Global,
-    gate: &G,
-    outs: &mut Vec<Out>,
-) -> Result<Round<ByTable>, Fail> {
-    let placing = Arc::new(alloc, ByTable::new(alloc, &[3, 62, 17, 40, 9])?)?;
-    let round = with_a_held_connect(rt, alloc, gate, outs)?;
-    let shards = ShardCount::new(64).ok_or("no such number of shards")?;
-    match round.reshard(rt, alloc, shards, placing) {
-        Ok(round) => Ok(round),
-        Err(_) => Err(Fail::from("no memory")),
-    }
-}
-
-fn with_a_held_connect<R: Threads + Sync, G: Gate + Sync>(
-    rt: &R,
-    alloc: Global,
-    gate: &G,
-    outs: &mut Vec<Out>,
-) -> Result<Round<ByTable>, Fail> {
-    let mut round = round(alloc, (4, 16), &[0, 1, 2, 3])?;
-    hold(rt, alloc, gate, &mut round, outs)?;
-    Ok(round)
-}
-
-fn hold<R: Threads + Sync, G: Gate + Sync>(
+// Runs the crowd's handshakes, and `INPUTS` up to the held connect. Workers call `gate` in the
+// second run.
+fn hold<R: Abort + Threads + Sync, G: Gate + Sync>(
     rt: &R,
     alloc: Global,
     gate: &G,
     round: &mut Round<ByTable>,
-    outs: &mut Vec<Out>,
 ) -> Result<(), Fail> {
     open_crowd(rt, alloc, round)?;
-    let inputs = inputs(alloc, INPUTS.len())?;
-    let held = inputs.get(..4).ok_or("too few inputs")?;
-    run(rt, alloc, gate, round, held, outs)
+    let run = (&INPUTS[..4], &OUTS[..3], 1_028, [1_027].as_slice());
+    check_run(rt, alloc, gate, round, run)
 }
 
 // Runs the last of `INPUTS`, a publish, and checks that it answers the held connect.
@@ -549,76 +380,37 @@ fn answer_held<R: Abort + Threads + Sync, G: Gate + Sync>(
     alloc: Global,
     gate: &G,
     round: &mut Round<ByTable>,
-    outs: &mut Vec<Out>,
 ) -> Result<(), Fail> {
-    let inputs = inputs(alloc, INPUTS.len())?;
-    let event = inputs.get(4..).ok_or("too few inputs")?;
-    check_held(rt, alloc, round, 1_028, &[1_027])?;
-    run(rt, alloc, gate, round, event, outs)?;
-    check_held(rt, alloc, round, 1_029, &[])
+    let run = (&INPUTS[4..], &OUTS[3..], 1_029, [].as_slice());
+    check_run(rt, alloc, gate, round, run)
 }
 
-// Checks that a publish answers a held connect after the sessions are redistributed. The runs until
-// then use the gate `before`, and the run of the publish uses `behind`.
-fn check_redistributed<R: Abort + Threads + Sync, G: Gate + Sync>(
+// Checks that a new round appends `OUTS` for `INPUTS`. The run up to the held connect uses the gate
+// `few`, and the run of the publish uses `many`. A run of a tick follows, with `few`.
+fn check_gated<R: Abort + Threads + Sync, F: Gate + Sync>(
     rt: &R,
     alloc: Global,
-    before: &G,
-    behind: &G,
+    (few, many): (&F, &Meeting),
+    mut round: Round<ByTable>,
 ) -> Result<(), Fail> {
-    let mut outs = Vec::new(alloc);
-    let mut round = redistributed(rt, alloc, before, &mut outs)?;
-    answer_held(rt, alloc, behind, &mut round, &mut outs)?;
-    check(rt, alloc, &outs, &OUTS)
+    hold(rt, alloc, few, &mut round)?;
+    answer_held(rt, alloc, many, &mut round)?;
+    let tick = [Input::Tick(20)];
+    run(rt, alloc, few, &mut round, &tick, &mut Vec::new(alloc))
 }
 
-// A gate at which workers wait until exactly the workers of `team` are there. If that takes too
-// long, it sets `gave_up`.
-#[derive(Drop)]
-struct Meeting {
-    // The workers that must meet at the gate: bit k is set for worker k.
-    team: u16,
-    came: AtomicU16,
-    went: AtomicU16,
-    gave_up: AtomicBool,
-}
-
-fn meeting_of(team: u16) -> Meeting {
-    Meeting {
-        team,
-        came: AtomicU16::new(0),
-        went: AtomicU16::new(0),
-        gave_up: AtomicBool::new(false),
+// Checks that the workers of a run work concurrently, which no contract states. If one thread did
+// the work of both workers in turn, the held one would give up.
+#[test]
+fn workers_run_at_the_same_time(rt: HostRuntime) -> Result<(), Fail> {
+    let alloc = rt.alloc();
+    for held in [0, 1] {
+        let gate = Meeting::holding(held);
+        let round = round(alloc, (2, 2), PLAIN, &[0, 1, 2])?;
+        check_gated(&rt, alloc, (&OpenGate, &gate), round)?;
+        same(&rt, gate.finished(), Some(0b11), held);
     }
-}
-
-fn bit(worker: usize) -> u16 {
-    if worker < 16 { 1 << worker } else { 0 }
-}
-
-impl Gate for Meeting {
-    fn before(&self, worker: usize) {
-        self.came.fetch_or(bit(worker), Ordering::SeqCst);
-        for _ in 0..LOOKS {
-            let are_there = self.came.load(Ordering::SeqCst) == self.team;
-            if are_there || self.gave_up.load(Ordering::SeqCst) {
-                return;
-            }
-            yield_now();
-        }
-        self.gave_up.store(true, Ordering::SeqCst);
-    }
-
-    fn after(&self, worker: usize) {
-        self.went.fetch_or(bit(worker), Ordering::SeqCst);
-    }
-}
-
-// Checks that exactly the team's workers met at the gate, and that all finished their work.
-fn check_met<R: Abort>(rt: &R, meeting: &Meeting) {
-    let (team, went) = (meeting.team, meeting.went.load(Ordering::SeqCst));
-    assert!(rt; !meeting.gave_up.load(Ordering::SeqCst), "team {team:b}");
-    assert_eq!(rt; went, team, "team {team:b}");
+    Ok(())
 }
 
 // Checks that each worker has its own thread, which no contract states. With fewer threads, workers
@@ -628,14 +420,31 @@ fn check_met<R: Abort>(rt: &R, meeting: &Meeting) {
 #[test]
 fn as_many_threads_run_as_workers(rt: HostRuntime) -> Result<(), Fail> {
     let alloc = rt.alloc();
-    let table = [3, 62, 17, 40, 9];
-    for (shards, workers, team) in [(64, 16, 0xffff), (4, 16, 0b1111)] {
-        let (one, all) = (meeting_of(0b1), meeting_of(team));
-        check_gated(&rt, alloc, (&one, &all), (shards, workers), &table)?;
-        check_met(&rt, &one);
-        check_met(&rt, &all);
+    for (shards, team) in [(64, 0xffff), (4, 0b1111)] {
+        let (one, all) = (Meeting::of(0b1), Meeting::of(team));
+        let round = round(alloc, (shards, 16), PLAIN, &[3, 62, 17, 40, 9])?;
+        check_gated(&rt, alloc, (&one, &all), round)?;
+        same(&rt, one.finished(), Some(0b1), shards);
+        same(&rt, all.finished(), Some(team), shards);
     }
     Ok(())
+}
+
+// Returns a round of 64 shards with a held connect. The round has 4 shards when the connect is
+// held, and its sessions are then redistributed.
+fn redistributed<R: Abort + Threads + Sync>(
+    rt: &R,
+    alloc: Global,
+    gate: &Meeting,
+) -> Result<Round<ByTable>, Fail> {
+    let mut round = round(alloc, (4, 16), PLAIN, &[0, 1, 2, 3])?;
+    hold(rt, alloc, gate, &mut round)?;
+    let placing = Arc::new(alloc, ByTable::new(alloc, &[3, 62, 17, 40, 9])?)?;
+    let shards = ShardCount::new(64).ok_or("no such number of shards")?;
+    match round.reshard(rt, alloc, shards, placing) {
+        Ok(round) => Ok(round),
+        Err(_) => Err(Fail::from("no memory")),
+    }
 }
 
 // Checks that a held connect is answered after its session moves to one of 64 shards. The 16
@@ -643,9 +452,10 @@ fn as_many_threads_run_as_workers(rt: HostRuntime) -> Result<(), Fail> {
 #[test]
 fn each_worker_finds_a_shard_among_more(rt: HostRuntime) -> Result<(), Fail> {
     let alloc = rt.alloc();
-    let (one, all) = (meeting_of(0b1), meeting_of(0xffff));
-    check_redistributed(&rt, alloc, &one, &all)?;
-    check_met(&rt, &one);
-    check_met(&rt, &all);
+    let (one, all) = (Meeting::of(0b1), Meeting::of(0xffff));
+    let mut round = redistributed(&rt, alloc, &one)?;
+    answer_held(&rt, alloc, &all, &mut round)?;
+    same(&rt, one.finished(), Some(0b1), "one worker");
+    same(&rt, all.finished(), Some(0xffff), "all workers");
     Ok(())
 }

@@ -17,4 +17,6 @@ mod same;
 #[cfg(test)]
 mod script;
 #[cfg(test)]
+mod streams;
+#[cfg(test)]
 mod world;

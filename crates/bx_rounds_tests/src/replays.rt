@@ -1,13 +1,14 @@
 //! Tests of replays with several placings, and with readers and writers that fail.
 //!
 //! `tests/rows` tests the program with other scripts.
+use crate::same::same;
+use crate::streams::{Faults, Reader, Writer};
 use bx_advice::{Config, WorkerCount};
 use bx_entry::{AllFirst, ByRemainder, ByTable, Placing};
 use bx_replay::replay;
 use bx_script::{Dialect, Lines, Output, ScriptFault};
 use std::alloc::Global;
-use std::io;
-use std::io::{BufRead, BufReader, ErrorKind, Read, Write};
+use std::io::{BufRead, BufReader, Write};
 use std::process::Abort;
 use std::sync::Arc;
 use std::test::Fail;
@@ -46,9 +47,15 @@ x
     ),
 ];
 
-// Scripts, each with what a replay of it writes. In the first, an event answers two of three
-// connects. In the second, a batch is sent again after the sessions are redistributed.
-const PLACED: [(&str, &str); 2] = [
+// More scripts, each with what a replay of it writes.
+//
+// 1. An event answers two of three connects.
+// 2. A batch is sent again after the sessions are redistributed.
+// 3. A connect supersedes another.
+// 4. Clients also disconnect sessions that are not live.
+// 5. A tick ends a session, which publishes after that.
+// 6. A batch is sent until it is acknowledged.
+const MORE_RUNS: [(&str, &str); 6] = [
     (
         r#"0 P [{"channel":"/meta/handshake","version":"1.0","supportedConnectionTypes":["long-polling"]}]
 0 P [{"channel":"/meta/handshake","version":"1.0","supportedConnectionTypes":["long-polling"]}]
@@ -84,12 +91,6 @@ const PLACED: [(&str, &str); 2] = [
 5 200 [{"channel":"/a/x","data":1},{"advice":{"interval":0,"reconnect":"retry","timeout":30000},"channel":"/meta/connect","clientId":"000000000000000000000000000000000000000000000001","ext":{"ack":1},"successful":true}]
 "#,
     ),
-];
-
-// Scripts, each with what a replay of it writes. In the first, a connect supersedes another. In the
-// second, clients also disconnect sessions that are not live. In the third, a tick ends a session,
-// which publishes after that. In the fourth, a batch is sent until it is acknowledged.
-const WHOLE: [(&str, &str); 4] = [
     (
         r#"0 P [{"channel":"/meta/handshake","version":"1.0","supportedConnectionTypes":["long-polling"]}]
 1 P [{"channel":"/meta/connect","clientId":"000000000000000000000000000000000000000000000001","connectionType":"long-polling"}]
@@ -193,8 +194,8 @@ fn check_placed<R: Abort + Threads + Sync, P: Placing + Drop + Send + Sync>(
         &mut lines,
         &mut Output::new(&mut written),
     )?;
-    assert_eq!(rt; ended, Ok(()));
-    assert_eq!(rt; written.as_slice(), expected.as_bytes());
+    same(rt, ended, Ok(()), script);
+    same(rt, written.as_slice(), expected.as_bytes(), script);
     Ok(())
 }
 
@@ -214,62 +215,10 @@ fn wherever_sessions_are_placed_the_same_is_printed(rt: HostRuntime) -> Result<(
     for run in RUNS {
         check_placings(&rt, rt.alloc(), run)?;
     }
-    for run in PLACED {
-        check_placings(&rt, rt.alloc(), run)?;
-    }
-    for run in WHOLE {
+    for run in MORE_RUNS {
         check_placings(&rt, rt.alloc(), run)?;
     }
     Ok(())
-}
-
-// A reader that returns at most 40 bytes at a time, and fails after `reads` reads.
-#[derive(Drop)]
-struct Reader<'a> {
-    bytes: &'a [u8],
-    reads: usize,
-}
-
-impl Read for Reader<'_> {
-    fn read(&mut self, buf: &mut [u8]) -> io::Result<usize> {
-        if self.reads == 0 {
-            return Err(io::Error::from(ErrorKind::BrokenPipe));
-        }
-        self.reads -= 1;
-        let count = self.bytes.len().min(buf.len()).min(40);
-        buf[..count].copy_from_slice(&self.bytes[..count]);
-        self.bytes = &self.bytes[count..];
-        Ok(count)
-    }
-}
-
-// A writer that writes at most 40 bytes at a time. It fails after `writes` writes, and on a flush
-// unless `flushes`.
-#[derive(Drop)]
-struct Writer {
-    written: Vec<u8>,
-    writes: usize,
-    flushes: bool,
-}
-
-impl Write for Writer {
-    fn write(&mut self, buf: &[u8]) -> io::Result<usize> {
-        if self.writes == 0 {
-            return Err(io::Error::from(ErrorKind::BrokenPipe));
-        }
-        self.writes -= 1;
-        let count = buf.len().min(40);
-        self.written.extend_from_slice(&buf[..count])?;
-        Ok(count)
-    }
-
-    fn flush(&mut self) -> io::Result<()> {
-        if self.flushes {
-            Ok(())
-        } else {
-            Err(io::Error::from(ErrorKind::BrokenPipe))
-        }
-    }
 }
 
 // Returns `true` if `ended` is `Ok`, after checking that `written` equals `right`. Otherwise
@@ -283,112 +232,65 @@ fn is_whole<R: Abort>(
     right: &str,
 ) -> bool {
     if ended.is_ok() {
-        assert_eq!(rt; written, right.as_bytes());
+        same(rt, written, right.as_bytes(), "a whole replay");
         return true;
     }
-    assert_eq!(rt; ended, Err(fault));
-    assert!(rt; right.as_bytes().starts_with(written));
+    same(rt, ended, Err(fault), "a replay that fails");
+    same(rt, right.as_bytes().starts_with(written), true, fault);
     false
 }
 
-// Replays a script from a reader that fails after `reads` reads. Returns `true` if the replay
-// succeeds and writes `right`. Returns `false` if it ends with a read fault and writes a prefix of
-// `right`.
-fn check_read<R: Abort + Threads + Sync>(
+// Replays a script with a reader and a writer that may fail. Returns `true` if the replay succeeds
+// and writes `right`. Returns `false` if it ends with `fault` and writes a prefix of `right`.
+fn check_fault<R: Abort + Threads + Sync>(
     rt: &R,
     alloc: Global,
     (script, right): (&str, &str),
-    reads: usize,
+    (reads, writer): (Faults, &mut Writer),
+    fault: ScriptFault,
 ) -> Result<bool, Fail> {
-    let bytes = script.as_bytes();
-    let mut lines = Lines::new(
-        alloc,
-        Dialect::Script,
-        BufReader::new(alloc, Reader { bytes, reads })?,
-    );
-    let mut written = Vec::new(alloc);
-    let ended = replayed(
-        rt,
-        alloc,
-        ByRemainder,
-        &mut lines,
-        &mut Output::new(&mut written),
-    )?;
-    Ok(is_whole(rt, ended, ScriptFault::Read, written.as_slice(), right))
+    let reader = BufReader::new(alloc, Reader::new(script.as_bytes(), 40, reads))?;
+    let mut lines = Lines::new(alloc, Dialect::Script, reader);
+    let mut output = Output::new(&mut *writer);
+    let ended = replayed(rt, alloc, ByRemainder, &mut lines, &mut output)?;
+    Ok(is_whole(rt, ended, fault, writer.written.as_slice(), right))
 }
 
-// Checks a replay with a reader that fails after 0 reads, 1 read and so on, until a replay
-// succeeds. Fails if none of 100 replays succeeds.
-fn check_reads<R: Abort + Threads + Sync>(
+// Checks a replay with a reader or a writer that fails after 0 calls, 1 call and so on, until a
+// replay succeeds. Fails if none of 100 replays succeeds.
+fn check_faults<R: Abort + Threads + Sync>(
     rt: &R,
     alloc: Global,
     run: (&str, &str),
+    fault: ScriptFault,
 ) -> Result<(), Fail> {
-    for reads in 0..100 {
-        if check_read(rt, alloc, run, reads)? {
+    for calls in 0..100 {
+        let (reads, writes) = match fault {
+            ScriptFault::Read => (Faults::Since(calls), Faults::Never),
+            _ => (Faults::Never, Faults::Since(calls)),
+        };
+        let mut writer = Writer::new(alloc, 40, writes);
+        if check_fault(rt, alloc, run, (reads, &mut writer), fault)? {
             return Ok(());
         }
     }
-    Err(Fail::from("more reads than there may be"))
+    Err(Fail::from("more calls than there may be"))
 }
 
 // Checks that a prefix of the output is written before a failed read.
 #[test]
 fn a_failed_read_leaves_a_front(rt: HostRuntime) -> Result<(), Fail> {
     for run in RUNS {
-        check_reads(&rt, rt.alloc(), run)?;
+        check_faults(&rt, rt.alloc(), run, ScriptFault::Read)?;
     }
     Ok(())
-}
-
-// Replays a script to `writer`, which may fail. Returns `true` if the replay succeeds and writes
-// `right`. Returns `false` if it ends with a write fault and writes a prefix of `right`.
-fn check_writer<R: Abort + Threads + Sync>(
-    rt: &R,
-    alloc: Global,
-    (script, right): (&str, &str),
-    writer: &mut Writer,
-) -> Result<bool, Fail> {
-    let mut lines = Lines::new(alloc, Dialect::Script, script.as_bytes());
-    let mut output = Output::new(&mut *writer);
-    let ended = replayed(rt, alloc, ByRemainder, &mut lines, &mut output)?;
-    Ok(is_whole(
-        rt,
-        ended,
-        ScriptFault::Write,
-        writer.written.as_slice(),
-        right,
-    ))
-}
-
-fn new_writer(alloc: Global, writes: usize, flushes: bool) -> Writer {
-    Writer {
-        written: Vec::new(alloc),
-        writes,
-        flushes,
-    }
-}
-
-// Checks a replay with a writer that fails after 0 writes, 1 write and so on, until a replay
-// succeeds. Fails if none of 100 replays succeeds.
-fn check_writes<R: Abort + Threads + Sync>(
-    rt: &R,
-    alloc: Global,
-    run: (&str, &str),
-) -> Result<(), Fail> {
-    for writes in 0..100 {
-        if check_writer(rt, alloc, run, &mut new_writer(alloc, writes, true))? {
-            return Ok(());
-        }
-    }
-    Err(Fail::from("more writes than there may be"))
 }
 
 // Checks that a prefix of the output is written before a failed write.
 #[test]
 fn a_failed_write_leaves_a_front(rt: HostRuntime) -> Result<(), Fail> {
     for run in RUNS {
-        check_writes(&rt, rt.alloc(), run)?;
+        check_faults(&rt, rt.alloc(), run, ScriptFault::Write)?;
     }
     Ok(())
 }
@@ -396,8 +298,11 @@ fn a_failed_write_leaves_a_front(rt: HostRuntime) -> Result<(), Fail> {
 // Checks that a failed flush is a write fault, after all output is written.
 #[test]
 fn a_failed_flush_is_a_write_fault(rt: HostRuntime) -> Result<(), Fail> {
-    let mut writer = new_writer(rt.alloc(), 100, false);
-    assert!(rt; !check_writer(&rt, rt.alloc(), RUNS[0], &mut writer)?);
-    assert_eq!(rt; writer.written.as_slice(), RUNS[0].1.as_bytes());
+    let (run, fault) = (RUNS[0], ScriptFault::Write);
+    let mut writer = Writer::new(rt.alloc(), 40, Faults::Never);
+    writer.flushes = false;
+    let is_whole = check_fault(&rt, rt.alloc(), run, (Faults::Never, &mut writer), fault)?;
+    same(&rt, is_whole, false, "a failed flush");
+    same(&rt, writer.written.as_slice(), run.1.as_bytes(), "all");
     Ok(())
 }

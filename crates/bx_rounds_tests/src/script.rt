@@ -1,5 +1,6 @@
 //! Tests of reading the lines of a script, and of writing the answers to them.
 use crate::same::same;
+use crate::streams::{Faults, Reader, Writer};
 use bx_advice::BODY_LIMIT;
 use bx_entry::{Input, Refusal};
 use bx_message::{Sequence, Status, number_of};
@@ -7,8 +8,7 @@ use bx_script::{
     Dialect, Line, Lines, Output, ScriptFault, write_bad, write_held, write_result, write_status,
 };
 use std::alloc::{AllocError, Global};
-use std::io;
-use std::io::{BufRead, BufReader, Read, Write};
+use std::io::{BufRead, BufReader, ErrorKind};
 use std::process::Abort;
 use std::test::Fail;
 
@@ -85,32 +85,6 @@ const TOLD: &str =
 const TOLD_AS_SCRIPT: &str =
     "post 0 - |[]\r|;bad;bad;post 0 - |\0|;bad;tick 7;bad;bad;tick 0;post 1 cb |[]|;turned 400;bad;shards 64;bad;shards 1;tick 0;bad;bad;bad;bad;bad;bad;bad;bad;bad;bad;bad;bad;bad;bad;bad;bad;bad;bad;bad;bad;bad;bad;bad;bad;bad;";
 
-// A reader that returns one byte at a time. If `fault` is given, it fails once, after that number
-// of reads.
-#[derive(Drop)]
-struct Slow {
-    bytes: &'static [u8],
-    fault: Option<(usize, io::ErrorKind)>,
-}
-
-impl Read for Slow {
-    fn read(&mut self, buf: &mut [u8]) -> io::Result<usize> {
-        if let Some((reads, kind)) = self.fault {
-            if reads == 0 {
-                self.fault = None;
-                return Err(io::Error::from(kind));
-            }
-            self.fault = Some((reads - 1, kind));
-        }
-        if self.bytes.is_empty() || buf.is_empty() {
-            return Ok(0);
-        }
-        buf[0] = self.bytes[0];
-        self.bytes = &self.bytes[1..];
-        Ok(1)
-    }
-}
-
 // Checks that the lines of the record in `reader` have the descriptions `wanted`. If `wanted` is a
 // fault, checks that reading the record fails with that fault.
 fn check_told<R: BufRead>(
@@ -125,14 +99,14 @@ fn check_told<R: BufRead>(
     }
 }
 
+// Checks the lines of the record `SCRIPT`, read one byte at a time.
 fn check_slowly(
     rt: &impl Abort,
     alloc: Global,
-    fault: Option<(usize, io::ErrorKind)>,
+    faults: Faults,
     wanted: Result<&str, ScriptFault>,
 ) -> Result<(), Fail> {
-    let bytes = SCRIPT;
-    let mut reader = BufReader::new(alloc, Slow { bytes, fault })?;
+    let mut reader = BufReader::new(alloc, Reader::new(SCRIPT, 1, faults))?;
     check_told(rt, alloc, &mut reader, wanted);
     Ok(())
 }
@@ -149,11 +123,11 @@ fn lines_say_what_they_say(rt: HostRuntime) -> Result<(), Fail> {
     same(&rt, told.as_str(), TOLD_AS_SCRIPT, "a script");
     let mut none: &[u8] = b"";
     check_told(&rt, alloc, &mut none, Ok(""));
-    check_slowly(&rt, alloc, None, Ok(TOLD))?;
-    let interrupted = Some((5, io::ErrorKind::Interrupted));
+    check_slowly(&rt, alloc, Faults::Never, Ok(TOLD))?;
+    let interrupted = Faults::At(5, ErrorKind::Interrupted);
     check_slowly(&rt, alloc, interrupted, Ok(TOLD))?;
     for reads in [0, 1, 6, 7, SCRIPT.len()] {
-        let broken = Some((reads, io::ErrorKind::BrokenPipe));
+        let broken = Faults::At(reads, ErrorKind::BrokenPipe);
         check_slowly(&rt, alloc, broken, Err(ScriptFault::Read))?;
     }
     Ok(())
@@ -268,51 +242,22 @@ fn what_is_printed(rt: HostRuntime) -> Result<(), Fail> {
     Ok(())
 }
 
-// A writer that fails once, after `writes` writes, or never if `writes` is `None`.
-#[derive(Drop)]
-struct Broken {
-    held: Vec<u8>,
-    writes: Option<usize>,
-}
-
-impl Write for Broken {
-    fn write(&mut self, buf: &[u8]) -> io::Result<usize> {
-        match self.writes {
-            Some(0) => {
-                self.writes = None;
-                return Err(io::Error::from(io::ErrorKind::BrokenPipe));
-            }
-            Some(writes) => self.writes = Some(writes - 1),
-            None => {}
-        }
-        self.held.extend_from_slice(buf)?;
-        Ok(buf.len())
-    }
-
-    fn flush(&mut self) -> io::Result<()> {
-        Ok(())
-    }
-}
-
 // Writes the answer to line 12, a request without messages, with the callback `name` if there is
 // one.
-fn respond<W: Write>(
+fn respond(
     alloc: Global,
-    writer: &mut W,
+    out: &mut Output<&mut Writer>,
     name: &Option<String>,
 ) -> Result<(), ScriptFault> {
-    let none = Ok(Sequence::new(alloc));
-    write_result(alloc, &mut Output::new(writer), 12, name, false, &none)
+    write_result(alloc, out, 12, name, false, &Ok(Sequence::new(alloc)))
 }
 
 fn check_front(rt: &impl Abort, alloc: Global, writes: usize, name: &Option<String>) {
-    let mut writer = Broken {
-        held: Vec::new(alloc),
-        writes: Some(writes),
-    };
-    let written = respond(alloc, &mut writer, name);
+    let broken = Faults::At(writes, ErrorKind::BrokenPipe);
+    let mut writer = Writer::new(alloc, usize::MAX, broken);
+    let written = respond(alloc, &mut Output::new(&mut writer), name);
     same(rt, written, Err(ScriptFault::Write), writes);
-    let is_front = b"12 200 cb([])\n".starts_with(writer.held.as_slice());
+    let is_front = b"12 200 cb([])\n".starts_with(writer.written.as_slice());
     same(rt, is_front, true, writes);
 }
 
@@ -326,79 +271,15 @@ fn a_failed_write_leaves_a_front(rt: HostRuntime) -> Result<(), Fail> {
     Ok(())
 }
 
-// A writer that writes at most two bytes at a time, and is interrupted before each write.
-#[derive(Drop)]
-struct Halting {
-    held: Vec<u8>,
-    ready: bool,
-}
-
-impl Write for Halting {
-    fn write(&mut self, buf: &[u8]) -> io::Result<usize> {
-        self.ready = !self.ready;
-        if self.ready {
-            return Err(io::Error::from(io::ErrorKind::Interrupted));
-        }
-        let count = buf.len().min(2);
-        self.held.extend_from_slice(&buf[..count])?;
-        Ok(count)
-    }
-
-    fn flush(&mut self) -> io::Result<()> {
-        Ok(())
-    }
-}
-
-fn respond_twice<W: Write>(alloc: Global, writer: &mut W) -> Result<(), ScriptFault> {
-    let none = Ok(Sequence::new(alloc));
-    let mut out = Output::new(writer);
-    write_result(alloc, &mut out, 12, &None, false, &none)?;
-    write_held(&mut out, 7)
-}
-
 // Checks that short and interrupted writes are continued.
 #[test]
 fn short_and_interrupted_writes_go_on(rt: HostRuntime) -> Result<(), Fail> {
-    let mut writer = Halting {
-        held: Vec::new(rt.alloc()),
-        ready: false,
-    };
-    respond_twice(rt.alloc(), &mut writer)?;
+    let mut writer = Writer::new(rt.alloc(), 2, Faults::EveryOther);
+    let mut out = Output::new(&mut writer);
+    respond(rt.alloc(), &mut out, &None)?;
+    write_held(&mut out, 7)?;
     let wanted = b"12 200 []\n7 held\n".as_slice();
-    same(&rt, writer.held.as_slice(), wanted, "two lines");
-    Ok(())
-}
-
-// A writer that writes one byte at a time.
-#[derive(Drop)]
-struct Narrow {
-    held: Vec<u8>,
-}
-
-impl Write for Narrow {
-    fn write(&mut self, buf: &[u8]) -> io::Result<usize> {
-        let count = buf.len().min(1);
-        self.held.extend_from_slice(&buf[..count])?;
-        Ok(count)
-    }
-
-    fn flush(&mut self) -> io::Result<()> {
-        Ok(())
-    }
-}
-
-fn check_narrow(
-    rt: &impl Abort,
-    alloc: Global,
-    name: &Option<String>,
-    wanted: &str,
-) -> Result<(), Fail> {
-    let mut writer = Narrow {
-        held: Vec::new(alloc),
-    };
-    respond(alloc, &mut writer, name)?;
-    let is_same = writer.held.as_slice() == wanted.as_bytes();
-    same(rt, is_same, true, "a long text");
+    same(&rt, writer.written.as_slice(), wanted, "two lines");
     Ok(())
 }
 
@@ -408,41 +289,20 @@ fn a_long_text_is_written_byte_by_byte(rt: HostRuntime) -> Result<(), Fail> {
     let alloc = rt.alloc();
     let name = "f".repeat(alloc, 100_000)?;
     let wanted = format!(in alloc; "12 200 {name}([])\n")?;
-    check_narrow(&rt, alloc, &Some(name), wanted.as_str())
-}
-
-// A writer that is interrupted `interruptions` times, and then writes everything.
-#[derive(Drop)]
-struct Interrupted {
-    held: Vec<u8>,
-    interruptions: usize,
-}
-
-impl Write for Interrupted {
-    fn write(&mut self, buf: &[u8]) -> io::Result<usize> {
-        if self.interruptions > 0 {
-            self.interruptions -= 1;
-            return Err(io::Error::from(io::ErrorKind::Interrupted));
-        }
-        self.held.extend_from_slice(buf)?;
-        Ok(buf.len())
-    }
-
-    fn flush(&mut self) -> io::Result<()> {
-        Ok(())
-    }
+    let mut writer = Writer::new(alloc, 1, Faults::Never);
+    respond(alloc, &mut Output::new(&mut writer), &Some(name))?;
+    let is_same = writer.written.as_slice() == wanted.as_bytes();
+    same(&rt, is_same, true, "a long text");
+    Ok(())
 }
 
 // Checks that a write succeeds after 100,000 interruptions.
 #[test]
 fn a_write_is_tried_after_many_interruptions(rt: HostRuntime) -> Result<(), Fail> {
-    let mut writer = Interrupted {
-        held: Vec::new(rt.alloc()),
-        interruptions: 100_000,
-    };
+    let mut writer = Writer::new(rt.alloc(), usize::MAX, Faults::Until(100_000));
     write_bad(&mut Output::new(&mut writer), 7)?;
     let wanted = b"7 bad\n".as_slice();
-    same(&rt, writer.held.as_slice(), wanted, "one line");
+    same(&rt, writer.written.as_slice(), wanted, "one line");
     Ok(())
 }
 

@@ -1,5 +1,6 @@
 //! Tests of a world: the output of each step of a schedule.
 use crate::requests::request;
+use crate::same::same;
 use bx_advice::Config;
 use bx_entry::{AdmitFault, AllFirst, ByRemainder, ByTable, Input, Placing, Refusal, Slot, Ticket};
 use bx_message::{Answer, event_text, reply_text};
@@ -23,20 +24,22 @@ enum Deed {
 // A step, and its expected output as text.
 type Line = (Deed, &'static str);
 
+const HANDSHAKE: &str =
+    r#"[{"channel":"/meta/handshake","version":"1.0","supportedConnectionTypes":["long-polling"]}]"#;
+
+// The output of the first handshake.
+const OPENED: &str =
+    r#"from 0: {"advice":{"interval":0,"reconnect":"retry","timeout":30000},"channel":"/meta/handshake","clientId":"000000000000000000000000000000000000000000000001","successful":true,"supportedConnectionTypes":["long-polling","callback-polling"],"version":"1.0"}"#;
+
+// A connect of the first session.
+const CONNECT: &str =
+    r#"[{"channel":"/meta/connect","clientId":"000000000000000000000000000000000000000000000001","connectionType":"long-polling"}]"#;
+
 // Two handshakes, and a subscription of the first session.
 const OPENING: [Line; 3] = [
+    (Deed::Post(0, HANDSHAKE), OPENED),
     (
-        Deed::Post(
-            0,
-            r#"[{"channel":"/meta/handshake","version":"1.0","supportedConnectionTypes":["long-polling"]}]"#,
-        ),
-        r#"from 0: {"advice":{"interval":0,"reconnect":"retry","timeout":30000},"channel":"/meta/handshake","clientId":"000000000000000000000000000000000000000000000001","successful":true,"supportedConnectionTypes":["long-polling","callback-polling"],"version":"1.0"}"#,
-    ),
-    (
-        Deed::Post(
-            0,
-            r#"[{"channel":"/meta/handshake","version":"1.0","supportedConnectionTypes":["long-polling"]}]"#,
-        ),
+        Deed::Post(0, HANDSHAKE),
         r#"from 1: {"advice":{"interval":0,"reconnect":"retry","timeout":30000},"channel":"/meta/handshake","clientId":"000000000000000000000000000000000000000000000002","successful":true,"supportedConnectionTypes":["long-polling","callback-polling"],"version":"1.0"}"#,
     ),
     (
@@ -48,26 +51,11 @@ const OPENING: [Line; 3] = [
     ),
 ];
 
-// The connect of the first session after `OPENING`. The first line is for a session in shard 0, the
-// second for one in shard 1.
-const CONNECT: [Line; 2] = [
-    (
-        Deed::Post(
-            10,
-            r#"[{"channel":"/meta/connect","clientId":"000000000000000000000000000000000000000000000001","connectionType":"long-polling"}]"#,
-        ),
-        "from 3: place 3 of shard 0",
-    ),
-    (
-        Deed::Post(
-            10,
-            r#"[{"channel":"/meta/connect","clientId":"000000000000000000000000000000000000000000000001","connectionType":"long-polling"}]"#,
-        ),
-        "from 3: place 3 of shard 1",
-    ),
-];
+// The output of the connect of the first session after `OPENING`, if the session is in shard 0, and
+// if it is in shard 1.
+const HELD_IN: [&str; 2] = ["from 3: place 3 of shard 0", "from 3: place 3 of shard 1"];
 
-// A publish of the second session after `CONNECT`, with an event that answers the connect.
+// A publish of the second session after the connect, with an event that answers the connect.
 const EVENT: Line = (
     Deed::Post(
         20,
@@ -76,7 +64,7 @@ const EVENT: Line = (
     r#"from 4: {"channel":"/a/b","successful":true}"#,
 );
 
-// The output of a step that takes the answer to the connect of `CONNECT`, with the event of
+// The output of a step that takes the answer to the connect after `OPENING`, with the event of
 // `EVENT`.
 const ANSWER: &str =
     r#"{"channel":"/a/b","data":7}{"advice":{"interval":0,"reconnect":"retry","timeout":30000},"channel":"/meta/connect","clientId":"000000000000000000000000000000000000000000000001","successful":true}"#;
@@ -111,20 +99,8 @@ const HELD: [Line; 16] = [
     (Deed::Post(0, "["), "refused: NotJson"),
     (Deed::Post(0, "[]"), "from 0:"),
     (Deed::Apply(1), "level"),
-    (
-        Deed::Post(
-            0,
-            r#"[{"channel":"/meta/handshake","version":"1.0","supportedConnectionTypes":["long-polling"]}]"#,
-        ),
-        r#"from 0: {"advice":{"interval":0,"reconnect":"retry","timeout":30000},"channel":"/meta/handshake","clientId":"000000000000000000000000000000000000000000000001","successful":true,"supportedConnectionTypes":["long-polling","callback-polling"],"version":"1.0"}"#,
-    ),
-    (
-        Deed::Post(
-            0,
-            r#"[{"channel":"/meta/connect","clientId":"000000000000000000000000000000000000000000000001","connectionType":"long-polling"}]"#,
-        ),
-        "from 1: place 1 of shard 1",
-    ),
+    (Deed::Post(0, HANDSHAKE), OPENED),
+    (Deed::Post(0, CONNECT), "from 1: place 1 of shard 1"),
     (Deed::Tick(29_999), "from 2:"),
     (Deed::Apply(1), "applied"),
     (Deed::Apply(1), "applied"),
@@ -202,66 +178,34 @@ fn push_answer(alloc: Global, answer: &Answer, text: &mut Vec<u8>) -> Result<(),
     text.extend_from_slice(&reply_text(alloc, &answer.reply)?)
 }
 
-fn check_out<R: Abort>(rt: &R, alloc: Global, out: &StepOut, line: &Line) -> Result<(), Fail> {
-    let (deed, expected) = line;
-    let mut text = Vec::new(alloc);
-    push_out(alloc, out, &mut text)?;
-    assert_eq!(rt; text.as_slice(), expected.as_bytes(), "{deed:?}");
-    Ok(())
-}
-
 // Creates a world of two shards.
 fn world<P: Placing + Drop>(alloc: Global, placing: &Arc<P>) -> Result<World<P>, Fail> {
     let config = Config::new(2, 30_000, 0, 10_000).ok_or("no configuration")?;
     Ok(World::new(alloc, config, placing.clone()?)?)
 }
 
-// Checks the outputs of the schedule `lines` in `world`, run by one call.
-fn check_run<R: Abort, P: Placing>(
-    rt: &R,
+// Returns the outputs of `steps` in `world`, run by one call if `at_once`, and otherwise with a call
+// for each step.
+fn outputs<P: Placing>(
     alloc: Global,
     world: &mut World<P>,
-    lines: &[Line],
-) -> Result<(), Fail> {
+    steps: &[Step],
+    at_once: bool,
+) -> Result<Vec<StepOut>, Fail> {
     let mut outs = Vec::new(alloc);
-    let ended = world.run_schedule(alloc, &steps(alloc, lines)?, &mut outs);
-    assert_eq!(rt; ended, Ok(()));
-    assert_eq!(rt; outs.len(), lines.len());
-    for (out, line) in outs.iter().zip(lines) {
-        check_out(rt, alloc, out, line)?;
+    if at_once {
+        world
+            .run_schedule(alloc, steps, &mut outs)
+            .map_err(|_| "out of memory")?;
+    } else {
+        for step in steps {
+            outs.push(world.step(alloc, step))?;
+        }
     }
-    Ok(())
-}
-
-// Checks the outputs of the schedule `lines` in `world`, with a call for each step.
-fn check_steps<R: Abort, P: Placing>(
-    rt: &R,
-    alloc: Global,
-    world: &mut World<P>,
-    lines: &[Line],
-) -> Result<(), Fail> {
-    for line in lines {
-        let out = world.step(alloc, &step(alloc, line.0)?);
-        check_out(rt, alloc, &out, line)?;
-    }
-    Ok(())
-}
-
-fn check<R: Abort, P: Placing + Drop>(
-    rt: &R,
-    alloc: Global,
-    placing: &Arc<P>,
-    lines: &[Line],
-) -> Result<(), Fail> {
-    for at_once in [true, false] {
-        check_in(rt, alloc, placing, lines, at_once)?;
-    }
-    Ok(())
+    Ok(outs)
 }
 
 // Checks the outputs of the schedule `lines` in a new world.
-//
-// If `at_once`, runs the schedule by one call, and otherwise with a call for each step.
 fn check_in<R: Abort, P: Placing + Drop>(
     rt: &R,
     alloc: Global,
@@ -270,18 +214,33 @@ fn check_in<R: Abort, P: Placing + Drop>(
     at_once: bool,
 ) -> Result<(), Fail> {
     let mut world = world(alloc, placing)?;
-    if at_once {
-        check_run(rt, alloc, &mut world, lines)
-    } else {
-        check_steps(rt, alloc, &mut world, lines)
+    let outs = outputs(alloc, &mut world, &steps(alloc, lines)?, at_once)?;
+    same(rt, outs.len(), lines.len(), at_once);
+    for (out, (deed, expected)) in outs.iter().zip(lines) {
+        let mut text = Vec::new(alloc);
+        push_out(alloc, out, &mut text)?;
+        same(rt, text.as_slice(), expected.as_bytes(), *deed);
     }
+    Ok(())
+}
+
+// Checks the outputs of the schedule `lines` in two new worlds, in one by one call.
+fn check<R: Abort, P: Placing + Drop>(
+    rt: &R,
+    alloc: Global,
+    placing: &Arc<P>,
+    lines: &[Line],
+) -> Result<(), Fail> {
+    check_in(rt, alloc, placing, lines, true)?;
+    check_in(rt, alloc, placing, lines, false)
 }
 
 // Creates a schedule of `OPENING`, a connect, `EVENT` and the lines `behind`. `shard`: the shard of
 // the session that connects, 0 or 1.
 fn schedule(alloc: Global, shard: usize, behind: &[Line]) -> Result<Vec<Line>, Fail> {
     let mut lines = Vec::from_slice(alloc, &OPENING)?;
-    lines.push(*CONNECT.get(shard).ok_or("no shard")?)?;
+    let held = HELD_IN.get(shard).ok_or("no shard")?;
+    lines.push((Deed::Post(10, CONNECT), *held))?;
     lines.push(EVENT)?;
     lines.extend_from_slice(behind)?;
     Ok(lines)
@@ -363,14 +322,13 @@ fn check_calls<R: Abort, P: Placing>(
     world: &mut World<P>,
 ) -> Result<(), Fail> {
     let refused = AdmitFault::Refused(Refusal::BadMoment);
-    assert_eq!(rt;
-        ticked(alloc, world, 4_611_686_018_427_387_905),
-        Err(refused)
-    );
-    assert_eq!(rt; world.apply(alloc, 0), Applied::Level);
-    assert_eq!(rt; ticked(alloc, world, 4_611_686_018_427_387_904), Ok(0));
+    let above = ticked(alloc, world, 4_611_686_018_427_387_905);
+    same(rt, above, Err(refused), "above");
+    same(rt, world.apply(alloc, 0), Applied::Level, "no entry");
+    let greatest = ticked(alloc, world, 4_611_686_018_427_387_904);
+    same(rt, greatest, Ok(0), "the greatest");
     for (shard, applied) in [(0, Applied::Done), (0, Applied::Level), (9, Applied::Level)] {
-        assert_eq!(rt; world.apply(alloc, shard), applied, "shard {shard}");
+        same(rt, world.apply(alloc, shard), applied, shard);
     }
     Ok(())
 }

@@ -1,4 +1,5 @@
 //! Tests of one shard: when tasks are woken, and which answers are filed.
+use crate::same::same;
 use bx_advice::{Config, Outcome};
 use bx_entry::{ByRemainder, Entry, EntryKind, Rider, Ticket};
 use bx_message::{
@@ -61,6 +62,25 @@ const ANSWERS: [Deed; 3] = [
     Deed::Publish("/b/c"),
     Deed::Connect(1),
 ];
+
+// The text of the answer to the second session's connect of `BOTH_HELD`, with its event of
+// `ANSWERS`.
+const OTHER_ANSWER: &str =
+    r#"{"channel":"/b/c","data":7}{"advice":{"interval":0,"reconnect":"retry","timeout":30000},"channel":"/meta/connect","clientId":"000000000000000000000000000000000000000000000002","successful":true}"#;
+
+// Entries that open and subscribe a session and publish two events, the second as its rider.
+//
+// The first event waits in the session's queue. The rider is at place 3.
+const RIDDEN: [Deed; 4] = [
+    Deed::Open(1),
+    Deed::Subscribe(1, "/a/*"),
+    Deed::Publish("/a/b"),
+    Deed::Ride(1, "/a/c"),
+];
+
+// The text of the answer to the rider of `RIDDEN`: both events, and then the rider's reply.
+const RIDE: &str =
+    r#"{"channel":"/a/b","data":7}{"channel":"/a/c","data":7}{"channel":"/a/c","successful":true}"#;
 
 fn subscribe(alloc: Global, session: u64, pattern: &str) -> Result<EntryKind, Fail> {
     let pattern = Pattern::read(alloc, pattern).map_err(|_| "no pattern")?;
@@ -155,28 +175,46 @@ fn shard(alloc: Global, deeds: &[Deed]) -> Result<Shard<ByRemainder>, Fail> {
     Ok(shard)
 }
 
-// The only shard of a server, and two tasks. The shard may store wakers of them.
-#[derive(Drop)]
-struct Scene {
-    shard: Shard<ByRemainder>,
-    first: MockTask,
-    second: MockTask,
+// Some of two tasks: whether the first is one of them, and whether the second is.
+type Tasks = [bool; 2];
+
+const NONE: Tasks = [false, false];
+
+const FIRST: Tasks = [true, false];
+
+const SECOND: Tasks = [false, true];
+
+const BOTH: Tasks = [true, true];
+
+// What a shard does with a waker: `Replaces` stores it, and returns the other task's waker.
+#[derive(Clone, Copy, Debug, PartialEq, Eq)]
+enum Watched {
+    Stored,
+    Replaces,
+    Ready,
+    Unknown,
+    Shut,
 }
 
-// Creates a scene in which the shard has applied entries that do `deeds`.
-fn new_scene<R: RandomSource + AllocGlobal>(
-    rt: &R,
-    alloc: Global,
-    deeds: &[Deed],
-) -> Result<Scene, Fail> {
-    Ok(Scene {
-        shard: shard(alloc, deeds)?,
-        first: MockTask::new(rt)?,
-        second: MockTask::new(rt)?,
-    })
+// A step of a test, and what it must result in.
+#[derive(Clone, Copy, Debug)]
+enum Step {
+    // Applies entries that do the deeds. Their answers wake exactly these tasks.
+    Apply(&'static [Deed], Tasks),
+    // Registers a waker of the task, `FIRST` or `SECOND`.
+    Watch(Ticket, Tasks, Watched),
+    // Takes the answer. The field is the text of its events and reply, if an answer is filed.
+    Take(Ticket, Option<&'static str>),
+    // Sweeps before the place, which drops this number of answers.
+    Sweep(u64, usize),
+    // Shuts the shard, which wakes both tasks.
+    Shut,
 }
 
-// Returns the ticket of the connect at `place` in shard 0.
+// A step and its index. A failed check prints both.
+type At = (usize, Step);
+
+// Returns the ticket of the connect or rider at `place` in shard 0.
 fn ticket(place: u64) -> Ticket {
     Ticket { place, shard: 0 }
 }
@@ -198,247 +236,249 @@ fn was_woken(task: &MockTask) -> bool {
     woken
 }
 
-// Registers a waker of `task` with the connect at `place`, and returns the result.
-fn watch(shard: &mut Shard<ByRemainder>, place: u64, task: &MockTask) -> Result<Watch, Fail> {
-    Ok(shard.watch(ticket(place), waker(task)?))
+// Returns what `watch` says of a waker of `task`, and the tasks that are woken if it is dropped.
+fn outcome(watch: &Watch, task: Tasks) -> (Watched, Tasks) {
+    match watch {
+        Watch::Stored(None) => (Watched::Stored, NONE),
+        Watch::Stored(Some(_)) => (Watched::Replaces, [task[1], task[0]]),
+        Watch::Ready(_) => (Watched::Ready, task),
+        Watch::Unknown(_) => (Watched::Unknown, task),
+        Watch::Shut(_) => (Watched::Shut, task),
+    }
 }
 
-fn check_stored<R: Abort>(
+// The only shard of a server, and two tasks. The shard may store wakers of them.
+#[derive(Drop)]
+struct Scene {
+    alloc: Global,
+    shard: Shard<ByRemainder>,
+    first: MockTask,
+    second: MockTask,
+}
+
+impl Scene {
+    // Returns which tasks were woken since the last call.
+    fn woken(&self) -> Tasks {
+        [was_woken(&self.first), was_woken(&self.second)]
+    }
+
+    // Checks that dropping `wakers` wakes exactly the tasks `woken`, and that none is woken before.
+    fn check_drop<T: Drop>(&self, rt: &impl Abort, wakers: T, woken: Tasks, at: At) {
+        same(rt, self.woken(), NONE, at);
+        drop(wakers);
+        same(rt, self.woken(), woken, at);
+    }
+
+    fn check_applied(
+        &mut self,
+        rt: &impl Abort,
+        deeds: &[Deed],
+        woken: Tasks,
+        at: At,
+    ) -> Result<(), Fail> {
+        let wakers = apply(self.alloc, &mut self.shard, deeds)?;
+        let count = woken.iter().filter(|is_woken| **is_woken).count();
+        same(rt, wakers.len(), count, at);
+        self.check_drop(rt, wakers, woken, at);
+        Ok(())
+    }
+
+    fn check_watched(
+        &mut self,
+        rt: &impl Abort,
+        (ticket, task): (Ticket, Tasks),
+        watched: Watched,
+        at: At,
+    ) -> Result<(), Fail> {
+        let own = if task == FIRST {
+            &self.first
+        } else {
+            &self.second
+        };
+        let watch = self.shard.watch(ticket, waker(own)?);
+        let (found, woken) = outcome(&watch, task);
+        same(rt, found, watched, at);
+        self.check_drop(rt, watch, woken, at);
+        Ok(())
+    }
+
+    // Takes the answer under `ticket`, and returns the texts of its events and reply. Returns `None`
+    // if no answer is filed.
+    fn taken(&mut self, ticket: Ticket) -> Result<Option<Vec<u8>>, AllocError> {
+        let Some(answer) = self.shard.take(ticket) else {
+            return Ok(None);
+        };
+        let mut text = Vec::new(self.alloc);
+        for event in answer.events.as_slice() {
+            text.extend_from_slice(&event_text(self.alloc, event.event())?)?;
+        }
+        text.extend_from_slice(&reply_text(self.alloc, &answer.reply)?)?;
+        Ok(Some(text))
+    }
+
+    fn check_step(&mut self, rt: &impl Abort, at: At) -> Result<(), Fail> {
+        match at.1 {
+            Step::Apply(deeds, woken) => self.check_applied(rt, deeds, woken, at)?,
+            Step::Watch(ticket, task, watched) => {
+                self.check_watched(rt, (ticket, task), watched, at)?
+            }
+            Step::Take(ticket, wanted) => {
+                let found = self.taken(ticket)?;
+                let text = found.as_ref().map(|text| text.as_slice());
+                same(rt, text, wanted.map(|text| text.as_bytes()), at);
+            }
+            Step::Sweep(before, dropped) => same(rt, self.shard.sweep(before), dropped, at),
+            Step::Shut => {
+                self.shard.shut();
+                same(rt, self.woken(), BOTH, at);
+            }
+        }
+        same(rt, self.woken(), NONE, at);
+        Ok(())
+    }
+}
+
+// Checks `steps` of a shard that has applied entries that do `deeds`.
+fn check<R: Abort + RandomSource + AllocGlobal>(
     rt: &R,
-    shard: &mut Shard<ByRemainder>,
-    place: u64,
-    task: &MockTask,
+    deeds: &[Deed],
+    steps: &[Step],
 ) -> Result<(), Fail> {
-    let watch = watch(shard, place, task)?;
-    assert!(rt; matches!(watch, Watch::Stored(None)), "place {place}");
-    assert!(rt; !task.is_woken(), "place {place}");
+    let alloc = rt.alloc();
+    let mut scene = Scene {
+        alloc,
+        shard: shard(alloc, deeds)?,
+        first: MockTask::new(rt)?,
+        second: MockTask::new(rt)?,
+    };
+    same(rt, scene.woken(), BOTH, "new tasks are to be polled");
+    for (index, step) in steps.iter().enumerate() {
+        scene.check_step(rt, (index, *step))?;
+    }
     Ok(())
 }
 
-// Checks that dropping `wakers` wakes `tasks`, and that no task is woken before. There must be one
-// waker for each task.
-fn check_woken<R: Abort>(rt: &R, wakers: Wakers, tasks: &[&MockTask]) {
-    assert_eq!(rt; wakers.len(), tasks.len());
-    for task in tasks {
-        assert!(rt; !task.is_woken());
-    }
-    drop(wakers);
-    for task in tasks {
-        assert!(rt; was_woken(task));
-    }
-}
-
-// Takes the answer to the connect at `place`, and returns the texts of its events and reply.
-//
-// Returns `None` if no answer is filed.
-fn taken(
-    alloc: Global,
-    shard: &mut Shard<ByRemainder>,
-    place: u64,
-) -> Result<Option<Vec<u8>>, AllocError> {
-    let Some(answer) = shard.take(ticket(place)) else {
-        return Ok(None);
-    };
-    let mut text = Vec::new(alloc);
-    for event in answer.events.as_slice() {
-        text.extend_from_slice(&event_text(alloc, event.event())?)?;
-    }
-    text.extend_from_slice(&reply_text(alloc, &answer.reply)?)?;
-    Ok(Some(text))
+// Checks that the answer to a rider at place 3 has the waiting event and the rider's own event,
+// once. A connect at place 4 must then be held.
+#[test]
+fn a_rider_is_given_what_waits(rt: HostRuntime) -> Result<(), Fail> {
+    let steps = [
+        Step::Watch(ticket(3), FIRST, Watched::Ready),
+        Step::Take(ticket(3), Some(RIDE)),
+        Step::Take(ticket(3), None),
+        Step::Apply(&[Deed::Connect(1)], NONE),
+        Step::Watch(ticket(4), FIRST, Watched::Stored),
+    ];
+    check(&rt, &RIDDEN, &steps)
 }
 
 // Checks that the connect at place 3 has no answer while it is held, and that its waker is stored.
 // After the answer, checks that the waker and the answer are each returned once.
-fn check_answered<R: Abort>(rt: &R, alloc: Global, scene: &mut Scene) -> Result<(), Fail> {
-    let (shard, task) = (&mut scene.shard, &scene.first);
-    assert!(rt; shard.take(ticket(3)).is_none());
-    check_stored(rt, shard, 3, task)?;
-    let wakers = apply(alloc, shard, &[Deed::Publish("/a/b")])?;
-    check_woken(rt, wakers, &[task]);
-    let none = apply(alloc, shard, &[Deed::Publish("/a/b")])?;
-    check_woken(rt, none, &[]);
-    assert!(rt; matches!(watch(shard, 3, task)?, Watch::Ready(_)));
-    let answer = taken(alloc, shard, 3)?.ok_or("no answer")?;
-    assert_eq!(rt; answer.as_slice(), ANSWER.as_bytes());
-    assert!(rt; shard.take(ticket(3)).is_none());
-    assert!(rt; matches!(watch(shard, 3, task)?, Watch::Unknown(_)));
-    Ok(())
-}
-
-// Entries that open and subscribe a session and publish two events, the second as its rider.
-//
-// The first event waits in the session's queue. The rider is at place 3.
-const RIDDEN: [Deed; 4] = [
-    Deed::Open(1),
-    Deed::Subscribe(1, "/a/*"),
-    Deed::Publish("/a/b"),
-    Deed::Ride(1, "/a/c"),
-];
-
-// The text of the answer to the rider of `RIDDEN`: both events, and then the rider's reply.
-const RIDE: &str =
-    r#"{"channel":"/a/b","data":7}{"channel":"/a/c","data":7}{"channel":"/a/c","successful":true}"#;
-
-// Checks that the answer to a rider at place 3 has the waiting event and the rider's own event,
-// once.
-//
-// A connect at place 4 must then be held.
-fn check_ridden<R: Abort>(rt: &R, alloc: Global, scene: &mut Scene) -> Result<(), Fail> {
-    let (shard, task) = (&mut scene.shard, &scene.first);
-    assert!(rt; matches!(watch(shard, 3, task)?, Watch::Ready(_)));
-    let answer = taken(alloc, shard, 3)?.ok_or("no answer")?;
-    assert_eq!(rt; answer.as_slice(), RIDE.as_bytes());
-    assert!(rt; shard.take(ticket(3)).is_none());
-    drop(apply(alloc, shard, &[Deed::Connect(1)])?);
-    check_stored(rt, shard, 4, task)
-}
-
-#[test]
-fn a_rider_is_given_what_waits(rt: HostRuntime) -> Result<(), Fail> {
-    let alloc = rt.alloc();
-    check_ridden(&rt, alloc, &mut new_scene(&rt, alloc, &RIDDEN)?)
-}
-
 #[test]
 fn an_answer_wakes_who_waits_for_it(rt: HostRuntime) -> Result<(), Fail> {
-    let alloc = rt.alloc();
-    check_answered(&rt, alloc, &mut new_scene(&rt, alloc, &HELD)?)
+    let steps = [
+        Step::Take(ticket(3), None),
+        Step::Watch(ticket(3), FIRST, Watched::Stored),
+        Step::Apply(&[Deed::Publish("/a/b")], FIRST),
+        Step::Apply(&[Deed::Publish("/a/b")], NONE),
+        Step::Watch(ticket(3), FIRST, Watched::Ready),
+        Step::Take(ticket(3), Some(ANSWER)),
+        Step::Take(ticket(3), None),
+        Step::Watch(ticket(3), FIRST, Watched::Unknown),
+    ];
+    check(&rt, &HELD, &steps)
 }
 
 // Checks that answers to two connects wake both tasks when the wakers are dropped, and not before.
-//
-// The connects are at places 4 and 5.
-fn check_both<R: Abort>(rt: &R, alloc: Global, scene: &mut Scene) -> Result<(), Fail> {
-    let (shard, first, second) = (&mut scene.shard, &scene.first, &scene.second);
-    check_stored(rt, shard, 4, first)?;
-    check_stored(rt, shard, 5, second)?;
-    let wakers = apply(alloc, shard, &ANSWERS)?;
-    check_woken(rt, wakers, &[first, second]);
-    Ok(())
-}
-
 #[test]
 fn several_answers_wake_all_who_wait(rt: HostRuntime) -> Result<(), Fail> {
-    let alloc = rt.alloc();
-    check_both(&rt, alloc, &mut new_scene(&rt, alloc, &BOTH_HELD)?)
+    let steps = [
+        Step::Watch(ticket(4), FIRST, Watched::Stored),
+        Step::Watch(ticket(5), SECOND, Watched::Stored),
+        Step::Apply(&ANSWERS, BOTH),
+    ];
+    check(&rt, &BOTH_HELD, &steps)
 }
 
 // Checks that a second waker for the connect at place 3 replaces the first. Dropping the first must
-// wake its task, `older`. The answer must then wake only `newer`.
-fn check_replaced<R: Abort>(rt: &R, alloc: Global, scene: &mut Scene) -> Result<(), Fail> {
-    let (shard, older, newer) = (&mut scene.shard, &scene.first, &scene.second);
-    check_stored(rt, shard, 3, older)?;
-    let Watch::Stored(Some(replaced)) = watch(shard, 3, newer)? else {
-        return Err(Fail::from("no older waker"));
-    };
-    assert!(rt; !older.is_woken() && !newer.is_woken());
-    drop(replaced);
-    assert!(rt; was_woken(older));
-    assert!(rt; !newer.is_woken());
-    let wakers = apply(alloc, shard, &[Deed::Publish("/a/b")])?;
-    check_woken(rt, wakers, &[newer]);
-    assert!(rt; !was_woken(older));
-    assert!(rt; shard.take(ticket(3)).is_some());
-    assert!(rt; !was_woken(newer));
-    Ok(())
-}
-
+// wake its task. The answer must then wake only the task of the second.
 #[test]
 fn a_newer_waker_replaces_an_older_one(rt: HostRuntime) -> Result<(), Fail> {
-    let alloc = rt.alloc();
-    check_replaced(&rt, alloc, &mut new_scene(&rt, alloc, &HELD)?)
+    let steps = [
+        Step::Watch(ticket(3), FIRST, Watched::Stored),
+        Step::Watch(ticket(3), SECOND, Watched::Replaces),
+        Step::Apply(&[Deed::Publish("/a/b")], SECOND),
+        Step::Take(ticket(3), Some(ANSWER)),
+    ];
+    check(&rt, &HELD, &steps)
 }
 
 // Checks that shutting the shard wakes both waiting tasks, and that it then stores no waker. Later
 // answers must wake no task, and can be taken.
-fn check_shut<R: Abort>(rt: &R, alloc: Global, scene: &mut Scene) -> Result<(), Fail> {
-    let (shard, first, second) = (&mut scene.shard, &scene.first, &scene.second);
-    check_stored(rt, shard, 4, first)?;
-    check_stored(rt, shard, 5, second)?;
-    shard.shut();
-    assert!(rt; was_woken(first) && was_woken(second));
-    for place in [4, 5] {
-        assert!(rt;
-            matches!(watch(shard, place, first)?, Watch::Shut(_)),
-            "place {place}"
-        );
-        assert!(rt; was_woken(first), "the waker is given back, and dropped");
-    }
-    let wakers = apply(alloc, shard, &ANSWERS)?;
-    assert_eq!(rt; wakers.len(), 0);
-    assert!(rt; !was_woken(first) && !was_woken(second));
-    for place in [4, 5] {
-        assert!(rt; shard.take(ticket(place)).is_some(), "place {place}");
-    }
-    Ok(())
-}
-
 #[test]
 fn a_shard_that_is_shut_wakes_all(rt: HostRuntime) -> Result<(), Fail> {
-    let alloc = rt.alloc();
-    check_shut(&rt, alloc, &mut new_scene(&rt, alloc, &BOTH_HELD)?)
-}
-
-// Sweeps below each place in `sweeps`, and checks the number of answers that each sweep drops.
-fn check_sweeps<R: Abort>(rt: &R, shard: &mut Shard<ByRemainder>, sweeps: &[(u64, usize)]) {
-    for (before, dropped) in sweeps {
-        assert_eq!(rt; shard.sweep(*before), *dropped, "below {before}");
-    }
+    let steps = [
+        Step::Watch(ticket(4), FIRST, Watched::Stored),
+        Step::Watch(ticket(5), SECOND, Watched::Stored),
+        Step::Shut,
+        Step::Watch(ticket(4), FIRST, Watched::Shut),
+        Step::Watch(ticket(5), FIRST, Watched::Shut),
+        Step::Apply(&ANSWERS, NONE),
+        Step::Take(ticket(4), Some(ANSWER)),
+        Step::Take(ticket(5), Some(OTHER_ANSWER)),
+    ];
+    check(&rt, &BOTH_HELD, &steps)
 }
 
 // Checks that a sweep drops only answers that were filed by entries before the sweep's place.
 //
 // The answer filed at place 6 is dropped. The answer filed at place 7 stays until it is taken. The
 // connect at place 8 stays held.
-fn check_kept<R: Abort>(rt: &R, scene: &mut Scene) -> Result<(), Fail> {
-    let (shard, task) = (&mut scene.shard, &scene.first);
-    check_sweeps(rt, shard, &[(0, 0), (6, 0), (7, 1), (7, 0)]);
-    assert!(rt; shard.take(ticket(4)).is_none());
-    assert!(rt; shard.take(ticket(5)).is_some());
-    check_sweeps(rt, shard, &[(100, 0)]);
-    check_stored(rt, shard, 8, task)
-}
-
 #[test]
 fn a_sweep_drops_what_was_filed_before(rt: HostRuntime) -> Result<(), Fail> {
-    let alloc = rt.alloc();
-    let mut filed = new_scene(&rt, alloc, &BOTH_HELD)?;
-    drop(apply(alloc, &mut filed.shard, &ANSWERS)?);
-    check_kept(&rt, &mut filed)
+    let steps = [
+        Step::Apply(&ANSWERS, NONE),
+        Step::Sweep(0, 0),
+        Step::Sweep(6, 0),
+        Step::Sweep(7, 1),
+        Step::Sweep(7, 0),
+        Step::Take(ticket(4), None),
+        Step::Take(ticket(5), Some(OTHER_ANSWER)),
+        Step::Sweep(100, 0),
+        Step::Watch(ticket(8), FIRST, Watched::Stored),
+    ];
+    check(&rt, &BOTH_HELD, &steps)
 }
 
 #[test]
 fn a_sweep_counts_what_it_drops(rt: HostRuntime) -> Result<(), Fail> {
-    let alloc = rt.alloc();
-    let mut one = shard(alloc, &HELD)?;
-    drop(apply(alloc, &mut one, &[Deed::Publish("/a/b")])?);
-    check_sweeps(&rt, &mut one, &[(4, 0), (5, 1), (5, 0)]);
-    let mut two = shard(alloc, &BOTH_HELD)?;
-    drop(apply(alloc, &mut two, &ANSWERS)?);
-    check_sweeps(&rt, &mut two, &[(8, 2), (8, 0)]);
-    Ok(())
+    let one = [
+        Step::Apply(&[Deed::Publish("/a/b")], NONE),
+        Step::Sweep(4, 0),
+        Step::Sweep(5, 1),
+        Step::Sweep(5, 0),
+    ];
+    check(&rt, &HELD, &one)?;
+    let two = [
+        Step::Apply(&ANSWERS, NONE),
+        Step::Sweep(8, 2),
+        Step::Sweep(8, 0),
+    ];
+    check(&rt, &BOTH_HELD, &two)
 }
 
 // Checks that no waker is stored for a ticket without a connect in this shard.
 //
 // One ticket is of another shard, one of an entry that is no connect, and one after the last entry.
-fn check_unknown<R: Abort>(rt: &R, scene: &mut Scene) -> Result<(), Fail> {
-    let (shard, task) = (&mut scene.shard, &scene.first);
-    for (place, index) in [(3, 1), (2, 0), (4, 0)] {
-        let ticket = Ticket {
-            place,
-            shard: index,
-        };
-        let watch = shard.watch(ticket, waker(task)?);
-        assert!(rt; matches!(watch, Watch::Unknown(_)), "place {place}");
-        assert!(rt; !task.is_woken(), "the waker is given back");
-        drop(watch);
-        assert!(rt; shard.take(ticket).is_none(), "place {place}");
-    }
-    Ok(())
-}
-
 #[test]
 fn only_a_connect_of_the_shard_is_waited_for(rt: HostRuntime) -> Result<(), Fail> {
-    check_unknown(&rt, &mut new_scene(&rt, rt.alloc(), &HELD)?)
+    for (place, shard) in [(3, 1), (2, 0), (4, 0)] {
+        let ticket = Ticket { place, shard };
+        let steps = [
+            Step::Watch(ticket, FIRST, Watched::Unknown),
+            Step::Take(ticket, None),
+        ];
+        check(&rt, &HELD, &steps)?;
+    }
+    Ok(())
 }

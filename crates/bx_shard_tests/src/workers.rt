@@ -3,23 +3,20 @@ ghost use Rattle.std.specs.Prelude.{◌≡◌, length, IfOk};
 ghost use Rattle.bx_entry.specs.Placings.{all_first};
 ghost use Rattle.bx_shard_tests.specs.Numbered.{AreFresh, AreNumbered};
 
+use crate::same::same;
 use crate::tests::{Deed, kind};
 use bx_advice::{Config, WorkerCount};
 use bx_entry::{ByRemainder, Entry, EntryKind, Placing, Ticket};
+use bx_gates::Meeting;
 use bx_shard::{Gate, OpenGate, Shard, bring_up};
 use std::alloc::{AllocError, Global};
-use std::hint;
 use std::sync::Arc;
-use std::sync::atomic::{AtomicBool, AtomicU64, Ordering};
+use std::sync::atomic::{AtomicU64, Ordering};
 use std::test::Fail;
 use std::thread::Threads;
 
 // The place of the connect among `entries`.
 const CONNECT: u64 = 2;
-
-// How often a worker that is stopped at the gate checks whether it may continue, before it gives
-// up.
-const LOOKS: u32 = 10_000_000;
 
 // Appends an entry of `kind` at the next place.
 fn add(entries: &mut Vec<Entry>, kind: EntryKind) -> Result<(), AllocError>
@@ -70,13 +67,12 @@ fn shards<P: Placing + Drop>(
 //
 // Also returns the number of shards that do not reach the last entry. The workers pass `gate`
 // before and after their work.
-fn brought_up_by<R: Threads + Sync, G: Gate + Sync, P: Placing + Drop + Send + Sync>(
+fn brought_up<R: Threads + Sync, G: Gate + Sync, P: Placing + Drop + Send + Sync>(
     rt: &R,
     alloc: Global,
     placing: &Arc<P>,
     gate: &G,
-    workers: usize,
-    count: usize,
+    (workers, count): (usize, usize),
 ) -> Result<(Vec<Shard<P>>, usize), Fail> {
     let workers = WorkerCount::new(workers).ok_or("no such number of workers")?;
     let entries = entries(alloc)?;
@@ -85,70 +81,25 @@ fn brought_up_by<R: Threads + Sync, G: Gate + Sync, P: Placing + Drop + Send + S
     Ok((shards, behind))
 }
 
-// Calls `brought_up_by` with a placing by remainder, and returns its result.
-fn brought_up<R: Threads + Sync, G: Gate + Sync>(
-    rt: &R,
-    alloc: Global,
-    gate: &G,
-    workers: usize,
-    count: usize,
-) -> Result<(Vec<Shard<ByRemainder>>, usize), Fail> {
-    let placing = Arc::new(alloc, ByRemainder)?;
-    brought_up_by(rt, alloc, &placing, gate, workers, count)
-}
-
 // Checks that every shard applies all entries, for several numbers of workers and shards. The
 // answer to the connect must then be filed in its session's shard.
 #[test]
 fn all_are_brought_up(rt: HostRuntime) -> Result<(), Fail> {
     let alloc = rt.alloc();
+    let placing = Arc::new(alloc, ByRemainder)?;
     for (workers, count) in [(1, 1), (2, 2), (3, 5), (16, 64)] {
-        let (mut shards, behind) = brought_up(&rt, alloc, &OpenGate, workers, count)?;
-        assert_eq!(rt; behind, 0, "{workers} workers, {count} shards");
+        let at = (workers, count);
+        let (mut shards, behind) = brought_up(&rt, alloc, &placing, &OpenGate, at)?;
+        same(&rt, behind, 0, at);
         for shard in &shards {
-            assert_eq!(rt; shard.place(), 4, "{workers} workers, {count} shards");
+            same(&rt, shard.place(), 4, at);
         }
         let shard = 1 % count;
         let own = shards.get_mut(shard).ok_or("no shard")?;
         let place = CONNECT;
-        assert!(rt;
-            own.take(Ticket { place, shard }).is_some(),
-            "{workers} workers, {count} shards"
-        );
+        same(&rt, own.take(Ticket { place, shard }).is_some(), true, at);
     }
     Ok(())
-}
-
-// A gate that stops worker `held` before its work until another worker has finished.
-//
-// `is_free`: whether another worker has finished. `gave_up`: whether worker `held` waited for that
-// in vain.
-#[derive(Drop)]
-struct Holding {
-    held: usize,
-    is_free: AtomicBool,
-    gave_up: AtomicBool,
-}
-
-impl Gate for Holding {
-    fn before(&self, worker: usize) {
-        if worker != self.held {
-            return;
-        }
-        for _ in 0..LOOKS {
-            if self.is_free.load(Ordering::SeqCst) {
-                return;
-            }
-            hint::spin_loop();
-        }
-        self.gave_up.store(true, Ordering::SeqCst);
-    }
-
-    fn after(&self, worker: usize) {
-        if worker != self.held {
-            self.is_free.store(true, Ordering::SeqCst);
-        }
-    }
 }
 
 // Checks that workers run concurrently, which no clause states. If the thread that calls `bring_up`
@@ -156,15 +107,12 @@ impl Gate for Holding {
 #[test]
 fn workers_run_at_the_same_time(rt: HostRuntime) -> Result<(), Fail> {
     let alloc = rt.alloc();
+    let placing = Arc::new(alloc, ByRemainder)?;
     for held in [0, 1] {
-        let gate = Holding {
-            held,
-            is_free: AtomicBool::new(false),
-            gave_up: AtomicBool::new(false),
-        };
-        let (_shards, behind) = brought_up(&rt, alloc, &gate, 2, 2)?;
-        assert_eq!(rt; behind, 0);
-        assert!(rt; !gate.gave_up.load(Ordering::SeqCst), "worker {held}");
+        let gate = Meeting::holding(held);
+        let (_shards, behind) = brought_up(&rt, alloc, &placing, &gate, (2, 2))?;
+        same(&rt, behind, 0, held);
+        same(&rt, gate.finished(), Some(0b11), held);
     }
     Ok(())
 }
@@ -174,6 +122,20 @@ fn workers_run_at_the_same_time(rt: HostRuntime) -> Result<(), Fail> {
 struct Counting {
     before: AtomicU64,
     after: AtomicU64,
+}
+
+impl Counting {
+    fn new() -> Counting {
+        Counting {
+            before: AtomicU64::new(0),
+            after: AtomicU64::new(0),
+        }
+    }
+
+    fn counts(&self) -> (u64, u64) {
+        let before = self.before.load(Ordering::SeqCst);
+        (before, self.after.load(Ordering::SeqCst))
+    }
 }
 
 fn digit(worker: usize) -> u64 {
@@ -200,23 +162,13 @@ impl Gate for Counting {
 #[test]
 fn each_worker_passes_the_gate_once(rt: HostRuntime) -> Result<(), Fail> {
     let alloc = rt.alloc();
+    let placing = Arc::new(alloc, ByRemainder)?;
     for (workers, count, passed) in [(1, 5, 1), (2, 5, 11), (3, 5, 111), (2, 1, 1), (4, 6, 111)] {
-        let gate = Counting {
-            before: AtomicU64::new(0),
-            after: AtomicU64::new(0),
-        };
-        let (_shards, behind) = brought_up(&rt, alloc, &gate, workers, count)?;
-        assert_eq!(rt; behind, 0);
-        assert_eq!(rt;
-            gate.before.load(Ordering::SeqCst),
-            passed,
-            "{workers} workers"
-        );
-        assert_eq!(rt;
-            gate.after.load(Ordering::SeqCst),
-            passed,
-            "{workers} workers"
-        );
+        let at = (workers, count);
+        let gate = Counting::new();
+        let (_shards, behind) = brought_up(&rt, alloc, &placing, &gate, at)?;
+        same(&rt, behind, 0, at);
+        same(&rt, gate.counts(), (passed, passed), at);
     }
     Ok(())
 }
@@ -243,19 +195,22 @@ impl Placing for Asked {
 #[derive(Drop)]
 struct Looking {
     placing: Arc<Asked>,
-    before: AtomicU64,
-    after: AtomicU64,
+    counts: Counting,
+}
+
+impl Looking {
+    fn look(&self, count: &AtomicU64) {
+        count.store(self.placing.times.load(Ordering::SeqCst), Ordering::SeqCst);
+    }
 }
 
 impl Gate for Looking {
     fn before(&self, _worker: usize) {
-        let times = self.placing.times.load(Ordering::SeqCst);
-        self.before.store(times, Ordering::SeqCst);
+        self.look(&self.counts.before);
     }
 
     fn after(&self, _worker: usize) {
-        let times = self.placing.times.load(Ordering::SeqCst);
-        self.after.store(times, Ordering::SeqCst);
+        self.look(&self.counts.after);
     }
 }
 
@@ -267,14 +222,10 @@ fn asked_at_the_gate<R: Threads + Sync>(rt: &R, alloc: Global) -> Result<(u64, u
     let placing = Arc::new(alloc, Asked { times })?;
     let gate = Looking {
         placing: placing.clone()?,
-        before: AtomicU64::new(0),
-        after: AtomicU64::new(0),
+        counts: Counting::new(),
     };
-    brought_up_by(rt, alloc, &placing, &gate, 1, 1)?;
-    Ok((
-        gate.before.load(Ordering::SeqCst),
-        gate.after.load(Ordering::SeqCst),
-    ))
+    brought_up(rt, alloc, &placing, &gate, (1, 1))?;
+    Ok(gate.counts.counts())
 }
 
 #[test]

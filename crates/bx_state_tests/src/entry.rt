@@ -1,12 +1,12 @@
 //! Tests of requests with several documents, of the read-only listener, and of placings.
 use crate::same::same;
+use crate::tree::read_all;
 use bx_cut::Bodies;
 use bx_entry::{
     Access, AdmitFault, AllFirst, Arrival, ByRemainder, ByTable, Placing, Refusal, SharedPatterns,
     read_messages,
 };
 use bx_message::Message;
-use bx_names::Pattern;
 use std::alloc::{AllocError, Global};
 use std::process::Abort;
 use std::test::Fail;
@@ -31,44 +31,27 @@ fn channels(alloc: Global, messages: &[Message]) -> Result<String, AllocError> {
 }
 
 // What reading a request returns: the number of its messages, or why it is rejected.
-#[derive(Clone, Copy, Debug, PartialEq, Eq)]
-enum Found {
-    // The request was read. The field is the number of its messages.
-    Messages(usize),
-    Fault(Refusal),
+type Found = Result<usize, AdmitFault>;
+
+fn read(alloc: Global, documents: &[&str]) -> Found {
+    Ok(read_messages(alloc, &bodies(alloc, documents)?)?.len())
 }
 
-fn found_in(messages: &Result<Vec<Message>, AdmitFault>) -> Result<Found, Fail> {
-    match messages {
-        Ok(messages) => Ok(Found::Messages(messages.len())),
-        Err(AdmitFault::Refused(refusal)) => Ok(Found::Fault(*refusal)),
-        Err(AdmitFault::Memory) => Err(Fail::from("out of memory")),
-    }
-}
-
-fn read(alloc: Global, documents: &[&str]) -> Result<Found, Fail> {
-    found_in(&read_messages(alloc, &bodies(alloc, documents)?))
-}
-
-// Reads a request of `documents` that arrived on a listener with `access`. Returns the number of
-// its messages, or its fault.
-fn read_at(alloc: Global, access: Access, documents: &[&str]) -> Result<Found, Fail> {
+// Reads a request of `documents` that arrived on a listener with `access`.
+fn read_at(alloc: Global, access: Access, documents: &[&str]) -> Found {
     let arrival = Arrival {
         moment: 0,
         nonce: 0,
         access,
         bodies: bodies(alloc, documents)?,
     };
-    found_in(&arrival.read(alloc))
+    Ok(arrival.read(alloc)?.len())
 }
 
 // Creates the access of a read-only listener with `patterns`.
 fn readers(alloc: Global, patterns: &[&str]) -> Result<Access, Fail> {
-    let mut read = Vec::new(alloc);
-    for pattern in patterns {
-        read.push(Pattern::read(alloc, pattern)?)?;
-    }
-    Ok(Access::ReadOnly(SharedPatterns::new(alloc, read)?))
+    let patterns = read_all(alloc, patterns)?;
+    Ok(Access::ReadOnly(SharedPatterns::new(alloc, patterns)?))
 }
 
 // Checks that messages keep their order over all documents.
@@ -89,75 +72,64 @@ const FAULTS: [(&str, &str, Refusal); 4] = [
     ("[1]", "{", Refusal::NotJson),
     ("[{}]", "7", Refusal::NotObject),
     ("[{}]", "[]", Refusal::NoChannel),
-    (
-        "{\"channel\":7}",
-        "{\"channel\":\"/a\"}",
-        Refusal::NoChannel,
-    ),
+    ("{\"channel\":7}", PUBLISH, Refusal::NoChannel),
 ];
 
 // Checks the order of faults: `NotJson` in any document, then `NotObject`, and then `NoChannel`.
 #[test]
 fn faults_are_ordered_over_all_documents(rt: HostRuntime) -> Result<(), Fail> {
     for (first, second, fault) in &FAULTS {
-        let found = read(rt.alloc(), &[*first, *second])?;
-        same(&rt, found, Found::Fault(*fault), *first);
+        let found = read(rt.alloc(), &[*first, *second]);
+        same(&rt, found, Err(AdmitFault::Refused(*fault)), *first);
     }
     Ok(())
 }
 
 // Returns a JSON array of `count` messages to the channel `/a`.
-fn array_of(alloc: Global, count: usize) -> Result<String, Fail> {
-    let mut text = String::from_str(alloc, "[")?;
-    for i in 0..count {
-        if i > 0 {
-            text.push(',')?;
-        }
-        text.push_str("{\"channel\":\"/a\"}")?;
-    }
-    text.push(']')?;
-    Ok(text)
+fn array_of(alloc: Global, count: usize) -> Result<String, AllocError> {
+    let messages = "{\"channel\":\"/a\"},".repeat(alloc, count)?;
+    format!(in alloc; "[{}]", messages.as_str().trim_end_matches(','))
 }
 
 // Reads a request of two documents with `first` and `second` messages. Returns the number of its
 // messages, or its fault.
-fn found_in_two(alloc: Global, first: usize, second: usize) -> Result<Found, Fail> {
+fn found_in_two(alloc: Global, first: usize, second: usize) -> Found {
     let first = array_of(alloc, first)?;
     let second = array_of(alloc, second)?;
     read(alloc, &[first.as_str(), second.as_str()])
 }
 
 const COUNTS: [(usize, usize, Found); 3] = [
-    (200, 56, Found::Messages(256)),
-    (200, 57, Found::Fault(Refusal::TooMany)),
-    (257, 0, Found::Fault(Refusal::TooMany)),
+    (200, 56, Ok(256)),
+    (200, 57, Err(AdmitFault::Refused(Refusal::TooMany))),
+    (257, 0, Err(AdmitFault::Refused(Refusal::TooMany))),
 ];
 
 // Checks that the limit of messages applies to all documents of a request together.
 #[test]
 fn messages_are_counted_over_all_documents(rt: HostRuntime) -> Result<(), Fail> {
     for (first, second, wanted) in &COUNTS {
-        let found = found_in_two(rt.alloc(), *first, *second)?;
+        let found = found_in_two(rt.alloc(), *first, *second);
         same(&rt, found, *wanted, *first);
     }
     Ok(())
 }
 
-const FORBIDDEN: Found = Found::Fault(Refusal::Forbidden);
+const FORBIDDEN: Found = Err(AdmitFault::Refused(Refusal::Forbidden));
 
 // Channels as written in JSON, each with the result of reading a message to it on the read-only
 // listener.
 const CHANNELS: [(&str, Found); 28] = [
-    ("/meta/handshake", Found::Messages(1)),
-    ("/meta/connect", Found::Messages(1)),
-    ("/meta/none", Found::Messages(1)),
-    ("/meta/", Found::Messages(1)),
-    ("/meta/a b", Found::Messages(1)),
-    ("/service/a", Found::Messages(1)),
-    ("/service/a/b", Found::Messages(1)),
-    ("/service/", Found::Messages(1)),
-    ("/service/*", Found::Messages(1)),
-    ("\\u002fmeta\\/connect", Found::Messages(1)),
+    ("/meta/handshake", Ok(1)),
+    ("/meta/connect", Ok(1)),
+    ("/meta/none", Ok(1)),
+    ("/meta/", Ok(1)),
+    ("/meta/a b", Ok(1)),
+    ("/service/a", Ok(1)),
+    ("/service/a/b", Ok(1)),
+    ("/service/", Ok(1)),
+    ("/service/*", Ok(1)),
+    ("\\u002fmeta\\/connect", Ok(1)),
     ("/a", FORBIDDEN),
     ("/a/b", FORBIDDEN),
     ("\\/a", FORBIDDEN),
@@ -178,19 +150,29 @@ const CHANNELS: [(&str, Found); 28] = [
     ("a", FORBIDDEN),
 ];
 
+// Checks the result of reading a message to each of `channels` on the read-only listener with
+// `patterns`. The publishers' listener accepts messages to all channels.
+fn check_channels(
+    rt: &impl Abort,
+    alloc: Global,
+    patterns: &[&str],
+    channels: &[(&str, Found)],
+) -> Result<(), Fail> {
+    for (channel, wanted) in channels {
+        let text = format!(in alloc; "[{{\"channel\":\"{channel}\"}}]")?;
+        let found = read_at(alloc, readers(alloc, patterns)?, &[text.as_str()]);
+        same(rt, found, *wanted, *channel);
+        let found = read_at(alloc, Access::ReadWrite, &[text.as_str()]);
+        same(rt, found, Ok(1), *channel);
+    }
+    Ok(())
+}
+
 // Checks that the read-only listener accepts only messages to meta and service channels. The
 // publishers' listener accepts messages to all channels.
 #[test]
 fn readers_are_let_in_by_channels(rt: HostRuntime) -> Result<(), Fail> {
-    let alloc = rt.alloc();
-    for (channel, wanted) in &CHANNELS {
-        let text = format!(in alloc; "[{{\"channel\":\"{channel}\"}}]")?;
-        let found = read_at(alloc, readers(alloc, &[])?, &[text.as_str()])?;
-        same(&rt, found, *wanted, *channel);
-        let found = read_at(alloc, Access::ReadWrite, &[text.as_str()])?;
-        same(&rt, found, Found::Messages(1), *channel);
-    }
-    Ok(())
+    check_channels(&rt, rt.alloc(), &[], &CHANNELS)
 }
 
 // The patterns of a read-only listener that allows some broadcast channels.
@@ -199,12 +181,12 @@ const ALLOWED: [&str; 3] = ["/hall", "/room/*", "/open/**"];
 // Channels, each with the result of reading a message to it on the read-only listener with
 // `ALLOWED`. A channel name that is not valid matches no pattern.
 const ALLOWED_CHANNELS: [(&str, Found); 16] = [
-    ("/hall", Found::Messages(1)),
-    ("/room/1", Found::Messages(1)),
-    ("/open/1", Found::Messages(1)),
-    ("/open/1/2", Found::Messages(1)),
-    ("/meta/connect", Found::Messages(1)),
-    ("/service/a", Found::Messages(1)),
+    ("/hall", Ok(1)),
+    ("/room/1", Ok(1)),
+    ("/open/1", Ok(1)),
+    ("/open/1/2", Ok(1)),
+    ("/meta/connect", Ok(1)),
+    ("/service/a", Ok(1)),
     ("/hall/1", FORBIDDEN),
     ("/Hall", FORBIDDEN),
     ("/room", FORBIDDEN),
@@ -222,15 +204,11 @@ const ALLOWED_CHANNELS: [(&str, Found); 16] = [
 #[test]
 fn readers_publish_by_patterns(rt: HostRuntime) -> Result<(), Fail> {
     let alloc = rt.alloc();
-    for (channel, wanted) in &ALLOWED_CHANNELS {
-        let text = format!(in alloc; "[{{\"channel\":\"{channel}\"}}]")?;
-        let found = read_at(alloc, readers(alloc, &ALLOWED)?, &[text.as_str()])?;
-        same(&rt, found, *wanted, *channel);
-    }
+    check_channels(&rt, alloc, &ALLOWED, &ALLOWED_CHANNELS)?;
     let hall = "[{\"channel\":\"/hall\"}]";
-    let found = read_at(alloc, readers(alloc, &ALLOWED)?, &[hall, CONNECT])?;
-    same(&rt, found, Found::Messages(2), "all are allowed");
-    let found = read_at(alloc, readers(alloc, &ALLOWED)?, &[hall, PUBLISH])?;
+    let found = read_at(alloc, readers(alloc, &ALLOWED)?, &[hall, CONNECT]);
+    same(&rt, found, Ok(2), "all are allowed");
+    let found = read_at(alloc, readers(alloc, &ALLOWED)?, &[hall, PUBLISH]);
     same(&rt, found, FORBIDDEN, "the second is not allowed");
     Ok(())
 }
@@ -238,19 +216,19 @@ fn readers_publish_by_patterns(rt: HostRuntime) -> Result<(), Fail> {
 // Requests of two documents. Each has its result on the publishers' listener, and then its result
 // on the read-only listener. Faults of the documents are reported before `Forbidden`.
 const REQUESTS: [(&str, &str, Found, Found); 18] = [
-    ("[]", "[]", Found::Messages(0), Found::Messages(0)),
-    (CONNECT, "[]", Found::Messages(1), Found::Messages(1)),
-    (CONNECT, SERVICE, Found::Messages(2), Found::Messages(2)),
-    (PUBLISH, "[]", Found::Messages(1), FORBIDDEN),
-    ("[]", PUBLISH, Found::Messages(1), FORBIDDEN),
-    (PUBLISH, SERVICE, Found::Messages(2), FORBIDDEN),
-    (SERVICE, PUBLISH, Found::Messages(2), FORBIDDEN),
-    (PUBLISH, PUBLISH, Found::Messages(2), FORBIDDEN),
-    (NO_NAME, "[]", Found::Messages(1), FORBIDDEN),
-    (FIRST, CONNECT, Found::Messages(4), FORBIDDEN),
-    (MIDDLE, CONNECT, Found::Messages(4), FORBIDDEN),
-    (LAST, CONNECT, Found::Messages(4), FORBIDDEN),
-    (CONNECT, LAST, Found::Messages(4), FORBIDDEN),
+    ("[]", "[]", Ok(0), Ok(0)),
+    (CONNECT, "[]", Ok(1), Ok(1)),
+    (CONNECT, SERVICE, Ok(2), Ok(2)),
+    (PUBLISH, "[]", Ok(1), FORBIDDEN),
+    ("[]", PUBLISH, Ok(1), FORBIDDEN),
+    (PUBLISH, SERVICE, Ok(2), FORBIDDEN),
+    (SERVICE, PUBLISH, Ok(2), FORBIDDEN),
+    (PUBLISH, PUBLISH, Ok(2), FORBIDDEN),
+    (NO_NAME, "[]", Ok(1), FORBIDDEN),
+    (FIRST, CONNECT, Ok(4), FORBIDDEN),
+    (MIDDLE, CONNECT, Ok(4), FORBIDDEN),
+    (LAST, CONNECT, Ok(4), FORBIDDEN),
+    (CONNECT, LAST, Ok(4), FORBIDDEN),
     (PUBLISH, "[", NOT_JSON, NOT_JSON),
     ("", PUBLISH, NOT_JSON, NOT_JSON),
     (PUBLISH, "7", NOT_OBJECT, NOT_OBJECT),
@@ -258,11 +236,11 @@ const REQUESTS: [(&str, &str, Found, Found); 18] = [
     ("{\"channel\":7}", PUBLISH, NO_CHANNEL, NO_CHANNEL),
 ];
 
-const NOT_JSON: Found = Found::Fault(Refusal::NotJson);
+const NOT_JSON: Found = Err(AdmitFault::Refused(Refusal::NotJson));
 
-const NOT_OBJECT: Found = Found::Fault(Refusal::NotObject);
+const NOT_OBJECT: Found = Err(AdmitFault::Refused(Refusal::NotObject));
 
-const NO_CHANNEL: Found = Found::Fault(Refusal::NoChannel);
+const NO_CHANNEL: Found = Err(AdmitFault::Refused(Refusal::NoChannel));
 
 const CONNECT: &str = "{\"channel\":\"/meta/connect\"}";
 
@@ -289,9 +267,9 @@ const LAST: &str =
 #[test]
 fn readers_publish_nothing(rt: HostRuntime) -> Result<(), Fail> {
     for (first, second, at_publishers, at_readers) in &REQUESTS {
-        let found = read_at(rt.alloc(), Access::ReadWrite, &[*first, *second])?;
+        let found = read_at(rt.alloc(), Access::ReadWrite, &[*first, *second]);
         same(&rt, found, *at_publishers, *first);
-        let found = read_at(rt.alloc(), readers(rt.alloc(), &[])?, &[*first, *second])?;
+        let found = read_at(rt.alloc(), readers(rt.alloc(), &[])?, &[*first, *second]);
         same(&rt, found, *at_readers, *first);
     }
     Ok(())
@@ -299,14 +277,17 @@ fn readers_publish_nothing(rt: HostRuntime) -> Result<(), Fail> {
 
 // Numbers of publishes in a request: the limit, and one more. Each has the result of the request on
 // the read-only listener.
-const PUBLISHES: [(usize, Found); 2] = [(256, FORBIDDEN), (257, Found::Fault(Refusal::TooMany))];
+const PUBLISHES: [(usize, Found); 2] = [
+    (256, FORBIDDEN),
+    (257, Err(AdmitFault::Refused(Refusal::TooMany))),
+];
 
 // Checks that too many publishes on the read-only listener get `TooMany`, not `Forbidden`.
 #[test]
 fn too_many_comes_before_forbidden(rt: HostRuntime) -> Result<(), Fail> {
     for (count, wanted) in &PUBLISHES {
         let text = array_of(rt.alloc(), *count)?;
-        let found = read_at(rt.alloc(), readers(rt.alloc(), &[])?, &[text.as_str()])?;
+        let found = read_at(rt.alloc(), readers(rt.alloc(), &[])?, &[text.as_str()]);
         same(&rt, found, *wanted, *count);
     }
     Ok(())

@@ -3,45 +3,25 @@ ghost use Rattle.bx_registry.specs.Standings.{LeadsTo};
 
 use crate::same::same;
 use bx_advice::{Config, Error, Limits, Outcome};
-use bx_entry::{AdmitFault, ByRemainder, Entry, EntryKind, Refusal, Slot};
-use bx_message::{AckMember, Message, Sequence, Text, TextMember, reply_text};
+use bx_cut::Bodies;
+use bx_entry::{AdmitFault, ByRemainder, Entry, EntryKind, Refusal, Slot, read_messages};
+use bx_message::{Message, Sequence, reply_text};
 use bx_registry::{Plan, Registry};
 use std::alloc::{AllocError, Global};
 use std::process::Abort;
 use std::test::Fail;
 
-/// Creates a message to `channel` with client id `client` and no other members.
-///
-/// # Errors
-///
-/// `AllocError` if memory runs out.
-pub fn message(alloc: Global, channel: &str, client: TextMember) -> Result<Message, AllocError> {
-    Ok(Message {
-        channel: Text::new(alloc, channel)?,
-        id: None,
-        client,
-        version: TextMember::Absent,
-        supported: Sequence::new(alloc),
-        connection: TextMember::Absent,
-        subscription: None,
-        texts: Sequence::new(alloc),
-        listed: false,
-        payload: None,
-        ack: AckMember::NoAck,
-        timeout: None,
-    })
-}
+/// A valid handshake, without `ack`, as JSON.
+pub const HELLO: &str =
+    r#"{"channel":"/meta/handshake","version":"1.0","supportedConnectionTypes":["long-polling"]}"#;
 
-/// Creates a valid handshake, without `ack`.
+/// Parses the messages in the JSON document `text`.
 ///
 /// # Errors
 ///
-/// `AllocError` if memory runs out.
-pub fn hello(alloc: Global) -> Result<Message, AllocError> {
-    let mut hello = message(alloc, "/meta/handshake", TextMember::Absent)?;
-    hello.version = TextMember::Text(Text::new(alloc, "1.0")?);
-    hello.supported.push(Text::new(alloc, "long-polling")?)?;
-    Ok(hello)
+/// As those of [`read_messages`].
+pub fn messages(alloc: Global, text: &str) -> Result<Vec<Message>, AdmitFault> {
+    read_messages(alloc, &Bodies::Whole(text.as_bytes().to_vec(alloc)?))
 }
 
 // The reply to a server's first handshake, as JSON.
@@ -99,14 +79,14 @@ pub fn commit(registry: &mut Registry, plan: Plan)
     registry.commit(change, &elements);
 }
 
-// Plans and commits a handshake, and returns the outcome in its reply, if it has one.
+// Plans and commits the handshake `hello`, and returns the outcome in its reply, if it has one.
 fn open(
     alloc: Global,
     registry: &mut Registry,
     moment: u64,
+    hello: &[Message],
 ) -> Result<Option<Outcome>, AdmitFault> {
-    let messages = [hello(alloc)?];
-    let plan = registry.plan(alloc, &ByRemainder, moment, 0, messages.as_slice())?;
+    let plan = registry.plan(alloc, &ByRemainder, moment, 0, hello)?;
     let outcome = case_of(&plan);
     commit(registry, plan);
     Ok(outcome)
@@ -141,20 +121,6 @@ fn check_plan(rt: &impl Abort, alloc: Global, plan: &Plan) -> Result<(), Fail> {
     Ok(())
 }
 
-fn plan_of_first(alloc: Global, registry: &mut Registry) -> Result<Plan, AdmitFault> {
-    let messages = [hello(alloc)?];
-    registry.plan(alloc, &ByRemainder, 0, 0, messages.as_slice())
-}
-
-// Checks the plan of a first handshake, and that making the plan leaves the registry unchanged.
-fn check_unchanged(rt: &impl Abort, alloc: Global, registry: &mut Registry) -> Result<(), Fail> {
-    check_plan(rt, alloc, &plan_of_first(alloc, registry)?)?;
-    same(rt, registry.entries(), 0, "entries");
-    same(rt, registry.sessions(), 0, "live sessions");
-    same(rt, registry.live(1), false, "session 1");
-    Ok(())
-}
-
 // Plans and commits a tick at `moment`, and checks that it closes the sessions `wanted`.
 fn check_tick(
     rt: &impl Abort,
@@ -168,21 +134,6 @@ fn check_tick(
     Ok(())
 }
 
-fn check_closed(rt: &impl Abort, alloc: Global, registry: &mut Registry) -> Result<(), Fail> {
-    let opened = open(alloc, registry, 0)?;
-    same(rt, opened, Some(Outcome::Opened), "outcome");
-    same(rt, registry.sessions(), 1, "live sessions");
-    same(rt, registry.entries(), 1, "entries");
-    same(rt, registry.live(1), true, "session 1");
-    same(rt, registry.live(2), false, "session 2");
-    check_tick(rt, alloc, registry, 10_000, &[])?;
-    same(rt, registry.live(1), true, "session 1");
-    check_tick(rt, alloc, registry, 10_001, &[1])?;
-    same(rt, registry.live(1), false, "session 1");
-    same(rt, registry.entries(), 3, "entries");
-    Ok(())
-}
-
 // Returns the error of planning a request without messages at `moment`, or `None` if there is none.
 fn fault_at(alloc: Global, registry: &mut Registry, moment: u64) -> Option<AdmitFault> {
     registry.plan(alloc, &ByRemainder, moment, 0, &[]).err()
@@ -190,62 +141,58 @@ fn fault_at(alloc: Global, registry: &mut Registry, moment: u64) -> Option<Admit
 
 // Returns the place that a tick at `moment` would get, or the error of planning the tick.
 fn place_of_tick(alloc: Global, registry: &mut Registry, moment: u64) -> Result<u64, AdmitFault> {
-    match &registry.plan_tick(alloc, moment) {
-        Ok(plan) => Ok(plan.batch.first),
-        Err(fault) => Err(*fault),
-    }
-}
-
-fn check_moments(rt: &impl Abort, alloc: Global, registry: &mut Registry) -> Result<(), Fail> {
-    let late = 4_611_686_018_427_387_905;
-    let refused = Some(AdmitFault::Refused(Refusal::BadMoment));
-    same(rt, fault_at(alloc, registry, late), refused, "a request");
-    let place = place_of_tick(alloc, registry, late);
-    same(
-        rt,
-        place,
-        Err(AdmitFault::Refused(Refusal::BadMoment)),
-        "a tick",
-    );
-    let place = place_of_tick(alloc, registry, late - 1);
-    same(rt, place, Ok(0), "the last tick");
-    same(rt, registry.entries(), 0, "entries");
-    Ok(())
-}
-
-fn check_room(rt: &impl Abort, alloc: Global, registry: &mut Registry) -> Result<(), Fail> {
-    for _ in 0..65_536 {
-        open(alloc, registry, 0)?;
-    }
-    same(rt, registry.live(65_536), true, "the last session");
-    let wanted = Some(Outcome::Failed(Error::TooManySessions));
-    same(rt, open(alloc, registry, 0)?, wanted, "one more");
-    let closed = tick(alloc, registry, 10_001)?.len();
-    same(rt, closed, 65_536, "closed");
-    open(alloc, registry, 10_001)?;
-    same(rt, registry.live(65_537), true, "the next session");
-    Ok(())
+    Ok(registry.plan_tick(alloc, moment)?.batch.first)
 }
 
 // Checks that a plan changes nothing until it is committed.
 #[test]
 fn a_plan_changes_nothing(rt: HostRuntime) -> Result<(), Fail> {
     let alloc = rt.alloc();
-    check_unchanged(&rt, alloc, &mut Registry::new(alloc, config(2))?)
+    let mut registry = Registry::new(alloc, config(2))?;
+    let hello = messages(alloc, HELLO)?;
+    let plan = registry.plan(alloc, &ByRemainder, 0, 0, hello.as_slice())?;
+    check_plan(&rt, alloc, &plan)?;
+    same(&rt, registry.entries(), 0, "entries");
+    same(&rt, registry.sessions(), 0, "live sessions");
+    same(&rt, registry.live(1), false, "session 1");
+    Ok(())
 }
 
 // Checks that a handshake opens a session, and that a tick closes it.
 #[test]
 fn a_session_is_opened_and_closed(rt: HostRuntime) -> Result<(), Fail> {
     let alloc = rt.alloc();
-    check_closed(&rt, alloc, &mut Registry::new(alloc, config(2))?)
+    let mut registry = Registry::new(alloc, config(2))?;
+    let hello = messages(alloc, HELLO)?;
+    let opened = open(alloc, &mut registry, 0, &hello)?;
+    same(&rt, opened, Some(Outcome::Opened), "outcome");
+    same(&rt, registry.sessions(), 1, "live sessions");
+    same(&rt, registry.entries(), 1, "entries");
+    same(&rt, registry.live(1), true, "session 1");
+    same(&rt, registry.live(2), false, "session 2");
+    check_tick(&rt, alloc, &mut registry, 10_000, &[])?;
+    same(&rt, registry.live(1), true, "session 1");
+    check_tick(&rt, alloc, &mut registry, 10_001, &[1])?;
+    same(&rt, registry.live(1), false, "session 1");
+    same(&rt, registry.entries(), 3, "entries");
+    Ok(())
 }
 
 // Checks that requests and ticks with a moment greater than 2^62 are rejected.
 #[test]
 fn moments_have_an_end(rt: HostRuntime) -> Result<(), Fail> {
     let alloc = rt.alloc();
-    check_moments(&rt, alloc, &mut Registry::new(alloc, config(1))?)
+    let mut registry = Registry::new(alloc, config(1))?;
+    let late = 4_611_686_018_427_387_905;
+    let fault = AdmitFault::Refused(Refusal::BadMoment);
+    let request = fault_at(alloc, &mut registry, late);
+    same(&rt, request, Some(fault), "a request");
+    let tick = place_of_tick(alloc, &mut registry, late);
+    same(&rt, tick, Err(fault), "a tick");
+    let tick = place_of_tick(alloc, &mut registry, late - 1);
+    same(&rt, tick, Ok(0), "the last tick");
+    same(&rt, registry.entries(), 0, "entries");
+    Ok(())
 }
 
 // Checks that the standard limit is 65,536 sessions: one more is rejected until sessions are
@@ -254,5 +201,22 @@ fn moments_have_an_end(rt: HostRuntime) -> Result<(), Fail> {
 fn there_is_room_for_the_standard_limit(rt: HostRuntime) -> Result<(), Fail> {
     let alloc = rt.alloc();
     let standard = Config::new(1, 30_000, 0, 10_000).ok_or("no configuration")?;
-    check_room(&rt, alloc, &mut Registry::new(alloc, standard)?)
+    let mut registry = Registry::new(alloc, standard)?;
+    let hello = messages(alloc, HELLO)?;
+    for _ in 0..65_536 {
+        open(alloc, &mut registry, 0, &hello)?;
+    }
+    same(&rt, registry.live(65_536), true, "the last session");
+    let wanted = Some(Outcome::Failed(Error::TooManySessions));
+    same(
+        &rt,
+        open(alloc, &mut registry, 0, &hello)?,
+        wanted,
+        "one more",
+    );
+    let closed = tick(alloc, &mut registry, 10_001)?.len();
+    same(&rt, closed, 65_536, "closed");
+    open(alloc, &mut registry, 10_001, &hello)?;
+    same(&rt, registry.live(65_537), true, "the next session");
+    Ok(())
 }

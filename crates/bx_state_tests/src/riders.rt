@@ -1,12 +1,11 @@
 //! Tests of riders: which message of a request is one, and how messages are answered.
-use crate::registry::{commit, config, hello, message};
+use crate::registry::{HELLO, commit, config, messages};
 use crate::same::same;
 use bx_advice::Options;
-use bx_entry::{ByRemainder, Entry, Slot, Ticket};
-use bx_message::{AckMember, Message, RawJson, Text, TextMember};
+use bx_cut::Bodies;
+use bx_entry::{ByRemainder, Entry, Slot, Ticket, read_messages};
 use bx_registry::{Plan, Registry};
 use std::alloc::{AllocError, Global};
-use std::process::Abort;
 use std::test::Fail;
 
 // A message, with the number of its session if it names one. Sessions 1 to 3 are live, and only
@@ -62,62 +61,63 @@ const REQUESTS: [(&[Sent], &str); 18] = [
     (&[], ""),
 ];
 
-// Returns the client id of `session`, from 1 to 9, as opened with nonce 0.
-fn client(alloc: Global, session: u64) -> Result<TextMember, AllocError> {
-    let id = format!(in alloc; "00000000000000000000000000000000000000000000000{session}")?;
-    Ok(TextMember::Text(Text::new(alloc, id.as_str())?))
+// Returns a message of `session`, from 1 to 9, to `channel`, as JSON. The client id is that of a
+// session opened with nonce 0. `members` are its other members, each after a comma.
+fn of_session(
+    alloc: Global,
+    session: u64,
+    channel: &str,
+    members: &str,
+) -> Result<String, AllocError> {
+    let client = format!(in alloc; "00000000000000000000000000000000000000000000000{session}")?;
+    format!(in alloc; r#"{{"channel":"{channel}","clientId":"{client}"{members}}}"#)
 }
 
-fn publish(alloc: Global, client: TextMember) -> Result<Message, AllocError> {
-    let mut publish = message(alloc, "/a", client)?;
-    publish.payload = Some(RawJson::new(alloc, "7")?);
-    Ok(publish)
-}
-
-// Creates a message of `session` with the pattern `/a/*`. It subscribes or unsubscribes, depending
-// on `channel`.
-fn subscription(alloc: Global, channel: &str, session: u64) -> Result<Message, AllocError> {
-    let mut subscription = message(alloc, channel, client(alloc, session)?)?;
-    subscription.texts.push(Text::new(alloc, "/a/*")?)?;
-    subscription.listed = true;
-    Ok(subscription)
-}
-
-fn to_message(alloc: Global, sent: Sent) -> Result<Message, AllocError> {
+// Returns the message `sent` as JSON.
+fn to_json(alloc: Global, sent: Sent) -> Result<String, AllocError> {
+    let pattern = r#","subscription":"/a/*""#;
     match sent {
-        Sent::Hello => hello(alloc),
-        Sent::Anonymous => publish(alloc, TextMember::Absent),
-        Sent::Connect(session) => message(alloc, "/meta/connect", client(alloc, session)?),
-        Sent::Subscribe(session) => subscription(alloc, "/meta/subscribe", session),
-        Sent::Unsubscribe(session) => subscription(alloc, "/meta/unsubscribe", session),
-        Sent::Publish(session) => publish(alloc, client(alloc, session)?),
-        Sent::Disconnect(session) => message(alloc, "/meta/disconnect", client(alloc, session)?),
+        Sent::Hello => String::from_str(alloc, HELLO),
+        Sent::Anonymous => String::from_str(alloc, r#"{"channel":"/a","data":7}"#),
+        Sent::Connect(session) => of_session(alloc, session, "/meta/connect", ""),
+        Sent::Subscribe(session) => of_session(alloc, session, "/meta/subscribe", pattern),
+        Sent::Unsubscribe(session) => of_session(alloc, session, "/meta/unsubscribe", pattern),
+        Sent::Publish(session) => of_session(alloc, session, "/a", r#","data":7"#),
+        Sent::Disconnect(session) => of_session(alloc, session, "/meta/disconnect", ""),
     }
 }
 
-fn to_messages(alloc: Global, sent: &[Sent]) -> Result<Vec<Message>, AllocError> {
-    let mut messages = Vec::new(alloc);
+// Returns a request with a document for each message of `sent`.
+fn to_bodies(alloc: Global, sent: &[Sent]) -> Result<Bodies, AllocError> {
+    let mut documents = Vec::new(alloc);
     for sent in sent {
-        messages.push(to_message(alloc, *sent)?)?;
+        documents.push(to_json(alloc, *sent)?)?;
     }
-    Ok(messages)
+    Ok(Bodies::Decoded(documents))
 }
 
-// Opens the next session by a handshake with `ack`.
-fn open(alloc: Global, registry: &mut Registry, ack: AckMember) -> Result<(), Fail> {
-    let mut message = hello(alloc)?;
-    message.ack = ack;
-    let plan = registry.plan(alloc, &ByRemainder, 0, 0, &[message])?;
+// Opens the next session by the handshake `hello`, a JSON document.
+fn open(alloc: Global, registry: &mut Registry, hello: &str) -> Result<(), Fail> {
+    let hello = messages(alloc, hello)?;
+    let plan = registry.plan(alloc, &ByRemainder, 0, 0, hello.as_slice())?;
     commit(registry, plan);
     Ok(())
 }
 
+// A valid handshake with `ack`, as JSON.
+const ACK_HELLO: &str =
+    r#"{"channel":"/meta/handshake","version":"1.0","supportedConnectionTypes":["long-polling"],"ext":{"ack":true}}"#;
+
 // Creates a registry with live sessions 1 to 3. Only session 3 acknowledges.
-fn registry(alloc: Global, options: Options) -> Result<Registry, Fail> {
+fn registry(alloc: Global, ride: bool) -> Result<Registry, Fail> {
+    let options = Options {
+        ride,
+        anonymous: true,
+    };
     let mut registry = Registry::new(alloc, config(9).with(options))?;
-    open(alloc, &mut registry, AckMember::NoAck)?;
-    open(alloc, &mut registry, AckMember::NoAck)?;
-    open(alloc, &mut registry, AckMember::AckTrue)?;
+    for hello in [HELLO, HELLO, ACK_HELLO] {
+        open(alloc, &mut registry, hello)?;
+    }
     Ok(registry)
 }
 
@@ -136,11 +136,9 @@ fn push_slot(alloc: Global, slot: &Slot, text: &mut String) -> Result<(), AllocE
 // the channel of its reply.
 fn push_rider(alloc: Global, entry: &Entry, text: &mut String) -> Result<(), AllocError> {
     if let Some(rider) = &entry.rides {
-        let place = entry.place;
-        let session = rider.session;
-        text.push_str(format!(in alloc; "{place} rides {session} ")?.as_str())?;
-        text.push_str(rider.reply.channel.as_str())?;
-        text.push_str("; ")?;
+        let (place, session) = (entry.place, rider.session);
+        let channel = rider.reply.channel.as_str();
+        text.push_str(format!(in alloc; "{place} rides {session} {channel}; ")?.as_str())?;
     }
     Ok(())
 }
@@ -159,34 +157,18 @@ fn told(alloc: Global, plan: &Plan) -> Result<String, AllocError> {
 
 // Plans a request of the messages `sent` without committing it, and returns the text of the plan.
 fn told_of(alloc: Global, registry: &mut Registry, sent: &[Sent]) -> Result<String, Fail> {
-    let messages = to_messages(alloc, sent)?;
+    let messages = read_messages(alloc, &to_bodies(alloc, sent)?)?;
     let plan = registry.plan(alloc, &ByRemainder, 0, 0, messages.as_slice())?;
     Ok(told(alloc, &plan)?)
-}
-
-fn check_request(
-    rt: &impl Abort,
-    alloc: Global,
-    registry: &mut Registry,
-    sent: &[Sent],
-    wanted: &str,
-) -> Result<(), Fail> {
-    let text = told_of(alloc, registry, sent)?;
-    same(rt, text.as_str().trim_end(), wanted, sent);
-    Ok(())
 }
 
 // Checks which messages are riders, and how messages are answered, if `ride` is set.
 #[test]
 fn the_last_message_of_one_session_rides(rt: HostRuntime) -> Result<(), Fail> {
-    let alloc = rt.alloc();
-    let options = Options {
-        ride: true,
-        anonymous: true,
-    };
-    let mut registry = registry(alloc, options)?;
+    let mut registry = registry(rt.alloc(), true)?;
     for (sent, wanted) in &REQUESTS {
-        check_request(&rt, alloc, &mut registry, *sent, *wanted)?;
+        let text = told_of(rt.alloc(), &mut registry, *sent)?;
+        same(&rt, text.as_str().trim_end(), *wanted, *sent);
     }
     Ok(())
 }
@@ -194,11 +176,8 @@ fn the_last_message_of_one_session_rides(rt: HostRuntime) -> Result<(), Fail> {
 // Checks that there are no riders unless `ride` is set.
 #[test]
 fn no_message_rides_unless_it_is_asked_for(rt: HostRuntime) -> Result<(), Fail> {
-    let alloc = rt.alloc();
-    let options = Options {
-        ride: false,
-        anonymous: true,
-    };
-    let mut registry = registry(alloc, options)?;
-    check_request(&rt, alloc, &mut registry, &[Sent::Publish(1)], "ready;")
+    let mut registry = registry(rt.alloc(), false)?;
+    let text = told_of(rt.alloc(), &mut registry, &[Sent::Publish(1)])?;
+    same(&rt, text.as_str(), "ready; ", "a publish");
+    Ok(())
 }

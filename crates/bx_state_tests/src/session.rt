@@ -3,10 +3,11 @@ ghost use Rattle.std.specs.Prelude.{◌≡◌, IfOk, false};
 ghost use Rattle.bx_tree.specs.Patterns.{patterns_of};
 
 use crate::same::same;
+use crate::tree::next_random;
 use bx_advice::{Config, Outcome, Reconnect};
 use bx_message::{AckReply, Event, RawJson, Reply, SharedEvent, Text};
 use bx_names::{ChannelName, Pattern};
-use bx_session::{Answered, ConnectResult, Delivery, PendingConnect, Session};
+use bx_session::{Answered, Delivery, PendingConnect, Session};
 use bx_tree::Tree;
 use std::alloc::{AllocError, Global};
 use std::process::Abort;
@@ -27,16 +28,6 @@ enum Step {
     Close,
 }
 
-fn config() -> Result<Config, Fail> {
-    Ok(Config::new(1, 30_000, 0, 10_000).ok_or("no configuration")?)
-}
-
-// Returns `number` as JSON.
-fn json(alloc: Global, number: u64) -> Result<RawJson, AllocError> {
-    let text = format!(in alloc; "{number}")?;
-    RawJson::new(alloc, text.as_str())
-}
-
 /// Creates an event with `number` as its data, on channel `/a/b`.
 ///
 /// # Errors
@@ -45,7 +36,7 @@ fn json(alloc: Global, number: u64) -> Result<RawJson, AllocError> {
 pub fn event(alloc: Global, number: u64) -> Result<SharedEvent, Fail> {
     let name = ChannelName::read(alloc, "/a/b")?;
     let channel = Text::new(alloc, "/a/b")?;
-    let payload = json(alloc, number)?;
+    let payload = RawJson::new(alloc, format!(in alloc; "{number}")?.as_str())?;
     let event = Event {
         channel,
         payload,
@@ -54,12 +45,21 @@ pub fn event(alloc: Global, number: u64) -> Result<SharedEvent, Fail> {
     Ok(SharedEvent::new(alloc, event, name)?)
 }
 
+/// Returns the number that is the data of `event`.
+///
+/// # Errors
+///
+/// `Fail` if the data is not a number.
+pub fn number_of(event: &SharedEvent) -> Result<u64, Fail> {
+    let number = event.event().payload.as_str().parse().ok();
+    Ok(number.ok_or("no number")?)
+}
+
 // Returns the numbers that are the data of the events of an answer.
 fn numbers(alloc: Global, answered: &Answered) -> Result<Vec<u64>, Fail> {
     let mut numbers = Vec::new(alloc);
     for event in answered.answer.events.as_slice() {
-        let number = event.event().payload.as_str().parse().ok();
-        numbers.push(number.ok_or("no number")?)?;
+        numbers.push(number_of(event)?)?;
     }
     Ok(numbers)
 }
@@ -114,193 +114,105 @@ fn push_answer(answers: &mut Vec<Answered>, answered: Option<Answered>) -> Resul
     Ok(())
 }
 
-fn push_both(answers: &mut Vec<Answered>, connection: ConnectResult) -> Result<(), Fail> {
-    let ConnectResult {
-        superseded,
-        answered,
-    } = connection;
-    push_answer(answers, superseded)?;
-    push_answer(answers, answered)
+// A session with its configuration and the answers to its last step.
+#[derive(Drop)]
+struct Client {
+    alloc: Global,
+    config: Config,
+    session: Session,
+    answers: Vec<Answered>,
 }
 
-fn push_delivery(answers: &mut Vec<Answered>, delivery: Delivery) -> Result<(), Fail> {
-    match delivery {
-        Delivery::Given(answered) => push_answer(answers, Some(answered)),
-        Delivery::Waits | Delivery::Overflowed => Ok(()),
+impl Client {
+    // Opens session 7, which acknowledges if `ack` is `true`.
+    fn open(alloc: Global, ack: bool) -> Result<Client, Fail> {
+        Ok(Client {
+            alloc,
+            config: Config::new(1, 30_000, 0, 10_000).ok_or("no configuration")?,
+            session: Session::open(alloc, 7, ack, 0),
+            answers: Vec::new(alloc),
+        })
     }
-}
 
-// Creates a connect at `place` and `moment`, to be held for at most `hold` milliseconds. Its client
-// id is `Z1`, and its id is `"7"`.
-fn pending(
-    alloc: Global,
-    (place, moment, hold): (u64, u64, u64),
-) -> Result<PendingConnect, AllocError> {
-    let client = Text::new(alloc, "Z1")?;
-    let id = RawJson::new(alloc, "\"7\"")?;
-    PendingConnect::new(alloc, place, &client, Some(&id), moment, hold)
-}
-
-fn connect(
-    alloc: Global,
-    config: &Config,
-    session: &mut Session,
-    at: (u64, u64, u64),
-    acked: Option<u64>,
-    answers: &mut Vec<Answered>,
-) -> Result<(), Fail> {
-    if session.last_batch() >= MANY {
-        return Ok(());
-    }
-    let pending = pending(alloc, at)?;
-    push_both(answers, session.connect(alloc, config, pending, acked)?)
-}
-
-fn publish(
-    alloc: Global,
-    config: &Config,
-    session: &mut Session,
-    place: u64,
-    number: u64,
-    answers: &mut Vec<Answered>,
-) -> Result<(), Fail> {
-    if session.is_overflowed() || session.last_batch() >= MANY {
-        return Ok(());
-    }
-    session.reserve()?;
-    let event = event(alloc, number)?;
-    let further = session.further(&event)?;
-    push_delivery(answers, session.deliver(config, place, event, further))
-}
-
-// Publishes `count` events with the numbers from `first` on, and appends the answers to `answers`.
-fn publish_all(
-    alloc: Global,
-    config: &Config,
-    session: &mut Session,
-    place: u64,
-    (first, count): (u64, u64),
-    answers: &mut Vec<Answered>,
-) -> Result<(), Fail> {
-    for i in 0..count {
-        let number = first.saturating_add(i);
-        publish(alloc, config, session, place, number, answers)?;
-    }
-    Ok(())
-}
-
-fn apply(
-    alloc: Global,
-    config: &Config,
-    session: &mut Session,
-    place: u64,
-    step: Step,
-    answers: &mut Vec<Answered>,
-) -> Result<(), Fail> {
-    match step {
-        Step::Publish(first, count) => {
-            publish_all(alloc, config, session, place, (first, count), answers)
+    // Connects at `place` and `moment`, with client id `Z1` and id `"7"`. The connect may be held
+    // for at most `hold` milliseconds.
+    fn connect(
+        &mut self,
+        place: u64,
+        (acked, moment, hold): (Option<u64>, u64, u64),
+    ) -> Result<(), Fail> {
+        if self.session.last_batch() >= MANY {
+            return Ok(());
         }
-        Step::Connect(acked, moment, hold) => {
-            let at = (place, moment, hold);
-            connect(alloc, config, session, at, acked, answers)
+        let client = Text::new(self.alloc, "Z1")?;
+        let id = RawJson::new(self.alloc, "\"7\"")?;
+        let pending = PendingConnect::new(self.alloc, place, &client, Some(&id), moment, hold)?;
+        let result = self
+            .session
+            .connect(self.alloc, &self.config, pending, acked)?;
+        push_answer(&mut self.answers, result.superseded)?;
+        push_answer(&mut self.answers, result.answered)
+    }
+
+    fn publish(&mut self, place: u64, number: u64) -> Result<(), Fail> {
+        if self.session.is_overflowed() || self.session.last_batch() >= MANY {
+            return Ok(());
         }
-        Step::Tick(moment) => push_answer(answers, session.tick(config, moment)),
-        Step::Close => push_answer(answers, session.close(config)),
+        self.session.reserve()?;
+        let event = event(self.alloc, number)?;
+        let further = self.session.further(&event)?;
+        match self.session.deliver(&self.config, place, event, further) {
+            Delivery::Given(answered) => push_answer(&mut self.answers, Some(answered)),
+            Delivery::Waits | Delivery::Overflowed => Ok(()),
+        }
     }
-}
 
-// Applies `step` at `place`, and returns the answers.
-fn answers_to(
-    alloc: Global,
-    session: &mut Session,
-    place: u64,
-    step: Step,
-) -> Result<Vec<Answered>, Fail> {
-    let config = config()?;
-    let mut answers = Vec::new(alloc);
-    apply(alloc, &config, session, place, step, &mut answers)?;
-    Ok(answers)
-}
-
-// Returns the texts of `answers`, one after another.
-fn text_of(alloc: Global, answers: &[Answered]) -> Result<String, Fail> {
-    let mut text = String::new(alloc);
-    for answered in answers {
-        push_text(alloc, answered, &mut text)?;
+    // Publishes `count` events with the numbers from `first` on.
+    fn publish_all(&mut self, place: u64, first: u64, count: u64) -> Result<(), Fail> {
+        for i in 0..count {
+            self.publish(place, first.saturating_add(i))?;
+        }
+        Ok(())
     }
-    Ok(text)
-}
 
-// Applies `step` at `place`, and returns the text of the answers.
-fn told(alloc: Global, session: &mut Session, place: u64, step: Step) -> Result<String, Fail> {
-    text_of(alloc, &answers_to(alloc, session, place, step)?)
-}
-
-// Applies `step` at `place`, and checks that the text of the answers is `expected`.
-fn check_told(
-    rt: &impl Abort,
-    alloc: Global,
-    session: &mut Session,
-    place: u64,
-    step: Step,
-    expected: &str,
-) -> Result<(), Fail> {
-    let text = told(alloc, session, place, step)?;
-    same(rt, text.as_str(), expected, place);
-    Ok(())
-}
-
-// A property of a session and its expected value.
-#[derive(Clone, Copy, Debug)]
-enum Says {
-    Number(u64),
-    LastBatch(u64),
-    Patterns(usize),
-    Held(bool),
-    Overflowed(bool),
-}
-
-fn check_says(rt: &impl Abort, session: &Session, says: Says) {
-    match says {
-        Says::Number(number) => same(rt, session.number(), number, says),
-        Says::LastBatch(number) => same(rt, session.last_batch(), number, says),
-        Says::Patterns(count) => same(rt, session.patterns(), count, says),
-        Says::Held(is_held) => same(rt, session.is_held(), is_held, says),
-        Says::Overflowed(is_overflowed) => same(rt, session.is_overflowed(), is_overflowed, says),
+    // Applies `step` at `place`. Afterwards `answers` has the answers to it alone.
+    fn apply(&mut self, place: u64, step: Step) -> Result<(), Fail> {
+        self.answers.clear();
+        match step {
+            Step::Publish(first, count) => self.publish_all(place, first, count),
+            Step::Connect(acked, moment, hold) => self.connect(place, (acked, moment, hold)),
+            Step::Tick(moment) => {
+                push_answer(&mut self.answers, self.session.tick(&self.config, moment))
+            }
+            Step::Close => push_answer(&mut self.answers, self.session.close(&self.config)),
+        }
     }
-}
 
-// Applies `steps` at the places from 0 on, and checks the text of the answers to each. Then checks
-// the properties `says`.
-fn run_in(
-    rt: &impl Abort,
-    alloc: Global,
-    session: &mut Session,
-    steps: &[(Step, &str)],
-    says: &[Says],
-) -> Result<(), Fail> {
-    let mut place = 0u64;
-    for (step, expected) in steps {
-        check_told(rt, alloc, session, place, *step, expected)?;
-        place = place.saturating_add(1);
+    // Returns the texts of the answers to the last step, one after another.
+    fn told(&self) -> Result<String, Fail> {
+        let mut text = String::new(self.alloc);
+        for answered in self.answers.as_slice() {
+            push_text(self.alloc, answered, &mut text)?;
+        }
+        Ok(text)
     }
-    for says in says {
-        check_says(rt, session, *says);
-    }
-    Ok(())
-}
 
-// Applies `steps` to a new session 7, which acknowledges if `ack` is `true`, and checks the
-// answers. Then checks the properties `says`.
-fn run(
-    rt: &impl Abort,
-    alloc: Global,
-    ack: bool,
-    steps: &[(Step, &str)],
-    says: &[Says],
-) -> Result<(), Fail> {
-    run_in(rt, alloc, &mut Session::open(alloc, 7, ack, 0), steps, says)
+    // Applies `step` at `place`, and checks that the text of the answers is `wanted`.
+    fn check(&mut self, rt: &impl Abort, place: u64, step: Step, wanted: &str) -> Result<(), Fail> {
+        self.apply(place, step)?;
+        same(rt, self.told()?.as_str(), wanted, (place, step));
+        Ok(())
+    }
+
+    // Applies `steps` at the places from 0 on, and checks the text of the answers to each.
+    fn run(&mut self, rt: &impl Abort, steps: &[(Step, &str)]) -> Result<(), Fail> {
+        let mut place = 0u64;
+        for (step, wanted) in steps {
+            self.check(rt, place, *step, *wanted)?;
+            place = place.saturating_add(1);
+        }
+        Ok(())
+    }
 }
 
 const BATCHES: [(Step, &str); 14] = [
@@ -326,8 +238,11 @@ const BATCHES: [(Step, &str); 14] = [
 // Checks that batches are sent again until they are acknowledged.
 #[test]
 fn batches_are_given_until_they_are_acknowledged(rt: HostRuntime) -> Result<(), Fail> {
-    let says = [Says::Number(7), Says::LastBatch(6)];
-    run(&rt, rt.alloc(), true, &BATCHES, &says)
+    let mut client = Client::open(rt.alloc(), true)?;
+    client.run(&rt, &BATCHES)?;
+    same(&rt, client.session.number(), 7, "number");
+    same(&rt, client.session.last_batch(), 6, "last batch");
+    Ok(())
 }
 
 const PLAIN: [(Step, &str); 7] = [
@@ -343,7 +258,7 @@ const PLAIN: [(Step, &str); 7] = [
 // Checks that a session without acknowledgements sends each event once.
 #[test]
 fn plain_sessions_forget_what_they_give(rt: HostRuntime) -> Result<(), Fail> {
-    run(&rt, rt.alloc(), false, &PLAIN, &[])
+    Client::open(rt.alloc(), false)?.run(&rt, &PLAIN)
 }
 
 const HOLDS: [(Step, &str); 9] = [
@@ -364,7 +279,10 @@ const HOLDS: [(Step, &str); 9] = [
 // Checks that a tick, another connect or a disconnect ends a hold.
 #[test]
 fn holds_end(rt: HostRuntime) -> Result<(), Fail> {
-    run(&rt, rt.alloc(), true, &HOLDS, &[Says::Held(true)])
+    let mut client = Client::open(rt.alloc(), true)?;
+    client.run(&rt, &HOLDS)?;
+    same(&rt, client.session.is_held(), true, "held");
+    Ok(())
 }
 
 const OVERFLOW: [(Step, &str); 8] = [
@@ -387,116 +305,98 @@ const OVERFLOW: [(Step, &str); 8] = [
 // Checks that a session that overflows drops all events, and that its later connects fail.
 #[test]
 fn overflows_drop_the_events(rt: HostRuntime) -> Result<(), Fail> {
-    let says = [Says::Overflowed(true), Says::Patterns(0)];
-    run(&rt, rt.alloc(), true, &OVERFLOW, &says)
+    let mut client = Client::open(rt.alloc(), true)?;
+    client.run(&rt, &OVERFLOW)?;
+    same(&rt, client.session.is_overflowed(), true, "overflowed");
+    same(&rt, client.session.patterns(), 0, "patterns");
+    Ok(())
 }
 
 // Creates `count` patterns `/p/NUMBER/*` with consecutive numbers, from `first` on.
 fn patterns(alloc: Global, first: u64, count: u64) -> Result<Vec<Pattern>, Fail> {
     let mut patterns = Vec::new(alloc);
     for i in 0..count {
-        patterns.push(pattern(alloc, first.saturating_add(i))?)?;
+        let text = format!(in alloc; "/p/{}/*", first.saturating_add(i))?;
+        patterns.push(Pattern::read(alloc, text.as_str())?)?;
     }
     Ok(patterns)
 }
 
-fn pattern(alloc: Global, number: u64) -> Result<Pattern, Fail> {
-    let text = format!(in alloc; "/p/{number}/*")?;
-    Ok(Pattern::read(alloc, text.as_str())?)
-}
-
-// Subscribes session 7 to `count` patterns, with numbers from `first` on.
-//
-// `tree` has the session's active patterns. Returns `true` if the session overflows. If it has
-// overflowed before, returns `true` and changes nothing.
-fn subscribe(
-    alloc: Global,
-    session: &mut Session,
-    tree: &mut Tree,
-    first: u64,
-    count: u64,
-) -> Result<bool, Fail>
-    requires tied { patterns_of tree.old 7 ≡ session.old.kept.patterns }
-    ensures tied { IfOk result (λ overflows. overflows ≡ false → patterns_of tree.new 7 ≡ session.new.kept.patterns) }
-{
-    if session.is_overflowed() {
-        return Ok(true);
+impl Client {
+    // Subscribes session 7 to `count` patterns, with numbers from `first` on.
+    //
+    // `tree` has the session's active patterns. Returns `true` if the session overflows. If it has
+    // overflowed before, returns `true` and changes nothing.
+    fn subscribe(&mut self, tree: &mut Tree, first: u64, count: u64) -> Result<bool, Fail>
+        requires tied { patterns_of tree.old 7 ≡ self.old.session.kept.patterns }
+        ensures tied { IfOk result (λ overflows. overflows ≡ false → patterns_of tree.new 7 ≡ self.new.session.kept.patterns) }
+    {
+        if self.session.is_overflowed() {
+            return Ok(true);
+        }
+        let patterns = patterns(self.alloc, first, count)?;
+        let fresh = tree.add_all(self.alloc, patterns.as_slice(), 7)?;
+        Ok(
+            self.session
+                .subscribe(&self.config, patterns.as_slice(), fresh),
+        )
     }
-    let config = config()?;
-    let patterns = patterns(alloc, first, count)?;
-    let fresh = tree.add_all(alloc, patterns.as_slice(), 7)?;
-    Ok(session.subscribe(&config, patterns.as_slice(), fresh))
-}
 
-// Unsubscribes session 7 from `patterns`, in `session` and in `tree`.
-fn unsubscribe(session: &mut Session, tree: &mut Tree, patterns: &[Pattern])
-    requires tied { patterns_of tree.old 7 ≡ session.old.kept.patterns }
-    ensures tied { patterns_of tree.new 7 ≡ session.new.kept.patterns }
-{
-    let gone = tree.remove_each(patterns, 7);
-    session.unsubscribe(patterns, gone);
-}
-
-// Subscribes session 7 to 1,024 patterns, which is the limit, and replaces one of them. Checks that
-// the session has not overflowed.
-fn reach_the_limit(
-    rt: &impl Abort,
-    alloc: Global,
-    session: &mut Session,
-    tree: &mut Tree,
-) -> Result<(), Fail>
-    requires tied { patterns_of tree.old 7 ≡ session.old.kept.patterns }
-    ensures tied { IfOk result (λ _. patterns_of tree.new 7 ≡ session.new.kept.patterns) }
-{
-    if subscribe(alloc, session, tree, 0, 1_024)? {
-        return Err(Fail::from("1,024 patterns are too many"));
+    // Unsubscribes session 7 from `patterns`, in the session and in `tree`.
+    fn unsubscribe(&mut self, tree: &mut Tree, patterns: &[Pattern])
+        requires tied { patterns_of tree.old 7 ≡ self.old.session.kept.patterns }
+        ensures tied { patterns_of tree.new 7 ≡ self.new.session.kept.patterns }
+    {
+        let gone = tree.remove_each(patterns, 7);
+        self.session.unsubscribe(patterns, gone);
     }
-    check_says(rt, session, Says::Patterns(1_024));
-    unsubscribe(session, tree, patterns(alloc, 0, 1)?.as_slice());
-    check_says(rt, session, Says::Patterns(1_023));
-    if subscribe(alloc, session, tree, 1_024, 1)? {
-        return Err(Fail::from("1,024 other patterns are too many"));
-    }
-    check_says(rt, session, Says::Patterns(1_024));
-    check_says(rt, session, Says::Overflowed(false));
-    Ok(())
-}
 
-// Subscribes session 7 to one pattern more than the limit. Checks that the session overflows and
-// then has no patterns.
-fn pass_the_limit(
-    rt: &impl Abort,
-    alloc: Global,
-    session: &mut Session,
-    tree: &mut Tree,
-) -> Result<(), Fail>
-    requires tied { patterns_of tree.old 7 ≡ session.old.kept.patterns }
-{
-    reach_the_limit(rt, alloc, session, tree)?;
-    let overflows = subscribe(alloc, session, tree, 1_025, 1)?;
-    same(rt, overflows, true, "1,025 patterns");
-    check_says(rt, session, Says::Overflowed(true));
-    check_says(rt, session, Says::Patterns(0));
-    Ok(())
+    // Subscribes session 7 to 1,024 patterns, which is the limit, and replaces one of them. Checks
+    // that the session has not overflowed.
+    fn reach_the_limit(&mut self, rt: &impl Abort, tree: &mut Tree) -> Result<(), Fail>
+        requires tied { patterns_of tree.old 7 ≡ self.old.session.kept.patterns }
+        ensures tied { IfOk result (λ _. patterns_of tree.new 7 ≡ self.new.session.kept.patterns) }
+    {
+        if self.subscribe(tree, 0, 1_024)? {
+            return Err(Fail::from("1,024 patterns are too many"));
+        }
+        same(rt, self.session.patterns(), 1_024, "at the limit");
+        let first = patterns(self.alloc, 0, 1)?;
+        self.unsubscribe(tree, first.as_slice());
+        same(rt, self.session.patterns(), 1_023, "one fewer");
+        if self.subscribe(tree, 1_024, 1)? {
+            return Err(Fail::from("1,024 other patterns are too many"));
+        }
+        same(rt, self.session.patterns(), 1_024, "at the limit again");
+        same(rt, self.session.is_overflowed(), false, "overflowed");
+        Ok(())
+    }
+
+    // Subscribes session 7 to one pattern more than the limit. Checks that the session overflows
+    // and then has no patterns.
+    fn pass_the_limit(&mut self, rt: &impl Abort, tree: &mut Tree) -> Result<(), Fail>
+        requires tied { patterns_of tree.old 7 ≡ self.old.session.kept.patterns }
+    {
+        self.reach_the_limit(rt, tree)?;
+        same(rt, self.subscribe(tree, 1_025, 1)?, true, "1,025 patterns");
+        same(rt, self.session.is_overflowed(), true, "overflowed");
+        same(rt, self.session.patterns(), 0, "no patterns");
+        Ok(())
+    }
 }
 
 // Checks that a connect stays held when patterns make the session overflow. Later connects fail.
-fn check_limit(rt: &impl Abort, alloc: Global, session: &mut Session) -> Result<(), Fail> {
-    check_told(rt, alloc, session, 3, Step::Connect(None, 0, 9), "")?;
-    if session.patterns() != 0 {
-        return Err(Fail::from("a pattern is in force"));
-    }
-    pass_the_limit(rt, alloc, session, &mut Tree::new(alloc))?;
-    check_told(rt, alloc, session, 5, Step::Tick(9), "3 ok ack 0 0: none;")?;
-    let refused = "6 413::Queue overflow plain 0: none;";
-    check_told(rt, alloc, session, 6, Step::Connect(None, 9, 9), refused)
-}
-
-// Checks an overflow by too many patterns while a connect is held.
 #[test]
 fn patterns_past_their_limit_leave_a_connect_held(rt: HostRuntime) -> Result<(), Fail> {
-    let alloc = rt.alloc();
-    check_limit(&rt, alloc, &mut Session::open(alloc, 7, true, 0))
+    let mut client = Client::open(rt.alloc(), true)?;
+    client.check(&rt, 3, Step::Connect(None, 0, 9), "")?;
+    if client.session.patterns() != 0 {
+        return Err(Fail::from("a pattern is in force"));
+    }
+    client.pass_the_limit(&rt, &mut Tree::new(rt.alloc()))?;
+    client.check(&rt, 5, Step::Tick(9), "3 ok ack 0 0: none;")?;
+    let refused = "6 413::Queue overflow plain 0: none;";
+    client.check(&rt, 6, Step::Connect(None, 9, 9), refused)
 }
 
 // Checks the reply to a connect that a disconnect ended. It must have the connect's client id and
@@ -514,19 +414,16 @@ fn check_reply(rt: &impl Abort, reply: &Reply) -> Result<(), Fail> {
     }
 }
 
-fn check_closed(rt: &impl Abort, alloc: Global, session: &mut Session) -> Result<(), Fail> {
-    check_told(rt, alloc, session, 3, Step::Connect(None, 0, 9), "")?;
-    match &session.close(&config()?) {
-        Some(answered) => check_reply(rt, &answered.answer.reply),
-        None => Err(Fail::from("no answer")),
-    }
-}
-
 // Checks that the reply to a connect repeats the connect's client id and `id`.
 #[test]
 fn replies_repeat_what_the_connect_had(rt: HostRuntime) -> Result<(), Fail> {
-    let alloc = rt.alloc();
-    check_closed(&rt, alloc, &mut Session::open(alloc, 7, true, 0))
+    let mut client = Client::open(rt.alloc(), true)?;
+    client.check(&rt, 3, Step::Connect(None, 0, 9), "")?;
+    client.apply(4, Step::Close)?;
+    match client.answers.as_slice() {
+        [answered] => check_reply(&rt, &answered.answer.reply),
+        _ => Err(Fail::from("not one answer")),
+    }
 }
 
 // An acknowledging session as its client sees it.
@@ -554,6 +451,15 @@ fn follow(rt: &impl Abort, events: &[u64], first: u64, place: u64) -> u64 {
 }
 
 impl Seen {
+    // Records `step` before the session takes it.
+    fn takes(&mut self, step: Step) {
+        match step {
+            Step::Publish(first, count) => self.published = first.saturating_add(count),
+            Step::Connect(acked, ..) => self.acknowledges(acked),
+            _ => {}
+        }
+    }
+
     // Records the acknowledgement of batch `acked`. If `acked` is at least the number of the last
     // batch, all events of that batch are acknowledged, and otherwise none.
     fn acknowledges(&mut self, acked: Option<u64>) {
@@ -594,6 +500,14 @@ impl Seen {
         self.number = number;
         self.out = count;
     }
+
+    // Checks and records the answers to the last step of `client`.
+    fn gets_all(&mut self, rt: &impl Abort, client: &Client) -> Result<(), Fail> {
+        for answered in client.answers.as_slice() {
+            self.gets(rt, client.alloc, answered)?;
+        }
+        Ok(())
+    }
 }
 
 // Returns the step that `random` chooses. While fewer than 900 events are unacknowledged, half of
@@ -617,66 +531,25 @@ fn step_of(random: u64, seen: &Seen, place: u64) -> Step {
     }
 }
 
-// Applies `step` at `place`, updates `seen`, and checks that the answers agree with `seen`.
-fn see(
-    rt: &impl Abort,
-    alloc: Global,
-    session: &mut Session,
-    seen: &mut Seen,
-    place: u64,
-    step: Step,
-) -> Result<(), Fail> {
-    match step {
-        Step::Publish(first, count) => seen.published = first.saturating_add(count),
-        Step::Connect(acked, ..) => seen.acknowledges(acked),
-        _ => {}
-    }
-    see_all(rt, alloc, seen, &answers_to(alloc, session, place, step)?)
-}
-
-fn see_all(
-    rt: &impl Abort,
-    alloc: Global,
-    seen: &mut Seen,
-    answers: &[Answered],
-) -> Result<(), Fail> {
-    for answered in answers {
-        seen.gets(rt, alloc, answered)?;
-    }
-    Ok(())
-}
-
-// Applies 10,000 random steps, and checks that the answers agree with `seen`. Checks that the
-// session has not overflowed.
-fn see_steps(
-    rt: &impl Abort,
-    alloc: Global,
-    session: &mut Session,
-    seen: &mut Seen,
-) -> Result<(), Fail> {
-    let mut state = 20_240_229u64;
-    for place in 0..10_000u64 {
-        state = state.wrapping_mul(6_364_136_223_846_793_005);
-        state = state.wrapping_add(1_442_695_040_888_963_407);
-        let step = step_of(state >> 33, seen, place);
-        see(rt, alloc, session, seen, place, step)?;
-    }
-    check_says(rt, session, Says::Overflowed(false));
-    Ok(())
-}
-
 // Checks that a session sends its events in order, and that each event is acknowledged once. The
 // test takes 10,000 random steps.
 #[test]
 fn each_event_comes_once_and_in_order(rt: HostRuntime) -> Result<(), Fail> {
-    let alloc = rt.alloc();
     let mut seen = Seen {
         published: 0,
         done: 0,
         number: 0,
         out: 0,
     };
-    see_steps(&rt, alloc, &mut Session::open(alloc, 7, true, 0), &mut seen)?;
+    let mut client = Client::open(rt.alloc(), true)?;
+    let mut state = 20_240_229u64;
+    for place in 0..10_000u64 {
+        let step = step_of(next_random(&mut state), &seen, place);
+        seen.takes(step);
+        client.apply(place, step)?;
+        seen.gets_all(&rt, &client)?;
+    }
+    same(&rt, client.session.is_overflowed(), false, "overflowed");
     let (done, number) = (seen.done, seen.number);
     same(&rt, done > 10_000, true, ("acknowledged", done));
     same(&rt, number > 1_000, true, ("batches", number));

@@ -10,8 +10,12 @@ use std::alloc::{AllocError, Global};
 use std::process::Abort;
 use std::test::Fail;
 
-// Parses `texts` as patterns.
-fn read_all(alloc: Global, texts: &[&str]) -> Result<Vec<Pattern>, Fail> {
+/// Parses `texts` as patterns.
+///
+/// # Errors
+///
+/// `Fail` if a text is not a pattern, or if memory runs out.
+pub fn read_all(alloc: Global, texts: &[&str]) -> Result<Vec<Pattern>, Fail> {
     let mut patterns = Vec::new(alloc);
     for text in texts {
         patterns.push(Pattern::read(alloc, text)?)?;
@@ -29,18 +33,13 @@ fn texts_of(alloc: Global, patterns: &[Pattern]) -> Result<String, AllocError> {
     Ok(all)
 }
 
-// Returns `true` if the patterns of session `number` are `texts`, each followed by a space.
-fn has_texts(alloc: Global, tree: &Tree, number: u64, texts: &str) -> Result<bool, AllocError> {
-    let patterns = tree.patterns(alloc, number)?;
-    Ok(texts_of(alloc, &patterns)?.as_str() == texts)
-}
-
-// Adds `/a/*` and `/a/**` for session 1, and `/a/b` for session 2.
-fn plant(alloc: Global, tree: &mut Tree) -> Result<(), Fail> {
+// Creates a tree with `/a/*` and `/a/**` for session 1, and `/a/b` for session 2.
+fn planted(alloc: Global) -> Result<Tree, Fail> {
+    let mut tree = Tree::new(alloc);
     for (text, number) in [("/a/*", 1), ("/a/**", 1), ("/a/b", 2)] {
         tree.add(alloc, &Pattern::read(alloc, text)?, number)?;
     }
-    Ok(())
+    Ok(tree)
 }
 
 // Channel names under `/a` and elsewhere. Each has the sessions that a search finds, and the
@@ -60,20 +59,17 @@ fn assert_find(
     rt: &impl Abort,
     alloc: Global,
     tree: &Tree,
-    name: &str,
-    numbers: &[u64],
-    most: usize,
+    (name, numbers, most): (&str, &[u64], usize),
 ) -> Result<(), Fail> {
-    let name = ChannelName::read(alloc, name)?;
-    let found = tree.nodes().find(alloc, &name)?;
-    same(rt, found.numbers.as_slice(), numbers, name.as_str());
-    same(rt, found.visited <= most, true, name.as_str());
+    let found = tree.nodes().find(alloc, &ChannelName::read(alloc, name)?)?;
+    same(rt, found.numbers.as_slice(), numbers, name);
+    same(rt, found.visited <= most, true, name);
     Ok(())
 }
 
 fn assert_finds(rt: &impl Abort, alloc: Global, tree: &Tree) -> Result<(), Fail> {
-    for (name, numbers, most) in &FINDS {
-        assert_find(rt, alloc, tree, *name, *numbers, *most)?;
+    for row in FINDS {
+        assert_find(rt, alloc, tree, row)?;
     }
     Ok(())
 }
@@ -105,7 +101,7 @@ fn assert_removes(rt: &impl Abort, alloc: Global, tree: &mut Tree) -> Result<(),
         let was_there = remove(alloc, tree, *text, *number)?;
         same(rt, was_there, *is_there, *text);
         assert_texts(rt, alloc, tree, 1, *left)?;
-        assert_find(rt, alloc, tree, "/a/b", *found, 9)?;
+        assert_find(rt, alloc, tree, ("/a/b", *found, 9))?;
     }
     Ok(())
 }
@@ -131,18 +127,13 @@ fn assert_adds(rt: &impl Abort, alloc: Global, tree: &mut Tree) -> Result<(), Fa
     Ok(())
 }
 
-fn assert_one_by_one(rt: &impl Abort, alloc: Global, tree: &mut Tree) -> Result<(), Fail> {
-    plant(alloc, tree)?;
-    assert_finds(rt, alloc, tree)?;
-    assert_removes(rt, alloc, tree)?;
-    assert_adds(rt, alloc, tree)
-}
-
 // Checks that single patterns are added, found and removed.
 #[test]
 fn patterns_come_and_go_one_by_one(rt: HostRuntime) -> Result<(), Fail> {
-    let mut tree = Tree::new(rt.alloc());
-    assert_one_by_one(&rt, rt.alloc(), &mut tree)
+    let mut tree = planted(rt.alloc())?;
+    assert_finds(&rt, rt.alloc(), &tree)?;
+    assert_removes(&rt, rt.alloc(), &mut tree)?;
+    assert_adds(&rt, rt.alloc(), &mut tree)
 }
 
 // Patterns to add for session 1: `/b` occurs twice, and the session has `/a/*` already.
@@ -159,7 +150,8 @@ fn assert_texts(
     number: u64,
     texts: &str,
 ) -> Result<(), Fail> {
-    same(rt, has_texts(alloc, tree, number, texts)?, true, texts);
+    let patterns = tree.patterns(alloc, number)?;
+    same(rt, texts_of(alloc, &patterns)?.as_str(), texts, number);
     Ok(())
 }
 
@@ -193,18 +185,14 @@ fn assert_several_go(
     Ok(())
 }
 
-fn assert_at_once(rt: &impl Abort, alloc: Global, tree: &mut Tree) -> Result<(), Fail> {
-    plant(alloc, tree)?;
-    assert_several_come(rt, alloc, tree, &read_all(alloc, &COMING)?)?;
-    assert_several_go(rt, alloc, tree, &read_all(alloc, &GOING)?)?;
-    assert_finds(rt, alloc, tree)
-}
-
 // Checks that several patterns are added and removed at once.
 #[test]
 fn several_come_and_go_at_once(rt: HostRuntime) -> Result<(), Fail> {
-    let mut tree = Tree::new(rt.alloc());
-    assert_at_once(&rt, rt.alloc(), &mut tree)
+    let alloc = rt.alloc();
+    let mut tree = planted(alloc)?;
+    assert_several_come(&rt, alloc, &mut tree, &read_all(alloc, &COMING)?)?;
+    assert_several_go(&rt, alloc, &mut tree, &read_all(alloc, &GOING)?)?;
+    assert_finds(&rt, alloc, &tree)
 }
 
 // Adds a pattern for each of 10,000 sessions, a different one for each.
@@ -216,35 +204,32 @@ fn crowd(alloc: Global, tree: &mut Tree) -> Result<(), Fail> {
     Ok(())
 }
 
-// Checks that a search for a name of 32 segments visits at most 99 of the tree's lists.
-fn assert_finds_deep(rt: &impl Abort, alloc: Global, tree: &Tree) -> Result<(), Fail> {
-    let name = "/a".repeat(alloc, 32)?;
-    assert_find(rt, alloc, tree, name.as_str(), &[1], 99)
-}
-
-fn assert_few_visited(rt: &impl Abort, alloc: Global, tree: &mut Tree) -> Result<(), Fail> {
-    plant(alloc, tree)?;
-    crowd(alloc, tree)?;
-    assert_finds(rt, alloc, tree)?;
-    assert_finds_deep(rt, alloc, tree)
-}
-
-// Checks that a search among thousands of patterns visits few of the tree's lists.
+// Checks that a search among thousands of patterns visits few of the tree's lists: at most 99 for a
+// name of 32 segments.
 #[test]
 fn visits_few_lists(rt: HostRuntime) -> Result<(), Fail> {
-    let mut tree = Tree::new(rt.alloc());
-    assert_few_visited(&rt, rt.alloc(), &mut tree)
+    let alloc = rt.alloc();
+    let mut tree = planted(alloc)?;
+    crowd(alloc, &mut tree)?;
+    assert_finds(&rt, alloc, &tree)?;
+    let name = "/a".repeat(alloc, 32)?;
+    assert_find(&rt, alloc, &tree, (name.as_str(), &[1], 99))
 }
 
-// Advances the linear congruential generator `state`, and returns a number less than `bound`.
+/// Advances the linear congruential generator `state`, and returns a number less than 2^31.
+pub fn next_random(state: &mut u64) -> u64 {
+    *state = state
+        .wrapping_mul(6_364_136_223_846_793_005)
+        .wrapping_add(1_442_695_040_888_963_407);
+    *state >> 33
+}
+
+// Advances the generator `state`, and returns a number less than `bound`.
 fn draw(state: &mut u64, bound: u64) -> u64
     requires { 0 < bound }
     ensures { result < bound }
 {
-    *state = state
-        .wrapping_mul(6_364_136_223_846_793_005)
-        .wrapping_add(1_442_695_040_888_963_407);
-    (*state >> 33) % bound
+    next_random(state) % bound
 }
 
 // Returns a random path of one to four segments, each `a` or `b`, with one of `endings` or none.
@@ -359,23 +344,19 @@ fn agrees(alloc: Global, state: &mut u64, both: &Both) -> Result<bool, Fail> {
     agrees_on(alloc, both, &ChannelName::read(alloc, text.as_str())?)
 }
 
-// Checks that the tree and the list agree after each of 2,000 random changes.
-fn assert_agree(rt: &impl Abort, alloc: Global, both: &mut Both) -> Result<(), Fail> {
-    let mut state = 20_260_101;
-    for step in 0..2_000 {
-        same(rt, change(alloc, &mut state, both)?, true, step);
-        same(rt, agrees(alloc, &mut state, both)?, true, step);
-    }
-    Ok(())
-}
-
 // Checks that a tree and a plain list of patterns find the same sessions for random names. Both get
-// the same random changes.
+// the same 2,000 random changes.
 #[test]
 fn agrees_with_a_plain_list(rt: HostRuntime) -> Result<(), Fail> {
+    let alloc = rt.alloc();
     let mut both = Both {
-        tree: Tree::new(rt.alloc()),
-        pairs: Vec::new(rt.alloc()),
+        tree: Tree::new(alloc),
+        pairs: Vec::new(alloc),
     };
-    assert_agree(&rt, rt.alloc(), &mut both)
+    let mut state = 20_260_101;
+    for step in 0..2_000 {
+        same(&rt, change(alloc, &mut state, &mut both)?, true, step);
+        same(&rt, agrees(alloc, &mut state, &both)?, true, step);
+    }
+    Ok(())
 }

@@ -8,23 +8,21 @@ use std::alloc::{AllocError, Global};
 use std::process::Abort;
 use std::test::Fail;
 
+// The number of messages in a body, or why it is rejected.
+type Count = Result<usize, CutError>;
+
 // Returns the number of messages in `body`.
-fn count_of(alloc: Global, body: &[u8]) -> Result<usize, CutError> {
+fn count_of(alloc: Global, body: &[u8]) -> Count {
     Ok(Document::read(alloc, body)?.pieces().len())
 }
 
 // Checks that the number of messages in `body`, or its error, is `wanted`.
-fn check(rt: &impl Abort, alloc: Global, body: &str, wanted: Result<usize, CutError>) {
+fn check(rt: &impl Abort, alloc: Global, body: &str, wanted: Count) {
     same(rt, count_of(alloc, body.as_bytes()), wanted, body);
 }
 
 // Checks that the texts of the messages in `body` are `wanted`.
-fn check_pieces(
-    rt: &impl Abort,
-    alloc: Global,
-    body: &str,
-    wanted: &[&str],
-) -> Result<(), CutError> {
+fn check_pieces(rt: &impl Abort, alloc: Global, body: &str, wanted: &[&str]) -> Result<(), Fail> {
     let document = Document::read(alloc, body.as_bytes())?;
     let pieces = document.pieces();
     same(rt, pieces.len(), wanted.len(), body);
@@ -168,30 +166,23 @@ fn no_front_of_a_document_is_one(rt: HostRuntime) {
 // Returns `front`, followed by `count` times `part` and then `back`.
 fn repeated(
     alloc: Global,
-    front: &str,
-    part: &str,
+    (front, part, back): (&str, &str, &str),
     count: usize,
-    back: &str,
-) -> Result<String, Fail> {
-    let mut text = String::from_str(alloc, front)?;
-    for _ in 0..count {
-        text.push_str(part)?;
-    }
-    text.push_str(back)?;
-    Ok(text)
+) -> Result<String, AllocError> {
+    let parts = part.repeat(alloc, count)?;
+    format!(in alloc; "{front}{parts}{back}")
 }
 
-// Checks that the number of messages in a body, or its error, is `wanted`. The body is `front`,
-// followed by `count` times `part` and then `back`.
+// Checks that the number of messages in a body, or its error, is `wanted`. The body is the text of
+// `parts` as `repeated` builds it.
 fn check_repeated(
     rt: &impl Abort,
     alloc: Global,
-    (front, part, back): (&str, &str, &str),
+    parts: (&str, &str, &str),
     count: usize,
-    wanted: Result<usize, CutError>,
-) -> Result<(), Fail> {
-    let body = repeated(alloc, front, part, count, back)?;
-    check(rt, alloc, body.as_str(), wanted);
+    wanted: Count,
+) -> Result<(), AllocError> {
+    check(rt, alloc, repeated(alloc, parts, count)?.as_str(), wanted);
     Ok(())
 }
 
@@ -212,13 +203,9 @@ fn limits_are_exact(rt: HostRuntime) -> Result<(), Fail> {
         let place = ("{\"a\":", "}");
         check_nested(&rt, rt.alloc(), place, ("[", "", "]"), depth, wanted)?;
     }
-    let digits = repeated(rt.alloc(), "{\"a\":0.", "7", 1000, "}")?;
-    same(
-        &rt,
-        length_of_a(rt.alloc(), digits.as_str())?,
-        1002,
-        "digits",
-    );
+    let digits = repeated(rt.alloc(), ("{\"a\":0.", "7", "}"), 1000)?;
+    let length = length_of_a(rt.alloc(), digits.as_str())?;
+    same(&rt, length, 1002, "digits");
     Ok(())
 }
 
@@ -282,18 +269,6 @@ fn only_objects_are_messages(rt: HostRuntime) {
     }
 }
 
-// Checks that the number of messages in a body, or its error, is `wanted`. The body is `number`
-// between `front` and `back`.
-fn check_number(
-    rt: &impl Abort,
-    alloc: Global,
-    (front, back): (&str, &str),
-    number: &str,
-    wanted: Result<usize, CutError>,
-) -> Result<(), Fail> {
-    check_repeated(rt, alloc, (front, number, back), 1, wanted)
-}
-
 // Checks that numbers in the range of a 64-bit float are accepted.
 #[test]
 fn numbers_in_range_are_read(rt: HostRuntime) -> Result<(), Fail> {
@@ -314,14 +289,14 @@ fn numbers_in_range_are_read(rt: HostRuntime) -> Result<(), Fail> {
         "18446744073709551616",
         "-18446744073709551616",
     ] {
-        for place in [
-            ("{\"a\":", "}"),
-            ("[{\"a\":[1,", "]}]"),
-            ("{\"b\":{\"c\":", "}}"),
+        for (front, back, wanted) in [
+            ("{\"a\":", "}", Ok(1)),
+            ("[{\"a\":[1,", "]}]", Ok(1)),
+            ("{\"b\":{\"c\":", "}}", Ok(1)),
+            ("", "", Err(CutError::NotObject)),
         ] {
-            check_number(&rt, rt.alloc(), place, number, Ok(1))?;
+            check_repeated(&rt, rt.alloc(), (front, number, back), 1, wanted)?;
         }
-        check_number(&rt, rt.alloc(), ("", ""), number, Err(CutError::NotObject))?;
     }
     Ok(())
 }
@@ -339,13 +314,14 @@ fn numbers_too_large_for_a_float_are_no_json(rt: HostRuntime) -> Result<(), Fail
         "-1.7976931348623159e308",
         "10e308",
     ] {
-        for place in [
+        for (front, back) in [
             ("{\"a\":", "}"),
             ("[{\"a\":[", "]}]"),
             ("[{},", "]"),
             ("", ""),
         ] {
-            check_number(&rt, rt.alloc(), place, number, Err(CutError::NotJson))?;
+            let wanted = Err(CutError::NotJson);
+            check_repeated(&rt, rt.alloc(), (front, number, back), 1, wanted)?;
         }
     }
     for front in ["{\"a\":1", "{\"a\":-1"] {
@@ -364,9 +340,9 @@ fn check_nested(
     (front, back): (&str, &str),
     (open, inside, close): (&str, &str, &str),
     depth: usize,
-    wanted: Result<usize, CutError>,
-) -> Result<(), Fail> {
-    let end = repeated(alloc, inside, close, depth, back)?;
+    wanted: Count,
+) -> Result<(), AllocError> {
+    let end = repeated(alloc, (inside, close, back), depth)?;
     check_repeated(rt, alloc, (front, open, end.as_str()), depth, wanted)
 }
 

@@ -1,18 +1,28 @@
 //! Tests of parsing messages, and of formatting replies, events and responses.
 use crate::same::same;
 use bx_advice::{Config, Error, Outcome};
-use bx_cut::{Document, Piece};
+use bx_cut::Document;
 use bx_message::{
-    AckMember, AckReply, Event, Item, Message, MessageError, MessageKind, RawJson, Reply, Sequence,
+    AckMember, AckReply, Event, Item, Message, MessageError, MessageKind, RawJson, Reply,
     SharedEvent, Text, TextMember, body_text, event_text, reply_text,
 };
 use bx_names::ChannelName;
 use std::alloc::{AllocError, Global};
+use std::fmt::Display;
 use std::process::Abort;
 use std::test::Fail;
 
 fn config() -> Result<Config, Fail> {
     Ok(Config::new(2, 30_000, 0, 10_000).ok_or("no configuration")?)
+}
+
+// Parses the only message in `body`.
+fn read(alloc: Global, body: &str) -> Result<Result<Message, MessageError>, Fail> {
+    let document = Document::read(alloc, body.as_bytes())?;
+    match document.pieces() {
+        [piece] => Ok(Message::read(alloc, piece)),
+        _ => Err(Fail::from("not one message")),
+    }
 }
 
 fn json(alloc: Global, json: Option<&str>) -> Result<Option<RawJson>, AllocError> {
@@ -22,67 +32,25 @@ fn json(alloc: Global, json: Option<&str>) -> Result<Option<RawJson>, AllocError
     }
 }
 
-// Creates a message with `channel`, `id` and `subscription`, and no other members.
-fn message(
-    alloc: Global,
-    channel: &str,
-    id: Option<&str>,
-    subscription: Option<&str>,
-) -> Result<Message, AllocError> {
-    let subscription = json(alloc, subscription)?;
-    let id = json(alloc, id)?;
-    let channel = Text::new(alloc, channel)?;
-    Ok(Message {
-        channel,
-        id,
-        client: TextMember::Absent,
-        version: TextMember::Absent,
-        supported: Sequence::new(alloc),
-        connection: TextMember::Absent,
-        subscription,
-        texts: Sequence::new(alloc),
-        listed: false,
-        payload: None,
-        ack: AckMember::NoAck,
-        timeout: None,
-    })
+// Creates a message with `channel`, `id` and a subscription.
+fn message(alloc: Global, channel: &str, id: Option<&str>) -> Result<Message, Fail> {
+    let mut message = read(alloc, r#"{"channel":"/a","subscription":["/a", 1]}"#)??;
+    message.channel = Text::new(alloc, channel)?;
+    message.id = json(alloc, id)?;
+    Ok(message)
 }
 
-// Returns the reply to `message`, as JSON.
-fn replied(
-    alloc: Global,
-    message: &Message,
-    client: Option<&Text>,
-    outcome: Outcome,
-    ack: AckReply,
-) -> Result<Vec<u8>, Fail> {
-    let message_kind = MessageKind::of(message.channel.as_str());
-    let reply = Reply::to_message(&config()?, message_kind, message, client, outcome, ack)?;
-    Ok(reply_text(alloc, &reply)?)
-}
-
-// Checks that the reply to a message with `channel`, `id` and a subscription is `wanted`.
 fn check_reply(
     rt: &impl Abort,
     alloc: Global,
-    (channel, id): (&str, Option<&str>),
-    client: &Text,
-    (outcome, ack): (Outcome, AckReply),
-    wanted: &str,
-) -> Result<(), Fail> {
-    let message = message(alloc, channel, id, Some("[\"/a\", 1]"))?;
-    check_replied(rt, alloc, &message, Some(client), (outcome, ack), wanted)
-}
-
-fn check_replied(
-    rt: &impl Abort,
-    alloc: Global,
     message: &Message,
     client: Option<&Text>,
     (outcome, ack): (Outcome, AckReply),
     wanted: &str,
 ) -> Result<(), Fail> {
-    let text = replied(alloc, message, client, outcome, ack)?;
+    let kind = MessageKind::of(message.channel.as_str());
+    let reply = Reply::to_message(&config()?, kind, message, client, outcome, ack)?;
+    let text = reply_text(alloc, &reply)?;
     same(rt, text.as_slice(), wanted.as_bytes(), wanted);
     Ok(())
 }
@@ -152,7 +120,8 @@ fn replies_have_their_members(rt: HostRuntime) -> Result<(), Fail> {
     ];
     let client = Text::new(alloc, "Z1")?;
     for (channel, id, outcome, ack, wanted) in table {
-        check_reply(&rt, alloc, (channel, id), &client, (outcome, ack), wanted)?;
+        let message = message(alloc, channel, id)?;
+        check_reply(&rt, alloc, &message, Some(&client), (outcome, ack), wanted)?;
     }
     Ok(())
 }
@@ -160,45 +129,25 @@ fn replies_have_their_members(rt: HostRuntime) -> Result<(), Fail> {
 // Checks that the reply to a rejected handshake has no client id.
 #[test]
 fn a_refused_handshake_has_no_client(rt: HostRuntime) -> Result<(), Fail> {
-    let alloc = rt.alloc();
-    let message = message(alloc, "/meta/handshake", None, None)?;
-    let outcome = Outcome::Failed(Error::UnsupportedVersion);
+    let message = read(rt.alloc(), r#"{"channel":"/meta/handshake"}"#)??;
+    let answer = (Outcome::Failed(Error::UnsupportedVersion), AckReply::NoAck);
     let wanted =
         r#"{"advice":{"interval":0,"reconnect":"none"},"channel":"/meta/handshake","error":"400::Unsupported version","successful":false,"supportedConnectionTypes":["long-polling","callback-polling"],"version":"1.0"}"#;
-    check_replied(
-        &rt,
-        alloc,
-        &message,
-        None,
-        (outcome, AckReply::NoAck),
-        wanted,
-    )
+    check_reply(&rt, rt.alloc(), &message, None, answer, wanted)
 }
 
+// Creates an event with the members `channel`, `data` and, if it is not `None`, `id`.
 fn event(
     alloc: Global,
     channel: &str,
     payload: &str,
     id: Option<&str>,
 ) -> Result<Event, AllocError> {
-    let id = json(alloc, id)?;
-    let payload = RawJson::new(alloc, payload)?;
     Ok(Event {
         channel: Text::new(alloc, channel)?,
-        payload,
-        id,
+        payload: RawJson::new(alloc, payload)?,
+        id: json(alloc, id)?,
     })
-}
-
-fn check_event(
-    rt: &impl Abort,
-    alloc: Global,
-    event: &Event,
-    wanted: &str,
-) -> Result<(), AllocError> {
-    let text = event_text(alloc, event)?;
-    same(rt, text.as_slice(), wanted.as_bytes(), wanted);
-    Ok(())
 }
 
 // Checks that an event has the channel, data and id of its publish.
@@ -221,49 +170,61 @@ fn events_are_their_publishes(rt: HostRuntime) -> Result<(), Fail> {
         ),
     ];
     for (channel, payload, id, wanted) in table {
-        let event = event(alloc, channel, payload, id)?;
-        check_event(&rt, alloc, &event, wanted)?;
+        let text = event_text(alloc, &event(alloc, channel, payload, id)?)?;
+        same(&rt, text.as_slice(), wanted.as_bytes(), wanted);
     }
     Ok(())
 }
 
-fn check_body(rt: &impl Abort, alloc: Global, items: &[Item], wanted: &str) -> Result<(), Fail> {
+/// Checks that the text of the response with `items` is `wanted`.
+///
+/// # Errors
+///
+/// `AllocError` if memory runs out.
+pub fn check_body(
+    rt: &impl Abort,
+    alloc: Global,
+    items: &[Item],
+    wanted: &str,
+) -> Result<(), AllocError> {
     let text = body_text(alloc, items)?;
     same(rt, text.as_slice(), wanted.as_bytes(), wanted);
     Ok(())
 }
 
-// Creates the items of a response: an event twice, and the reply to a connect.
-fn items(alloc: Global) -> Result<Vec<Item>, Fail> {
-    let mut items = Vec::new(alloc);
-    add_events(alloc, &mut items)?;
-    items.push(connected(alloc)?)?;
-    Ok(items)
-}
-
-fn published(alloc: Global) -> Result<SharedEvent, Fail> {
+/// Creates an event on channel `/a/b` with the data `payload`.
+///
+/// # Errors
+///
+/// `Fail` if memory runs out.
+pub fn published(alloc: Global, payload: &str) -> Result<SharedEvent, Fail> {
     let name = ChannelName::read(alloc, "/a/b")?;
-    let payload = RawJson::new(alloc, "7")?;
     let event = Event {
         channel: Text::new(alloc, "/a/b")?,
-        payload,
+        payload: RawJson::new(alloc, payload)?,
         id: None,
     };
     Ok(SharedEvent::new(alloc, event, name)?)
 }
 
-fn add_events(alloc: Global, items: &mut Vec<Item>) -> Result<(), Fail> {
-    let event = published(alloc)?;
-    items.push(Item::EventItem(event.clone()?))?;
-    Ok(items.push(Item::EventItem(event))?)
+/// Creates the reply to a connect of client `Z1` with `id`.
+///
+/// # Errors
+///
+/// `Fail` if memory runs out.
+pub fn connected(alloc: Global, id: &str, ack: AckReply) -> Result<Item, Fail> {
+    let client = Text::new(alloc, "Z1")?;
+    let id = RawJson::new(alloc, id)?;
+    let reply = Reply::to_connect(&config()?, client, Some(id), Outcome::Connected, ack);
+    Ok(Item::ReplyItem(reply))
 }
 
-fn connected(alloc: Global) -> Result<Item, Fail> {
-    let client = Text::new(alloc, "Z1")?;
-    let id = RawJson::new(alloc, "12")?;
-    let (outcome, ack) = (Outcome::Connected, AckReply::AckNumber(1));
-    let reply = Reply::to_connect(&config()?, client, Some(id), outcome, ack);
-    Ok(Item::ReplyItem(reply))
+// Creates the items of a response: an event twice, and the reply to a connect.
+fn items(alloc: Global) -> Result<[Item; 3], Fail> {
+    let event = published(alloc, "7")?;
+    let again = event.clone()?;
+    let reply = connected(alloc, "12", AckReply::AckNumber(1))?;
+    Ok([Item::EventItem(event), Item::EventItem(again), reply])
 }
 
 // Checks that the text of a response is the JSON array of its items.
@@ -273,7 +234,7 @@ fn a_body_is_the_array_of_its_items(rt: HostRuntime) -> Result<(), Fail> {
     check_body(&rt, alloc, &[], "[]")?;
     let wanted =
         r#"[{"channel":"/a/b","data":7},{"channel":"/a/b","data":7},{"advice":{"interval":0,"reconnect":"retry","timeout":30000},"channel":"/meta/connect","clientId":"Z1","ext":{"ack":1},"id":12,"successful":true}]"#;
-    check_body(&rt, alloc, items(alloc)?.as_slice(), wanted)
+    Ok(check_body(&rt, alloc, &items(alloc)?, wanted)?)
 }
 
 // Checks that the kind of a message depends on its whole channel.
@@ -292,45 +253,38 @@ fn kinds_go_by_the_whole_channel(rt: HostRuntime) {
     }
 }
 
-fn add(out: &mut String, name: &str, value: &str) -> Result<(), AllocError> {
-    out.push(' ')?;
-    out.push_str(name)?;
-    out.push('=')?;
-    out.push_str(value)
-}
-
-fn add_text(out: &mut String, name: &str, member: &TextMember) -> Result<(), AllocError> {
+// Returns the text of a member that should be a string: `?` if it is not, `None` if it is absent.
+fn text_of(member: &TextMember) -> Option<&str> {
     match member {
-        TextMember::Absent => Ok(()),
-        TextMember::NotText => add(out, name, "?"),
-        TextMember::Text(text) => add(out, name, text.as_str()),
+        TextMember::Absent => None,
+        TextMember::NotText => Some("?"),
+        TextMember::Text(text) => Some(text.as_str()),
     }
 }
 
-fn add_json(out: &mut String, name: &str, json: &Option<RawJson>) -> Result<(), AllocError> {
-    match json {
-        Some(json) => add(out, name, json.as_str()),
+// Appends a space, `name`, `=` and `value` to `out`, or nothing if `value` is `None`.
+fn add<T: Display + Drop>(
+    alloc: Global,
+    out: &mut String,
+    name: &str,
+    value: Option<T>,
+) -> Result<(), AllocError> {
+    match value {
+        Some(value) => out.push_str(format!(in alloc; " {name}={value}")?.as_str()),
         None => Ok(()),
     }
 }
 
-fn add_texts(out: &mut String, name: &str, texts: &Sequence<Text>) -> Result<(), AllocError> {
-    for text in texts.as_slice() {
-        add(out, name, text.as_str())?;
+fn add_texts(
+    alloc: Global,
+    out: &mut String,
+    name: &str,
+    texts: &[Text],
+) -> Result<(), AllocError> {
+    for text in texts {
+        add(alloc, out, name, Some(text.as_str()))?;
     }
     Ok(())
-}
-
-fn add_number(alloc: Global, out: &mut String, name: &str, number: u64) -> Result<(), AllocError> {
-    add(out, name, format!(in alloc; "{number}")?.as_str())
-}
-
-fn add_ack(alloc: Global, out: &mut String, ack: AckMember) -> Result<(), AllocError> {
-    match ack {
-        AckMember::NoAck => Ok(()),
-        AckMember::AckTrue => add(out, "ack", "true"),
-        AckMember::AckNumber(number) => add_number(alloc, out, "ack", number),
-    }
 }
 
 // Appends the fields of `m` to `out` in order of declaration, except the channel and absent
@@ -339,77 +293,37 @@ fn add_ack(alloc: Global, out: &mut String, ack: AckMember) -> Result<(), AllocE
 // Each is a space, a name, `=` and a value, which is `?` for a member that should be a string and
 // is not. The field `listed` is only its name.
 fn add_fields(alloc: Global, out: &mut String, m: &Message) -> Result<(), AllocError> {
-    add_json(out, "id", &m.id)?;
-    add_text(out, "client", &m.client)?;
-    add_text(out, "version", &m.version)?;
-    add_texts(out, "type", &m.supported)?;
-    add_text(out, "connection", &m.connection)?;
-    add_json(out, "subscription", &m.subscription)?;
-    add_texts(out, "text", &m.texts)?;
+    add(alloc, out, "id", m.id.as_ref().map(RawJson::as_str))?;
+    add(alloc, out, "client", text_of(&m.client))?;
+    add(alloc, out, "version", text_of(&m.version))?;
+    add_texts(alloc, out, "type", m.supported.as_slice())?;
+    add(alloc, out, "connection", text_of(&m.connection))?;
+    add(
+        alloc,
+        out,
+        "subscription",
+        m.subscription.as_ref().map(RawJson::as_str),
+    )?;
+    add_texts(alloc, out, "text", m.texts.as_slice())?;
     if m.listed {
         out.push_str(" listed")?;
     }
-    add_json(out, "data", &m.payload)?;
-    add_ack(alloc, out, m.ack)?;
-    match m.timeout {
-        Some(timeout) => add_number(alloc, out, "timeout", timeout),
-        None => Ok(()),
+    add(alloc, out, "data", m.payload.as_ref().map(RawJson::as_str))?;
+    match m.ack {
+        AckMember::NoAck => {}
+        AckMember::AckTrue => add(alloc, out, "ack", Some("true"))?,
+        AckMember::AckNumber(number) => add(alloc, out, "ack", Some(number))?,
     }
-}
-
-fn shown(alloc: Global, m: &Message) -> Result<String, AllocError> {
-    let mut out = String::from_str(alloc, m.channel.as_str())?;
-    add_fields(alloc, &mut out, m)?;
-    Ok(out)
+    add(alloc, out, "timeout", m.timeout)
 }
 
 // Checks that the fields of a message with the channel `/a` and then `members` are `wanted`.
 fn check_members(rt: &impl Abort, alloc: Global, members: &str, wanted: &str) -> Result<(), Fail> {
     let body = format!(in alloc; r#"{{"channel":"/a"{members}}}"#)?;
-    check_only(rt, alloc, body.as_str(), Some(wanted))
-}
-
-// Checks that the fields of the only message in `body` are `wanted`. `None` is for a message that
-// is rejected because it has no channel.
-fn check_only(
-    rt: &impl Abort,
-    alloc: Global,
-    body: &str,
-    wanted: Option<&str>,
-) -> Result<(), Fail> {
-    let document = Document::read(alloc, body.as_bytes())?;
-    match document.pieces() {
-        [piece] => check_piece(rt, alloc, piece, body, wanted),
-        _ => Err(Fail::from("not one message")),
-    }
-}
-
-fn check_piece(
-    rt: &impl Abort,
-    alloc: Global,
-    piece: &Piece<'_>,
-    body: &str,
-    wanted: Option<&str>,
-) -> Result<(), Fail> {
-    match Message::read(alloc, piece) {
-        Ok(message) => check_fields(rt, alloc, &message, body, wanted),
-        Err(error) => {
-            same(rt, error, MessageError::NoChannel, body);
-            same(rt, None, wanted, body);
-            Ok(())
-        }
-    }
-}
-
-fn check_fields(
-    rt: &impl Abort,
-    alloc: Global,
-    message: &Message,
-    body: &str,
-    wanted: Option<&str>,
-) -> Result<(), Fail> {
-    let fields = shown(alloc, message)?;
-    same(rt, Some(fields.as_str()), wanted, body);
+    let message = read(alloc, body.as_str())??;
+    let mut fields = String::from_str(alloc, message.channel.as_str())?;
+    add_fields(alloc, &mut fields, &message)?;
+    same(rt, fields.as_str(), wanted, members);
     Ok(())
 }
 
@@ -506,7 +420,6 @@ fn members_are_the_fields(rt: HostRuntime) -> Result<(), Fail> {
 // Checks that a message is rejected unless its `channel` is a string.
 #[test]
 fn a_message_has_a_channel(rt: HostRuntime) -> Result<(), Fail> {
-    let alloc = rt.alloc();
     for body in [
         "{}",
         r#"{"channel":1}"#,
@@ -516,7 +429,8 @@ fn a_message_has_a_channel(rt: HostRuntime) -> Result<(), Fail> {
         r#"{"Channel":"/a"}"#,
         r#"{"data":{"channel":"/a"}}"#,
     ] {
-        check_only(&rt, alloc, body, None)?;
+        let fault = read(rt.alloc(), body)?.err();
+        same(&rt, fault, Some(MessageError::NoChannel), body);
     }
     Ok(())
 }

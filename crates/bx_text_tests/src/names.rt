@@ -10,11 +10,8 @@ use std::test::Fail;
 
 // Returns `start`, followed by `count` times `part`.
 fn repeated(alloc: Global, start: &str, part: &str, count: usize) -> Result<String, AllocError> {
-    let mut text = String::from_str(alloc, start)?;
-    for _ in 0..count {
-        text.push_str(part)?;
-    }
-    Ok(text)
+    let parts = part.repeat(alloc, count)?;
+    format!(in alloc; "{start}{parts}")
 }
 
 // Checks that `text` is not a channel name because of `fault`, or that it is one if `fault` is
@@ -22,22 +19,6 @@ fn repeated(alloc: Global, start: &str, part: &str, count: usize) -> Result<Stri
 fn check_name(rt: &impl Abort, alloc: Global, text: &str, fault: Option<NameError>) {
     same(rt, name_fault(text), fault, text);
     same(rt, ChannelName::read(alloc, text).err(), fault, text);
-}
-
-// Checks that a text is not a channel name because of `fault`, or that it is one if `fault` is
-// `None`.
-//
-// The text is `start`, followed by `count` times `part`.
-fn check_repeated(
-    rt: &impl Abort,
-    alloc: Global,
-    (start, part): (&str, &str),
-    count: usize,
-    fault: Option<NameError>,
-) -> Result<(), AllocError> {
-    let text = repeated(alloc, start, part, count)?;
-    check_name(rt, alloc, text.as_str(), fault);
-    Ok(())
 }
 
 // Checks which texts are channel names, and the faults of the others.
@@ -67,12 +48,8 @@ fn names(rt: HostRuntime) -> Result<(), Fail> {
     for (text, fault) in table {
         check_name(&rt, rt.alloc(), text, fault);
     }
-    same(
-        &rt,
-        (MAX_NAME_BYTES, MAX_NAME_SEGMENTS),
-        (256, 32),
-        "limits",
-    );
+    same(&rt, MAX_NAME_BYTES, 256, "bytes");
+    same(&rt, MAX_NAME_SEGMENTS, 32, "segments");
     let edges = [
         ("/", "a", 255, None),
         ("/", "a", 256, Some(NameError::TooLong)),
@@ -82,7 +59,8 @@ fn names(rt: HostRuntime) -> Result<(), Fail> {
         ("/*", "a", 255, Some(NameError::Wild)),
     ];
     for (start, part, count, fault) in edges {
-        check_repeated(&rt, rt.alloc(), (start, part), count, fault)?;
+        let text = repeated(rt.alloc(), start, part, count)?;
+        check_name(&rt, rt.alloc(), text.as_str(), fault);
     }
     Ok(())
 }
@@ -111,8 +89,7 @@ fn check_refused(rt: &impl Abort, alloc: Global, text: &str, fault: NameError) {
 // Returns why 31 segments `/a` followed by `end` are not a pattern, or `None` if they are a
 // pattern.
 fn fault_behind(alloc: Global, end: &str) -> Result<Option<NameError>, AllocError> {
-    let mut text = repeated(alloc, "", "/a", 31)?;
-    text.push_str(end)?;
+    let text = format!(in alloc; "{}{end}", "/a".repeat(alloc, 31)?)?;
     Ok(pattern_fault(text.as_str()))
 }
 

@@ -1,8 +1,8 @@
 use Rattle.std.proofs.Common.{arith, sym, subst}
 use Rattle.bx_shard_tests.specs.Numbered.{AreNumbered}
 use Rattle.bx_shard_tests.proofs.Numbered.{first_is_0, fresh_seen, numbered_consecutive}
-use Rattle.bx_shard_tests.proofs.workers.brought_up_by.Goals as goal
-use Rattle.bx_shard_tests.proofs.workers.brought_up_by.Goals.{After-deref}
+use Rattle.bx_shard_tests.proofs.workers.brought_up.Goals as goal
+use Rattle.bx_shard_tests.proofs.workers.brought_up.Goals.{After-deref}
 
 numbered : (g : _) (c : After-deref g) → AreNumbered c.deref.result.now
 numbered g c = subst AreNumbered (sym c.deref.ensures.value) c.in_ok-entries.ensures
