@@ -42,7 +42,7 @@ impl Turns {
         connect: false,
     };
 
-    /// Ten turns, after each of which every session connects and gets its events.
+    /// Ten turns. After each turn, every session connects and gets its events.
     pub const CONNECTING: Turns = Turns {
         count: 10,
         connect: true,

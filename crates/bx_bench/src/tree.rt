@@ -68,8 +68,9 @@ pub fn plain_build(alloc: Global) -> Result<usize> {
     Ok(pairs(alloc)?.len())
 }
 
-/// Builds a list of the patterns of 10,000 sessions, ten each, and compares each name with them all,
-/// `times` times.
+/// Compares each name with the list of all patterns, and does so `times` times.
+///
+/// The list has ten patterns of each of 10,000 sessions.
 ///
 /// Returns the number of matches.
 ///

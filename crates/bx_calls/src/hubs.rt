@@ -23,14 +23,14 @@ pub struct Stage<L: HubKind, R: Wait + Drop> {
     pub hub: Arc<Hub<L, R>, Global>,
 }
 
-/// Work with a new hub.
+/// Work with a new hub of any kind.
 pub trait HubWork<R: Wait + Drop>: Drop {
     /// The result of the work.
     type Value;
     /// Evidence that the work failed, or that memory ran out.
     type Fault: From<AllocError>;
 
-    /// Does the work with the hub of `stage`, whose list is empty.
+    /// Performs the work with the hub of `stage`. The hub's list is empty.
     ///
     /// # Errors
     ///

@@ -195,8 +195,9 @@ const PROCESS: ProcessTexts<'static> = ProcessTexts {
     system: "cpu  1 2 3 4\nbtime 1700000000\nprocesses 5\n",
 };
 
-// Returns the page of `metrics` and `process`, with settings of two shards, the default limits, and
-// times of different lengths.
+// Returns the page of `metrics` and `process`.
+//
+// The settings are two shards, the default limits, and times of different lengths.
 fn page_of(alloc: Global, metrics: &MetricValues, process: &ProcessValues) -> Result<String, Fail> {
     let settings = PageSettings {
         version: "1.2.3",

@@ -27,8 +27,7 @@ const DEEDS: [(u64, Option<&str>); 6] = [
     (10_001, Some(PUBLISH)),
 ];
 
-// Returns what can be read of a registry: how many entries and live sessions it has, and whether
-// sessions 1 and 2 are live.
+// Returns how many entries and live sessions a registry has, and whether sessions 1 and 2 are live.
 fn counts_of(registry: &Registry) -> (u64, usize, bool, bool) {
     (
         registry.entries(),

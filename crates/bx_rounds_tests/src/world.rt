@@ -184,8 +184,9 @@ fn world<P: Placing + Drop>(alloc: Global, placing: &Arc<P>) -> Result<World<P>,
     Ok(World::new(alloc, config, placing.clone()?)?)
 }
 
-// Returns the outputs of `steps` in `world`, run by one call if `at_once`, and otherwise with a call
-// for each step.
+// Returns the outputs of `steps` in `world`.
+//
+// `at_once`: whether one call makes all steps. Otherwise, each step has a call.
 fn outputs<P: Placing>(
     alloc: Global,
     world: &mut World<P>,

@@ -150,8 +150,9 @@ const CHANNELS: [(&str, Found); 28] = [
     ("a", FORBIDDEN),
 ];
 
-// Checks the result of reading a message to each of `channels` on the read-only listener with
-// `patterns`. The publishers' listener accepts messages to all channels.
+// Checks whether a message to each of `channels` is accepted.
+//
+// The read-only listener has `patterns`. The publishers' listener accepts messages to all channels.
 fn check_channels(
     rt: &impl Abort,
     alloc: Global,

@@ -204,8 +204,9 @@ fn crowd(alloc: Global, tree: &mut Tree) -> Result<(), Fail> {
     Ok(())
 }
 
-// Checks that a search among thousands of patterns visits few of the tree's lists: at most 99 for a
-// name of 32 segments.
+// Checks that a search among thousands of patterns visits few of the tree's lists.
+//
+// It visits at most 99 of them for a name of 32 segments.
 #[test]
 fn visits_few_lists(rt: HostRuntime) -> Result<(), Fail> {
     let alloc = rt.alloc();

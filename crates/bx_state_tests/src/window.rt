@@ -85,8 +85,9 @@ fn apply(rt: &impl Abort, alloc: Global, window: &mut Window, step: Move) -> Res
     Ok(())
 }
 
-// Makes each of `moves` on a new window, and checks that the text of the window is then the move's
-// text. Checks that the window lists all of its events.
+// Makes each of `moves` on a new window, and checks the text of the window after each.
+//
+// Checks that the window lists all of its events.
 fn run(rt: &impl Abort, alloc: Global, moves: &[(Move, &str)]) -> Result<(), Fail> {
     let mut window = Window::new(alloc);
     for (step, wanted) in moves {

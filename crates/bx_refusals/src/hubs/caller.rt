@@ -32,7 +32,7 @@ pub struct Caller<'a, L: HubKind, H: Wait + Drop, R: Wait> {
 }
 
 impl<'a, L: HubKind, H: Wait + Drop, R: Wait> Caller<'a, L, H, R> {
-    /// Creates a caller of `hub`, whose list is empty, with no lines.
+    /// Creates a caller of `hub` without lines. The hub's list is empty.
     pub fn new(rt: &'a R, alloc: Global, hub: &'a Hub<L, H>) -> Caller<'a, L, H, R> {
         Caller {
             rt,
