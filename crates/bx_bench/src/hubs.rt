@@ -2,7 +2,7 @@
 use crate::bodies::arrival;
 use crate::load::{Load, Server};
 use anyhow::{Error, Result, anyhow};
-use bx_calls::{HubWork, config_of, work_in_open_hub};
+use bx_calls::{HubWork, SharedKind, Stage, config_of, work_in_open_hub};
 use bx_entry::Slot;
 use bx_hub::{Hub, HubKind, Pass, Tick};
 use std::alloc::Global;
@@ -107,19 +107,15 @@ impl<R: Threads + Wait + Sync> HubWork<&R> for Posts {
 
     type Fault = Error;
 
-    fn work<L: HubKind<Placing: Send + Sync, Gate: Send + Sync> + Send + Sync>(
-        self,
-        rt: &R,
-        alloc: Global,
-        hub: Hub<L, &R>,
-    ) -> Result<u64> {
+    fn work<L: SharedKind>(self, stage: &Stage<L, &R>) -> Result<u64> {
+        let (rt, alloc, hub) = (stage.rt, stage.alloc, &stage.hub);
         for thread in 0..self.threads {
-            opens(rt, alloc, &hub, thread, self.load)?;
+            opens(rt, alloc, hub, thread, self.load)?;
         }
         let events = match self.threads {
-            4 => four(rt, alloc, &hub, self.load),
-            2 => two(rt, alloc, &hub, 0, self.load),
-            _ => works(rt, alloc, &hub, 0, self.load),
+            4 => four(rt, alloc, hub, self.load),
+            2 => two(rt, alloc, hub, 0, self.load),
+            _ => works(rt, alloc, hub, 0, self.load),
         };
         events.ok_or(anyhow!("not served"))
     }
@@ -159,19 +155,15 @@ impl<R: Wait> HubWork<&R> for Ticks {
 
     type Fault = Error;
 
-    fn work<L: HubKind<Placing: Send + Sync, Gate: Send + Sync> + Send + Sync>(
-        self,
-        rt: &R,
-        alloc: Global,
-        hub: Hub<L, &R>,
-    ) -> Result<u64> {
+    fn work<L: SharedKind>(self, stage: &Stage<L, &R>) -> Result<u64> {
+        let (rt, alloc, hub) = (stage.rt, stage.alloc, &stage.hub);
         let idle = Load {
             rounds: 0,
             publishes: 0,
             sessions: IDLE - 1,
         };
-        opens(rt, alloc, &hub, 0, idle)?;
-        ticked(rt, alloc, &hub, self.count).ok_or(anyhow!("no tick"))
+        opens(rt, alloc, hub, 0, idle)?;
+        ticked(rt, alloc, hub, self.count).ok_or(anyhow!("no tick"))
     }
 }
 

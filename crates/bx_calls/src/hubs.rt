@@ -10,6 +10,19 @@ use std::alloc::{AllocError, Global};
 use std::marker::Brand;
 use std::sync::{Arc, Wait};
 
+/// A kind of hub that several threads can share.
+pub trait SharedKind: HubKind<Placing: Send + Sync, Gate: Send + Sync> + Send + Sync {}
+
+impl<L: HubKind<Placing: Send + Sync, Gate: Send + Sync> + Send + Sync> SharedKind for L {}
+
+/// A new hub, and what each of its calls needs.
+#[derive(Drop)]
+pub struct Stage<L: HubKind, R: Wait + Drop> {
+    pub rt: R,
+    pub alloc: Global,
+    pub hub: Arc<Hub<L, R>, Global>,
+}
+
 /// Work with a new hub of any kind.
 pub trait HubWork<R: Wait + Drop>: Drop {
     /// The result of the work.
@@ -17,17 +30,12 @@ pub trait HubWork<R: Wait + Drop>: Drop {
     /// Evidence that the work failed, or that memory ran out.
     type Fault: From<AllocError>;
 
-    /// Performs the work with `hub`. The hub's list is empty.
+    /// Performs the work with the hub of `stage`. The hub's list is empty.
     ///
     /// # Errors
     ///
     /// The fault of the work.
-    fn work<L: HubKind<Placing: Send + Sync, Gate: Send + Sync> + Send + Sync>(
-        self,
-        rt: R,
-        alloc: Global,
-        hub: Hub<L, R>,
-    ) -> Result<Self::Value, Self::Fault>;
+    fn work<L: SharedKind>(self, stage: &Stage<L, R>) -> Result<Self::Value, Self::Fault>;
 }
 
 /// Creates the configuration of most tests: `shards` shards, and held connects of 30 seconds.
@@ -94,5 +102,6 @@ fn work_in_window<
     requires placing { P.place_of (arc_value placing) ≡ L.placing }
 {
     let hub = Hub::<Kind<L, P, G>, R>::new(alloc, rt, opened, config, placing, gate)?;
-    work.work(rt, alloc, hub)
+    let hub = Arc::new(alloc, hub).map_err(AllocError::from)?;
+    work.work(&Stage { rt, alloc, hub })
 }

@@ -2,7 +2,7 @@
 use crate::host::Host;
 use crate::wire::Wire;
 use anyhow::{Result, anyhow};
-use bx_calls::{HubWork, config_of, work_in_open_hub};
+use bx_calls::{HubWork, SharedKind, Stage, config_of, work_in_open_hub};
 use bx_entry::Access;
 use bx_hub::{Hub, HubKind};
 use bx_pieces::Pieces;
@@ -71,22 +71,10 @@ impl<R: Wait + Copy + Drop> HubWork<R> for Requests {
 
     type Fault = anyhow::Error;
 
-    fn work<L: HubKind<Placing: Send + Sync, Gate: Send + Sync> + Send + Sync>(
-        self,
-        rt: R,
-        alloc: Global,
-        hub: Hub<L, R>,
-    ) -> Result<String> {
-        let shared = Arc::new(alloc, hub)?;
-        let hub = &shared;
-        let backend = HubBackend::new(
-            rt,
-            alloc,
-            Arc::try_clone(hub)?,
-            Access::ReadWrite,
-            Still,
-            Zeros,
-        );
+    fn work<L: SharedKind>(self, stage: &Stage<L, R>) -> Result<String> {
+        let (rt, alloc, hub) = (stage.rt, stage.alloc, &stage.hub);
+        let clone = Arc::try_clone(hub)?;
+        let backend = HubBackend::new(rt, alloc, clone, Access::ReadWrite, Still, Zeros);
         let service = BayeuxService::new(alloc, backend)?;
         let host = Host {
             alloc,

@@ -3,7 +3,7 @@
 //! `tests/documents/run` checks that a test has the lines of each example.
 
 use bx_calls::texts::{CONNECT, HANDSHAKE};
-use bx_calls::{HubWork, arrival, config_of, post, work_in_open_hub};
+use bx_calls::{HubWork, SharedKind, Stage, arrival, config_of, post, work_in_open_hub};
 use bx_entry::Slot;
 use bx_hub::{Hub, HubKind};
 use std::alloc::Global;
@@ -38,13 +38,8 @@ impl<R: Wait + Abort> HubWork<&R> for PostAndPoll {
 
     type Fault = Fail;
 
-    fn work<L: HubKind<Placing: Send + Sync, Gate: Send + Sync> + Send + Sync>(
-        self,
-        rt: &R,
-        alloc: Global,
-        hub: Hub<L, &R>,
-    ) -> Result<(), Fail> {
-        posts_and_polls(rt, alloc, &hub)
+    fn work<L: SharedKind>(self, stage: &Stage<L, &R>) -> Result<(), Fail> {
+        posts_and_polls(stage.rt, stage.alloc, &stage.hub)
     }
 }
 

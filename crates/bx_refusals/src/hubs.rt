@@ -5,7 +5,7 @@ mod waits;
 
 use crate::requests::{add_line, config};
 use crate::unlike::{Unlike, check};
-use bx_calls::{HubWork, work_in_open_hub};
+use bx_calls::{HubWork, SharedKind, Stage, work_in_open_hub};
 use bx_hub::{Hub, HubKind};
 use bx_record::RecordFault;
 use caller::Caller;
@@ -56,21 +56,17 @@ impl<R: Wait> HubWork<&R> for Exchange {
 
     type Fault = Unlike;
 
-    fn work<L: HubKind<Placing: Send + Sync, Gate: Send + Sync> + Send + Sync>(
-        self,
-        rt: &R,
-        alloc: Global,
-        hub: Hub<L, &R>,
-    ) -> Result<String, Unlike> {
+    fn work<L: SharedKind>(self, stage: &Stage<L, &R>) -> Result<String, Unlike> {
+        let (rt, alloc, hub) = (stage.rt, stage.alloc, &stage.hub);
         check(hub.start_record(rt, alloc).is_ok(), "no record")?;
-        let mut caller = Caller::new(rt, alloc, &hub);
+        let mut caller = Caller::new(rt, alloc, hub);
         let answer = if self.is_awaited {
             caller.awaited_answer(&self.task)?
         } else {
             caller.learned_answer()?
         };
         caller.add_answer(answer)?;
-        check_record(rt, alloc, &hub)?;
+        check_record(rt, alloc, hub)?;
         Ok(caller.into_text())
     }
 }

@@ -5,9 +5,8 @@ mod exchanges;
 
 use crate::requests::config;
 use crate::unlike::Unlike;
-use bx_calls::{HubWork, work_in_open_hub};
+use bx_calls::{HubWork, SharedKind, Stage, work_in_open_hub};
 use bx_entry::Access;
-use bx_hub::{Hub, HubKind};
 use bx_service::{BayeuxService, Clock, HubBackend, Nonces};
 use client::Client;
 use futures::test::MockTask;
@@ -60,14 +59,10 @@ impl<R: Wait + Copy + Drop> HubWork<R> for Exchanges {
 
     type Fault = Unlike;
 
-    fn work<L: HubKind<Placing: Send + Sync, Gate: Send + Sync> + Send + Sync>(
-        self,
-        rt: R,
-        alloc: Global,
-        hub: Hub<L, R>,
-    ) -> Result<String, Unlike> {
+    fn work<L: SharedKind>(self, stage: &Stage<L, R>) -> Result<String, Unlike> {
+        let (rt, alloc) = (stage.rt, stage.alloc);
         let Exchanges { task } = self;
-        let hub = Arc::new(alloc, hub)?;
+        let hub = Arc::try_clone(&stage.hub)?;
         let clone = Arc::try_clone(&hub)?;
         let backend = HubBackend::new(rt, alloc, clone, Access::ReadWrite, Still, Zeros);
         let service = BayeuxService::new(alloc, backend)?;

@@ -2,13 +2,14 @@
 mod bench;
 
 use bench::{Bench, TICKET, Want};
-use bx_calls::{HubWork, Task, Tasks, config_of, hold, post, texts, tick, work_in_open_hub};
+use bx_calls::{
+    HubWork, SharedKind, Stage, Task, Tasks, config_of, hold, post, texts, tick, work_in_open_hub,
+};
 use bx_entry::Ticket;
 use bx_held::PendingAnswer;
-use bx_hub::{Hub, HubFault, HubKind};
-use std::alloc::Global;
+use bx_hub::{HubFault, HubKind};
 use std::process::Abort;
-use std::sync::Wait;
+use std::sync::{Arc, Wait};
 use std::test::*;
 
 // A step of a run, and what it checks.
@@ -198,19 +199,13 @@ impl<R: Wait + Abort> HubWork<&R> for HeldConnect {
 
     type Fault = Fail;
 
-    fn work<L: HubKind<Placing: Send + Sync, Gate: Send + Sync> + Send + Sync>(
-        self,
-        rt: &R,
-        alloc: Global,
-        hub: Hub<L, &R>,
-    ) -> Result<(), Fail> {
+    fn work<L: SharedKind>(self, stage: &Stage<L, &R>) -> Result<(), Fail> {
         let HeldConnect { tasks, steps } = self;
-        let pass = hub.pass();
         let mut bench = Bench {
-            rt,
-            alloc,
-            hub,
-            pass,
+            rt: stage.rt,
+            alloc: stage.alloc,
+            hub: Arc::try_clone(&stage.hub)?,
+            pass: stage.hub.pass(),
             tasks,
         };
         bench.run(steps)

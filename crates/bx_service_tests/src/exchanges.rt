@@ -3,7 +3,7 @@ use crate::bench::{Bench, Still, Zeros};
 use crate::requests::{Ask, Given, Want, check_given, check_pending};
 use crate::runs::{COUNT, Held, Run, SMALL, Step, run_at};
 use bx_advice::{BodyLimit, Options};
-use bx_calls::{HubWork, Tasks, config_of, tick, work_in_open_hub};
+use bx_calls::{HubWork, SharedKind, Stage, Tasks, config_of, tick, work_in_open_hub};
 use bx_entry::{Access, SharedPatterns};
 use bx_hub::{Hub, HubKind};
 use bx_service::{Backend, BayeuxService, HubBackend};
@@ -134,26 +134,20 @@ impl<'a, R: Wait + Abort> HubWork<&'a R> for Exchanges {
 
     type Fault = Fail;
 
-    fn work<L: HubKind<Placing: Send + Sync, Gate: Send + Sync> + Send + Sync>(
-        self,
-        rt: &'a R,
-        alloc: Global,
-        hub: Hub<L, &'a R>,
-    ) -> Result<(), Fail> {
+    fn work<L: SharedKind>(self, stage: &Stage<L, &'a R>) -> Result<(), Fail> {
+        let (rt, alloc, hub) = (stage.rt, stage.alloc, &stage.hub);
         let Exchanges { tasks, run } = self;
-        let pass = hub.pass();
-        let hub = Arc::new(alloc, hub)?;
         let none = SharedPatterns::new(alloc, Vec::new(alloc))?;
         let limit = BodyLimit::new(SMALL).ok_or("no such limit")?;
         let mut bench = Bench {
             rt,
             alloc,
-            pass,
-            service: service_of(rt, alloc, &hub, Access::ReadWrite, 0)?,
-            readers: service_of(rt, alloc, &hub, Access::ReadOnly(none), 0)?,
-            too_late: service_of(rt, alloc, &hub, Access::ReadWrite, (1 << 62) + 1)?,
-            small: service_of(rt, alloc, &hub, Access::ReadWrite, 0)?.with_limit(limit),
-            hub,
+            pass: hub.pass(),
+            service: service_of(rt, alloc, hub, Access::ReadWrite, 0)?,
+            readers: service_of(rt, alloc, hub, Access::ReadOnly(none), 0)?,
+            too_late: service_of(rt, alloc, hub, Access::ReadWrite, (1 << 62) + 1)?,
+            small: service_of(rt, alloc, hub, Access::ReadWrite, 0)?.with_limit(limit),
+            hub: Arc::try_clone(hub)?,
             tasks,
         };
         bench.execute(&run)

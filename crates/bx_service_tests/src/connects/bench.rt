@@ -6,7 +6,7 @@ use bx_hub::{Hub, HubFault, HubKind, Pass};
 use futures::task::Poll;
 use std::alloc::Global;
 use std::process::Abort;
-use std::sync::Wait;
+use std::sync::{Arc, Wait};
 use std::test::*;
 
 /// The ticket of the connect that each run holds.
@@ -31,7 +31,7 @@ pub enum Want {
 pub struct Bench<'a, L: HubKind, H: Wait + Drop, R> {
     pub rt: &'a R,
     pub alloc: Global,
-    pub hub: Hub<L, H>,
+    pub hub: Arc<Hub<L, H>, Global>,
     pub pass: Pass<L>,
     pub tasks: Tasks,
 }
