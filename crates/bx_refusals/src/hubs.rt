@@ -43,7 +43,7 @@ where
     Ok(text)
 }
 
-// The messages of both sessions, and the tick.
+// The exchange of a run: the messages of both sessions, and the tick.
 #[derive(Drop)]
 struct Exchange {
     task: MockTask,

@@ -117,25 +117,16 @@ fn planned(
     ensures { IfOk result (λ plan. LeadsTo registry.new plan.change plan.elements) }
 {
     let before = counts_of(registry);
-    let plan = match planned_once(alloc, registry, moment, messages) {
-        Err(AdmitFault::Memory) if counts_of(registry) == before => {
-            planned_once(alloc, registry, moment, messages)
+    for _ in 0..2 {
+        let plan = match messages {
+            Some(messages) => registry.plan(alloc, &AllFirst, moment, 0, messages),
+            None => registry.plan_tick(alloc, moment),
+        };
+        match plan {
+            Ok(plan) => return Ok(plan),
+            Err(AdmitFault::Memory) if counts_of(registry) == before => (),
+            Err(_) => return Err(Unlike::Wrong("not planned")),
         }
-        plan => plan,
-    };
-    plan.map_err(|_| Unlike::Wrong("not planned"))
-}
-
-fn planned_once(
-    alloc: Global,
-    registry: &mut Registry,
-    moment: u64,
-    messages: Option<&[Message]>,
-) -> Result<Plan, AdmitFault>
-    ensures { IfOk result (λ plan. LeadsTo registry.new plan.change plan.elements) }
-{
-    match messages {
-        Some(messages) => registry.plan(alloc, &AllFirst, moment, 0, messages),
-        None => registry.plan_tick(alloc, moment),
     }
+    Err(Unlike::Wrong("refused once more"))
 }

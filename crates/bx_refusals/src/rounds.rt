@@ -191,7 +191,7 @@ fn inputs(alloc: Global, requests: Requests) -> Result<Vec<Input>, Unlike> {
     Ok(inputs)
 }
 
-// What runs the requests of a round, and the outs so far.
+// A runner of requests, and the outs so far.
 #[derive(Drop)]
 struct Dealer<'a, R> {
     rt: &'a R,
