@@ -68,10 +68,9 @@ pub fn plain_build(alloc: Global) -> Result<usize> {
     Ok(pairs(alloc)?.len())
 }
 
-/// Builds a list of the patterns of 10,000 sessions, ten each, and compares each name with them all,
-/// `times` times.
+/// Builds a list of the patterns of 10,000 sessions, ten each, and compares names with them all.
 ///
-/// Returns the number of matches.
+/// Each name is compared `times` times. Returns the number of matches.
 ///
 /// # Errors
 ///

@@ -184,8 +184,9 @@ fn world<P: Placing + Drop>(alloc: Global, placing: &Arc<P>) -> Result<World<P>,
     Ok(World::new(alloc, config, placing.clone()?)?)
 }
 
-// Returns the outputs of `steps` in `world`, run by one call if `at_once`, and otherwise with a call
-// for each step.
+// Returns the outputs of `steps` in `world`.
+//
+// If `at_once`, runs the steps by one call, and otherwise with a call for each step.
 fn outputs<P: Placing>(
     alloc: Global,
     world: &mut World<P>,

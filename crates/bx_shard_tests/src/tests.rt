@@ -302,8 +302,9 @@ impl Scene {
         Ok(())
     }
 
-    // Takes the answer under `ticket`, and returns the texts of its events and reply. Returns `None`
-    // if no answer is filed.
+    // Takes the answer under `ticket`, and returns the texts of its events and reply.
+    //
+    // Returns `None` if no answer is filed.
     fn taken(&mut self, ticket: Ticket) -> Result<Option<Vec<u8>>, AllocError> {
         let Some(answer) = self.shard.take(ticket) else {
             return Ok(None);
