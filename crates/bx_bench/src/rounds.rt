@@ -42,13 +42,13 @@ impl Turns {
         connect: false,
     };
 
-    /// Ten turns. After each turn, every session connects and gets its events.
+    /// Ten turns. After each, every session connects and gets its events.
     pub const CONNECTING: Turns = Turns {
         count: 10,
         connect: true,
     };
 
-    /// Twenty turns, after which 1,000 events wait for each session, since no session connects.
+    /// Twenty turns. Then 1,000 events wait for each session, since no session connects.
     pub const WAITING: Turns = Turns {
         count: 20,
         connect: false,

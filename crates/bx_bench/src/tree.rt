@@ -68,11 +68,9 @@ pub fn plain_build(alloc: Global) -> Result<usize> {
     Ok(pairs(alloc)?.len())
 }
 
-/// Compares each name with the list of all patterns, and does so `times` times.
+/// Builds a list of the patterns of 10,000 sessions, ten each, and compares names with them all.
 ///
-/// The list has ten patterns of each of 10,000 sessions.
-///
-/// Returns the number of matches.
+/// Each name is compared `times` times. Returns the number of matches.
 ///
 /// # Errors
 ///

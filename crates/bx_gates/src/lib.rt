@@ -10,7 +10,7 @@ const LOOKS: u32 = 10_000_000;
 
 /// A gate at which workers wait for each other. If that takes too long, a worker gives up.
 ///
-/// A set of workers is a number. Bit k is set if the set contains worker k.
+/// A set of workers is a number. Its bit k is set for worker k.
 #[derive(Drop)]
 pub struct Meeting {
     team: u16,

@@ -256,9 +256,8 @@ fn check_fault<R: Abort + Threads + Sync>(
     Ok(is_whole(rt, ended, fault, writer.written.as_slice(), right))
 }
 
-// Checks replays with a reader or a writer that fails after 0 calls, after 1 call, and so on.
-//
-// Ends when a replay succeeds, and fails if none of 100 replays does.
+// Checks replays with a reader or a writer that fails, until a replay succeeds. The first fails
+// after 0 calls, the second after 1 call, and so on. Fails if none of 100 replays succeeds.
 fn check_faults<R: Abort + Threads + Sync>(
     rt: &R,
     alloc: Global,

@@ -78,7 +78,7 @@ pub struct Writer {
 }
 
 impl Writer {
-    /// Creates a writer without output. Its flushes succeed.
+    /// Creates a writer to which nothing is written. Its flushes succeed.
     pub fn new(alloc: Global, most: usize, faults: Faults) -> Writer {
         Writer {
             written: Vec::new(alloc),

@@ -186,7 +186,7 @@ fn world<P: Placing + Drop>(alloc: Global, placing: &Arc<P>) -> Result<World<P>,
 
 // Returns the outputs of `steps` in `world`.
 //
-// `at_once`: whether one call makes all steps. Otherwise, each step has a call.
+// If `at_once`, runs the steps by one call, and otherwise with a call for each step.
 fn outputs<P: Placing>(
     alloc: Global,
     world: &mut World<P>,
