@@ -357,8 +357,9 @@ impl<L: HubKind, R: Wait + Clock + AllocGlobal + Log + Copy + Drop> SharedParts<
         })
     }
 
-    // Creates the backend and the observer for `listener` and, if given, for `readers`, the
-    // read-only listener. `publish`: the patterns of the channels that `readers` allows.
+    // Creates the backend and the observer for `listener` and, if given, for `readers`.
+    //
+    // `readers`: the read-only listener. `publish`: the patterns of the channels that it allows.
     fn endpoints(
         &self,
         listener: TcpListener,

@@ -73,8 +73,14 @@ impl<R: Wait + Copy + Drop> HubWork<R> for Requests {
 
     fn work<L: SharedKind>(self, stage: &Stage<L, R>) -> Result<String> {
         let (rt, alloc, hub) = (stage.rt, stage.alloc, &stage.hub);
-        let clone = Arc::try_clone(hub)?;
-        let backend = HubBackend::new(rt, alloc, clone, Access::ReadWrite, Still, Zeros);
+        let backend = HubBackend::new(
+            rt,
+            alloc,
+            Arc::try_clone(hub)?,
+            Access::ReadWrite,
+            Still,
+            Zeros,
+        );
         let service = BayeuxService::new(alloc, backend)?;
         let host = Host {
             alloc,

@@ -86,8 +86,7 @@ impl<L: HubKind, R: Wait + Drop> Caller<'_, L, R> {
         Some(())
     }
 
-    // Posts `CONNECTS` connects of a session, and appends the numbers of the events that they get
-    // to `given`.
+    // Posts `CONNECTS` connects of a session. Appends the numbers of their events to `given`.
     //
     // `session`: the session's index, 0 or 1. For session 1 each number is raised by `ALL_EVENTS`.
     // Returns `None` if a call fails or a connect has no answer.
@@ -108,8 +107,8 @@ impl<L: HubKind, R: Wait + Drop> Caller<'_, L, R> {
         Some(())
     }
 
-    // Does the job with this index in `JOBS`, and returns the numbers of the events that it gets.
-    // Returns `None` if a call fails.
+    // Performs the job with this index in `JOBS`, and returns the numbers of the events that it
+    // gets. Returns `None` if a call fails.
     fn do_job(&mut self, index: usize) -> Option<Vec<usize>> {
         let mut given = Vec::new(self.stage.alloc);
         match *JOBS.get(index)? {
@@ -122,8 +121,7 @@ impl<L: HubKind, R: Wait + Drop> Caller<'_, L, R> {
     }
 }
 
-// Does each of `JOBS` in a thread of its own, and returns the numbers of the events that the two
-// sessions get meanwhile.
+// Performs each of `JOBS` in its own thread, and returns the numbers of the two sessions' events.
 //
 // For the second session each number is raised by `ALL_EVENTS`. Returns `None` if a call fails.
 fn work_in_threads<L: SharedKind, R: Threads + Wait + Send + Sync + Drop>(

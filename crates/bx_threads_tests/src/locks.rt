@@ -254,7 +254,7 @@ impl<L: HubKind, R: Wait + Drop> Caller<'_, L, R> {
         self.post(CONNECT).is_ok()
     }
 
-    // Does what the first of the `others` does, and returns `true` if it succeeds.
+    // Makes the calls of the first of the `others`, and returns `true` if they succeed.
     fn first<C: Clock + Drop>(&mut self, flags: &Flags<C>, others: Others) -> bool {
         match others {
             Others::PostAndSweeps => self.connect_at_once(flags),
@@ -262,7 +262,7 @@ impl<L: HubKind, R: Wait + Drop> Caller<'_, L, R> {
         }
     }
 
-    // Does what the second of the `others` does, and returns `true` if it succeeds.
+    // Makes the calls of the second of the `others`, and returns `true` if they succeed.
     fn second<C: Clock + Drop>(&mut self, flags: &Flags<C>, others: Others) -> bool {
         match others {
             Others::PostAndSweeps => self.sweep_meanwhile(flags),

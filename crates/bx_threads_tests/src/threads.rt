@@ -35,8 +35,9 @@ impl<L: HubKind, R: Wait + Drop> Caller<'_, L, R> {
     }
 }
 
-// Polls for the answer under `ticket`, and checks what is found, and that its text is `ANSWER` if
-// an answer is wanted.
+// Polls for the answer under `ticket`, and checks what is found.
+//
+// If an answer is wanted, its text must be `ANSWER`.
 fn check_poll<L: HubKind, R: Wait + Abort + Drop>(
     caller: &mut Caller<'_, L, R>,
     ticket: Ticket,
