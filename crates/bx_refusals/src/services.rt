@@ -45,23 +45,23 @@ where
     R: Wait + RandomSource + AllocGlobal + Copy + Drop,
 {
     let task = MockTask::new(&rt).map_err(|_| Unlike::Memory)?;
-    work_in_open_hub(rt, rt.alloc(), config(2)?, Exchanges { task })
+    work_in_open_hub(rt, rt.alloc(), config(2)?, ServiceRun { task })
 }
 
 // The exchanges, and the task that polls them.
 #[derive(Drop)]
-struct Exchanges {
+struct ServiceRun {
     task: MockTask,
 }
 
-impl<R: Wait + Copy + Drop> HubWork<R> for Exchanges {
+impl<R: Wait + Copy + Drop> HubWork<R> for ServiceRun {
     type Value = String;
 
     type Fault = Unlike;
 
     fn work<L: SharedKind>(self, stage: &Stage<L, R>) -> Result<String, Unlike> {
         let (rt, alloc) = (stage.rt, stage.alloc);
-        let Exchanges { task } = self;
+        let ServiceRun { task } = self;
         let hub = Arc::try_clone(&stage.hub)?;
         let clone = Arc::try_clone(&hub)?;
         let backend = HubBackend::new(rt, alloc, clone, Access::ReadWrite, Still, Zeros);

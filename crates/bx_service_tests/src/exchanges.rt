@@ -124,19 +124,19 @@ fn service_of<'a, L: HubKind, R: Wait>(
 
 // A run, and the tasks that poll its exchanges.
 #[derive(Drop)]
-struct Exchanges {
+struct ExchangeRun {
     tasks: Tasks,
     run: Run,
 }
 
-impl<'a, R: Wait + Abort> HubWork<&'a R> for Exchanges {
+impl<'a, R: Wait + Abort> HubWork<&'a R> for ExchangeRun {
     type Value = ();
 
     type Fault = Fail;
 
     fn work<L: SharedKind>(self, stage: &Stage<L, &'a R>) -> Result<(), Fail> {
         let (rt, alloc, hub) = (stage.rt, stage.alloc, &stage.hub);
-        let Exchanges { tasks, run } = self;
+        let ExchangeRun { tasks, run } = self;
         let none = SharedPatterns::new(alloc, Vec::new(alloc))?;
         let limit = BodyLimit::new(SMALL).ok_or("no such limit")?;
         let mut bench = Bench {
@@ -165,7 +165,7 @@ fn exchanges(rt: HostRuntime) -> Result<(), Fail> {
             anonymous: false,
         });
         let tasks = Tasks::new(&rt)?;
-        work_in_open_hub(&rt, rt.alloc(), config, Exchanges { tasks, run })?;
+        work_in_open_hub(&rt, rt.alloc(), config, ExchangeRun { tasks, run })?;
     }
     Ok(())
 }
