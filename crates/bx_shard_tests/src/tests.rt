@@ -291,11 +291,11 @@ impl Scene {
         at: At,
     ) -> Result<(), Fail> {
         let own = if task == FIRST {
-            &self.first
+            waker(&self.first)?
         } else {
-            &self.second
+            waker(&self.second)?
         };
-        let watch = self.shard.watch(ticket, waker(own)?);
+        let watch = self.shard.watch(ticket, own);
         let (found, woken) = outcome(&watch, task);
         same(rt, found, watched, at);
         self.check_drop(rt, watch, woken, at);
