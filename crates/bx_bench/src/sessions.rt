@@ -68,7 +68,10 @@ impl Setting {
         let connect = PendingConnect::new(alloc, number, &self.client, None, 0, hold)?;
         let connection = session.connect(alloc, &self.config, connect, Some(number))?;
         let ConnectResult { answered, .. } = connection;
-        Ok(answered.map_or(0, |answered| answered.answer.events.len() as u64))
+        match answered {
+            Some(answered) => Ok(answered.answer.events.len() as u64),
+            None => Ok(0),
+        }
     }
 }
 

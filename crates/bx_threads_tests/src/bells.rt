@@ -1,15 +1,19 @@
 //! Test that tasks are woken while no shard is locked.
+ghost use Rattle.std.specs.Prelude.{◌≡◌};
+ghost use Rattle.bx_entry.specs.Placings.{by_remainder};
 
-use crate::caller::{Caller, wait_for};
 use crate::same::same;
+use bx_advice::Config;
 use bx_calls::texts::{ANSWER, HANDSHAKE, PUBLISH};
-use bx_calls::{Found, HubWork, SharedKind, Stage, config_of, work_in_hub};
+use bx_calls::{Found, find, hold, post};
 use bx_entry::{ByRemainder, Ticket};
-use bx_hub::{Gate, HubKind, Watch};
+use bx_hub::{Gate, Hub, HubKind, Kind, Watch};
+use bx_window::{EmptyWindow, LogId};
 use futures::task::{Doorbell, Poll, Solo, Source, Waker};
 use libc::net::{EFD_CLOEXEC, eventfd};
 use os::FromRawFd;
 use std::alloc::Global;
+use std::marker::Brand;
 use std::os::fd::{AsRawFd, OwnedFd};
 use std::process::Abort;
 use std::sync::atomic::{AtomicBool, Ordering};
@@ -18,6 +22,9 @@ use std::test::*;
 use std::thread;
 use std::thread::{Threads, join};
 use std::time::{Clock, Duration};
+
+// How often a thread looks at a flag before it gives up, one millisecond apart.
+const LOOKS: u32 = 10_000;
 
 // An `eventfd` of Linux: a counter. If it is full, a write blocks until the counter is read.
 #[derive(Drop)]
@@ -101,31 +108,48 @@ impl Gate for Telling {
     fn after(&self, _shard: usize) {}
 }
 
-impl<L: HubKind, R: Wait + Drop> Caller<'_, L, R> {
-    // Makes the call that wakes a task, and returns `true` if it succeeds.
-    fn wake(&mut self, ticket: Ticket, waking: Waking, flags: &Flags) -> bool {
-        flags.is_armed.store(true, Ordering::SeqCst);
-        let answered = match waking {
-            Waking::Publish => self.post(PUBLISH).is_ok(),
-            Waking::Question => self.find(ticket, ANSWER).ok() == Some(Found::Wanted),
-        };
-        flags.ended.store(true, Ordering::SeqCst);
-        answered
+fn wait_for<R: Clock>(rt: &R, flag: &AtomicBool) -> bool {
+    for _ in 0..LOOKS {
+        if flag.load(Ordering::SeqCst) {
+            return true;
+        }
+        thread::sleep(rt, Duration::from_millis(1));
     }
+    false
 }
 
-impl<L: HubKind, R: Wait + Clock + Drop> Caller<'_, L, R> {
-    // Waits for `flags.stands`, then locks and unlocks every shard once, and sets `flags.swept`.
-    //
-    // The wait ends as that of `wait_for` does. Returns `true` if `flags.stands` was
-    // set in that time. The shards are locked in any case.
-    fn sweep_once(&mut self, flags: &Flags) -> bool {
-        let Stage { rt, hub, .. } = self.stage;
-        let stood = wait_for(rt, &flags.stands);
-        hub.sweep(rt, 0);
-        flags.swept.store(true, Ordering::SeqCst);
-        stood
-    }
+fn wakes<L: HubKind, H: Wait + Drop, R: Wait>(
+    rt: &R,
+    alloc: Global,
+    hub: &Hub<L, H>,
+    ticket: Ticket,
+    waking: Waking,
+    flags: &Flags,
+) -> bool {
+    let mut pass = hub.pass();
+    flags.is_armed.store(true, Ordering::SeqCst);
+    let answered = match waking {
+        Waking::Publish => post(rt, alloc, hub, &mut pass, PUBLISH).is_ok(),
+        Waking::Question => find(rt, alloc, hub, &mut pass, ticket, ANSWER).ok()
+            == Some(Found::Wanted),
+    };
+    flags.ended.store(true, Ordering::SeqCst);
+    answered
+}
+
+// Waits for `flags.stands`, then locks and unlocks every shard once, and sets `flags.swept`.
+//
+// The wait ends after `LOOKS` milliseconds at the latest. Returns `true` if `flags.stands` was set
+// in that time. The shards are locked in any case.
+fn sweeps<L: HubKind, H: Wait + Drop, R: Wait + Clock>(
+    rt: &R,
+    hub: &Hub<L, H>,
+    flags: &Flags,
+) -> bool {
+    let stood = wait_for(rt, &flags.stands);
+    hub.sweep(rt, 0);
+    flags.swept.store(true, Ordering::SeqCst);
+    stood
 }
 
 // What a thread finds while the wake of a task is blocked.
@@ -139,7 +163,7 @@ struct Told {
     let_go: bool,
 }
 
-// Waits for `flags.swept` as `wait_for` does, and lets the blocked wake continue.
+// Waits for `flags.swept` for at most `LOOKS` milliseconds, and lets the blocked wake continue.
 //
 // Returns whether every shard was locked in time, whether the call that wakes had ended before, and
 // whether the counter was read.
@@ -154,6 +178,18 @@ fn lets_go<R: Clock>(rt: &R, flags: &Flags, counter: &Counter) -> Told {
     }
 }
 
+fn sweeps_and_lets_go<
+    L: HubKind<Placing: Send + Sync, Gate: Send + Sync> + Send + Sync,
+    H: Wait + Drop + Send,
+    R: Threads + Wait + Clock + Sync,
+>(rt: &R, hub: &Hub<L, H>, flags: &Flags, counter: &Counter) -> (bool, Told) {
+    join(
+        rt,
+        || sweeps(rt, hub, flags),
+        || lets_go(rt, flags, counter),
+    )
+}
+
 // What a run of the test uses besides its hub.
 #[derive(Drop)]
 struct Scene {
@@ -165,37 +201,46 @@ struct Scene {
     counter: Counter,
 }
 
-fn sweep_and_let_go<L: SharedKind, R: Threads + Wait + Clock + Send + Sync + Drop>(
-    stage: &Stage<L, R>,
-    flags: &Flags,
-    counter: &Counter,
-) -> (bool, Told) {
-    join(
-        &stage.rt,
-        || Caller::of(stage).sweep_once(flags),
-        || lets_go(&stage.rt, flags, counter),
-    )
-}
-
-// Runs the test's threads, and checks what they find.
-fn check_beside<L: SharedKind, R: Threads + Wait + Clock + Abort + Send + Sync + Drop>(
-    stage: &Stage<L, R>,
-    ticket: Ticket,
-    scene: &Scene,
-) {
+fn beside<
+    L: HubKind<Placing: Send + Sync, Gate: Send + Sync> + Send + Sync,
+    H: Wait + Drop + Send,
+    R: Threads + Wait + Clock + Abort + Sync,
+>(rt: &R, alloc: Global, hub: &Hub<L, H>, ticket: Ticket, scene: &Scene) {
     let (waking, flags, counter) = (scene.waking, &*scene.flags, &scene.counter);
     let (answered, (stood, told)) = join(
-        &stage.rt,
-        || Caller::of(stage).wake(ticket, waking, flags),
-        || sweep_and_let_go(stage, flags, counter),
+        rt,
+        || wakes(rt, alloc, hub, ticket, waking, flags),
+        || sweeps_and_lets_go(rt, hub, flags, counter),
     );
-    same(&stage.rt, (answered, stood), (true, true), "the calls");
+    same(rt, (answered, stood), (true, true), "the calls");
     let wanted = Told {
         was_free: true,
         had_ended: false,
         let_go: true,
     };
-    same(&stage.rt, told, wanted, waking);
+    same(rt, told, wanted, waking);
+}
+
+// Registers a waker of `scene.task` with the connect under `ticket`. A wake of it blocks. Then runs
+// the test's threads while the task sleeps, and checks what they find.
+fn rings<
+    L: HubKind<Placing: Send + Sync, Gate: Send + Sync> + Send + Sync,
+    H: Wait + Drop + Send,
+    R: Threads + Wait + Clock + Abort + Sync,
+>(rt: &R, alloc: Global, hub: &Hub<L, H>, ticket: Ticket, scene: &Scene) -> Result<(), Fail> {
+    let waker = waker_of(&scene.task).ok_or("no waker")?;
+    let (said, _watching) = hub.watch(rt, ticket, waker);
+    let is_left = matches!(said, Watch::Stored(None));
+    same(rt, is_left, true, "the waker");
+    same(rt, scene.counter.fill(), true, "a full counter");
+    match scene.task.sleep() {
+        Some(asleep) => {
+            beside(rt, alloc, hub, ticket, scene);
+            asleep.end();
+            Ok(())
+        }
+        None => Err(Fail::from("the task is awake")),
+    }
 }
 
 fn waker_of(task: &Solo) -> Option<Waker> {
@@ -207,50 +252,52 @@ fn waker_of(task: &Solo) -> Option<Waker> {
     slot
 }
 
-impl<L: HubKind, R: Wait + Abort + Drop> Caller<'_, L, R> {
-    // Opens two sessions, holds the first one's connect, and returns its ticket.
-    //
-    // For `Waking::Question`, the event for the first session is already published, while its shard
-    // was paused.
-    fn open(&mut self, waking: Waking) -> Result<Ticket, Fail> {
-        let ticket = self.hold()?;
-        self.post(HANDSHAKE)?;
-        if waking == Waking::Question {
-            let Stage { rt, hub, .. } = self.stage;
-            same(rt, hub.pause(rt, 1).is_some(), true, "pause 1");
-            self.post(PUBLISH)?;
-            same(rt, hub.resume(rt, 1).is_some(), true, "resume 1");
-        }
-        Ok(ticket)
+fn held<
+    L: HubKind<Placing: Send + Sync, Gate: Send + Sync> + Send + Sync,
+    H: Wait + Drop + Send,
+    R: Threads + Wait + Clock + Abort + Sync,
+>(rt: &R, alloc: Global, hub: &Hub<L, H>, scene: &Scene) -> Result<(), Fail> {
+    let mut pass = hub.pass();
+    let ticket = hold(rt, alloc, hub, &mut pass)?;
+    post(rt, alloc, hub, &mut pass, HANDSHAKE)?;
+    if scene.waking == Waking::Question {
+        same(rt, hub.pause(rt, 1).is_some(), true, "pause 1");
+        post(rt, alloc, hub, &mut pass, PUBLISH)?;
+        same(rt, hub.resume(rt, 1).is_some(), true, "resume 1");
     }
-
-    // Registers a waker of `scene.task` with the connect under `ticket`. A wake of it blocks.
-    fn register(&mut self, ticket: Ticket, scene: &Scene) -> Result<(), Fail> {
-        let waker = waker_of(&scene.task).ok_or("no waker")?;
-        let Stage { rt, hub, .. } = self.stage;
-        let (said, _watching) = hub.watch(rt, ticket, waker);
-        let is_left = matches!(said, Watch::Stored(None));
-        same(rt, is_left, true, "the waker");
-        same(rt, scene.counter.fill(), true, "a full counter");
-        Ok(())
-    }
+    rings(rt, alloc, hub, ticket, scene)
 }
 
-impl<R: Threads + Wait + Clock + Abort + Sync> HubWork<&R> for Scene {
-    type Value = ();
+fn free<L: LogId + Send + Sync, R: Threads + Wait + Clock + Abort + Sync>(
+    rt: &R,
+    alloc: Global,
+    opened: EmptyWindow,
+    config: Config,
+    placing: Arc<ByRemainder, Global>,
+    gate: Telling,
+    scene: &Scene,
+) -> Result<(), Fail>
+    requires book { opened.seen.book ≡ L.book }
+    requires config { config ≡ L.config }
+    requires placing { by_remainder ≡ L.placing }
+{
+    let hub = Hub::<Kind<L, ByRemainder, Telling>, &R>::new(
+        alloc, rt, opened, config, placing, gate,
+    )?;
+    held(rt, alloc, &hub, scene)
+}
 
-    type Fault = Fail;
-
-    // Holds a connect, and runs the test's threads while the task sleeps.
-    fn work<L: SharedKind>(self, stage: &Stage<L, &R>) -> Result<(), Fail> {
-        let mut caller = Caller::of(stage);
-        let ticket = caller.open(self.waking)?;
-        caller.register(ticket, &self)?;
-        let asleep = self.task.sleep().ok_or("the task is awake")?;
-        check_beside(stage, ticket, &self);
-        asleep.end();
-        Ok(())
-    }
+fn frees<R: Threads + Wait + Clock + Abort + Sync>(
+    rt: &R,
+    alloc: Global,
+    scene: &Scene,
+) -> Result<(), Fail> {
+    let config = Config::new(2, 30_000, 0, 10_000).ok_or("no configuration")?;
+    let placing = Arc::new(alloc, ByRemainder)?;
+    let gate = Telling {
+        flags: Arc::try_clone(&scene.flags)?,
+    };
+    free::<Brand, _>(rt, alloc, EmptyWindow::new(), config, placing, gate, scene)
 }
 
 // Checks that a publish and a poll unlock every shard before they wake a task.
@@ -260,17 +307,13 @@ fn wakes_wait_for_no_shard(rt: HostRuntime) -> Result<(), Fail> {
         let flags = Arc::new(rt.alloc(), Flags::new())?;
         let (counter, fd) = Counter::new().ok_or("no counter")?;
         let task = Solo::new(&rt, Doorbell::from_event_fd(fd))?;
-        let gate = Telling {
-            flags: Arc::try_clone(&flags)?,
-        };
         let scene = Scene {
             waking,
             task,
             flags,
             counter,
         };
-        let config = config_of(2).ok_or("no configuration")?;
-        work_in_hub(&rt, rt.alloc(), config, ByRemainder, gate, scene)?;
+        frees(&rt, rt.alloc(), &scene)?;
     }
     Ok(())
 }

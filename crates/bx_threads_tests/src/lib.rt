@@ -6,11 +6,11 @@
 #[cfg(test)]
 mod bells;
 #[cfg(test)]
-mod caller;
-#[cfg(test)]
 mod crowd;
 #[cfg(test)]
 mod gates;
+#[cfg(test)]
+mod hubs;
 #[cfg(test)]
 mod locks;
 #[cfg(test)]

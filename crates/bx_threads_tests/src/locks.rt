@@ -1,14 +1,17 @@
 //! Tests of the locks that a call holds while it waits for another one, and that gates enclose
 //! advances.
+ghost use Rattle.std.specs.Prelude.{◌≡◌};
 ghost use Rattle.bx_entry.specs.Placings.{by_remainder, by_remainder-below};
 
-use crate::caller::{Caller, wait_for};
 use crate::same::same;
+use bx_advice::Config;
+use bx_calls::post;
 use bx_calls::texts::{CONNECT, HANDSHAKE, PING};
-use bx_calls::{HubWork, SharedKind, Stage, config_of, work_in_hub};
 use bx_entry::{ByRemainder, Placing, Ticket};
-use bx_hub::{Gate, HubKind};
+use bx_hub::{Gate, Hub, HubKind, Kind, Tick};
+use bx_window::{EmptyWindow, LogId};
 use std::alloc::{AllocError, Global};
+use std::marker::Brand;
 use std::process::Abort;
 use std::sync::atomic::{AtomicBool, AtomicU64, Ordering};
 use std::sync::{Arc, Wait};
@@ -16,6 +19,9 @@ use std::test::*;
 use std::thread;
 use std::thread::{Threads, join};
 use std::time::{Clock, Duration};
+
+// How often a thread looks at a flag before it gives up, one millisecond apart.
+const LOOKS: u32 = 10_000;
 
 // How often all shards are locked while a post has locked admission, one millisecond apart. Also
 // how many milliseconds pass before a post, while a poll has locked a shard.
@@ -99,11 +105,15 @@ impl<C: Clock + Drop> Flags<C> {
         }
     }
 
-    // Waits until `flag` is set. If this wait is in vain, sets `gave_up`.
+    // Waits until `flag` is set. Gives up after `LOOKS` milliseconds, and then sets `gave_up`.
     fn wait_for(&self, flag: &AtomicBool) {
-        if !wait_for(&self.clock, flag) {
-            self.gave_up.store(true, Ordering::SeqCst);
+        for _ in 0..LOOKS {
+            if flag.load(Ordering::SeqCst) {
+                return;
+            }
+            thread::sleep(&self.clock, Duration::from_millis(1));
         }
+        self.gave_up.store(true, Ordering::SeqCst);
     }
 
     // Stops a post or poll until it may continue.
@@ -172,116 +182,121 @@ impl<C: Clock + Drop> Placing for Holding<C> {
     }
 }
 
-impl<L: HubKind, R: Wait + Drop> Caller<'_, L, R> {
-    // Polls for an answer at place 0 of `shard`, and returns `true` if the poll succeeds.
-    fn polls(&mut self, shard: usize) -> bool {
-        let ticket = Ticket { place: 0, shard };
-        let Stage { rt, alloc, hub } = self.stage;
-        let (polled, _unfiled) = hub.poll_answer(rt, *alloc, &mut self.pass, ticket);
-        polled.is_ok()
-    }
-
-    // Posts `AHEAD` pings, and returns `true` if all are admitted.
-    fn pings_ahead(&mut self) -> bool {
+// Makes `call`, which the gate stops in shard 1, and returns `true` if it succeeds.
+//
+// Before a post, posts `AHEAD` pings, which are not stopped.
+fn calls<L: HubKind, H: Wait + Drop, C: Clock + Drop, R: Wait>(
+    rt: &R,
+    alloc: Global,
+    hub: &Hub<L, H>,
+    flags: &Flags<C>,
+    call: Call,
+) -> bool {
+    let mut pass = hub.pass();
+    if let Call::Post = call {
         for _ in 0..AHEAD {
-            if self.post(PING).is_err() {
+            if post(rt, alloc, hub, &mut pass, PING).is_err() {
                 return false;
             }
         }
-        true
     }
-
-    // Makes `call`, which the gate stops in shard 1, and returns `true` if it succeeds.
-    //
-    // Before a post, posts `AHEAD` pings, which are not stopped.
-    fn call<C: Clock + Drop>(&mut self, flags: &Flags<C>, call: Call) -> bool {
-        if matches!(call, Call::Post) && !self.pings_ahead() {
-            return false;
-        }
-        flags.holds_call.store(true, Ordering::SeqCst);
-        match call {
-            Call::Tick => self.tick(0).is_ok(),
-            Call::Post => self.post(PING).is_ok(),
-            Call::Question => self.polls(1),
-        }
-    }
-
-    // Waits until a call is stopped in shard 1, and posts a connect. Returns `true` if it is
-    // admitted.
-    //
-    // The placing stops this post while admission is locked.
-    fn connect_at_once<C: Clock + Drop>(&mut self, flags: &Flags<C>) -> bool {
-        flags.wait_for(&flags.call_stands);
-        flags.holds_post.store(true, Ordering::SeqCst);
-        self.post(CONNECT).is_ok()
-    }
-
-    // Locks every shard `SWEEPS` times while a post has locked admission, and lets the post
-    // continue.
-    //
-    // The call that was stopped in shard 1 can continue meanwhile. Returns `true` if no answers
-    // were dropped.
-    fn sweep_meanwhile<C: Clock + Drop>(&mut self, flags: &Flags<C>) -> bool {
-        flags.wait_for(&flags.other_stands);
-        let Stage { rt, hub, .. } = self.stage;
-        let mut swept: usize = 0;
-        for _ in 0..SWEEPS {
-            swept = swept.saturating_add(hub.sweep(rt, 0).dropped());
-            thread::sleep(&flags.clock, Duration::from_millis(1));
-        }
-        flags.is_free.store(true, Ordering::SeqCst);
-        swept == 0
-    }
-
-    // Waits until a call is stopped in shard 1, and polls for an answer in shard 0. Returns `true`
-    // if the poll succeeds.
-    //
-    // The gate stops this poll while shard 0 is locked.
-    fn poll_at_once<C: Clock + Drop>(&mut self, flags: &Flags<C>) -> bool {
-        flags.wait_for(&flags.call_stands);
-        flags.holds_poll.store(true, Ordering::SeqCst);
-        self.polls(0)
-    }
-
-    // Posts a connect while a poll has locked shard 0, and returns `true` if it is admitted.
-    //
-    // The call that was stopped in shard 1 can continue before the post, until it waits for shard
-    // 0. When the post has locked admission, it lets the poll continue.
-    fn connect_later<C: Clock + Drop>(&mut self, flags: &Flags<C>) -> bool {
-        flags.wait_for(&flags.other_stands);
-        thread::sleep(&flags.clock, Duration::from_millis(SWEEPS as u64));
-        flags.frees_poll.store(true, Ordering::SeqCst);
-        self.post(CONNECT).is_ok()
-    }
-
-    // Makes the calls of the first of the `others`, and returns `true` if they succeed.
-    fn first<C: Clock + Drop>(&mut self, flags: &Flags<C>, others: Others) -> bool {
-        match others {
-            Others::PostAndSweeps => self.connect_at_once(flags),
-            Others::PollAndPost => self.poll_at_once(flags),
-        }
-    }
-
-    // Makes the calls of the second of the `others`, and returns `true` if they succeed.
-    fn second<C: Clock + Drop>(&mut self, flags: &Flags<C>, others: Others) -> bool {
-        match others {
-            Others::PostAndSweeps => self.sweep_meanwhile(flags),
-            Others::PollAndPost => self.connect_later(flags),
+    flags.holds_call.store(true, Ordering::SeqCst);
+    match call {
+        Call::Tick => hub.tick(rt, alloc, &mut pass, Tick::new(0)).is_ok(),
+        Call::Post => post(rt, alloc, hub, &mut pass, PING).is_ok(),
+        Call::Question => {
+            let ticket = Ticket { place: 0, shard: 1 };
+            let (polled, _unfiled) = hub.poll_answer(rt, alloc, &mut pass, ticket);
+            polled.is_ok()
         }
     }
 }
 
-// Runs `others` in two threads, and returns whether each succeeds.
-fn both<L: SharedKind, C: Clock + Drop + Sync, R: Threads + Wait + Send + Sync + Drop>(
-    stage: &Stage<L, R>,
+// Waits until a call is stopped in shard 1, and posts a connect. Returns `true` if it is admitted.
+//
+// The placing stops this post while admission is locked.
+fn posts<L: HubKind, H: Wait + Drop, C: Clock + Drop, R: Wait>(
+    rt: &R,
+    alloc: Global,
+    hub: &Hub<L, H>,
     flags: &Flags<C>,
-    others: Others,
-) -> (bool, bool) {
-    join(
-        &stage.rt,
-        || Caller::of(stage).first(flags, others),
-        || Caller::of(stage).second(flags, others),
-    )
+) -> bool {
+    flags.wait_for(&flags.call_stands);
+    flags.holds_post.store(true, Ordering::SeqCst);
+    post(rt, alloc, hub, &mut hub.pass(), CONNECT).is_ok()
+}
+
+// Locks every shard `SWEEPS` times while a post has locked admission, and lets the post continue.
+//
+// The call that was stopped in shard 1 can continue meanwhile. Returns `true` if no answers were
+// dropped.
+fn sweeps<L: HubKind, H: Wait + Drop, C: Clock + Drop, R: Wait>(
+    rt: &R,
+    hub: &Hub<L, H>,
+    flags: &Flags<C>,
+) -> bool {
+    flags.wait_for(&flags.other_stands);
+    let mut swept: usize = 0;
+    for _ in 0..SWEEPS {
+        swept = swept.saturating_add(hub.sweep(rt, 0).dropped());
+        thread::sleep(&flags.clock, Duration::from_millis(1));
+    }
+    flags.is_free.store(true, Ordering::SeqCst);
+    swept == 0
+}
+
+// Waits until a call is stopped in shard 1, and polls for an answer in shard 0. Returns `true` if
+// the poll succeeds.
+//
+// The gate stops this poll while shard 0 is locked.
+fn polls<L: HubKind, H: Wait + Drop, C: Clock + Drop, R: Wait>(
+    rt: &R,
+    alloc: Global,
+    hub: &Hub<L, H>,
+    flags: &Flags<C>,
+) -> bool {
+    flags.wait_for(&flags.call_stands);
+    flags.holds_poll.store(true, Ordering::SeqCst);
+    let ticket = Ticket { place: 0, shard: 0 };
+    let (polled, _unfiled) = hub.poll_answer(rt, alloc, &mut hub.pass(), ticket);
+    polled.is_ok()
+}
+
+// Posts a connect while a poll has locked shard 0, and returns `true` if it is admitted.
+//
+// The call that was stopped in shard 1 can continue before the post, until it waits for shard 0.
+// When the post has locked admission, it lets the poll continue.
+fn posts_later<L: HubKind, H: Wait + Drop, C: Clock + Drop, R: Wait>(
+    rt: &R,
+    alloc: Global,
+    hub: &Hub<L, H>,
+    flags: &Flags<C>,
+) -> bool {
+    flags.wait_for(&flags.other_stands);
+    thread::sleep(&flags.clock, Duration::from_millis(SWEEPS as u64));
+    flags.frees_poll.store(true, Ordering::SeqCst);
+    post(rt, alloc, hub, &mut hub.pass(), CONNECT).is_ok()
+}
+
+// Runs `others` in two threads, and returns whether each succeeds.
+fn both<
+    L: HubKind<Placing: Send + Sync, Gate: Send + Sync> + Send + Sync,
+    H: Wait + Drop + Send,
+    C: Clock + Drop + Sync,
+    R: Threads + Wait + Sync,
+>(rt: &R, alloc: Global, hub: &Hub<L, H>, flags: &Flags<C>, others: Others) -> (bool, bool) {
+    match others {
+        Others::PostAndSweeps => join(
+            rt,
+            || posts(rt, alloc, hub, flags),
+            || sweeps(rt, hub, flags),
+        ),
+        Others::PollAndPost => join(
+            rt,
+            || polls(rt, alloc, hub, flags),
+            || posts_later(rt, alloc, hub, flags),
+        ),
+    }
 }
 
 // Runs `case` in three threads. Checks that all calls succeed and that none waited in vain.
@@ -289,16 +304,16 @@ fn both<L: SharedKind, C: Clock + Drop + Sync, R: Threads + Wait + Send + Sync +
 // If the call waited for admission with a shard locked, the sweeps would block, and the post would
 // wait for them in vain. If it waited for shard 0 with admission locked, the post would block, and
 // the poll would wait for it in vain.
-fn check_beside<
-    L: SharedKind,
+fn beside<
+    L: HubKind<Placing: Send + Sync, Gate: Send + Sync> + Send + Sync,
+    H: Wait + Drop + Send,
     C: Clock + Drop + Sync,
-    R: Threads + Wait + Abort + Send + Sync + Drop,
->(stage: &Stage<L, R>, flags: &Flags<C>, case: Case) {
-    let rt = &stage.rt;
+    R: Threads + Wait + Abort + Sync,
+>(rt: &R, alloc: Global, hub: &Hub<L, H>, flags: &Flags<C>, case: Case) {
     let (called, (one, other)) = join(
         rt,
-        || Caller::of(stage).call(flags, case.call),
-        || both(stage, flags, case.others),
+        || calls(rt, alloc, hub, flags, case.call),
+        || both(rt, alloc, hub, flags, case.others),
     );
     same(rt, (called, one, other), (true, true, true), "each call");
     let stood = flags.other_stands.load(Ordering::SeqCst);
@@ -307,60 +322,79 @@ fn check_beside<
     same(rt, in_vain, false, "waited in vain");
 }
 
-// A case, and the flags that its threads share.
-#[derive(Drop)]
-struct Scene<'a, C: Clock + Drop> {
-    flags: &'a Flags<C>,
-    case: Case,
+fn stands<
+    L: HubKind<Placing: Send + Sync, Gate: Send + Sync> + Send + Sync,
+    H: Wait + Drop + Send,
+    C: Clock + Drop + Sync,
+    R: Threads + Wait + Abort + Sync,
+>(rt: &R, alloc: Global, hub: &Hub<L, H>, flags: &Flags<C>, case: Case) -> Result<(), Fail> {
+    post(rt, alloc, hub, &mut hub.pass(), HANDSHAKE)?;
+    // Each shard places the new session when it applies the handshake.
+    let between = flags.between.load(Ordering::SeqCst);
+    same(rt, between, 2, "between the gates");
+    beside(rt, alloc, hub, flags, case);
+    Ok(())
 }
 
-impl<C: Clock + Drop + Sync, R: Threads + Wait + Abort + Sync> HubWork<&R> for Scene<'_, C> {
-    type Value = ();
-
-    type Fault = Fail;
-
-    // Opens a session, and runs the case.
-    fn work<L: SharedKind>(self, stage: &Stage<L, &R>) -> Result<(), Fail> {
-        Caller::of(stage).post(HANDSHAKE)?;
-        // Each shard places the new session when it applies the handshake.
-        let between = self.flags.between.load(Ordering::SeqCst);
-        same(stage.rt, between, 2, "between the gates");
-        check_beside(stage, self.flags, self.case);
-        Ok(())
-    }
-}
-
-// Runs a case of `others` for each of `calls`, each with a new hub.
-fn check_cases<R: Threads + Wait + Clock + Abort + Sync>(
+fn ordered<L: LogId + Send + Sync, C: Clock + Drop + Send + Sync, R: Threads + Wait + Abort + Sync>(
     rt: &R,
     alloc: Global,
-    calls: &[Call],
-    others: Others,
+    opened: EmptyWindow,
+    config: Config,
+    placing: Arc<Holding<C>, Global>,
+    gate: Holding<C>,
+    flags: &Flags<C>,
+    case: Case,
+) -> Result<(), Fail>
+    requires book { opened.seen.book ≡ L.book }
+    requires config { config ≡ L.config }
+    requires placing { by_remainder ≡ L.placing }
+{
+    let hub = Hub::<Kind<L, Holding<C>, Holding<C>>, &R>::new(
+        alloc, rt, opened, config, placing, gate,
+    )?;
+    stands(rt, alloc, &hub, flags, case)
+}
+
+fn holds<C: Clock + Drop + Send + Sync, R: Threads + Wait + Abort + Sync>(
+    rt: &R,
+    alloc: Global,
+    flags: &Arc<Flags<C>, Global>,
+    case: Case,
 ) -> Result<(), Fail> {
-    for call in calls {
-        let flags = Arc::new(alloc, Flags::new(rt))?;
-        let (placing, gate) = (Holding::of(&flags)?, Holding::of(&flags)?);
-        let call = *call;
-        let scene = Scene {
-            flags: &*flags,
-            case: Case { call, others },
-        };
-        let config = config_of(2).ok_or("no configuration")?;
-        work_in_hub(rt, alloc, config, placing, gate, scene)?;
-    }
-    Ok(())
+    let config = Config::new(2, 30_000, 0, 10_000).ok_or("no configuration")?;
+    let placing = Arc::new(alloc, Holding::of(flags)?)?;
+    let gate = Holding::of(flags)?;
+    ordered::<Brand, _, _>(
+        rt,
+        alloc,
+        EmptyWindow::new(),
+        config,
+        placing,
+        gate,
+        flags,
+        case,
+    )
 }
 
 // Checks that calls unlock shards before they wait for admission, and that gates enclose advances.
 #[test]
 fn calls_wait_without_a_shard(rt: HostRuntime) -> Result<(), Fail> {
-    let calls = [Call::Tick, Call::Post, Call::Question];
-    check_cases(&rt, rt.alloc(), &calls, Others::PostAndSweeps)
+    let others = Others::PostAndSweeps;
+    for call in [Call::Tick, Call::Post, Call::Question] {
+        let flags = Arc::new(rt.alloc(), Flags::new(&rt))?;
+        holds(&rt, rt.alloc(), &flags, Case { call, others })?;
+    }
+    Ok(())
 }
 
 // Checks that calls that trim a window with room do not wait for a shard while admission is locked.
 #[test]
 fn trims_wait_without_admission(rt: HostRuntime) -> Result<(), Fail> {
-    let calls = [Call::Tick, Call::Post];
-    check_cases(&rt, rt.alloc(), &calls, Others::PollAndPost)
+    let others = Others::PollAndPost;
+    for call in [Call::Tick, Call::Post] {
+        let flags = Arc::new(rt.alloc(), Flags::new(&rt))?;
+        holds(&rt, rt.alloc(), &flags, Case { call, others })?;
+    }
+    Ok(())
 }

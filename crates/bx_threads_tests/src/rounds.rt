@@ -1,12 +1,12 @@
 //! Test of wakers. In each round, one thread posts a connect and sleeps until another thread's
 //! event answers the connect.
 
-use crate::caller::Caller;
+use crate::hubs::{Work, work_in_new_hub};
 use crate::same::same;
 use bx_calls::texts::{CONNECT, HANDSHAKE, SUBSCRIBE};
-use bx_calls::{Found, HubWork, SharedKind, Stage, config_of, work_in_open_hub};
+use bx_calls::{Found, find, post};
 use bx_entry::Ticket;
-use bx_hub::{HubKind, Watch};
+use bx_hub::{Hub, HubKind, Pass, Watch};
 use futures::task::{Doorbell, Poll, Queue, Source, Waker};
 use std::alloc::{AllocError, Global};
 use std::process::Abort;
@@ -53,10 +53,10 @@ fn text_of(alloc: Global, around: [&str; 2], round: u64) -> Result<String, Alloc
     format!(in alloc; "{head}{round}{tail}")
 }
 
-// What two threads share: the task of the one that sleeps, and the round of the other's next
-// publish.
+/// What two threads share: the task of the one that sleeps, and the round of the other's next
+/// publish.
 #[derive(Drop)]
-struct Turns {
+pub struct Turns {
     task: Queue,
     source: Source,
     round: AtomicU64,
@@ -140,168 +140,213 @@ impl Told {
     }
 }
 
-// The thread that posts connects, and sleeps until they are answered.
-#[derive(Drop)]
-struct Sleeper<'a, L: HubKind, R: Wait + Drop> {
-    caller: Caller<'a, L, R>,
-    turns: &'a Turns,
-    // A waker of the task, for the next connect.
-    slot: Option<Waker>,
-    told: Told,
-}
-
-impl<L: HubKind, R: Wait + Drop> Sleeper<'_, L, R> {
-    // Registers the waker in `slot` with a connect, and sleeps until the task is woken.
-    //
-    // If the connect was already answered, puts the waker back and does not sleep. Otherwise counts
-    // the waker and the wake in `told`, and stores a new waker in `slot`. Returns `None` if `slot`
-    // is empty, the hub does not store the waker or has another one, or the task was shut down.
-    fn wait(&mut self, ticket: Ticket) -> Option<()> {
-        let Stage { rt, hub, .. } = self.caller.stage;
-        let (said, _watching) = hub.watch(rt, ticket, self.slot.take()?);
-        match said {
-            Watch::Stored(None) => {
-                self.told.left = self.told.left.wrapping_add(1);
-                if !self.turns.sleep(rt, &mut self.slot) {
-                    return None;
-                }
-                self.told.woken = self.told.woken.wrapping_add(1);
+// Registers the waker in `slot` with a connect, and sleeps until the task is woken.
+//
+// If the connect was already answered, puts the waker back and does not sleep. Otherwise counts the
+// waker and the wake in `told`, and stores a new waker in `slot`. Returns `None` if `slot` is
+// empty, the hub does not store the waker or has another one, or the task was shut down.
+fn wait<L: HubKind, H: Wait + Drop, R: Wait>(
+    rt: &R,
+    hub: &Hub<L, H>,
+    ticket: Ticket,
+    turns: &Turns,
+    slot: &mut Option<Waker>,
+    told: &mut Told,
+) -> Option<()> {
+    let (said, _watching) = hub.watch(rt, ticket, slot.take()?);
+    match said {
+        Watch::Stored(None) => {
+            told.left = told.left.wrapping_add(1);
+            if !turns.sleep(rt, slot) {
+                return None;
             }
-            Watch::Ready(waker) => self.slot = Some(waker),
-            _ => return None,
-        }
-        Some(())
-    }
-
-    // Polls for the answer under `ticket`. If there is none yet, calls `wait` and polls once again.
-    //
-    // Returns `None` unless a poll finds an answer with the text `wanted`.
-    fn receive(&mut self, ticket: Ticket, wanted: &str) -> Option<()> {
-        let mut found = self.caller.find(ticket, wanted).ok()?;
-        if found == Found::Nothing {
-            self.wait(ticket)?;
-            found = self.caller.find(ticket, wanted).ok()?;
-        }
-        if found == Found::Wanted {
+            told.woken = told.woken.wrapping_add(1);
             Some(())
-        } else {
-            None
         }
-    }
-
-    // Posts a connect of the first session, lets the event of `round` be published, and returns a
-    // ticket.
-    //
-    // In even rounds the event may be published already before the connect. Returns `None` if the
-    // post fails.
-    fn connect(&mut self, round: u64) -> Option<Ticket> {
-        if round % 2 == 0 {
-            self.turns.round.store(round, Ordering::SeqCst);
+        Watch::Ready(waker) => {
+            *slot = Some(waker);
+            Some(())
         }
-        let ticket = self.caller.post(CONNECT).ok()?;
-        self.turns.round.store(round, Ordering::SeqCst);
-        ticket
-    }
-
-    // Posts the connect of `round`, and waits for its answer. Returns `None` unless the answer has
-    // the event of `round`.
-    fn play(&mut self, round: u64) -> Option<()> {
-        let ticket = self.connect(round)?;
-        let wanted = text_of(self.caller.stage.alloc, ANSWER, round).ok()?;
-        self.receive(ticket, wanted.as_str())
+        _ => None,
     }
 }
 
-impl<L: HubKind, R: Wait + Clock + Drop> Sleeper<'_, L, R> {
-    // Plays at most `ROUNDS` rounds, until one fails or time is up, and counts them in `told`.
-    //
-    // Then sets `turns.round` to `OVER`, so that the publishing thread ends.
-    fn play_all(&mut self, start: Instant) {
-        let rt = &self.caller.stage.rt;
-        self.turns.sleep(rt, &mut self.slot);
-        for round in 1..=ROUNDS {
-            if !has_time(rt, start) {
-                break;
-            }
-            self.told.begun = round;
-            if self.play(round).is_none() {
-                break;
-            }
-            self.told.ended = round;
-        }
-        self.turns.round.store(OVER, Ordering::SeqCst);
+// Polls for the answer under `ticket`. If there is none yet, calls `wait` and polls once again.
+//
+// Returns `None` unless a poll finds an answer with the text `wanted`.
+fn answered<L: HubKind, H: Wait + Drop, R: Wait>(
+    rt: &R,
+    alloc: Global,
+    hub: &Hub<L, H>,
+    pass: &mut Pass<L>,
+    ticket: Ticket,
+    wanted: &str,
+    turns: &Turns,
+    slot: &mut Option<Waker>,
+    told: &mut Told,
+) -> Option<()> {
+    match find(rt, alloc, hub, pass, ticket, wanted).ok()? {
+        Found::Wanted => return Some(()),
+        Found::Other | Found::Stopped(_) => return None,
+        Found::Nothing => {}
+    }
+    wait(rt, hub, ticket, turns, slot, told)?;
+    match find(rt, alloc, hub, pass, ticket, wanted).ok()? {
+        Found::Wanted => Some(()),
+        _ => None,
     }
 }
 
-// Plays the rounds as the thread that sleeps, and returns the counts.
-fn sleep_and_play<L: HubKind, R: Wait + Clock + Drop>(
-    caller: Caller<'_, L, R>,
+// Posts a connect of the first session, lets the event of `round` be published, and returns a
+// ticket.
+//
+// In even rounds the event may be published already before the connect. Returns `None` if the post
+// fails.
+fn connects<L: HubKind, H: Wait + Drop, R: Wait>(
+    rt: &R,
+    alloc: Global,
+    hub: &Hub<L, H>,
+    pass: &mut Pass<L>,
+    turns: &Turns,
+    round: u64,
+) -> Option<Ticket> {
+    if round % 2 == 0 {
+        turns.round.store(round, Ordering::SeqCst);
+    }
+    let (_, ticket) = post(rt, alloc, hub, pass, CONNECT).ok()?;
+    turns.round.store(round, Ordering::SeqCst);
+    ticket
+}
+
+// Posts the connect of `round`, and waits for its answer. Returns `None` unless the answer has the
+// event of `round`.
+fn plays<L: HubKind, H: Wait + Drop, R: Wait>(
+    rt: &R,
+    alloc: Global,
+    hub: &Hub<L, H>,
+    pass: &mut Pass<L>,
+    turns: &Turns,
+    slot: &mut Option<Waker>,
+    told: &mut Told,
+    round: u64,
+) -> Option<()> {
+    let ticket = connects(rt, alloc, hub, pass, turns, round)?;
+    let wanted = text_of(alloc, ANSWER, round).ok()?;
+    let wanted = wanted.as_str();
+    answered(rt, alloc, hub, pass, ticket, wanted, turns, slot, told)
+}
+
+// Plays at most `ROUNDS` rounds, until one fails or time is up, and returns the counts.
+//
+// Then sets `turns.round` to `OVER`, so that the publishing thread ends.
+fn waits<L: HubKind, H: Wait + Drop, R: Wait + Clock>(
+    rt: &R,
+    alloc: Global,
+    hub: &Hub<L, H>,
     turns: &Turns,
     start: Instant,
 ) -> Told {
-    let mut sleeper = Sleeper {
-        caller,
-        turns,
-        slot: None,
-        told: Told::none(),
-    };
-    sleeper.play_all(start);
-    sleeper.told
-}
-
-impl<L: HubKind, R: Wait + Clock + Drop> Caller<'_, L, R> {
-    // Publishes an event in each round, and returns the number of events.
-    //
-    // Returns `None` if a publish fails or a round does not begin in time.
-    fn publish_rounds(&mut self, turns: &Turns) -> Option<u64> {
-        for round in 1..=ROUNDS {
-            match turns.next(&self.stage.rt, round) {
-                Next::Publish => {
-                    let body = text_of(self.stage.alloc, PUBLISH, round).ok()?;
-                    self.post(body.as_str()).ok()?;
-                }
-                Next::Over => return Some(round - 1),
-                Next::Late => return None,
-            }
+    let mut pass = hub.pass();
+    let mut told = Told::none();
+    let mut slot = None;
+    turns.sleep(rt, &mut slot);
+    for round in 1..=ROUNDS {
+        if !has_time(rt, start) {
+            break;
         }
-        Some(ROUNDS)
-    }
-
-    // Runs `publish_rounds` and returns its result. If that is `None`, shuts the waiting task down,
-    // so that it does not sleep forever.
-    fn publish_or_shut_down(&mut self, turns: &Turns) -> Option<u64> {
-        let published = self.publish_rounds(turns);
-        if published.is_none() {
-            turns.task.shut_down();
+        told.begun = round;
+        if plays(
+            rt, alloc, hub, &mut pass, turns, &mut slot, &mut told, round,
+        )
+        .is_none()
+        {
+            break;
         }
-        published
+        told.ended = round;
     }
+    turns.round.store(OVER, Ordering::SeqCst);
+    told
 }
 
-// Two threads that take turns: one waits for the other's event.
-#[derive(Drop)]
-struct Rounds<'a> {
-    turns: &'a Turns,
+// Publishes an event in each round, and returns the number of events.
+//
+// Returns `None` if a publish fails or a round does not begin in time.
+fn publishes<L: HubKind, H: Wait + Drop, R: Wait + Clock>(
+    rt: &R,
+    alloc: Global,
+    hub: &Hub<L, H>,
+    turns: &Turns,
+) -> Option<u64> {
+    let mut pass = hub.pass();
+    for round in 1..=ROUNDS {
+        match turns.next(rt, round) {
+            Next::Publish => publish(rt, alloc, hub, &mut pass, round)?,
+            Next::Over => return Some(round - 1),
+            Next::Late => return None,
+        }
+    }
+    Some(ROUNDS)
 }
 
-impl<R: Threads + Wait + Clock + Abort + Sync> HubWork<&R> for Rounds<'_> {
-    type Value = ();
+fn publish<L: HubKind, H: Wait + Drop, R: Wait>(
+    rt: &R,
+    alloc: Global,
+    hub: &Hub<L, H>,
+    pass: &mut Pass<L>,
+    round: u64,
+) -> Option<()> {
+    let body = text_of(alloc, PUBLISH, round).ok()?;
+    post(rt, alloc, hub, pass, body.as_str()).ok()?;
+    Some(())
+}
 
-    type Fault = Fail;
-
-    // Opens two sessions, plays the rounds in two threads, and checks the counts.
-    fn work<L: SharedKind>(self, stage: &Stage<L, &R>) -> Result<(), Fail> {
-        let turns = self.turns;
-        Caller::of(stage).post_all(&[HANDSHAKE, HANDSHAKE, SUBSCRIBE])?;
-        let start = Instant::now(stage.rt)?;
-        let (told, published) = join(
-            stage.rt,
-            || sleep_and_play(Caller::of(stage), turns, start),
-            || Caller::of(stage).publish_or_shut_down(turns),
-        );
-        check(stage.rt, told, published);
-        Ok(())
+// Runs `publishes` and returns its result. If that is `None`, shuts the waiting task down, so that
+// it does not sleep forever.
+fn publishes_all<L: HubKind, H: Wait + Drop, R: Wait + Clock>(
+    rt: &R,
+    alloc: Global,
+    hub: &Hub<L, H>,
+    turns: &Turns,
+) -> Option<u64> {
+    let published = publishes(rt, alloc, hub, turns);
+    if published.is_none() {
+        turns.task.shut_down();
     }
+    published
+}
+
+// Opens two sessions and subscribes the first.
+fn opens<L: HubKind, H: Wait + Drop, R: Wait>(
+    rt: &R,
+    alloc: Global,
+    hub: &Hub<L, H>,
+) -> Result<(), Fail> {
+    let mut pass = hub.pass();
+    for body in [HANDSHAKE, HANDSHAKE, SUBSCRIBE] {
+        post(rt, alloc, hub, &mut pass, body)?;
+    }
+    Ok(())
+}
+
+/// Opens two sessions, plays the rounds in two threads, and checks the counts.
+///
+/// # Errors
+///
+/// An error if memory runs out, or a call fails unexpectedly.
+pub fn play<
+    L: HubKind<Placing: Send + Sync, Gate: Send + Sync> + Send + Sync,
+    H: Wait + Drop + Send,
+    R: Threads + Wait + Clock + Abort + Sync,
+>(rt: &R, alloc: Global, hub: &Hub<L, H>, turns: &Turns) -> Result<(), Fail> {
+    opens(rt, alloc, hub)?;
+    let start = Instant::now(rt)?;
+    let (told, published) = join(
+        rt,
+        || waits(rt, alloc, hub, turns, start),
+        || publishes_all(rt, alloc, hub, turns),
+    );
+    check(rt, told, published);
+    Ok(())
 }
 
 // Checks that each round that began has ended, and that each registered waker woke the task once.
@@ -327,6 +372,5 @@ fn each_waker_wakes_once(rt: HostRuntime) -> Result<(), Fail> {
         round: AtomicU64::new(0),
     };
     turns.task.add()?.schedule();
-    let config = config_of(2).ok_or("no configuration")?;
-    work_in_open_hub(&rt, rt.alloc(), config, Rounds { turns: &turns })
+    work_in_new_hub(&rt, rt.alloc(), 2, Work::Rounds(&turns))
 }

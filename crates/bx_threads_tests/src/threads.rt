@@ -1,11 +1,12 @@
 //! Test of two threads, each with its own pass.
 
-use crate::caller::Caller;
+use crate::hubs::{Work, work_in_new_hub};
 use crate::same::same;
 use bx_calls::texts::{ANSWER, HANDSHAKE, PUBLISH};
-use bx_calls::{Found, HubWork, SharedKind, Stage, config_of, work_in_open_hub};
+use bx_calls::{Found, find, hold, post_all};
 use bx_entry::Ticket;
-use bx_hub::{HubKind, Pass};
+use bx_hub::{Hub, HubKind, Pass, Tick};
+use std::alloc::Global;
 use std::process::Abort;
 use std::sync::Wait;
 use std::test::*;
@@ -14,73 +15,106 @@ use std::thread::{Threads, join};
 // The number of ticks that one thread appends. They are more than the batches in a full window.
 const TICKS: usize = 5_000;
 
-impl<L: HubKind, R: Wait + Drop> Caller<'_, L, R> {
-    // Appends `TICKS` ticks at moment 0, and returns the pass, which has then seen them.
-    //
-    // Returns `None` if a tick fails. Publishes no event, so that an event found later was
-    // published by another thread.
-    fn into_late_pass(mut self) -> Option<Pass<L>> {
-        self.ticks(TICKS).ok()?;
-        let Caller { pass, .. } = self;
-        Some(pass)
+// Appends `TICKS` ticks at moment 0, and returns `pass`, which has then seen them.
+//
+// Returns `None` if a tick fails. Publishes no event, so that an event found later was published by
+// another thread.
+fn ticks<L: HubKind, H: Wait + Drop, R: Wait>(
+    rt: &R,
+    alloc: Global,
+    hub: &Hub<L, H>,
+    mut pass: Pass<L>,
+) -> Option<Pass<L>> {
+    for _ in 0..TICKS {
+        hub.tick(rt, alloc, &mut pass, Tick::new(0)).ok()?;
     }
+    Some(pass)
+}
 
-    // Opens the second session and publishes an event. Returns the pass, which has then seen both.
-    //
-    // Returns `None` if a post fails.
-    fn into_told_pass(mut self) -> Option<Pass<L>> {
-        self.post_all(&[HANDSHAKE, PUBLISH]).ok()?;
-        let Caller { pass, .. } = self;
-        Some(pass)
+// Opens the second session and publishes an event. Returns `pass`, which has then seen both.
+//
+// Returns `None` if a post fails.
+fn tells<L: HubKind, H: Wait + Drop, R: Wait>(
+    rt: &R,
+    alloc: Global,
+    hub: &Hub<L, H>,
+    mut pass: Pass<L>,
+) -> Option<Pass<L>> {
+    post_all(rt, alloc, hub, &mut pass, &[HANDSHAKE, PUBLISH]).ok()?;
+    Some(pass)
+}
+
+// Publishes in one thread, ticks in another, and then checks the answer under `ticket`.
+//
+// The check uses the longer of the two threads' passes. It must find the answer once, with the
+// event. Fails if a call of a thread fails.
+fn meet<
+    L: HubKind<Placing: Send + Sync, Gate: Send + Sync> + Send + Sync,
+    H: Wait + Drop + Send,
+    R: Threads + Wait + Abort + Sync,
+>(rt: &R, alloc: Global, hub: &Hub<L, H>, pass: Pass<L>, ticket: Ticket) -> Result<(), Fail> {
+    let other = hub.pass();
+    let (a, b) = join(
+        rt,
+        || ticks(rt, alloc, hub, pass),
+        || tells(rt, alloc, hub, other),
+    );
+    match (a, b) {
+        (Some(mut pass), Some(other)) => {
+            pass = pass.longer(&other);
+            answered(rt, alloc, hub, &mut pass, ticket)
+        }
+        _ => Err(Fail::from("refused")),
     }
 }
 
-// Polls for the answer under `ticket`, and checks what is found.
-//
-// If an answer is wanted, its text must be `ANSWER`.
-fn check_poll<L: HubKind, R: Wait + Abort + Drop>(
-    caller: &mut Caller<'_, L, R>,
+// Polls twice for the answer under `ticket`. Checks that only the first poll finds an answer, and
+// that its text is `ANSWER`.
+fn answered<L: HubKind, H: Wait + Drop, R: Wait + Abort>(
+    rt: &R,
+    alloc: Global,
+    hub: &Hub<L, H>,
+    pass: &mut Pass<L>,
     ticket: Ticket,
-    wanted: Found,
-    what: &str,
 ) -> Result<(), Fail> {
-    let found = caller.find(ticket, ANSWER)?;
-    same(&caller.stage.rt, found, wanted, what);
+    let first = find(rt, alloc, hub, pass, ticket, ANSWER)?;
+    same(rt, first, Found::Wanted, "the first poll");
+    let second = find(rt, alloc, hub, pass, ticket, ANSWER)?;
+    same(rt, second, Found::Nothing, "the second poll");
     Ok(())
 }
 
-// Two threads: one publishes, and the other one ticks.
-#[derive(Drop)]
-struct TwoThreads;
+// Opens and subscribes the first session, and posts a connect of it, which is held. Checks that the
+// connect has no answer yet, and returns its ticket.
+fn waits<L: HubKind, H: Wait + Drop, R: Wait + Abort>(
+    rt: &R,
+    alloc: Global,
+    hub: &Hub<L, H>,
+    pass: &mut Pass<L>,
+) -> Result<Ticket, Fail> {
+    let ticket = hold(rt, alloc, hub, pass)?;
+    let found = find(rt, alloc, hub, pass, ticket, ANSWER)?;
+    same(rt, found, Found::Nothing, "found");
+    Ok(ticket)
+}
 
-impl<R: Threads + Wait + Abort + Sync> HubWork<&R> for TwoThreads {
-    type Value = ();
-
-    type Fault = Fail;
-
-    // Holds a connect, publishes in one thread and ticks in another, and checks the answer.
-    //
-    // The check uses the longer of the two threads' passes. It must find the answer once, with the
-    // event.
-    fn work<L: SharedKind>(self, stage: &Stage<L, &R>) -> Result<(), Fail> {
-        let mut caller = Caller::of(stage);
-        let ticket = caller.hold()?;
-        check_poll(&mut caller, ticket, Found::Nothing, "before the event")?;
-        let (ticked, told) = join(
-            stage.rt,
-            || caller.into_late_pass(),
-            || Caller::of(stage).into_told_pass(),
-        );
-        let pass = ticked.ok_or("no tick")?.longer(&told.ok_or("no event")?);
-        let mut caller = Caller { stage, pass };
-        check_poll(&mut caller, ticket, Found::Wanted, "the first poll")?;
-        check_poll(&mut caller, ticket, Found::Nothing, "the second poll")
-    }
+/// Holds a connect, answers it from another thread, and checks the answer.
+///
+/// # Errors
+///
+/// An error if memory runs out, or a call fails unexpectedly.
+pub fn meet_once<
+    L: HubKind<Placing: Send + Sync, Gate: Send + Sync> + Send + Sync,
+    H: Wait + Drop + Send,
+    R: Threads + Wait + Abort + Sync,
+>(rt: &R, alloc: Global, hub: &Hub<L, H>) -> Result<(), Fail> {
+    let mut pass = hub.pass();
+    let ticket = waits(rt, alloc, hub, &mut pass)?;
+    meet(rt, alloc, hub, pass, ticket)
 }
 
 // Checks that a poll with the longer of two threads' passes finds the event of one of them, once.
 #[test]
 fn two_threads(rt: HostRuntime) -> Result<(), Fail> {
-    let config = config_of(2).ok_or("no configuration")?;
-    work_in_open_hub(&rt, rt.alloc(), config, TwoThreads)
+    work_in_new_hub(&rt, rt.alloc(), 2, Work::Two)
 }
