@@ -63,6 +63,7 @@ fn reported(rt: &HostRuntime, tally: &Tally) -> ExitCode {
 
 // Prints why the load failed, and returns failure.
 fn failed(rt: &HostRuntime, fault: Fault) -> ExitCode {
-    let _ = eprintln!(rt; "bayeux_load: {}", fault.text());
+    let text = fault.text();
+    let _ = eprintln!(rt; "bayeux_load: {text}");
     ExitCode::FAILURE
 }

@@ -67,7 +67,10 @@ pub fn client_of(reply: &Value) -> Option<&str> {
 
 // Returns `true` if `text` has only ASCII letters and digits, which JSON does not escape.
 fn is_plain(text: &str) -> bool {
-    text.as_bytes()
-        .iter()
-        .all(|byte| byte.is_ascii_alphanumeric())
+    for byte in text.bytes() {
+        if !byte.is_ascii_alphanumeric() {
+            return false;
+        }
+    }
+    true
 }
