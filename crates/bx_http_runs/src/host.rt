@@ -71,8 +71,10 @@ where
         let mut connection = self.http.serve_connection(wire, service);
         let done = self.post_while(&mut connection, body, text);
         let written = connection.into_parts().io.into_written();
-        done?;
-        Ok(written)
+        match done {
+            Ok(()) => Ok(written),
+            Err(error) => Err(error),
+        }
     }
 
     fn post_while<F>(&self, held: &mut F, body: &str, text: &mut String) -> Result<()>

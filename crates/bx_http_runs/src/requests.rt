@@ -160,7 +160,9 @@ where
     {
         for form in &FORMS {
             let (name, bytes) = form.split_once(": ").ok_or(anyhow!("no name"))?;
-            text.push_str(format!(in self.alloc; "\na request {name}\n")?.as_str())?;
+            text.push_str("\na request ")?;
+            text.push_str(name)?;
+            text.push_str("\n")?;
             self.add_form(bytes, text)?;
         }
         Ok(())

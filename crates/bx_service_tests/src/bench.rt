@@ -27,8 +27,7 @@ impl Nonces for Zeros {
 
 /// Four services that post to one hub, a caller's pass, and two tasks that poll exchanges.
 #[derive(Drop)]
-pub struct Bench<'a, L: HubKind, S: Drop, H: Wait + Drop, R> {
-    pub rt: &'a R,
+pub struct Bench<L: HubKind, S: Drop, H: Wait + Drop> {
     pub alloc: Global,
     pub hub: Arc<Hub<L, H>, Global>,
     pub pass: Pass<L>,

@@ -1,13 +1,18 @@
 //! Tests of held connects: what they return, and which tasks they wake.
+ghost use Rattle.std.specs.Prelude.{◌≡◌};
+ghost use Rattle.bx_entry.specs.Placings.{by_remainder};
+
 mod bench;
 
-use bench::{Bench, TICKET, Want};
-use bx_calls::{
-    HubWork, SharedKind, Stage, Task, Tasks, config_of, hold, post, texts, tick, work_in_open_hub,
-};
-use bx_entry::Ticket;
+use bench::{Bench, TICKET, Want, check_poll};
+use bx_advice::Config;
+use bx_calls::{Task, Tasks, hold, post, texts, tick};
+use bx_entry::{ByRemainder, Ticket};
 use bx_held::PendingAnswer;
-use bx_hub::{HubFault, HubKind};
+use bx_hub::{Hub, HubFault, HubKind, Kind, OpenGate};
+use bx_window::{EmptyWindow, LogId};
+use std::alloc::Global;
+use std::marker::Brand;
 use std::process::Abort;
 use std::sync::{Arc, Wait};
 use std::test::*;
@@ -139,86 +144,117 @@ const RUNS: [&[Step]; 12] = [
     ],
 ];
 
-impl<L: HubKind, H: Wait + Drop, R: Wait + Abort> Bench<'_, L, H, R> {
-    // Checks that a poll of `held` returns `want`, and that two more return no answer.
-    fn gives(&self, task: Task, held: &mut PendingAnswer<L>, want: Want) -> Result<(), Fail> {
-        for want in [want, Want::None, Want::None] {
-            self.check_poll(task, held, want)?;
-        }
-        Ok(())
-    }
-
-    fn take(&mut self, held: &mut PendingAnswer<L>, step: Step) -> Result<(), Fail> {
-        let (rt, alloc) = (self.rt, self.alloc);
-        match step {
-            Step::Waits(task) => {
-                self.check_poll(task, held, Want::Pending)?;
-                assert!(rt; !self.tasks.task(task).is_woken(), "{step:?}");
-            }
-            Step::Gives(task, want) => self.gives(task, held, want)?,
-            Step::Other(ticket, want) => {
-                self.check_poll(Task::First, &mut self.wait(ticket)?, want)?;
-            }
-            Step::Woken(task, want) => assert_eq!(rt;
-                self.tasks.task(task).is_woken(),
-                want,
-                "{step:?}"
-            ),
-            Step::Post(body) => {
-                post(rt, alloc, &self.hub, &mut self.pass, body)?;
-            }
-            Step::Tick(moment) => {
-                tick(rt, alloc, &self.hub, &mut self.pass, moment)?;
-            }
-            Step::Close => drop(self.hub.close(rt)),
-            Step::Pause => assert!(rt; self.hub.pause(rt, TICKET.shard).is_some()),
-            Step::Sweep => assert_eq!(rt; self.hub.sweep(rt, 1_000).dropped(), 1),
-        }
-        Ok(())
-    }
-
-    fn run(&mut self, steps: &[Step]) -> Result<(), Fail> {
-        hold(self.rt, self.alloc, &self.hub, &mut self.pass)?;
-        let mut held = self.wait(TICKET)?;
-        for step in steps {
-            self.take(&mut held, *step)?;
-        }
-        Ok(())
-    }
+// Checks that a poll of a new future of `ticket` returns `want`.
+fn other<L: HubKind, H: Wait + Drop, R: Wait + Abort>(
+    rt: &R,
+    bench: &Bench<L, H>,
+    ticket: Ticket,
+    want: Want,
+) -> Result<(), Fail> {
+    let mut held = bench.wait(ticket)?;
+    check_poll(
+        rt,
+        bench.alloc,
+        bench.poll(rt, Task::First, &mut held),
+        want,
+    )
 }
 
-// A run, and the tasks that poll its held connect.
-#[derive(Drop)]
-struct HeldConnect {
+// Checks that a poll of `held` returns `want`, and that two more return no answer.
+fn gives<L: HubKind, H: Wait + Drop, R: Wait + Abort>(
+    rt: &R,
+    bench: &Bench<L, H>,
+    task: Task,
+    held: &mut PendingAnswer<L>,
+    want: Want,
+) -> Result<(), Fail> {
+    check_poll(rt, bench.alloc, bench.poll(rt, task, held), want)?;
+    for _ in 0..2 {
+        check_poll(rt, bench.alloc, bench.poll(rt, task, held), Want::None)?;
+    }
+    Ok(())
+}
+
+fn take<L: HubKind, H: Wait + Drop, R: Wait + Abort>(
+    rt: &R,
+    bench: &mut Bench<L, H>,
+    held: &mut PendingAnswer<L>,
+    step: Step,
+) -> Result<(), Fail> {
+    match step {
+        Step::Waits(task) => {
+            check_poll(rt, bench.alloc, bench.poll(rt, task, held), Want::Pending)?;
+            assert!(rt; !bench.tasks.task(task).is_woken(), "{step:?}");
+        }
+        Step::Gives(task, want) => gives(rt, bench, task, held, want)?,
+        Step::Other(ticket, want) => other(rt, bench, ticket, want)?,
+        Step::Woken(task, want) => assert_eq!(rt;
+            bench.tasks.task(task).is_woken(),
+            want,
+            "{step:?}"
+        ),
+        Step::Post(body) => {
+            post(rt, bench.alloc, &bench.hub, &mut bench.pass, body)?;
+        }
+        Step::Tick(moment) => {
+            tick(rt, bench.alloc, &bench.hub, &mut bench.pass, moment)?;
+        }
+        Step::Close => drop(bench.hub.close(rt)),
+        Step::Pause => assert!(rt; bench.hub.pause(rt, TICKET.shard).is_some()),
+        Step::Sweep => assert_eq!(rt; bench.hub.sweep(rt, 1_000).dropped(), 1),
+    }
+    Ok(())
+}
+
+fn run<L: HubKind, H: Wait + Drop, R: Wait + Abort>(
+    rt: &R,
+    bench: &mut Bench<L, H>,
+    steps: &[Step],
+) -> Result<(), Fail> {
+    hold(rt, bench.alloc, &bench.hub, &mut bench.pass)?;
+    let mut held = bench.wait(TICKET)?;
+    for step in steps {
+        take(rt, bench, &mut held, *step)?;
+    }
+    Ok(())
+}
+
+fn run_in_hub<L: LogId, R: Wait + Abort>(
+    rt: &R,
+    alloc: Global,
+    opened: EmptyWindow,
+    config: Config,
+    placing: Arc<ByRemainder, Global>,
     tasks: Tasks,
-    steps: &'static [Step],
-}
-
-impl<R: Wait + Abort> HubWork<&R> for HeldConnect {
-    type Value = ();
-
-    type Fault = Fail;
-
-    fn work<L: SharedKind>(self, stage: &Stage<L, &R>) -> Result<(), Fail> {
-        let HeldConnect { tasks, steps } = self;
-        let mut bench = Bench {
-            rt: stage.rt,
-            alloc: stage.alloc,
-            hub: Arc::try_clone(&stage.hub)?,
-            pass: stage.hub.pass(),
-            tasks,
-        };
-        bench.run(steps)
-    }
+    steps: &[Step],
+) -> Result<(), Fail>
+    requires book { opened.seen.book ≡ L.book }
+    requires config { config ≡ L.config }
+    requires placing { by_remainder ≡ L.placing }
+{
+    let hub = Hub::<Kind<L, ByRemainder, OpenGate>, &R>::new(
+        alloc, rt, opened, config, placing, OpenGate,
+    )?;
+    let pass = hub.pass();
+    let mut bench = Bench {
+        alloc,
+        hub,
+        pass,
+        tasks,
+    };
+    run(rt, &mut bench, steps)
 }
 
 // Checks that held connects return their answers or faults, and wake the task that polled last.
 #[test]
 fn held_connects(rt: HostRuntime) -> Result<(), Fail> {
-    let config = config_of(2).ok_or("no configuration")?;
+    let alloc = rt.alloc();
+    let config = Config::new(2, 30_000, 0, 10_000).ok_or("no configuration")?;
     for steps in RUNS {
+        let placing = Arc::new(alloc, ByRemainder)?;
         let tasks = Tasks::new(&rt)?;
-        work_in_open_hub(&rt, rt.alloc(), config, HeldConnect { tasks, steps })?;
+        let opened = EmptyWindow::new();
+        run_in_hub::<Brand, _>(&rt, alloc, opened, config, placing, tasks, steps)?;
     }
     Ok(())
 }

@@ -10,8 +10,6 @@ use bx_calls::texts;
 pub enum Step {
     /// Checks that a POST of the first JSON gets status 200 with the second.
     Post(&'static str, &'static str),
-    /// Checks that a GET of this target gets status 200 with this script.
-    Query(&'static str, &'static str),
     /// Checks that a request to the publishers' listener gets `Want`.
     Ask(Ask, Want),
     /// Checks that a request to a service with a limit of [`SMALL`] bytes gets `Want`.
@@ -211,8 +209,14 @@ const OTHER_FORMS: Run = Run {
             Want::Json(texts::BOTH_OF_THE_FORM),
         ),
         Step::Post(texts::CONNECT_AT_ONCE, texts::CONNECTED_BY_THE_FORM),
-        Step::Query(texts::QUERY_PUBLISH, texts::SCRIPT_PUBLISHED),
-        Step::Query(texts::QUERY_CONNECT, texts::SCRIPT_CONNECTED),
+        Step::Ask(
+            Ask::Get(texts::QUERY_PUBLISH),
+            Want::Script(texts::SCRIPT_PUBLISHED),
+        ),
+        Step::Ask(
+            Ask::Get(texts::QUERY_CONNECT),
+            Want::Script(texts::SCRIPT_CONNECTED),
+        ),
         Step::Ask(Ask::Get("/cometd?message=[]"), CALLED),
     ],
     ..NOTHING
@@ -330,7 +334,10 @@ const RIDDEN: Run = Run {
         Step::Post(texts::SUBSCRIBE, texts::SUBSCRIBED),
         PUBLISH,
         Step::Post(texts::PUBLISH_OWN, texts::RIDDEN),
-        Step::Query(texts::QUERY_PUBLISH, texts::SCRIPT_RIDDEN),
+        Step::Ask(
+            Ask::Get(texts::QUERY_PUBLISH),
+            Want::Script(texts::SCRIPT_RIDDEN),
+        ),
     ],
     held: Some(Held {
         then: &[Step::Post(texts::PUBLISH_TWO, texts::SECOND_RIDDEN)],

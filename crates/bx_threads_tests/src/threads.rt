@@ -2,8 +2,8 @@
 
 use crate::hubs::{Work, work_in_new_hub};
 use crate::same::same;
-use bx_calls::texts::{ANSWER, HANDSHAKE, PUBLISH};
-use bx_calls::{Found, find, hold, post_all};
+use bx_calls::texts::ANSWER;
+use bx_calls::{Found, find, hold, publish};
 use bx_entry::Ticket;
 use bx_hub::{Hub, HubKind, Pass, Tick};
 use std::alloc::Global;
@@ -40,7 +40,7 @@ fn tells<L: HubKind, H: Wait + Drop, R: Wait>(
     hub: &Hub<L, H>,
     mut pass: Pass<L>,
 ) -> Option<Pass<L>> {
-    post_all(rt, alloc, hub, &mut pass, &[HANDSHAKE, PUBLISH]).ok()?;
+    publish(rt, alloc, hub, &mut pass).ok()?;
     Some(pass)
 }
 

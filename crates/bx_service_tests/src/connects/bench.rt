@@ -3,10 +3,11 @@ use bx_calls::{Task, Tasks, text_of};
 use bx_entry::Ticket;
 use bx_held::PendingAnswer;
 use bx_hub::{Hub, HubFault, HubKind, Pass};
+use bx_message::Answer;
 use futures::task::Poll;
 use std::alloc::Global;
 use std::process::Abort;
-use std::sync::{Arc, Wait};
+use std::sync::Wait;
 use std::test::*;
 
 /// The ticket of the connect that each run holds.
@@ -26,17 +27,47 @@ pub enum Want {
     Fault(HubFault),
 }
 
+/// Checks that `poll` is what `want` describes.
+///
+/// Aborts the test if the answer's text or the fault is another one.
+///
+/// # Errors
+///
+/// If `poll` is of another kind than `want`, or memory runs out.
+pub fn check_poll<A: Abort>(
+    rt: &A,
+    alloc: Global,
+    poll: Poll<Result<Option<Answer>, HubFault>>,
+    want: Want,
+) -> Result<(), Fail> {
+    match (poll, want) {
+        (Poll::Pending, Want::Pending) => Ok(()),
+        (Poll::Ready(Ok(None)), Want::None) => Ok(()),
+        (Poll::Ready(Ok(Some(answer))), Want::Answer(text)) => {
+            assert!(rt;
+                text_of(alloc, answer)?.as_slice() == text.as_bytes(),
+                "another answer than {text}"
+            );
+            Ok(())
+        }
+        (Poll::Ready(Err(fault)), Want::Fault(other)) => {
+            assert_eq!(rt; fault, other);
+            Ok(())
+        }
+        _ => Err(Fail::from("a poll gave something else")),
+    }
+}
+
 /// A hub, a caller's pass, and two tasks that can poll a held connect.
 #[derive(Drop)]
-pub struct Bench<'a, L: HubKind, H: Wait + Drop, R> {
-    pub rt: &'a R,
+pub struct Bench<L: HubKind, H: Wait + Drop> {
     pub alloc: Global,
-    pub hub: Arc<Hub<L, H>, Global>,
+    pub hub: Hub<L, H>,
     pub pass: Pass<L>,
     pub tasks: Tasks,
 }
 
-impl<L: HubKind, H: Wait + Drop, R: Wait + Abort> Bench<'_, L, H, R> {
+impl<L: HubKind, H: Wait + Drop> Bench<L, H> {
     /// Returns a future of the answer under `ticket`.
     ///
     /// # Errors
@@ -50,36 +81,22 @@ impl<L: HubKind, H: Wait + Drop, R: Wait + Abort> Bench<'_, L, H, R> {
         Ok(PendingAnswer::new(pass, ticket))
     }
 
-    /// Polls `held` once, in `task`, and checks that the output is what `want` describes.
-    ///
-    /// Aborts the test if the answer's text or the fault is another one.
-    ///
-    /// # Errors
-    ///
-    /// If the output is of another kind than `want`, or memory runs out.
-    pub fn check_poll(
+    /// Polls `held` once, in `task`, and returns the output: pending, an answer, no answer, or a
+    /// fault.
+    pub fn poll<R: Wait>(
         &self,
+        rt: &R,
         task: Task,
         held: &mut PendingAnswer<L>,
-        want: Want,
-    ) -> Result<(), Fail> {
-        let (rt, task) = (self.rt, self.tasks.task(task));
-        let (polled, _left) = task.enter(|cx| held.poll(rt, self.alloc, &self.hub, cx));
-        match (polled, want) {
-            (Poll::Pending, Want::Pending) | (Poll::Ready(Ok(None)), Want::None) => Ok(()),
-            (Poll::Ready(Ok(Some(answer))), Want::Answer(text)) => {
-                let found = text_of(self.alloc, answer)?;
-                assert!(rt;
-                    found.as_slice() == text.as_bytes(),
-                    "another answer than {text}"
-                );
-                Ok(())
-            }
-            (Poll::Ready(Err(stopped)), Want::Fault(fault)) => {
-                assert_eq!(rt; stopped.fault(), fault);
-                Ok(())
-            }
-            _ => Err(Fail::from("a poll gave something else")),
+    ) -> Poll<Result<Option<Answer>, HubFault>> {
+        let (polled, _left) = self
+            .tasks
+            .task(task)
+            .enter(|cx| held.poll(rt, self.alloc, &self.hub, cx));
+        match polled {
+            Poll::Ready(Ok(answer)) => Poll::Ready(Ok(answer)),
+            Poll::Ready(Err(stopped)) => Poll::Ready(Err(stopped.fault())),
+            Poll::Pending => Poll::Pending,
         }
     }
 }
