@@ -445,13 +445,16 @@ class SharedSession:
             raise CheckFailed("the session is another one")
 
     def check_restart(self):
-        """Checks that after a restart each client reports one gap, in one new session."""
+        """Checks that after a restart each client reports one gap, in one new session, since the last event of all."""
         self.server.kill()
         wait_until("all are interrupted", lambda: not any(client.is_connected() for client in self.clients))
         self.server.start("--sessions", "1")
         wait_until("all are connected", lambda: all(client.is_connected() for client in self.clients))
         self.clients[1].do("publishLogged('/a', 'after')")
         wait_until("all are told", lambda: all("after" in client.log() and client.log().count("gap") == 1 for client in self.clients))
+        moments = [client.do("since.getTime()") for client in self.clients]
+        if len(set(moments)) != 1:
+            raise CheckFailed(f"the clients of one session do not report a gap since the same moment: {moments}")
 
     def check_end(self):
         """Checks that the session ends with its last client, and the server allows another one."""

@@ -130,6 +130,9 @@ WARNED_LINES = [
 TIME = "a number of milliseconds up to 4294967295, or of seconds such as 30s"
 # How the daemon describes an address.
 ADDRESS = "a host and a port such as 127.0.0.1:8087"
+# Runs a command with its own /etc/hosts, in which a name has two addresses.
+WITH_HOSTS = ["unshare", "--user", "--map-root-user", "--mount", "sh", "-c", 'mount --bind "$0" /etc/hosts && exec "$@"']
+HOSTS = "127.0.0.1 two.test\n127.0.0.2 two.test\n"
 # Flags with which no daemon serves, its exit status, and a part of what it prints: on standard
 # output if the status is 0, otherwise on standard error.
 FLAGS = [
@@ -344,3 +347,18 @@ def check_addresses(program):
         if os.listdir(folder):
             raise CheckFailed("a daemon whose address is in use leaves the file of a record")
     expect_fault(program, ["--listen", free, "--readers", free], f'cannot listen address={free} error="')
+    check_second_address(program)
+
+
+def check_second_address(program):
+    """Checks that a daemon listens at the second address of a name if the first one is in use."""
+    with socket.create_server(("127.0.0.1", 0)) as taken, tempfile.NamedTemporaryFile("w") as hosts:
+        hosts.write(HOSTS)
+        hosts.flush()
+        if subprocess.run([*WITH_HOSTS, hosts.name, "true"], capture_output=True, check=False).returncode != 0:
+            print("tests/daemon/operation: addresses: a name with two addresses is not tried, since unshare is not allowed")
+            return
+        port = taken.getsockname()[1]
+        found = run_daemon(WITH_HOSTS[0], [*WITH_HOSTS[1:], hosts.name, program, "--listen", f"two.test:{port}", "--until-eof"])
+        if found[:2] != (0, f"listening 127.0.0.2:{port}\n"):
+            raise CheckFailed(f"not the second address of a name whose first one is in use: {found}")

@@ -20,6 +20,14 @@ RATE = """
 samples = [0, 3000].map((time) => ({ time, values: parse(`grows ${time / 10}`) }));
 return seriesOf({ metric: 'grows', isRate: true })[0].points[1].value;
 """
+# Draws the lag of 20 shards, each of which lags as many entries as its number. Returns the first text of the key.
+MANY_SHARDS = """
+const lag = (shard) => `bayeux_shard_lag_entries{shard="${shard}"} ${shard}`;
+samples = [0, 3000].map((time) => ({ time, values: parse([...Array(20).keys()].map(lag).join('\\n')) }));
+const chart = CHARTS.find(({ title }) => title === 'Shard lag');
+drawChart(chart, 3000);
+return chart.root.querySelector('.key li').textContent;
+"""
 
 
 def value_of(window, title):
@@ -78,6 +86,7 @@ def try_status(fixture):
     fixture.server.restart("--metrics", metrics)
     wait_until("the curves go on after a gap", lambda: all(now > then for (now, _), then in zip(window.run(CURVES), before)))
     expect_equal("a counter that grows by 300 in three seconds", window.run(RATE), 100)
+    expect_equal("the first shard in the key of 20 shards", window.run(MANY_SHARDS), "shard 19: 19")
     expect_equal("uptimes", window.run("return [5, 65, 3600, 90061].map(formatTime)"), ["5 s", "1 min 5 s", "1 h 0 min", "1 d 1 h"])
     window.close()
     fixture.server.restart()
