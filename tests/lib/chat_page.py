@@ -9,6 +9,8 @@ from browser import ENTER, TAB, Window, check_focus, emulate, press, press_back
 PROBLEM = "#problem:not([hidden])"
 # What the chat shows once if messages may be missing.
 GAP = re.compile(r"Messages since \d\d:\d\d.* may be missing")
+# A name that HTML would show without its tags.
+CLEO = "<i>Cleo</i>"
 # Returns whether the newest message is in view.
 IS_END_SHOWN = "const it = document.getElementById('messages'); return it.lastChild.getBoundingClientRect().bottom <= it.getBoundingClientRect().bottom"
 
@@ -153,7 +155,7 @@ def try_late_message(fixture):
 def try_cut(fixture, ann, ben, texts):
     """Checks that no message is lost or repeated if connections are cut and responses are lost.
 
-    `texts`: the messages so far. Returns them and the new ones.
+    Names are shown as text. `texts`: the messages so far. Returns them and the new ones.
     """
     server, relay = fixture.server, fixture.relay
     more = [f"Sent while the line was broken: {number}" for number in range(1, 4)]
@@ -161,14 +163,16 @@ def try_cut(fixture, ann, ben, texts):
     relay.cut()
     for chat in (ann, ben):
         chat.wait_state("interrupted")
-    server.publish("/chat/hall", *({"name": "Cleo", "text": text} for text in more))
+    server.publish("/chat/hall", {"name": CLEO, "joined": True}, *({"name": CLEO, "text": text} for text in more))
     relay.is_down = False
     for chat in (ann, ben):
         chat.wait_state("connected")
         chat.wait_messages(texts + more)
+        if chat.texts("#messages b")[-len(more) :] != [CLEO] * len(more) or f"{CLEO} joined" not in chat.texts(".notice"):
+            raise CheckFailed(f"a name is not shown as text: {chat.texts('#messages b')} and {chat.texts('.notice')}")
     lost = relay.lost
     relay.loses_responses = True
-    server.publish("/chat/hall", {"name": "Cleo", "text": "In a response that was lost, and came again"})
+    server.publish("/chat/hall", {"name": CLEO, "text": "In a response that was lost, and came again"})
     sessions = len({chat.run("return client.clientId") for chat in (ann, ben)})
     wait_until("each session lost a response", lambda: relay.lost >= lost + sessions)
     relay.loses_responses = False

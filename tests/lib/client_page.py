@@ -116,6 +116,19 @@ for (let number = 0; number < count; number++) it.subscribe(`/many/${number}`, (
 it.start().then(() => (window.subscribed = it.subscribed.size));
 """
 
+# Publishes two events without waiting, and records which requests have begun. The first one waits for `go`.
+TWO_PUBLISHES = """
+const [it] = clients, { items } = it;
+window.begun = [];
+it.items = async (messages, hold) => {
+  const [{ data }] = messages;
+  if (data !== undefined) begun.push(data);
+  if (data === 'first') await new Promise((go) => (window.go = go));
+  return items.call(it, messages, hold);
+};
+for (const data of ['first', 'second']) it.publishLogged('/a', data);
+"""
+
 
 class Client:
     """A client on a blank page of the site, which records its events and errors.
@@ -234,7 +247,10 @@ def try_start(fixture):
 
 
 def try_start_in_second_window(fixture):
-    """Checks that the promise waits until the window that has the session has subscribed for this one."""
+    """Checks that the promise waits until the window that has the session has subscribed for this one.
+
+    A client with another address has its own session.
+    """
     pages = [Window(fixture.browser, fixture.site.address) for _ in range(2)]
     Client(pages[0], "/a")
     pages[0].run(SLOW_ADJUST)
@@ -246,6 +262,10 @@ def try_start_in_second_window(fixture):
     wait_until("the promise resolves", lambda: pages[1].run("return window.isStarted"))
     if pages[0].run("return [...clients[0].subscribed]") != ["/a", "/b"]:
         raise CheckFailed("the promise has resolved, and the session is not subscribed")
+    pages[1].run("window.other = new BayeuxClient('/cometd/other'); other.start()")
+    wait_until("a client with another address is connected", lambda: pages[1].run("return other.state") == "connected")
+    if pages[1].run("return other.clientId === it.clientId"):
+        raise CheckFailed("clients with different addresses share a session")
     Client(pages[1], "/a/**/b").wait_for_log("connected /a/**/b: 400::Invalid pattern")
     for page in pages:
         page.close()
@@ -262,10 +282,18 @@ def try_lost_session(fixture):
 
 
 def try_listeners(site, client):
-    """Checks that two listeners of a channel both get each event.
+    """Checks that two listeners of a channel both get each event, although one between them throws an error.
 
-    The client unsubscribes only when the last listener is removed.
+    A publish waits until the one before has succeeded or failed. The client unsubscribes only when the last listener is removed.
     """
+    client.window.run(TWO_PUBLISHES)
+    wait_until("a publish has begun", lambda: client.window.run("return begun.length"))
+    if client.window.run("return begun") != ["first"]:
+        raise CheckFailed(f"publishes that have begun while the first one is sent: {client.window.run('return begun')}")
+    client.window.run("go()")
+    client.wait_for_log("first", "second", "published", "published")
+    client.clear()
+    client.do("subscribe('/a', () => { throw new Error('the listener throws'); })")
     client.do("subscribe('/a', window.second = (data) => clients[0].log.push(`second ${data}`))")
     client.do("publishLogged('/a', 1)")
     client.wait_for_log(1, "second 1", "published")

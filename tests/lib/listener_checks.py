@@ -1,4 +1,6 @@
 """Checks of what the metrics listener of a daemon shows besides counts: lists, settings, and the process."""
+import contextlib
+import ctypes
 import json
 import os
 import resource
@@ -6,7 +8,7 @@ import socket
 import time
 
 from base import TOP, CheckFailed, wait_until
-from daemon import HANDSHAKE, Connection, FlagDaemon, NonExpiringDaemon, expect_events, expect_success, get, open_session, poll, post, send_connect, subscribe
+from daemon import HANDSHAKE, Connection, FlagDaemon, NonExpiringDaemon, expect_events, expect_status, expect_success, get, open_session, poll, post, send_connect, subscribe
 from metrics import ask_for, expect_values, scrape
 
 # How many sessions are opened or closed at a time.
@@ -22,6 +24,8 @@ LIMITED = {
 # How much the metrics of memory may differ from what the system reports shortly afterwards, in
 # bytes, or a tenth if that is more, and the start of the process from the time here, in seconds.
 MEMORY_CHANGE, START_CHANGE = 64 << 20, 5
+# The number of the system call `pidfd_getfd`, for which Python has no function.
+PIDFD_GETFD = 438
 # The sessions of the check of lists, in the order in which they are opened. Two events wait for each
 # of the first two. One of these has got them, and has not acknowledged them.
 SENT = [{"channel": "/chat/x", "data": data} for data in (1, 2)]
@@ -56,6 +60,36 @@ def has_memory(pid, values):
     return all(abs(values[f"process_{name}_memory_bytes", ""] - size) <= max(MEMORY_CHANGE, size // 10) for name, size in sizes.items())
 
 
+def sends_at_once(pid, client):
+    """Returns whether the process `pid` sends small segments to the socket `client` without delay, or `None` if the system does not show it.
+
+    `client`: a socket of this process.
+    """
+    folder, process, call = f"/proc/{pid}/fd", os.pidfd_open(pid), ctypes.CDLL(None).syscall
+    try:
+        for name in os.listdir(folder):
+            # The call returns -1 for a descriptor that is closed by now, or if it is not allowed. A listener has no peer.
+            with contextlib.suppress(OSError, ValueError):
+                if os.readlink(f"{folder}/{name}").startswith("socket:"):
+                    with socket.socket(fileno=call(PIDFD_GETFD, process, int(name), 0)) as found:
+                        if found.getpeername() == client.getsockname():
+                            return found.getsockopt(socket.IPPROTO_TCP, socket.TCP_NODELAY) != 0
+    finally:
+        os.close(process)
+    return None
+
+
+def check_no_delay(daemon):
+    """Checks that the daemon sends small segments without delay (`TCP_NODELAY`)."""
+    with Connection(daemon.address) as client:
+        expect_status(client, post(b"[]"), 200)
+        is_at_once = sends_at_once(daemon.process.pid, client.socket)
+    if is_at_once is None:
+        print("tests/daemon/operation: process: whether segments are sent without delay is not tried, since the system does not show it")
+    elif not is_at_once:
+        raise CheckFailed("small segments are sent only when the client has confirmed those before")
+
+
 def check_process(program):
     with open(TOP / "VERSION", encoding="ascii") as text:
         version = text.read().strip()
@@ -76,6 +110,7 @@ def check_process(program):
         # The metrics also count the connection that asks for them.
         wait_until("the number of open files", lambda: scrape(metrics)[("process_open_fds", "")] == daemon.descriptors() + 1)
         expect_near("most files", found["process_max_fds"], resource.prlimit(daemon.process.pid, resource.RLIMIT_NOFILE)[0], 0)
+        check_no_delay(daemon)
     with FlagDaemon(program, "--metrics", "localhost:0") as daemon:
         unlimited = ("bayeux_limit", '{name="bytes"}')
         if unlimited in scrape(daemon.logged_address("metrics listening address=")):

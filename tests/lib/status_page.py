@@ -29,6 +29,26 @@ drawChart(chart, 3000);
 return chart.root.querySelector('.key li').textContent;
 """
 
+# Metrics with different values, and the facts that the page shows of them.
+SHOWN = """bayeux_uptime_seconds_total 3600
+bayeux_connections 2
+bayeux_connections_total 3
+bayeux_window_batches 4
+bayeux_shards_behind 5
+bayeux_responses_missing_total 6
+process_resident_memory_bytes 7000000
+process_virtual_memory_bytes 8000000
+process_open_fds 9
+process_max_fds 10
+"""
+FACTS = ["Uptime: 1 h 0 min", "Connections: 2", "Window: 4 of 4,096", "Shards behind: 5", "No response: 6", "Memory: 7 MB", "Open files: 9 of 10"]
+# Returns the facts that the page shows of the metrics in `arguments`.
+READ_FACTS = """
+samples = [{ time: Date.now(), values: parse(arguments[0]) }];
+draw();
+return [...document.querySelectorAll('#facts div')].map(({ firstChild, lastChild }) => `${firstChild.textContent}: ${lastChild.textContent}`);
+"""
+
 
 def value_of(window, title):
     """Returns the text of the value above the chart `title`."""
@@ -70,7 +90,7 @@ def try_values(server, window):
 def try_status(fixture):
     """Checks that the status page shows the metrics of a server, and that it says so if there are none.
 
-    It must be readable in light and dark, and show counters per second.
+    It must be readable in light and dark, show counters per second, and show the right metric as each fact.
     """
     metrics = f"127.0.0.1:{free_port()}"
     fixture.server.restart("--metrics", metrics)
@@ -87,6 +107,7 @@ def try_status(fixture):
     wait_until("the curves go on after a gap", lambda: all(now > then for (now, _), then in zip(window.run(CURVES), before)))
     expect_equal("a counter that grows by 300 in three seconds", window.run(RATE), 100)
     expect_equal("the first shard in the key of 20 shards", window.run(MANY_SHARDS), "shard 19: 19")
+    expect_equal("the facts", window.run(READ_FACTS, SHOWN), FACTS)
     expect_equal("uptimes", window.run("return [5, 65, 3600, 90061].map(formatTime)"), ["5 s", "1 min 5 s", "1 h 0 min", "1 d 1 h"])
     window.close()
     fixture.server.restart()
