@@ -1,12 +1,13 @@
 //! A client of the server, with its own connection.
-use crate::context::Context;
+use crate::context::SharedContext;
 use crate::fault::Fault;
 use crate::link::Link;
-use crate::role::{Role, Subscriber};
+use crate::role::Role;
 use crate::tally::Tally;
-use bx_load::{Received, client_of, connect, handshake, item_of, publish, subscribe, touch};
+use bx_load::{Received, Requests, client_of, item_of};
 use serde_json::Value;
-use std::alloc::Global;
+use std::alloc::{AllocError, Global};
+use std::sync::Arc;
 use std::sync::atomic::Ordering;
 
 // Nanoseconds without a request after which a publisher sends a connect to keep its session.
@@ -26,6 +27,7 @@ enum Awaited {
 /// A client, with at most one request at a time.
 #[derive(Drop)]
 pub struct Client {
+    context: SharedContext,
     link: Link,
     role: Role,
     id: String,
@@ -36,15 +38,20 @@ pub struct Client {
 }
 
 impl Client {
-    /// Creates a client that has sent no request.
-    pub fn new(alloc: Global, link: Link, role: Role) -> Client {
-        Client {
+    /// Creates a client of the load of `context`, which has sent no request.
+    ///
+    /// # Errors
+    ///
+    /// `AllocError` if memory runs out.
+    pub fn new(context: &SharedContext, link: Link, role: Role) -> Result<Client, AllocError> {
+        Ok(Client {
+            context: Arc::try_clone(context)?,
             link,
             role,
-            id: String::new(alloc),
+            id: String::new(context.alloc),
             state: Awaited::Nothing,
             asked: 0,
-        }
+        })
     }
 
     /// Sends a handshake.
@@ -52,11 +59,20 @@ impl Client {
     /// # Errors
     ///
     /// `Memory`, or as [`Link::send`].
-    pub fn begin(&mut self, context: &Context) -> Result<(), Fault> {
-        let settings = &context.settings;
-        let acknowledges = settings.is_acknowledging && matches!(&self.role, Role::Subscriber(_));
-        let request = handshake(context.alloc, &settings.target, acknowledges)?;
+    pub fn begin(&mut self) -> Result<(), Fault> {
+        let acknowledges = self.context.settings.is_acknowledging
+            && matches!(&self.role, Role::Subscriber(_));
+        let request = self.requests().handshake(acknowledges)?;
         self.ask(Awaited::Handshake, request, 0)
+    }
+
+    // Returns the formats of this client's requests.
+    fn requests(&self) -> Requests<'_> {
+        Requests {
+            alloc: self.context.alloc,
+            target: &self.context.settings.target,
+            client: self.id.as_str(),
+        }
     }
 
     /// Returns the number of events that did not arrive.
@@ -89,119 +105,100 @@ impl Client {
     ///
     /// `BadResponse` if the response is not the expected one, `Refused` if the server rejected a
     /// message, `Memory`, or as [`Link::send`].
-    pub fn take(&mut self, context: &Context, tally: &mut Tally, now: u64) -> Result<(), Fault> {
+    pub fn take(&mut self, tally: &mut Tally, now: u64) -> Result<(), Fault> {
+        let alloc = self.context.alloc;
         let Some(body) = self.link.body()? else {
             return Ok(());
         };
-        let Ok(value) = Value::from_slice(context.alloc, body) else {
+        let Ok(value) = Value::from_slice(alloc, body) else {
             return Err(Fault::BadResponse);
         };
-        let Some(items) = value.as_array() else {
-            return Err(Fault::BadResponse);
-        };
-        self.link.forget(context.alloc);
-        self.take_items(context, tally, items.as_slice(), now)?;
-        self.go_on(context, tally, items.as_slice(), now)
+        let items = value.as_array().ok_or(Fault::BadResponse)?;
+        self.link.forget(alloc);
+        self.take_items(tally, items.as_slice(), now)?;
+        self.go_on(tally, items.as_slice(), now)
     }
 
     // Records the events in a response, and checks that the request was answered with success.
-    fn take_items(
-        &mut self,
-        context: &Context,
-        tally: &mut Tally,
-        items: &[Value],
-        now: u64,
-    ) -> Result<(), Fault> {
+    fn take_items(&mut self, tally: &mut Tally, items: &[Value], now: u64) -> Result<(), Fault> {
         let before = tally.delivered;
-        let mut is_answered = false;
+        let mut answered = Err(Fault::BadResponse);
         for item in items {
             match (item_of(item), &mut self.role) {
                 (Received::Event(stamp), Role::Subscriber(session)) => {
-                    let arrival = session.take(&context.settings, stamp);
+                    let arrival = session.take(&self.context.settings, stamp);
                     tally.arrived(arrival, stamp.moment, now);
                 }
                 (Received::Success(acknowledged), Role::Subscriber(session)) => {
                     session.acknowledged = acknowledged;
-                    is_answered = true;
+                    answered = Ok(());
                 }
-                (Received::Success(_), Role::Publisher(_)) => is_answered = true,
+                (Received::Success(_), Role::Publisher(_)) => answered = Ok(()),
                 (Received::Refusal, _) => return Err(Fault::Refused),
                 _ => return Err(Fault::BadResponse),
             }
         }
-        if tally.delivered > before {
-            context
-                .delivered
-                .fetch_add(tally.delivered - before, Ordering::SeqCst);
+        let arrived = tally.delivered.saturating_sub(before);
+        if arrived > 0 {
+            self.context.delivered.fetch_add(arrived, Ordering::SeqCst);
         }
-        if is_answered {
-            Ok(())
-        } else {
-            Err(Fault::BadResponse)
-        }
+        answered
     }
 
     // Sends the request that follows the response, if any. Counts a client that becomes ready, and
     // a publish that is answered.
-    fn go_on(
-        &mut self,
-        context: &Context,
-        tally: &mut Tally,
-        items: &[Value],
-        now: u64,
-    ) -> Result<(), Fault> {
-        match self.state {
+    fn go_on(&mut self, tally: &mut Tally, items: &[Value], now: u64) -> Result<(), Fault> {
+        let awaited = self.state;
+        self.state = Awaited::Nothing;
+        match awaited {
             Awaited::Handshake => {
-                self.id = id_of(context, items)?;
-                self.subscribe(context, tally, now)
+                self.id = id_of(self.context.alloc, items)?;
+                self.subscribe(tally, now)
             }
             Awaited::Subscription => {
-                tally.ready = tally.ready.saturating_add(1);
-                context.unready.fetch_sub(1, Ordering::SeqCst);
-                self.poll(context, now)
+                self.count_ready(tally);
+                self.poll(now)
             }
-            Awaited::Connect => self.poll(context, now),
+            Awaited::Connect => self.poll(now),
             Awaited::Publish => {
                 tally.published = tally.published.saturating_add(1);
                 tally.last_published = now;
-                context.unpublished.fetch_sub(1, Ordering::SeqCst);
-                self.state = Awaited::Nothing;
+                self.context.unpublished.fetch_sub(1, Ordering::SeqCst);
                 Ok(())
             }
-            Awaited::Touch => {
-                self.state = Awaited::Nothing;
-                Ok(())
-            }
+            Awaited::Touch => Ok(()),
             Awaited::Nothing => Err(Fault::BadResponse),
         }
     }
 
     // Subscribes after the handshake. Marks a publisher as ready, which does not subscribe.
-    fn subscribe(&mut self, context: &Context, tally: &mut Tally, now: u64) -> Result<(), Fault> {
+    fn subscribe(&mut self, tally: &mut Tally, now: u64) -> Result<(), Fault> {
         match &self.role {
-            Role::Subscriber(Subscriber { channel, .. }) => {
-                let target = &context.settings.target;
-                let request = subscribe(context.alloc, target, self.id.as_str(), *channel)?;
+            Role::Subscriber(session) => {
+                let request = self.requests().subscribe(session.channel)?;
                 self.ask(Awaited::Subscription, request, now)
             }
             Role::Publisher(_) => {
-                tally.ready = tally.ready.saturating_add(1);
-                context.unready.fetch_sub(1, Ordering::SeqCst);
+                self.count_ready(tally);
                 self.asked = now;
-                self.state = Awaited::Nothing;
                 Ok(())
             }
         }
     }
 
+    // Counts this client as ready.
+    fn count_ready(&self, tally: &mut Tally) {
+        tally.ready = tally.ready.saturating_add(1);
+        self.context.unready.fetch_sub(1, Ordering::SeqCst);
+    }
+
     // Sends a connect, which acknowledges the last batch that a subscriber received.
-    fn poll(&mut self, context: &Context, now: u64) -> Result<(), Fault> {
+    fn poll(&mut self, now: u64) -> Result<(), Fault> {
         let acknowledged = match &self.role {
             Role::Subscriber(session) => session.acknowledged,
             Role::Publisher(_) => None,
         };
-        let target = &context.settings.target;
-        let request = connect(context.alloc, target, self.id.as_str(), acknowledged)?;
+        let request = self.requests().connect(acknowledged)?;
         self.ask(Awaited::Connect, request, now)
     }
 
@@ -214,28 +211,19 @@ impl Client {
     /// # Errors
     ///
     /// `Memory`, or as [`Link::send`].
-    pub fn publish(
-        &mut self,
-        context: &Context,
-        begun: Option<u64>,
-        now: u64,
-    ) -> Result<(), Fault> {
-        if !matches!(self.state, Awaited::Nothing) {
-            return Ok(());
-        }
-        let Role::Publisher(publisher) = &mut self.role else {
+    pub fn publish(&mut self, begun: Option<u64>, now: u64) -> Result<(), Fault> {
+        let (Awaited::Nothing, Role::Publisher(publisher)) = (self.state, &mut self.role) else {
             return Ok(());
         };
-        let (settings, alloc) = (&context.settings, context.alloc);
-        let (target, id) = (&settings.target, self.id.as_str());
+        let (settings, channel) = (&self.context.settings, publisher.channel);
         if let Some(begun) = begun
             && let Some(stamp) = publisher.next(settings, now.saturating_sub(begun), now)
         {
-            let request = publish(alloc, target, id, publisher.channel, stamp)?;
+            let request = self.requests().publish(channel, stamp)?;
             return self.ask(Awaited::Publish, request, now);
         }
         if now.saturating_sub(self.asked) > QUIET {
-            let request = touch(alloc, target, id)?;
+            let request = self.requests().touch()?;
             return self.ask(Awaited::Touch, request, now);
         }
         Ok(())
@@ -250,12 +238,8 @@ impl Client {
 }
 
 // Returns the client id in the first of `items`.
-fn id_of(context: &Context, items: &[Value]) -> Result<String, Fault> {
-    let Some(reply) = items.first() else {
-        return Err(Fault::BadResponse);
-    };
-    match client_of(reply) {
-        Some(id) => Ok(String::from_str(context.alloc, id)?),
-        None => Err(Fault::BadResponse),
-    }
+fn id_of(alloc: Global, items: &[Value]) -> Result<String, Fault> {
+    let reply = items.first().ok_or(Fault::BadResponse)?;
+    let id = client_of(reply).ok_or(Fault::BadResponse)?;
+    Ok(String::from_str(alloc, id)?)
 }

@@ -3,8 +3,12 @@ use crate::fault::Fault;
 use bx_load::LoadSettings;
 use std::alloc::Global;
 use std::net::SocketAddr;
+use std::sync::Arc;
 use std::sync::atomic::{AtomicBool, AtomicU64, Ordering};
 use std::time::{Clock, Instant};
+
+/// A handle to the state that all threads of a load share.
+pub type SharedContext = Arc<Context, Global>;
 
 /// The state that all threads of a load share.
 #[derive(Drop)]
@@ -17,6 +21,8 @@ pub struct Context {
     pub address: SocketAddr,
     /// When the load started. All other times count from here.
     pub start: Instant,
+    /// Number of threads.
+    pub threads: u64,
     /// Number of clients that are not ready: each must open a session, and a subscriber must
     /// subscribe.
     pub unready: AtomicU64,
@@ -41,19 +47,18 @@ impl Context {
         start: Instant,
         threads: u64,
     ) -> Context {
-        let clients = settings.sessions as u64 + settings.publishers as u64;
-        let events = settings.events as u64;
         Context {
             alloc,
-            settings,
             address,
             start,
-            unready: AtomicU64::new(clients),
+            threads,
+            unready: AtomicU64::new(settings.clients()),
             begun: AtomicU64::new(0),
-            unpublished: AtomicU64::new(events),
+            unpublished: AtomicU64::new(settings.events as u64),
             delivered: AtomicU64::new(0),
             working: AtomicU64::new(threads),
             has_failed: AtomicBool::new(false),
+            settings,
         }
     }
 

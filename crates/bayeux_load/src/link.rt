@@ -1,12 +1,13 @@
 //! A connection to the server, for one request after another.
+use crate::context::Context;
 use crate::fault::Fault;
-use bx_load::{Response, read_response};
+use bx_load::read_response;
 use mio::net::TcpStream;
 use mio::{Interest, Registry, Token};
 use std::alloc::Global;
 use std::io;
 use std::io::{Read, Write};
-use std::net::{Net, SocketAddr};
+use std::net::Net;
 
 // The largest input buffer that is kept, in bytes.
 const KEPT: usize = 4096;
@@ -21,30 +22,26 @@ pub struct Link {
 }
 
 impl Link {
-    /// Starts to connect to `address`, and registers the connection under `token`.
+    /// Starts to connect to the server, and registers the connection under `token`.
     ///
     /// # Errors
     ///
     /// The [`io::Error`], as a [`Fault`].
     pub fn open(
         net: &impl Net,
-        alloc: Global,
+        context: &Context,
         registry: &Registry,
-        address: SocketAddr,
         token: usize,
     ) -> Result<Link, Fault> {
-        let mut socket = TcpStream::connect(net, address)?;
+        let mut socket = TcpStream::connect(net, context.address)?;
         let _ = socket.set_nodelay(true);
-        registry.register(
-            &mut socket,
-            Token(token),
-            Interest::READABLE | Interest::WRITABLE,
-        )?;
+        let interest = Interest::READABLE | Interest::WRITABLE;
+        registry.register(&mut socket, Token(token), interest)?;
         Ok(Link {
             socket,
-            output: String::new(alloc),
+            output: String::new(context.alloc),
             written: 0,
-            input: Vec::new(alloc),
+            input: Vec::new(context.alloc),
         })
     }
 
@@ -114,15 +111,11 @@ impl Link {
     /// `BadResponse` if the response is malformed, its status is not 200, or more data follows.
     pub fn body(&self) -> Result<Option<&[u8]>, Fault> {
         match read_response(self.input.as_slice()) {
-            Err(_) => Err(Fault::BadResponse),
             Ok(None) => Ok(None),
-            Ok(Some(Response { status, start, end })) => {
-                if status == 200 && end == self.input.len() {
-                    Ok(Some(&self.input.as_slice()[start..end]))
-                } else {
-                    Err(Fault::BadResponse)
-                }
+            Ok(Some(found)) if found.status == 200 && found.end == self.input.len() => {
+                Ok(Some(&self.input.as_slice()[found.start..found.end]))
             }
+            _ => Err(Fault::BadResponse),
         }
     }
 

@@ -1,11 +1,11 @@
 //! A load on several threads.
-use crate::context::Context;
+use crate::context::{Context, SharedContext};
 use crate::fault::Fault;
 use crate::part::LoadPart;
 use crate::tally::Tally;
 use crate::worker::work;
 use bx_load::{LoadSettings, Target};
-use std::alloc::{AllocGlobal, Global};
+use std::alloc::AllocGlobal;
 use std::net::{Net, SocketAddr, TcpListener, TcpStream, ToSocketAddrs};
 use std::sync::atomic::Ordering;
 use std::sync::{Arc, Wait};
@@ -23,8 +23,7 @@ type Other = JoinHandle<Result<Tally, Fault>>;
 #[derive(Drop)]
 pub struct ThreadedLoad<R> {
     rt: R,
-    context: Arc<Context, Global>,
-    threads: u64,
+    context: SharedContext,
 }
 
 impl<R> ThreadedLoad<R>
@@ -59,7 +58,6 @@ where
         Ok(ThreadedLoad {
             rt,
             context: Arc::new(alloc, context)?,
-            threads,
         })
     }
 
@@ -76,54 +74,41 @@ where
         let alloc = self.context.alloc;
         let mut whole = Tally::new(alloc)?;
         let mut others = Vec::with_capacity(alloc, MOST_THREADS as usize)?;
-        let mut begun = Ok(());
-        for index in 1..self.threads {
-            begun = self.begin(index, &mut others);
-            if begun.is_err() {
-                break;
-            }
-        }
-        let own = match (begun, LoadPart::new(alloc, 0, self.threads)) {
-            (Ok(()), Ok(part)) => work(&self.rt, &*self.context, part, is_shown),
-            (Err(fault), _) => Err(fault),
-            (_, Err(_)) => Err(Fault::Memory),
-        };
+        let own = self.run_own(&mut others, is_shown);
         // Ends the threads that run, so that they can be joined.
         if own.is_err() {
             self.context.has_failed.store(true, Ordering::SeqCst);
         }
-        match added(&self.rt, &mut whole, own, others) {
+        let mut fault = add(&mut whole, own);
+        for other in others {
+            fault = fault.or(add(&mut whole, other.join(&self.rt)));
+        }
+        match fault {
             None => Ok(whole),
             Some(fault) => Err(fault),
         }
+    }
+
+    // Spawns the threads of the other parts, appends their handles to `others`, and runs the first
+    // part.
+    fn run_own(&self, others: &mut Vec<Other>, is_shown: bool) -> Result<Tally, Fault> {
+        for index in 1..self.context.threads {
+            self.begin(index, others)?;
+        }
+        let part = LoadPart::new(&self.context, 0)?;
+        work(&self.rt, part, is_shown)
     }
 
     // Spawns a thread that runs part `index`, and appends its handle to `others`. Without room for
     // it, the thread might not be joined.
     fn begin(&self, index: u64, others: &mut Vec<Other>) -> Result<(), Fault> {
         let rt = self.rt;
-        let part = LoadPart::new(self.context.alloc, index, self.threads)?;
-        let context = Arc::try_clone(&self.context)?;
-        match thread::spawn(&rt, move || work(&rt, &*context, part, false)) {
+        let part = LoadPart::new(&self.context, index)?;
+        match thread::spawn(&rt, move || work(&rt, part, false)) {
             Ok(other) => Ok(others.push(other)?),
             Err(_) => Err(Fault::System),
         }
     }
-}
-
-// Adds the results of all parts to `whole`, `own` first. Returns why the first one failed, if one
-// did.
-fn added(
-    rt: &impl Threads,
-    whole: &mut Tally,
-    own: Result<Tally, Fault>,
-    others: Vec<Other>,
-) -> Option<Fault> {
-    let mut fault = add(whole, own);
-    for other in others {
-        fault = fault.or(add(whole, other.join(rt)));
-    }
-    fault
 }
 
 // Adds the result of a part to `whole`, or returns its fault, unless that is `Other`.

@@ -63,7 +63,6 @@ fn reported(rt: &HostRuntime, tally: &Tally) -> ExitCode {
 
 // Prints why the load failed, and returns failure.
 fn failed(rt: &HostRuntime, fault: Fault) -> ExitCode {
-    let text = fault.text();
-    let _ = eprintln!(rt; "bayeux_load: {text}");
+    let _ = eprintln!(rt; "bayeux_load: {}", fault.text());
     ExitCode::FAILURE
 }

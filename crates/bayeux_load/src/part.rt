@@ -1,13 +1,14 @@
 //! One thread's part of a load.
 use crate::client::Client;
-use crate::context::Context;
+use crate::context::SharedContext;
 use crate::fault::Fault;
 use crate::link::Link;
 use crate::role::{Publisher, Role, Subscriber};
 use crate::tally::Tally;
 use mio::Registry;
-use std::alloc::{AllocError, Global};
+use std::alloc::AllocError;
 use std::net::Net;
+use std::sync::Arc;
 use std::sync::atomic::Ordering;
 use std::time::{Clock, Duration};
 
@@ -23,12 +24,13 @@ const SILENCE: u64 = 30_000_000_000;
 /// One thread's part of a load: its clients and their results.
 #[derive(Drop)]
 pub struct LoadPart {
+    /// The state that the threads of the load share.
+    pub context: SharedContext,
     clients: Vec<Client>,
     // Number of sessions among the clients. They precede the publishers.
     sessions: usize,
-    // The number of the next client to open, among those of all threads, and the number of threads.
+    // The number of the next client to open, among those of all threads.
     next: u64,
-    threads: u64,
     // Number of events to receive.
     expected: u64,
     tally: Tally,
@@ -41,19 +43,20 @@ pub struct LoadPart {
 }
 
 impl LoadPart {
-    /// Creates part `index` of `threads`, which has no clients yet.
+    /// Creates part `index` of the load of `context`, which has no clients yet.
     ///
     /// `index`: counted from 0.
     ///
     /// # Errors
     ///
     /// `AllocError` if memory runs out.
-    pub fn new(alloc: Global, index: u64, threads: u64) -> Result<LoadPart, AllocError> {
+    pub fn new(context: &SharedContext, index: u64) -> Result<LoadPart, AllocError> {
+        let alloc = context.alloc;
         Ok(LoadPart {
+            context: Arc::try_clone(context)?,
             clients: Vec::new(alloc),
             sessions: 0,
             next: index,
-            threads,
             expected: 0,
             tally: Tally::new(alloc)?,
             progress: (0, 0, 0),
@@ -67,36 +70,30 @@ impl LoadPart {
     /// # Errors
     ///
     /// `Memory`, or as [`Link::open`] and [`Client::begin`].
-    pub fn open(
-        &mut self,
-        net: &impl Net,
-        context: &Context,
-        registry: &Registry,
-    ) -> Result<(), Fault> {
-        let all = context.settings.sessions as u64 + context.settings.publishers as u64;
+    pub fn open(&mut self, net: &impl Net, registry: &Registry) -> Result<(), Fault> {
+        let all = self.context.settings.clients();
         for _ in 0..AT_ONCE {
             if self.next >= all || self.clients.len().saturating_sub(self.tally.ready) >= AT_ONCE {
                 break;
             }
             let token = self.clients.len();
-            let role = self.next_role(context)?;
-            let link = Link::open(net, context.alloc, registry, context.address, token)?;
-            self.clients.push(Client::new(context.alloc, link, role))?;
-            if let Some(client) = self.clients.last_mut() {
-                client.begin(context)?;
-            }
+            let role = self.next_role()?;
+            let link = Link::open(net, &*self.context, registry, token)?;
+            let mut client = Client::new(&self.context, link, role)?;
+            client.begin()?;
+            self.clients.push(client)?;
         }
         Ok(())
     }
 
     // Creates the role of the next client, and counts the client as opened.
-    fn next_role(&mut self, context: &Context) -> Result<Role, AllocError> {
-        let (settings, number) = (&context.settings, self.next);
-        self.next = number.saturating_add(self.threads);
+    fn next_role(&mut self) -> Result<Role, AllocError> {
+        let (settings, number) = (&self.context.settings, self.next);
+        self.next = number.saturating_add(self.context.threads);
         match number.checked_sub(settings.sessions as u64) {
             Some(publisher) => Ok(Role::Publisher(Publisher::new(settings, publisher))),
             None => {
-                let session = Subscriber::new(context.alloc, settings, number)?;
+                let session = Subscriber::new(self.context.alloc, settings, number)?;
                 self.sessions = self.sessions.saturating_add(1);
                 self.expected = self.expected.saturating_add(session.expected());
                 Ok(Role::Subscriber(session))
@@ -105,9 +102,9 @@ impl LoadPart {
     }
 
     /// Returns how long the thread may wait for its connections.
-    pub fn pause(&self, context: &Context) -> Duration {
+    pub fn pause(&self) -> Duration {
         let (unready, unpublished, _) = self.progress;
-        let is_paced = unready == 0 && unpublished > 0 && context.settings.rate > 0;
+        let is_paced = unready == 0 && unpublished > 0 && self.context.settings.rate > 0;
         Duration::from_millis(if is_paced { 1 } else { 10 })
     }
 
@@ -118,19 +115,12 @@ impl LoadPart {
     /// # Errors
     ///
     /// As [`Client::is_answered`], [`Context::now`] and [`Client::take`].
-    pub fn serve(
-        &mut self,
-        clock: &impl Clock,
-        context: &Context,
-        token: usize,
-        buffer: &mut [u8],
-    ) -> Result<(), Fault> {
-        let Some(client) = self.clients.get_mut(token) else {
-            return Ok(());
-        };
-        if client.is_answered(buffer)? {
-            let now = context.now(clock)?;
-            client.take(context, &mut self.tally, now)?;
+    pub fn serve(&mut self, rt: &impl Clock, token: usize, buffer: &mut [u8]) -> Result<(), Fault> {
+        if let Some(client) = self.clients.get_mut(token)
+            && client.is_answered(buffer)?
+        {
+            let now = self.context.now(rt)?;
+            client.take(&mut self.tally, now)?;
         }
         Ok(())
     }
@@ -142,15 +132,15 @@ impl LoadPart {
     /// # Errors
     ///
     /// As [`Client::publish`].
-    pub fn publish(&mut self, context: &Context, now: u64) -> Result<(), Fault> {
-        let begun = context.begun(now);
+    pub fn publish(&mut self, now: u64) -> Result<(), Fault> {
+        let begun = self.context.begun(now);
         if let Some(begun) = begun {
             self.tally.begun = begun;
         }
         let sessions = self.sessions.min(self.clients.len());
         let (_, publishers) = self.clients.as_mut_slice().split_at_mut(sessions);
         for publisher in publishers.iter_mut() {
-            publisher.publish(context, begun, now)?;
+            publisher.publish(begun, now)?;
         }
         Ok(())
     }
@@ -163,11 +153,11 @@ impl LoadPart {
     ///
     /// `Other` if another thread failed; `Silent` if publishes are unanswered and there was no
     /// progress for 30 seconds.
-    pub fn is_over(&mut self, context: &Context, now: u64) -> Result<bool, Fault> {
-        if context.has_failed.load(Ordering::SeqCst) {
+    pub fn is_over(&mut self, now: u64) -> Result<bool, Fault> {
+        if self.context.has_failed.load(Ordering::SeqCst) {
             return Err(Fault::Other);
         }
-        let progress = context.progress();
+        let progress = self.context.progress();
         if progress != self.progress {
             self.progress = progress;
             self.changed = now;
@@ -182,9 +172,9 @@ impl LoadPart {
         }
         if !self.has_ended && self.tally.arrivals() >= self.expected {
             self.has_ended = true;
-            context.working.fetch_sub(1, Ordering::SeqCst);
+            self.context.working.fetch_sub(1, Ordering::SeqCst);
         }
-        Ok(context.working.load(Ordering::SeqCst) == 0 || quiet > PATIENCE)
+        Ok(self.context.working.load(Ordering::SeqCst) == 0 || quiet > PATIENCE)
     }
 
     /// Converts this part into its results, which include the lost events.

@@ -16,13 +16,8 @@ pub fn report(alloc: Global, tally: &Tally) -> Result<String, AllocError> {
     for percent in [50, 90, 99, 100] {
         latency(&mut text, tally, percent)?;
     }
-    let Tally {
-        lost,
-        doubled,
-        out_of_order,
-        unknown,
-        ..
-    } = tally;
+    let (lost, doubled) = (tally.lost, tally.doubled);
+    let (out_of_order, unknown) = (tally.out_of_order, tally.unknown);
     write!(
         text,
         "\nlost {lost}, doubled {doubled}, out of order {out_of_order}, unknown {unknown}"

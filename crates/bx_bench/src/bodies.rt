@@ -4,8 +4,8 @@ use bx_cut::Bodies;
 use bx_entry::{Access, Arrival};
 use std::alloc::Global;
 
-/// The JSON of a handshake.
-pub const HANDSHAKE: &str =
+// The JSON of a handshake.
+const HANDSHAKE: &str =
     r#"{"channel":"/meta/handshake","version":"1.0","supportedConnectionTypes":["long-polling"]}"#;
 
 /// Creates a request with `body`, at moment 0.
@@ -24,8 +24,20 @@ pub fn arrival(body: String) -> Arrival {
 ///
 /// If memory runs out.
 pub fn handshake(alloc: Global) -> Result<String> {
-    let hello = HANDSHAKE;
-    Ok(format!(in alloc; "[{hello}]")?)
+    Ok(format!(in alloc; "[{HANDSHAKE}]")?)
+}
+
+/// Creates a body with the handshake of session `number`, and its subscription to `patterns`.
+///
+/// `patterns`: a JSON string, or an array of JSON strings.
+///
+/// # Errors
+///
+/// If memory runs out.
+pub fn opening(alloc: Global, number: u64, patterns: &str) -> Result<String> {
+    Ok(format!(in alloc;
+        "[{HANDSHAKE},{{\"channel\":\"/meta/subscribe\",\"clientId\":\"{number:048x}\",\"subscription\":{patterns}}}]"
+    )?)
 }
 
 /// Creates a body with a subscription of session `number` to the channel of `thread`.

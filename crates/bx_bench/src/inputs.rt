@@ -9,7 +9,7 @@ const MEGABYTE: usize = 1_048_576;
 ///
 /// `AllocError` if memory runs out.
 pub fn many(alloc: Global) -> Result<Vec<u8>, AllocError> {
-    publishes(alloc, 3_900)
+    publishes(alloc, 256, 3_900)
 }
 
 /// Creates a body of about 0.5 MB with 256 publishes, which has about 1 MB as a form.
@@ -18,14 +18,14 @@ pub fn many(alloc: Global) -> Result<Vec<u8>, AllocError> {
 ///
 /// `AllocError` if memory runs out.
 pub fn short(alloc: Global) -> Result<Vec<u8>, AllocError> {
-    publishes(alloc, 1_950)
+    publishes(alloc, 256, 1_950)
 }
 
-// Creates a body with 256 publishes, each with about `size` bytes of data.
-fn publishes(alloc: Global, size: usize) -> Result<Vec<u8>, AllocError> {
+// Creates a body with `count` publishes, each with about `size` bytes of data.
+fn publishes(alloc: Global, count: u32, size: usize) -> Result<Vec<u8>, AllocError> {
     let mut body = Vec::with_capacity(alloc, MEGABYTE)?;
     body.push(b'[')?;
-    for i in 0..256u32 {
+    for i in 0..count {
         if i > 0 {
             body.push(b',')?;
         }
@@ -41,11 +41,7 @@ fn publishes(alloc: Global, size: usize) -> Result<Vec<u8>, AllocError> {
 ///
 /// `AllocError` if memory runs out.
 pub fn one(alloc: Global) -> Result<Vec<u8>, AllocError> {
-    let mut body = Vec::with_capacity(alloc, MEGABYTE)?;
-    body.push(b'[')?;
-    add_message(&mut body, MEGABYTE - 200)?;
-    body.push(b']')?;
-    Ok(body)
+    publishes(alloc, 1, MEGABYTE - 200)
 }
 
 // Appends a publish with about `size` bytes of data: an array of short texts, numbers and objects.

@@ -1,4 +1,30 @@
 //! How many publishes and connects each thread makes.
+use crate::bodies::{connect, handshake, publish, subscription};
+use anyhow::Result;
+use std::alloc::Global;
+
+/// A server that answers requests.
+pub trait Server {
+    /// Serves a request with `body`, and returns the number of events in the answers.
+    ///
+    /// # Errors
+    ///
+    /// If the request is not admitted or not answered, or memory runs out.
+    fn serve(&mut self, alloc: Global, body: String) -> Result<u64>;
+}
+
+/// Connects the sessions from `first` to `last`, and returns the number of events that they get.
+///
+/// # Errors
+///
+/// If a request is not served, or memory runs out.
+pub fn connect_all<S: Server>(alloc: Global, server: &mut S, first: u64, last: u64) -> Result<u64> {
+    let mut events = 0u64;
+    for number in first..=last {
+        events = events.saturating_add(server.serve(alloc, connect(alloc, number)?)?);
+    }
+    Ok(events)
+}
 
 /// The load of one thread, in turns.
 ///
@@ -36,12 +62,45 @@ impl Load {
         sessions: 1_000,
     };
 
-    /// Returns the number of the first session of `thread`, counted from 1.
+    // Returns the numbers of the first and the last session of `thread`, counted from 1. The first
+    // one publishes, and the others receive.
+    fn sessions_of(self, thread: u64) -> (u64, u64) {
+        let count = self.sessions.saturating_add(1);
+        let first = thread.saturating_mul(count).saturating_add(1);
+        (first, first.saturating_add(self.sessions))
+    }
+
+    /// Opens the sessions of `thread`, and subscribes those that receive.
     ///
-    /// Each thread has one session that publishes, the first, and `sessions` that receive.
-    pub fn first_of(self, thread: u64) -> u64 {
-        thread
-            .saturating_mul(self.sessions.saturating_add(1))
-            .saturating_add(1)
+    /// # Errors
+    ///
+    /// If a request is not served, or memory runs out.
+    pub fn open<S: Server>(self, alloc: Global, server: &mut S, thread: u64) -> Result<()> {
+        let (first, last) = self.sessions_of(thread);
+        for number in first..=last {
+            server.serve(alloc, handshake(alloc)?)?;
+            if number > first {
+                server.serve(alloc, subscription(alloc, number, thread)?)?;
+            }
+        }
+        Ok(())
+    }
+
+    /// Runs the load of `thread`, and returns the number of events that its connects get.
+    ///
+    /// # Errors
+    ///
+    /// If a request is not served, or memory runs out.
+    pub fn run<S: Server>(self, alloc: Global, server: &mut S, thread: u64) -> Result<u64> {
+        let (first, last) = self.sessions_of(thread);
+        let mut events = 0u64;
+        for _ in 0..self.rounds {
+            for _ in 0..self.publishes {
+                server.serve(alloc, publish(alloc, first, thread)?)?;
+            }
+            let given = connect_all(alloc, server, first.saturating_add(1), last)?;
+            events = events.saturating_add(given);
+        }
+        Ok(events)
     }
 }

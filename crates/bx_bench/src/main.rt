@@ -18,6 +18,7 @@ mod worlds;
 
 use anyhow::Result;
 use load::Load;
+use rounds::Turns;
 use std::alloc::Global;
 use std::env;
 use std::sync::Wait;
@@ -91,30 +92,22 @@ fn main(rt: HostRuntime) -> Result<()> {
 // Runs the workload `name` and returns its total, or returns 0 if there is no such workload.
 fn run<R: Threads + Wait + Sync>(rt: &R, alloc: Global, name: &str) -> Result<usize> {
     match name.split_once('-').map_or(name, |parts| parts.0) {
-        "check" | "cut" => cuts(alloc, name),
-        "value" | "item" | "take" => texts(alloc, name),
-        "sessions" => deliveries(alloc, name),
-        "tree" | "plain" => finds(alloc, name),
-        "registry" => plans(alloc, name),
-        "world" => serves(alloc, name),
-        "round" | "waiting" => runs(rt, alloc, name),
-        "hub" | "tick" => asks(rt, alloc, name),
+        "check" | "cut" | "value" | "item" | "take" => run_texts(alloc, name),
+        "sessions" | "registry" => run_sessions(alloc, name),
+        "tree" | "plain" => run_finds(alloc, name),
+        "world" => run_worlds(alloc, name),
+        "round" | "waiting" => run_rounds(rt, alloc, name),
+        "hub" | "tick" => run_hubs(rt, alloc, name),
         _ => Ok(0),
     }
 }
 
-fn cuts(alloc: Global, name: &str) -> Result<usize> {
+fn run_texts(alloc: Global, name: &str) -> Result<usize> {
     match name {
         "check-many" => workloads::check(alloc, inputs::many(alloc)?.as_slice()),
         "cut-many" => workloads::cut(alloc, inputs::many(alloc)?.as_slice()),
         "check-one" => workloads::check(alloc, inputs::one(alloc)?.as_slice()),
         "cut-one" => workloads::cut(alloc, inputs::one(alloc)?.as_slice()),
-        _ => Ok(0),
-    }
-}
-
-fn texts(alloc: Global, name: &str) -> Result<usize> {
-    match name {
         "value-texts" => workloads::value_texts(alloc),
         "item-texts" => workloads::item_texts(alloc),
         "take-plain" => transports::plain(alloc),
@@ -123,22 +116,26 @@ fn texts(alloc: Global, name: &str) -> Result<usize> {
     }
 }
 
-fn deliveries(alloc: Global, name: &str) -> Result<usize> {
+fn run_sessions(alloc: Global, name: &str) -> Result<usize> {
     match name {
         "sessions-open" => sessions::open(alloc),
         "sessions-wait" => sessions::wait(alloc),
         "sessions-batches" => sessions::batches(alloc),
         "sessions-holds" => sessions::holds(alloc),
+        "registry-open" => registry::open(alloc),
+        "registry-publish" => registry::publish(alloc, 1),
+        "registry-hundreds" => registry::publish(alloc, 100),
+        "registry-tick" => registry::tick(alloc),
         _ => Ok(0),
     }
 }
 
-fn finds(alloc: Global, name: &str) -> Result<usize> {
+fn run_finds(alloc: Global, name: &str) -> Result<usize> {
     match name {
         "tree-build" => tree::build(alloc),
-        "tree-find" => tree::find(alloc),
+        "tree-find" => tree::find(alloc, 250_000),
         "plain-build" => tree::plain_build(alloc),
-        "plain-find" => tree::plain_find(alloc),
+        "plain-find" => tree::plain_find(alloc, 25),
         "tree-100" => tree::grown(alloc, 100, 1_000_000),
         "tree-100000" => tree::grown(alloc, 100_000, 1_000_000),
         "tree-100000-build" => tree::grown(alloc, 100_000, 0),
@@ -146,24 +143,14 @@ fn finds(alloc: Global, name: &str) -> Result<usize> {
     }
 }
 
-fn plans(alloc: Global, name: &str) -> Result<usize> {
+fn run_worlds(alloc: Global, name: &str) -> Result<usize> {
     match name {
-        "registry-open" => registry::open(alloc),
-        "registry-publish" => registry::publish(alloc),
-        "registry-hundreds" => registry::publish_hundreds(alloc),
-        "registry-tick" => registry::tick(alloc),
-        _ => Ok(0),
-    }
-}
-
-fn serves(alloc: Global, name: &str) -> Result<usize> {
-    match name {
-        "world-1-open" => worlds::opened(alloc, 1),
-        "world-1" => worlds::run(alloc, 1),
-        "world-4-open" => worlds::opened(alloc, 4),
-        "world-4" => worlds::run(alloc, 4),
-        "world-64-open" => worlds::opened(alloc, 64),
-        "world-64" => worlds::run(alloc, 64),
+        "world-1-open" => worlds::run(alloc, 1, 0),
+        "world-1" => worlds::run(alloc, 1, 10),
+        "world-4-open" => worlds::run(alloc, 4, 0),
+        "world-4" => worlds::run(alloc, 4, 10),
+        "world-64-open" => worlds::run(alloc, 64, 0),
+        "world-64" => worlds::run(alloc, 64, 10),
         "world-4-0" => worlds::posts(alloc, 4, Load::NONE),
         "world-4-10" => worlds::posts(alloc, 4, Load::TEN),
         "world-4-1000" => worlds::posts(alloc, 4, Load::THOUSAND),
@@ -172,20 +159,20 @@ fn serves(alloc: Global, name: &str) -> Result<usize> {
     }
 }
 
-fn runs<R: Threads + Sync>(rt: &R, alloc: Global, name: &str) -> Result<usize> {
+fn run_rounds<R: Threads + Sync>(rt: &R, alloc: Global, name: &str) -> Result<usize> {
     match name {
-        "round-1-open" => rounds::opened(rt, alloc, 1),
-        "round-1" => rounds::run(rt, alloc, 1),
-        "round-2" => rounds::run(rt, alloc, 2),
-        "round-4" => rounds::run(rt, alloc, 4),
-        "waiting-1" => rounds::waiting(rt, alloc, 1),
-        "waiting-2" => rounds::waiting(rt, alloc, 2),
-        "waiting-4" => rounds::waiting(rt, alloc, 4),
+        "round-1-open" => rounds::run(rt, alloc, 1, Turns::NONE),
+        "round-1" => rounds::run(rt, alloc, 1, Turns::CONNECTING),
+        "round-2" => rounds::run(rt, alloc, 2, Turns::CONNECTING),
+        "round-4" => rounds::run(rt, alloc, 4, Turns::CONNECTING),
+        "waiting-1" => rounds::run(rt, alloc, 1, Turns::WAITING),
+        "waiting-2" => rounds::run(rt, alloc, 2, Turns::WAITING),
+        "waiting-4" => rounds::run(rt, alloc, 4, Turns::WAITING),
         _ => Ok(0),
     }
 }
 
-fn asks<R: Threads + Wait + Sync>(rt: &R, alloc: Global, name: &str) -> Result<usize> {
+fn run_hubs<R: Threads + Wait + Sync>(rt: &R, alloc: Global, name: &str) -> Result<usize> {
     match name {
         "hub-1-4-0" => hubs::posts(rt, alloc, 1, 4, Load::NONE),
         "hub-1-4-10" => hubs::posts(rt, alloc, 1, 4, Load::TEN),

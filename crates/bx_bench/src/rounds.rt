@@ -2,7 +2,7 @@
 //!
 //! The rounds are never dropped: a server would continue to run, and the time that one thread needs
 //! to drop a round would distort the result.
-use crate::bodies::{HANDSHAKE, arrival, connect};
+use crate::bodies::{arrival, connect, opening};
 use anyhow::{Result, anyhow};
 use bx_advice::{Config, WorkerCount};
 use bx_entry::{ByRemainder, Input};
@@ -21,24 +21,38 @@ const SESSIONS: u64 = 10_000;
 // patterns, so a publish reaches 1,000 sessions.
 const ROOMS: u64 = 10;
 
-const TURNS: u64 = 10;
-
 // Number of publishes to each room in a turn.
 const PUBLISHES: u64 = 50;
-
-// After this number of turns, 1,000 events wait for each session, since no session connects.
-const TURNS_OF_WAITING: u64 = 20;
 
 // A limit on the number of inputs that no workload reaches.
 const MOST_INPUTS: usize = 1_000_000_000;
 
-// Creates a body with a handshake that opens session `number`, and with its subscription.
-fn open(alloc: Global, number: u64) -> Result<String> {
-    let hello = HANDSHAKE;
-    let room = number % ROOMS;
-    Ok(format!(in alloc;
-        "[{hello},{{\"channel\":\"/meta/subscribe\",\"clientId\":\"{number:048x}\",\"subscription\":[\"/room/{room}/*\",\"/room/{room}/**\"]}}]"
-    )?)
+/// The turns of a workload. In each, 500 publishes are made, a request each, to ten rooms.
+#[derive(Clone, Copy, Debug)]
+pub struct Turns {
+    count: u64,
+    // Whether every session connects at the end of a turn, and gets its events.
+    connect: bool,
+}
+
+impl Turns {
+    /// No turns: the workload only opens the sessions.
+    pub const NONE: Turns = Turns {
+        count: 0,
+        connect: false,
+    };
+
+    /// Ten turns. After each, every session connects and gets its events.
+    pub const CONNECTING: Turns = Turns {
+        count: 10,
+        connect: true,
+    };
+
+    /// Twenty turns. Then 1,000 events wait for each session, since no session connects.
+    pub const WAITING: Turns = Turns {
+        count: 20,
+        connect: false,
+    };
 }
 
 fn publish(alloc: Global, room: u64) -> Result<String> {
@@ -52,7 +66,10 @@ fn publish(alloc: Global, room: u64) -> Result<String> {
 fn openings(alloc: Global) -> Result<Vec<Input>> {
     let mut inputs = Vec::new(alloc);
     for number in 1..=SESSIONS {
-        inputs.push(Input::Post(arrival(open(alloc, number)?)))?;
+        let room = number % ROOMS;
+        let patterns = format!(in alloc; "[\"/room/{room}/*\",\"/room/{room}/**\"]")?;
+        let body = opening(alloc, number, patterns.as_str())?;
+        inputs.push(Input::Post(arrival(body)))?;
     }
     Ok(inputs)
 }
@@ -68,10 +85,11 @@ fn publishes(alloc: Global) -> Result<Vec<Input>> {
     Ok(inputs)
 }
 
-// Creates a request for each session, with its connect.
-fn connects(alloc: Global) -> Result<Vec<Input>> {
+// Creates a request for each session that connects in `turns`, with its connect.
+fn connects(alloc: Global, turns: Turns) -> Result<Vec<Input>> {
     let mut inputs = Vec::new(alloc);
-    for number in 1..=SESSIONS {
+    let sessions = if turns.connect { SESSIONS } else { 0 };
+    for number in 1..=sessions {
         inputs.push(Input::Post(arrival(connect(alloc, number)?)))?;
     }
     Ok(inputs)
@@ -106,39 +124,21 @@ fn new_round(alloc: Global, workers: usize) -> Result<Round<ByRemainder>> {
     Ok(Round::new(alloc, config, placing, workers)?)
 }
 
-/// Opens 10,000 sessions, each subscribed to one of ten rooms by two patterns.
+/// Opens 10,000 sessions, each subscribed to one of ten rooms by two patterns, and runs `turns`.
 ///
-/// Returns the number of items in all responses.
+/// Each publish reaches 1,000 sessions. Returns the number of items in all responses.
 ///
 /// # Errors
 ///
 /// If `workers` is not 1 to 16, or memory runs out.
-pub fn opened<R: Threads + Sync>(rt: &R, alloc: Global, workers: usize) -> Result<usize> {
-    let mut round = new_round(alloc, workers)?;
-    let items = open_all(rt, alloc, &mut round);
-    mem::forget(round);
-    items
-}
-
-fn open_all<R: Threads + Sync>(
+pub fn run<R: Threads + Sync>(
     rt: &R,
     alloc: Global,
-    round: &mut Round<ByRemainder>,
+    workers: usize,
+    turns: Turns,
 ) -> Result<usize> {
-    serve(rt, alloc, round, &openings(alloc)?)
-}
-
-/// Opens the sessions as [`opened`], and makes 5,000 publishes, a request each, in ten turns.
-///
-/// Each publish reaches 1,000 sessions. After each turn, every session connects and gets its
-/// events. Returns the number of items in all responses.
-///
-/// # Errors
-///
-/// If `workers` is not 1 to 16, or memory runs out.
-pub fn run<R: Threads + Sync>(rt: &R, alloc: Global, workers: usize) -> Result<usize> {
     let mut round = new_round(alloc, workers)?;
-    let items = run_in(rt, alloc, &mut round);
+    let items = run_in(rt, alloc, &mut round, turns);
     mem::forget(round);
     items
 }
@@ -147,55 +147,16 @@ fn run_in<R: Threads + Sync>(
     rt: &R,
     alloc: Global,
     round: &mut Round<ByRemainder>,
+    turns: Turns,
 ) -> Result<usize> {
-    let items = open_all(rt, alloc, round)?;
+    let mut items = serve(rt, alloc, round, &openings(alloc)?)?;
     let publishes = publishes(alloc)?;
-    let connects = connects(alloc)?;
-    let more = serve_in_turns(rt, alloc, round, &publishes, &connects)?;
-    Ok(items.wrapping_add(more))
-}
-
-// Runs the publishes and then the connects, `TURNS` times. Returns the number of items in all
-// responses.
-fn serve_in_turns<R: Threads + Sync>(
-    rt: &R,
-    alloc: Global,
-    round: &mut Round<ByRemainder>,
-    publishes: &[Input],
-    connects: &[Input],
-) -> Result<usize> {
-    let mut items = 0usize;
-    for _ in 0..TURNS {
-        items = items.wrapping_add(serve(rt, alloc, round, publishes)?);
-        items = items.wrapping_add(serve(rt, alloc, round, connects)?);
-    }
-    Ok(items)
-}
-
-/// Opens the sessions as [`opened`], and makes 10,000 publishes, a request each.
-///
-/// Each publish reaches 1,000 sessions. The events wait, since no session connects. Returns the
-/// number of items in all responses.
-///
-/// # Errors
-///
-/// If `workers` is not 1 to 16, or memory runs out.
-pub fn waiting<R: Threads + Sync>(rt: &R, alloc: Global, workers: usize) -> Result<usize> {
-    let mut round = new_round(alloc, workers)?;
-    let items = wait_in(rt, alloc, &mut round);
-    mem::forget(round);
-    items
-}
-
-fn wait_in<R: Threads + Sync>(
-    rt: &R,
-    alloc: Global,
-    round: &mut Round<ByRemainder>,
-) -> Result<usize> {
-    let mut items = open_all(rt, alloc, round)?;
-    let publishes = publishes(alloc)?;
-    for _ in 0..TURNS_OF_WAITING {
+    let connects = connects(alloc, turns)?;
+    for _ in 0..turns.count {
         items = items.wrapping_add(serve(rt, alloc, round, &publishes)?);
+        if turns.connect {
+            items = items.wrapping_add(serve(rt, alloc, round, &connects)?);
+        }
     }
     Ok(items)
 }

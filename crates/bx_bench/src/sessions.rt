@@ -68,10 +68,7 @@ impl Setting {
         let connect = PendingConnect::new(alloc, number, &self.client, None, 0, hold)?;
         let connection = session.connect(alloc, &self.config, connect, Some(number))?;
         let ConnectResult { answered, .. } = connection;
-        match answered {
-            Some(answered) => Ok(answered.answer.events.len() as u64),
-            None => Ok(0),
-        }
+        Ok(answered.map_or(0, |answered| answered.answer.events.len() as u64))
     }
 }
 

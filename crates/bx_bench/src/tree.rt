@@ -14,9 +14,14 @@ const STOCKS: u64 = 5_000;
 // channels, and one for its room.
 const STOCKS_OF_ONE: u64 = 7;
 
-const TREE_FINDS: u64 = 1_000_000;
-
-const PLAIN_FINDS: u64 = 100;
+// The names to look up. A stock has 14 subscribers, a room ten, a user's channel one, and the last
+// name none.
+const NAMES: [&str; 4] = [
+    "/stock/4711",
+    "/room/17/talk",
+    "/user/4711/inbox",
+    "/nobody/asks/for/this",
+];
 
 /// Builds the tree of 10,000 sessions with ten patterns each.
 ///
@@ -30,26 +35,23 @@ pub fn build(alloc: Global) -> Result<usize> {
     put_all(alloc, &mut tree)
 }
 
-/// Builds the tree of 10,000 sessions with ten patterns each, and looks up 1,000,000 names in it.
+/// Builds the tree of 10,000 sessions with ten patterns each, and looks up each name `times` times.
 ///
 /// Returns the number of sessions found in all look-ups.
 ///
 /// # Errors
 ///
 /// If memory runs out.
-pub fn find(alloc: Global) -> Result<usize> {
+pub fn find(alloc: Global, times: u64) -> Result<usize> {
     let mut tree = Tree::new(alloc);
-    put_and_find(alloc, &mut tree)
+    put_all(alloc, &mut tree)?;
+    find_all(alloc, &tree, &names(alloc, &NAMES)?, times)
 }
 
-fn put_and_find(alloc: Global, tree: &mut Tree) -> Result<usize> {
-    put_all(alloc, tree)?;
-    find_all(alloc, tree, &names(alloc)?)
-}
-
-fn find_all(alloc: Global, tree: &Tree, names: &[ChannelName]) -> Result<usize> {
+// Looks up each of `names` `times` times, and returns the number of sessions found in all.
+fn find_all(alloc: Global, tree: &Tree, names: &[ChannelName], times: u64) -> Result<usize> {
     let mut total = 0usize;
-    for _ in 0..TREE_FINDS / NAMES {
+    for _ in 0..times {
         for name in names {
             total = total.saturating_add(tree.nodes().find(alloc, name)?.numbers.len());
         }
@@ -66,27 +68,23 @@ pub fn plain_build(alloc: Global) -> Result<usize> {
     Ok(pairs(alloc)?.len())
 }
 
-/// Builds a list of the patterns of 10,000 sessions, ten each, and compares 100 names with them
-/// all.
+/// Builds a list of the patterns of 10,000 sessions, ten each, and compares names with them all.
 ///
-/// Returns the number of matches.
+/// Each name is compared `times` times. Returns the number of matches.
 ///
 /// # Errors
 ///
 /// If memory runs out.
-pub fn plain_find(alloc: Global) -> Result<usize> {
-    Ok(find_plainly(&pairs(alloc)?, &names(alloc)?))
-}
-
-fn find_plainly(pairs: &[(u64, Pattern)], names: &[ChannelName]) -> usize {
+pub fn plain_find(alloc: Global, times: u64) -> Result<usize> {
+    let (pairs, names) = (pairs(alloc)?, names(alloc, &NAMES)?);
     let mut total = 0usize;
-    for _ in 0..PLAIN_FINDS / NAMES {
-        for name in names {
+    for _ in 0..times {
+        for name in &names {
             let found = pairs.iter().filter(|pair| matches(&pair.1, name)).count();
             total = total.saturating_add(found);
         }
     }
-    total
+    Ok(total)
 }
 
 /// Builds a tree of `sessions` sessions with a pattern each, and looks up a name `finds` times.
@@ -98,54 +96,28 @@ fn find_plainly(pairs: &[(u64, Pattern)], names: &[ChannelName]) -> usize {
 /// If memory runs out.
 pub fn grown(alloc: Global, sessions: u64, finds: u64) -> Result<usize> {
     let mut tree = Tree::new(alloc);
-    grow_and_find(alloc, &mut tree, sessions, finds)
-}
-
-fn grow_and_find(alloc: Global, tree: &mut Tree, sessions: u64, finds: u64) -> Result<usize> {
     for number in 0..sessions {
         tree.add(alloc, &pattern(alloc, "/x/", number, "")?, number)?;
     }
-    find_one(alloc, tree, &name(alloc, "/x/7")?, finds)
+    find_all(alloc, &tree, &names(alloc, &["/x/7"])?, finds)
 }
 
-fn find_one(alloc: Global, tree: &Tree, name: &ChannelName, finds: u64) -> Result<usize> {
-    let mut total = 0usize;
-    for _ in 0..finds {
-        total = total.saturating_add(tree.nodes().find(alloc, name)?.numbers.len());
-    }
-    Ok(total)
-}
-
-const NAMES: u64 = 4;
-
-// Creates the names to look up. A stock has 14 subscribers, a room ten, a user's channel one, and
-// the last name none.
-fn names(alloc: Global) -> Result<Vec<ChannelName>> {
+fn names(alloc: Global, texts: &[&str]) -> Result<Vec<ChannelName>> {
     let mut names = Vec::new(alloc);
-    names.push(name(alloc, "/stock/4711")?)?;
-    names.push(name(alloc, "/room/17/talk")?)?;
-    names.push(name(alloc, "/user/4711/inbox")?)?;
-    names.push(name(alloc, "/nobody/asks/for/this")?)?;
+    for text in texts {
+        names.push(ChannelName::read(alloc, *text)?)?;
+    }
     Ok(names)
-}
-
-fn name(alloc: Global, text: &str) -> Result<ChannelName> {
-    Ok(ChannelName::read(alloc, text)?)
 }
 
 // Adds the patterns of all sessions to `tree`, and returns how many the first session has.
 fn put_all(alloc: Global, tree: &mut Tree) -> Result<usize> {
     for number in 0..SESSIONS {
-        put(alloc, tree, number, &patterns(alloc, number)?)?;
+        for pattern in patterns(alloc, number)? {
+            tree.add(alloc, &pattern, number)?;
+        }
     }
     Ok(tree.count(0))
-}
-
-fn put(alloc: Global, tree: &mut Tree, number: u64, patterns: &[Pattern]) -> Result<()> {
-    for pattern in patterns {
-        tree.add(alloc, pattern, number)?;
-    }
-    Ok(())
 }
 
 fn pairs(alloc: Global) -> Result<Vec<(u64, Pattern)>> {

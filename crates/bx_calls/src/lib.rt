@@ -5,6 +5,7 @@
 //! Functions with `rt` take locks and wake tasks as [`Hub::post`] and [`Hub::poll_answer`] do.
 #![tactic(auto)]
 
+mod hubs;
 mod tasks;
 pub mod texts;
 mod ticker;
@@ -14,10 +15,11 @@ use bx_entry::{Access, Arrival, ByTable, Slot, Ticket};
 use bx_hub::{Hub, HubFault, HubKind, Pass, PostFault, Tick};
 use bx_message::{Answer, Event, Item, RawJson, SharedEvent, Text, body_text};
 use bx_names::ChannelName;
+pub use hubs::{HubWork, Stage, config_of, work_in_hub, work_in_open_hub};
 use std::alloc::{AllocError, Global};
 use std::sync::Wait;
 pub use tasks::{Task, Tasks, waker_of};
-use texts::{CONNECT, HANDSHAKE, PING, PUBLISH, SUBSCRIBE};
+use texts::{CONNECT, HANDSHAKE, PING, SUBSCRIBE};
 pub use ticker::{Taken, Ticker};
 
 /// What a poll finds for a ticket.
@@ -200,28 +202,6 @@ pub fn find<L: HubKind, H: Wait + Drop, R: Wait>(
     }
 }
 
-/// Polls for the answer under `ticket`, and returns its number of events plus 1.
-///
-/// Returns 0 if no answer is filed.
-///
-/// # Errors
-///
-/// [`Refused`] if the poll fails.
-pub fn poll<L: HubKind, H: Wait + Drop, R: Wait>(
-    rt: &R,
-    alloc: Global,
-    hub: &Hub<L, H>,
-    pass: &mut Pass<L>,
-    ticket: Ticket,
-) -> Result<usize, Refused> {
-    let (polled, _unfiled) = hub.poll_answer(rt, alloc, pass, ticket);
-    match polled {
-        Ok(Some(answer)) => Ok(answer.events.len() + 1),
-        Ok(None) => Ok(0),
-        Err(_) => Err(Refused),
-    }
-}
-
 /// Returns the number of shards for [`in_turn`]: 2 if `home` is below 2, otherwise 5.
 pub fn shards_for(home: usize) -> usize {
     if home < 2 { 2 } else { 5 }
@@ -242,6 +222,24 @@ pub fn in_turn(alloc: Global, home: usize) -> Result<ByTable, AllocError> {
     }
 }
 
+/// Posts each of `bodies`.
+///
+/// # Errors
+///
+/// [`Refused`] if a post fails.
+pub fn post_all<L: HubKind, H: Wait + Drop, R: Wait>(
+    rt: &R,
+    alloc: Global,
+    hub: &Hub<L, H>,
+    pass: &mut Pass<L>,
+    bodies: &[&str],
+) -> Result<(), Refused> {
+    for body in bodies {
+        post(rt, alloc, hub, pass, *body)?;
+    }
+    Ok(())
+}
+
 /// Opens and subscribes the first session, and returns the ticket of its held connect.
 ///
 /// # Errors
@@ -253,24 +251,7 @@ pub fn hold<L: HubKind, H: Wait + Drop, R: Wait>(
     hub: &Hub<L, H>,
     pass: &mut Pass<L>,
 ) -> Result<Ticket, Refused> {
-    post(rt, alloc, hub, pass, HANDSHAKE)?;
-    post(rt, alloc, hub, pass, SUBSCRIBE)?;
+    post_all(rt, alloc, hub, pass, &[HANDSHAKE, SUBSCRIBE])?;
     let (_, ticket) = post(rt, alloc, hub, pass, CONNECT)?;
     ticket.ok_or(Refused)
-}
-
-/// Opens the second session and posts [`PUBLISH`].
-///
-/// # Errors
-///
-/// [`Refused`] if a post fails.
-pub fn publish<L: HubKind, H: Wait + Drop, R: Wait>(
-    rt: &R,
-    alloc: Global,
-    hub: &Hub<L, H>,
-    pass: &mut Pass<L>,
-) -> Result<(), Refused> {
-    post(rt, alloc, hub, pass, HANDSHAKE)?;
-    post(rt, alloc, hub, pass, PUBLISH)?;
-    Ok(())
 }

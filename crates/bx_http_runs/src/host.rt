@@ -17,19 +17,24 @@ use std::alloc::{AllocError, Global};
 // The greatest number of polls of a task that wakes itself.
 const POLLS: u32 = 100;
 
-/// A service, and the tasks that serve its connections.
+/// The HTTP settings of all connections, and the tasks that serve them.
+#[derive(Drop)]
+pub struct Tools {
+    pub http: http1::Builder,
+    /// The task that serves connections which must end without a wait.
+    pub task: MockTask,
+    /// The task that serves a connection which must first wait.
+    pub waiting: MockTask,
+}
+
+/// A service, and what serves its connections.
 #[derive(Drop)]
 pub struct Host<'a, S> {
     /// The allocator of all connections.
     pub alloc: Global,
     /// The service, which each connection clones.
     pub service: &'a S,
-    /// The HTTP settings of all connections.
-    pub http: &'a http1::Builder,
-    /// The task that serves connections which must end without a wait.
-    pub task: &'a MockTask,
-    /// The task that serves a connection which must first wait.
-    pub waiting: &'a MockTask,
+    pub tools: &'a Tools,
 }
 
 impl<S, E> Host<'_, S>
@@ -46,14 +51,10 @@ where
         requires { (each : S) → S.can_call each }
     {
         let service = self.service.clone()?;
-        let mut connection = self.http.serve_connection(wire, service);
-        let is_over = ends(self.task, &mut connection);
+        let mut connection = self.tools.http.serve_connection(wire, service);
+        let is_over = ends(&self.tools.task, &mut connection);
         let written = connection.into_parts().io.into_written();
-        if is_over {
-            Ok(written)
-        } else {
-            Err(anyhow!("it waits"))
-        }
+        is_over.then_some(written).ok_or(anyhow!("it waits"))
     }
 
     /// Serves `wire` until it ends, and posts `body` on another connection while `wire` waits.
@@ -68,13 +69,11 @@ where
         requires { (each : S) → S.can_call each }
     {
         let service = self.service.clone()?;
-        let mut connection = self.http.serve_connection(wire, service);
+        let mut connection = self.tools.http.serve_connection(wire, service);
         let done = self.post_while(&mut connection, body, text);
         let written = connection.into_parts().io.into_written();
-        match done {
-            Ok(()) => Ok(written),
-            Err(error) => Err(error),
-        }
+        done?;
+        Ok(written)
     }
 
     fn post_while<F>(&self, held: &mut F, body: &str, text: &mut String) -> Result<()>
@@ -84,15 +83,12 @@ where
         requires service { (each : S) → S.can_call each }
         requires held { F.can_poll held.old }
     {
-        if ends(self.waiting, held) {
+        if ends(&self.tools.waiting, held) {
             return Err(anyhow!("it does not wait"));
         }
         self.post(body, text)?;
-        if ends(self.waiting, held) {
-            Ok(())
-        } else {
-            Err(anyhow!("it waits"))
-        }
+        let is_over = ends(&self.tools.waiting, held);
+        is_over.then_some(()).ok_or(anyhow!("it waits"))
     }
 
     /// Posts `body` on its own connection, and appends what the server wrote to `text`.
@@ -150,18 +146,9 @@ pub fn post(alloc: Global, body: &str) -> Result<String, AllocError> {
 /// `AllocError` if memory runs out. Some of the lines may then be appended.
 pub fn add_written(text: &mut String, alloc: Global, written: &[u8]) -> Result<(), AllocError> {
     let written = String::from_utf8_lossy(alloc, written)?;
-    add_lines(text, written.as_str())
-}
-
-fn add_lines(text: &mut String, lines: &str) -> Result<(), AllocError> {
-    for line in lines.lines() {
-        add_line(text, line)?;
+    for line in written.as_str().lines() {
+        text.push_str(line)?;
+        text.push_str("\n")?;
     }
-    Ok(())
-}
-
-fn add_line(text: &mut String, line: &str) -> Result<(), AllocError> {
-    text.push_str(line)?;
-    text.push_str("\n")?;
     Ok(())
 }

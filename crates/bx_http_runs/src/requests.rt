@@ -71,13 +71,10 @@ fn entries<L: HubKind, H: Wait + Drop, R: Wait>(
 
 // Returns the body of the response `written`. Fails if `written` has no end of a response's head.
 fn body_of(alloc: Global, written: &[u8]) -> Result<String> {
-    match String::from_utf8_lossy(alloc, written)?
-        .as_str()
-        .split_once("\r\n\r\n")
-    {
-        Some((_, body)) => Ok(String::from_str(alloc, body)?),
-        None => Err(anyhow!("no response")),
-    }
+    let written = String::from_utf8_lossy(alloc, written)?;
+    let parts = written.as_str().split_once("\r\n\r\n");
+    let (_, body) = parts.ok_or(anyhow!("no response"))?;
+    Ok(String::from_str(alloc, body)?)
 }
 
 impl<S, E> Host<'_, S>
@@ -85,35 +82,48 @@ where
     S: Service<Request<Incoming<Wire>>, Response = Response<Pieces<Bytes>>, Error = E> + Clone,
     E: Into<anyhow::Error> + Drop,
 {
-    /// Sends each proper prefix of a handshake, starting with the empty one, and then all of it.
-    ///
-    /// Returns a text with the number of prefixes after which the hub's list was empty, the body of
-    /// the response to the whole handshake, and the number of entries in the list at the end.
+    /// Sends all requests, closing the hub before the last, and returns the text to print.
     ///
     /// # Errors
     ///
-    /// If memory runs out, the hub rejects a request, or the handshake is not answered.
+    /// If memory runs out or a response is missing.
     ///
     /// # Blocking
     ///
-    /// Locks as [`Hub::post`] does.
-    pub fn posts<L: HubKind, H: Wait + Drop, R: Wait>(
+    /// Locks as [`Hub::post`] and [`Hub::close`] do.
+    pub fn serve_all<L: HubKind, H: Wait + Drop, R: Wait>(
         &self,
         rt: &R,
         hub: &Hub<L, H>,
     ) -> Result<String>
         requires { (each : S) → S.can_call each }
     {
+        let mut text = self.posts(rt, hub)?;
+        self.add_forms(&mut text)?;
+        self.add_held(&mut text)?;
+        hub.close(rt);
+        text.push_str("\na request without messages to a closed hub\n")?;
+        self.post("[]", &mut text)?;
+        Ok(text)
+    }
+
+    // Sends each proper prefix of a handshake, starting with the empty one, and then all of it.
+    // Returns a text with the number of prefixes after which the hub's list was empty, the body of
+    // the response to the whole handshake, and the number of entries in the list at the end.
+    fn posts<L: HubKind, H: Wait + Drop, R: Wait>(&self, rt: &R, hub: &Hub<L, H>) -> Result<String>
+        requires { (each : S) → S.can_call each }
+    {
         let alloc = self.alloc;
         let post = post(alloc, HANDSHAKE)?;
         let empty = self.empty_behind(rt, hub, post.as_bytes())?;
-        let body = self.body_for(post.as_bytes())?;
+        let wire = Wire::new(alloc, post.as_bytes(), b"")?;
+        let body = body_of(alloc, self.serve(wire)?.as_slice())?;
         let entries = entries(rt, alloc, hub)?;
         Ok(format!(in alloc; "empty behind {empty}\n{body}\n{entries} entries\n")?)
     }
 
-    // Sends each proper prefix of `bytes` on its own connection. Returns the number of prefixes
-    // after which the hub's list was empty.
+    // Sends each proper prefix of `bytes` on its own connection, and drops the response or error.
+    // Returns the number of prefixes after which the hub's list was empty.
     fn empty_behind<L: HubKind, H: Wait + Drop, R: Wait>(
         &self,
         rt: &R,
@@ -124,7 +134,8 @@ where
     {
         let mut empty = 0usize;
         for count in 0..bytes.len() {
-            self.break_off(&bytes[..count])?;
+            let wire = Wire::new(self.alloc, &bytes[..count], b"")?;
+            let _ = self.serve(wire);
             if entries(rt, self.alloc, hub)? == 0 {
                 empty = empty.saturating_add(1);
             }
@@ -132,37 +143,13 @@ where
         Ok(empty)
     }
 
-    // Serves a connection that ends after `bytes`, and drops what the server writes or why it
-    // fails.
-    fn break_off(&self, bytes: &[u8]) -> Result<(), AllocError>
-        requires { (each : S) → S.can_call each }
-    {
-        let wire = Wire::new(self.alloc, bytes, b"")?;
-        let _ = self.serve(wire);
-        Ok(())
-    }
-
-    // Serves a connection that ends after `bytes`, and returns the body of the response.
-    fn body_for(&self, bytes: &[u8]) -> Result<String>
-        requires { (each : S) → S.can_call each }
-    {
-        let wire = Wire::new(self.alloc, bytes, b"")?;
-        body_of(self.alloc, self.serve(wire)?.as_slice())
-    }
-
-    /// Serves each request of `FORMS`, and appends its name and what the server wrote to `text`.
-    ///
-    /// # Errors
-    ///
-    /// If memory runs out or a connection does not end.
-    pub fn add_forms(&self, text: &mut String) -> Result<()>
+    // Serves each request of `FORMS`, and appends its name and what the server wrote to `text`.
+    fn add_forms(&self, text: &mut String) -> Result<()>
         requires { (each : S) → S.can_call each }
     {
         for form in &FORMS {
             let (name, bytes) = form.split_once(": ").ok_or(anyhow!("no name"))?;
-            text.push_str("\na request ")?;
-            text.push_str(name)?;
-            text.push_str("\n")?;
+            text.push_str(format!(in self.alloc; "\na request {name}\n")?.as_str())?;
             self.add_form(bytes, text)?;
         }
         Ok(())
@@ -181,22 +168,16 @@ where
         Ok(())
     }
 
-    /// Publishes to a session while its connect is held, with another request after the connect.
-    ///
-    /// Appends what the server wrote to `text`. The reply to the publish, which has its own
-    /// connection, comes before the answer to the connect, because the connect waits for the
-    /// publish.
-    ///
-    /// # Errors
-    ///
-    /// If memory runs out, the connect is not held, or a connection does not end.
-    pub fn add_held(&self, text: &mut String) -> Result<()>
+    // Publishes to a session while its connect is held, with another request after the connect.
+    // Appends what the server wrote to `text`. The reply to the publish, which has its own
+    // connection, comes before the answer to the connect, because the connect waits for the
+    // publish.
+    fn add_held(&self, text: &mut String) -> Result<()>
         requires { (each : S) → S.can_call each }
     {
         text.push_str("\na session opens and subscribes\n")?;
-        for body in [HANDSHAKE, SUBSCRIBE_OTHER] {
-            self.post(body, text)?;
-        }
+        self.post(HANDSHAKE, text)?;
+        self.post(SUBSCRIBE_OTHER, text)?;
         text.push_str("\nwhile its connect is held, it publishes\n")?;
         let mut both = post(self.alloc, CONNECT_OTHER)?;
         both.push_str(post(self.alloc, "[]")?.as_str())?;

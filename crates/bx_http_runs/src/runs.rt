@@ -1,25 +1,14 @@
 //! A hub of two shards, served over connections in memory.
-ghost use Rattle.std.specs.Prelude.{◌≡◌};
-ghost use Rattle.bx_entry.specs.Placings.{by_remainder};
-
-use crate::host::Host;
-use crate::wire::Wire;
+use crate::host::{Host, Tools};
 use anyhow::{Result, anyhow};
-use bx_advice::Config;
-use bx_entry::{Access, ByRemainder};
-use bx_hub::{Hub, HubKind, Kind, OpenGate};
-use bx_pieces::Pieces;
+use bx_calls::{HubWork, Stage, config_of, work_in_open_hub};
+use bx_entry::Access;
+use bx_hub::HubKind;
 use bx_service::{BayeuxService, Clock, HubBackend, Nonces};
-use bx_window::{EmptyWindow, LogId};
-use bytes::Bytes;
 use futures::test::MockTask;
-use http::{Request, Response};
-use hyper::body::Incoming;
 use hyper::server::conn::http1;
-use hyper::service::Service;
 use std::alloc::{AllocGlobal, Global};
 use std::hash::RandomState;
-use std::marker::Brand;
 use std::random::RandomSource;
 use std::sync::{Arc, Wait};
 
@@ -53,98 +42,36 @@ where
     R: Wait + RandomSource + AllocGlobal + Copy + Drop,
 {
     let alloc = rt.alloc();
-    let config = Config::new(2, 30_000, 0, 10_000).ok_or(anyhow!("no configuration"))?;
-    let http = http1::Builder::new(alloc, RandomState::new(&rt)?);
-    let placing = Arc::new(alloc, ByRemainder)?;
-    serves::<Brand, R>(rt, alloc, EmptyWindow::new(), config, placing, &http)
-}
-
-fn serves<L, R>(
-    rt: R,
-    alloc: Global,
-    opened: EmptyWindow,
-    config: Config,
-    placing: Arc<ByRemainder, Global>,
-    http: &http1::Builder,
-) -> Result<String>
-where
-    L: LogId,
-    R: Wait + RandomSource + AllocGlobal + Copy + Drop,
-    requires book { opened.seen.book ≡ L.book }
-    requires config { config ≡ L.config }
-    requires placing { by_remainder ≡ L.placing }
-{
-    let hub = Hub::<Kind<L, ByRemainder, OpenGate>, R>::new(
-        alloc, rt, opened, config, placing, OpenGate,
-    )?;
-    serve_hub(rt, alloc, &Arc::new(alloc, hub)?, http)
-}
-
-fn serve_hub<L, R>(
-    rt: R,
-    alloc: Global,
-    hub: &Arc<Hub<L, R>, Global>,
-    http: &http1::Builder,
-) -> Result<String>
-where
-    L: HubKind,
-    R: Wait + RandomSource + AllocGlobal + Copy + Drop,
-{
-    let backend = HubBackend::new(
-        rt,
-        alloc,
-        Arc::try_clone(hub)?,
-        Access::ReadWrite,
-        Still,
-        Zeros,
-    );
-    let service = BayeuxService::new(alloc, backend)?;
-    serve_all(&rt, alloc, hub, &service, http)
-}
-
-// Sends all requests to `service`, and returns the text to print. One task serves the connection
-// that must wait, and another task serves the others.
-fn serve_all<L, S, E, H, R>(
-    rt: &R,
-    alloc: Global,
-    hub: &Hub<L, H>,
-    service: &S,
-    http: &http1::Builder,
-) -> Result<String>
-where
-    L: HubKind,
-    S: Service<Request<Incoming<Wire>>, Response = Response<Pieces<Bytes>>, Error = E> + Clone,
-    E: Into<anyhow::Error> + Drop,
-    H: Wait + Drop,
-    R: Wait + RandomSource + AllocGlobal,
-    requires { (each : S) → S.can_call each }
-{
-    let task = MockTask::new(rt)?;
-    let waiting = MockTask::new(rt)?;
-    let host = Host {
-        alloc,
-        service,
-        http,
-        task: &task,
-        waiting: &waiting,
+    let config = config_of(2).ok_or(anyhow!("no configuration"))?;
+    let tools = Tools {
+        http: http1::Builder::new(alloc, RandomState::new(&rt)?),
+        task: MockTask::new(&rt)?,
+        waiting: MockTask::new(&rt)?,
     };
-    add_all(rt, &host, hub)
+    work_in_open_hub(rt, alloc, config, tools)
 }
 
-fn add_all<L, S, E, H, R>(rt: &R, host: &Host<'_, S>, hub: &Hub<L, H>) -> Result<String>
-where
-    L: HubKind,
-    S: Service<Request<Incoming<Wire>>, Response = Response<Pieces<Bytes>>, Error = E> + Clone,
-    E: Into<anyhow::Error> + Drop,
-    H: Wait + Drop,
-    R: Wait,
-    requires { (each : S) → S.can_call each }
-{
-    let mut text = host.posts(rt, hub)?;
-    host.add_forms(&mut text)?;
-    host.add_held(&mut text)?;
-    hub.close(rt);
-    text.push_str("\na request without messages to a closed hub\n")?;
-    host.post("[]", &mut text)?;
-    Ok(text)
+impl<R: Wait + Copy + Drop> HubWork<R> for Tools {
+    type Value = String;
+
+    type Fault = anyhow::Error;
+
+    fn work<L: HubKind>(self, stage: &Stage<L, R>) -> Result<String> {
+        let (rt, alloc, hub) = (stage.rt, stage.alloc, &stage.hub);
+        let backend = HubBackend::new(
+            rt,
+            alloc,
+            Arc::try_clone(hub)?,
+            Access::ReadWrite,
+            Still,
+            Zeros,
+        );
+        let service = BayeuxService::new(alloc, backend)?;
+        let host = Host {
+            alloc,
+            service: &service,
+            tools: &self,
+        };
+        host.serve_all(&rt, hub)
+    }
 }

@@ -1,8 +1,10 @@
 //! A hub under test, its caller's pass, and two waiting tasks that its gate inspects.
 use crate::same::same;
 use crate::steps::Shown;
-use bx_calls::texts::{CONNECT, CONNECT_THIRD, HANDSHAKE, PING, SUBSCRIBE, SUBSCRIBE_THIRD};
-use bx_calls::{Refused, Task, Tasks, is_of, long_ping, post, publish, waker_of};
+use bx_calls::texts::{
+    CONNECT, CONNECT_THIRD, HANDSHAKE, PING, PUBLISH, SUBSCRIBE, SUBSCRIBE_THIRD,
+};
+use bx_calls::{Found, Refused, Task, Tasks, find, is_of, long_ping, post, post_all, waker_of};
 use bx_entry::{Arrival, ByTable, Ticket};
 use bx_hub::{Gate, Hub, HubKind, Lagging, Pass, PostFault, RecordFront, Watch};
 use bx_record::{Chunk, RecordFault};
@@ -89,7 +91,7 @@ pub fn behind(paused: usize) -> Lagging {
 #[derive(Drop)]
 pub struct Bench<L: HubKind, H: Wait + Drop> {
     pub alloc: Global,
-    pub hub: Hub<L, H>,
+    pub hub: Arc<Hub<L, H>, Global>,
     pub pass: Pass<L>,
     pub waiting: Arc<Waiting, Global>,
     /// The last request that the hub did not admit, until a step posts it again.
@@ -126,11 +128,25 @@ impl<L: HubKind, H: Wait + Drop> Bench<L, H> {
     ///
     /// [`Refused`] if a post fails.
     pub fn hold_two<R: Wait + Abort>(&mut self, rt: &R) -> Result<(), Refused> {
-        for body in [HANDSHAKE, HANDSHAKE, HANDSHAKE, SUBSCRIBE, SUBSCRIBE_THIRD] {
-            post(rt, self.alloc, &self.hub, &mut self.pass, body)?;
-        }
+        let opening = [HANDSHAKE, HANDSHAKE, HANDSHAKE, SUBSCRIBE, SUBSCRIBE_THIRD];
+        post_all(rt, self.alloc, &self.hub, &mut self.pass, &opening)?;
         self.wait(rt, CONNECT, 5)?;
         self.wait(rt, CONNECT_THIRD, 6)
+    }
+
+    /// Opens the second session, which then publishes an event for the first one.
+    ///
+    /// # Errors
+    ///
+    /// [`Refused`] if a post fails.
+    pub fn publish<R: Wait>(&mut self, rt: &R) -> Result<(), Refused> {
+        post_all(
+            rt,
+            self.alloc,
+            &self.hub,
+            &mut self.pass,
+            &[HANDSHAKE, PUBLISH],
+        )
     }
 
     /// Opens the second session, publishes with another pass, and extends `self.pass` to that pass.
@@ -140,7 +156,7 @@ impl<L: HubKind, H: Wait + Drop> Bench<L, H> {
     /// [`Refused`] if a post fails.
     pub fn publish_apart<R: Wait>(&mut self, rt: &R) -> Result<(), Refused> {
         let mut other = self.hub.pass();
-        publish(rt, self.alloc, &self.hub, &mut other)?;
+        post_all(rt, self.alloc, &self.hub, &mut other, &[HANDSHAKE, PUBLISH])?;
         self.pass = self.pass.longer(&other);
         Ok(())
     }
@@ -254,6 +270,21 @@ impl<L: HubKind, H: Wait + Drop> Bench<L, H> {
             Watch::Ready(_) => Ok(Watched::Ready),
             Watch::Shut(_) => Ok(Watched::Shut),
         }
+    }
+
+    /// Polls for the answer under `ticket`, and returns whether it was found and its text is
+    /// `wanted`.
+    ///
+    /// # Errors
+    ///
+    /// [`Refused`] if memory runs out for the answer's text.
+    pub fn find<R: Wait>(
+        &mut self,
+        rt: &R,
+        ticket: Ticket,
+        wanted: &str,
+    ) -> Result<Found, Refused> {
+        find(rt, self.alloc, &self.hub, &mut self.pass, ticket, wanted)
     }
 
     /// Takes and returns what waits of the record, and checks its `length` in bytes and the

@@ -1,18 +1,15 @@
 //! Runs over a hub as tables of steps: calls and their expected results.
-ghost use Rattle.std.specs.Prelude.{◌≡◌};
-ghost use Rattle.std.specs.Arc.{arc_value};
-ghost use Rattle.bx_entry.specs.Placings.{by_table};
 
 use crate::bench::{Bench, Looking, Waiting, Watched, behind};
 use crate::same::same;
-use bx_advice::{Config, Options};
-use bx_calls::{Found, Task, arrival, find, hold, in_turn, publish, shards_for, tick};
-use bx_entry::{ByTable, Ticket};
-use bx_hub::{Hub, HubKind, Kind, PostFault, ShardSurvey, Survey};
+use bx_advice::Options;
+use bx_calls::{
+    Found, HubWork, Stage, Task, arrival, config_of, hold, in_turn, shards_for, tick, work_in_hub,
+};
+use bx_entry::Ticket;
+use bx_hub::{HubKind, PostFault, ShardSurvey, Survey};
 use bx_record::RecordFault;
-use bx_window::{EmptyWindow, LogId};
 use std::alloc::{AllocGlobal, Global};
-use std::marker::Brand;
 use std::process::Abort;
 use std::random::RandomSource;
 use std::sync::atomic::Ordering;
@@ -116,166 +113,154 @@ pub enum Step {
     NoRecord,
 }
 
-// Runs a step that posts or ticks, and passes other steps to `ask`.
-fn take<L: HubKind, H: Wait + Drop, R: Wait + Abort>(
-    rt: &R,
-    bench: &mut Bench<L, H>,
-    step: Step,
-) -> Result<(), Fail> {
-    let alloc = bench.alloc;
-    match step {
-        Step::Hold => {
-            let ticket = hold(rt, alloc, &bench.hub, &mut bench.pass)?;
-            same(rt, ticket, bench.ticket(2), step);
+impl<L: HubKind, H: Wait + Drop> Bench<L, H> {
+    // Runs a step that posts or ticks, and passes other steps to `ask`.
+    fn take<R: Wait + Abort>(&mut self, rt: &R, step: Step) -> Result<(), Fail> {
+        let alloc = self.alloc;
+        match step {
+            Step::Hold => {
+                let ticket = hold(rt, alloc, &self.hub, &mut self.pass)?;
+                same(rt, ticket, self.ticket(2), step);
+            }
+            Step::HoldTwo => self.hold_two(rt)?,
+            Step::Publish => self.publish(rt)?,
+            Step::PublishApart => self.publish_apart(rt)?,
+            Step::Post(body, place, paused) => {
+                let posted = self.post(rt, arrival(alloc, body)?, body);
+                same(rt, posted, Ok((place, behind(paused))), step);
+            }
+            Step::Wait(body, place) => self.wait(rt, body, place)?,
+            Step::Pings(first, end, length, paused) => self.pings(rt, first, end, length, paused)?,
+            Step::Refused(body, fault) => {
+                let posted = self.post(rt, arrival(alloc, body)?, body);
+                same(rt, posted, Err(fault), step);
+            }
+            Step::Again(body, wanted) => {
+                let back = self.back.take().ok_or("nothing came back")?;
+                let wanted = wanted.map(|place| (place, behind(0)));
+                same(rt, self.post(rt, back, body), wanted, step);
+            }
+            Step::Tick(moment, wanted) => {
+                let ticked = tick(rt, alloc, &self.hub, &mut self.pass, moment);
+                same(rt, ticked, wanted, step);
+            }
+            _ => self.ask(rt, step)?,
         }
-        Step::HoldTwo => bench.hold_two(rt)?,
-        Step::Publish => publish(rt, alloc, &bench.hub, &mut bench.pass)?,
-        Step::PublishApart => bench.publish_apart(rt)?,
-        Step::Post(body, place, paused) => {
-            let posted = bench.post(rt, arrival(alloc, body)?, body);
-            same(rt, posted, Ok((place, behind(paused))), step);
-        }
-        Step::Wait(body, place) => bench.wait(rt, body, place)?,
-        Step::Pings(first, end, length, paused) => bench.pings(rt, first, end, length, paused)?,
-        Step::Refused(body, fault) => {
-            let posted = bench.post(rt, arrival(alloc, body)?, body);
-            same(rt, posted, Err(fault), step);
-        }
-        Step::Again(body, wanted) => {
-            let back = bench.back.take().ok_or("nothing came back")?;
-            let wanted = wanted.map(|place| (place, behind(0)));
-            same(rt, bench.post(rt, back, body), wanted, step);
-        }
-        Step::Tick(moment, wanted) => {
-            let ticked = tick(rt, alloc, &bench.hub, &mut bench.pass, moment);
-            same(rt, ticked, wanted, step);
-        }
-        _ => ask(rt, bench, step)?,
+        Ok(())
     }
-    Ok(())
+
+    // Runs a step that polls, watches, sweeps, closes, pauses or resumes, and passes others to
+    // `look`.
+    fn ask<R: Wait + Abort>(&mut self, rt: &R, step: Step) -> Result<(), Fail> {
+        let home = self.waiting.home;
+        match step {
+            Step::Finds(place, text, wanted) => {
+                let ticket = self.ticket(place);
+                same(rt, self.find(rt, ticket, text)?, wanted, step);
+            }
+            Step::Watch(place, task, wanted) => {
+                let ticket = self.ticket(place);
+                same(rt, self.watch(rt, ticket, task)?, wanted, step);
+            }
+            Step::Elsewhere => {
+                let ticket = Ticket { place: 2, shard: 2 };
+                same(rt, self.find(rt, ticket, "")?, Found::Nothing, step);
+                let watched = self.watch(rt, ticket, Task::First)?;
+                same(rt, watched, Watched::Unknown, step);
+            }
+            Step::Pause => same(rt, self.hub.pause(rt, home).is_some(), true, step),
+            Step::Resume => same(rt, self.hub.resume(rt, home).is_some(), true, step),
+            Step::PauseShard(index) => same(rt, self.hub.pause(rt, index).is_some(), true, step),
+            Step::ResumeShard(index) => same(rt, self.hub.resume(rt, index).is_some(), true, step),
+            Step::Sweep(place, count) => same(rt, self.hub.sweep(rt, place).dropped(), count, step),
+            Step::Close => drop(self.hub.close(rt)),
+            _ => self.look(rt, step)?,
+        }
+        Ok(())
+    }
+
+    // Runs a step that inspects the hub or uses its record.
+    fn look<R: Wait + Abort>(&mut self, rt: &R, step: Step) -> Result<(), Fail> {
+        let (alloc, hub, waiting) = (self.alloc, &self.hub, &self.waiting);
+        match step {
+            Step::Seen(begin, len) => {
+                let seen = (self.pass.begin(), self.pass.len());
+                same(rt, seen, (begin, len), step);
+            }
+            Step::List(survey) => same(rt, hub.survey(rt, &mut self.pass), survey, step),
+            Step::NoShard(index) => self.misses(rt, index)?,
+            Step::Stands(place, held, filed) => {
+                let stood = ShardSurvey { place, held, filed };
+                same(rt, hub.survey_shard(rt, waiting.home), Some(stood), step);
+            }
+            Step::Session(index, wanted) => self.sees(rt, index, wanted)?,
+            Step::Woken(task, wanted) => {
+                same(rt, waiting.tasks.task(task).is_woken(), wanted, step);
+                let under_lock = waiting.woken_under_lock.load(Ordering::SeqCst);
+                same(rt, under_lock, false, step);
+            }
+            Step::Starts(wanted) => same(rt, hub.start_record(rt, alloc).is_ok(), wanted, step),
+            Step::Stops => drop(hub.stop_record(rt)),
+            Step::Waits(length) => same(rt, hub.waiting_record_bytes(rt), length, step),
+            Step::Takes(length, fault) => drop(self.take_record(rt, length, fault)?),
+            Step::Lines(lines, fault) => self.take_lines(rt, lines, fault)?,
+            Step::NoRecord => {
+                let taken = hub.take_record(rt, Vec::new(alloc));
+                same(rt, taken.is_err(), true, step);
+            }
+            _ => return Err(Fail::from("a step of no kind")),
+        }
+        Ok(())
+    }
+
+    // Checks that no shard has `index`.
+    fn misses<R: Wait + Abort>(&self, rt: &R, index: usize) -> Result<(), Fail> {
+        same(rt, self.hub.pause(rt, index).is_some(), false, index);
+        same(rt, self.hub.survey_shard(rt, index), None, index);
+        let shown = self.hub.survey_session(rt, self.alloc, index, 0)?;
+        same(rt, shown.is_some(), false, index);
+        same(rt, self.hub.resume(rt, index).is_some(), false, index);
+        Ok(())
+    }
+
+    // Runs all steps, and checks that the gate was called, and as often after advances as before
+    // them.
+    fn take_all<R: Wait + Abort>(&mut self, rt: &R, steps: &[Step]) -> Result<(), Fail> {
+        same(rt, self.pass.len(), 0, "seen at first");
+        for step in steps {
+            self.take(rt, *step)?;
+        }
+        let before = self.waiting.before.load(Ordering::SeqCst);
+        same(rt, before > 0, true, "the gate was passed");
+        let after = self.waiting.after.load(Ordering::SeqCst);
+        same(rt, after, before, "behind the entries too");
+        Ok(())
+    }
 }
 
-// Runs a step that polls, watches, sweeps, closes, pauses or resumes, and passes others to `look`.
-fn ask<L: HubKind, H: Wait + Drop, R: Wait + Abort>(
-    rt: &R,
-    bench: &mut Bench<L, H>,
-    step: Step,
-) -> Result<(), Fail> {
-    let home = bench.waiting.home;
-    match step {
-        Step::Finds(place, text, wanted) => {
-            let ticket = bench.ticket(place);
-            let found = find(rt, bench.alloc, &bench.hub, &mut bench.pass, ticket, text)?;
-            same(rt, found, wanted, step);
-        }
-        Step::Watch(place, task, wanted) => {
-            let ticket = bench.ticket(place);
-            same(rt, bench.watch(rt, ticket, task)?, wanted, step);
-        }
-        Step::Elsewhere => {
-            let ticket = Ticket { place: 2, shard: 2 };
-            let found = find(rt, bench.alloc, &bench.hub, &mut bench.pass, ticket, "")?;
-            same(rt, found, Found::Nothing, step);
-            let watched = bench.watch(rt, ticket, Task::First)?;
-            same(rt, watched, Watched::Unknown, step);
-        }
-        Step::Pause => same(rt, bench.hub.pause(rt, home).is_some(), true, step),
-        Step::Resume => same(rt, bench.hub.resume(rt, home).is_some(), true, step),
-        Step::PauseShard(index) => same(rt, bench.hub.pause(rt, index).is_some(), true, step),
-        Step::ResumeShard(index) => same(rt, bench.hub.resume(rt, index).is_some(), true, step),
-        Step::Sweep(place, count) => same(rt, bench.hub.sweep(rt, place).dropped(), count, step),
-        Step::Close => drop(bench.hub.close(rt)),
-        _ => look(rt, bench, step)?,
-    }
-    Ok(())
+// A run over a new hub: its steps, and what the hub's gate records.
+#[derive(Drop)]
+struct Run<'a> {
+    steps: &'a [Step],
+    waiting: Arc<Waiting, Global>,
 }
 
-// Runs a step that inspects the hub or uses its record.
-fn look<L: HubKind, H: Wait + Drop, R: Wait + Abort>(
-    rt: &R,
-    bench: &mut Bench<L, H>,
-    step: Step,
-) -> Result<(), Fail> {
-    let (alloc, hub, waiting) = (bench.alloc, &bench.hub, &bench.waiting);
-    match step {
-        Step::Seen(begin, len) => {
-            let seen = (bench.pass.begin(), bench.pass.len());
-            same(rt, seen, (begin, len), step);
-        }
-        Step::List(survey) => same(rt, hub.survey(rt, &mut bench.pass), survey, step),
-        Step::NoShard(index) => {
-            same(rt, hub.pause(rt, index).is_some(), false, step);
-            same(rt, hub.survey_shard(rt, index), None, step);
-            let shown = hub.survey_session(rt, alloc, index, 0)?;
-            same(rt, shown.is_some(), false, step);
-            same(rt, hub.resume(rt, index).is_some(), false, step);
-        }
-        Step::Stands(place, held, filed) => {
-            let stood = ShardSurvey { place, held, filed };
-            same(rt, hub.survey_shard(rt, waiting.home), Some(stood), step);
-        }
-        Step::Session(index, wanted) => bench.sees(rt, index, wanted)?,
-        Step::Woken(task, wanted) => {
-            same(rt, waiting.tasks.task(task).is_woken(), wanted, step);
-            let under_lock = waiting.woken_under_lock.load(Ordering::SeqCst);
-            same(rt, under_lock, false, step);
-        }
-        Step::Starts(wanted) => same(rt, hub.start_record(rt, alloc).is_ok(), wanted, step),
-        Step::Stops => drop(hub.stop_record(rt)),
-        Step::Waits(length) => same(rt, hub.waiting_record_bytes(rt), length, step),
-        Step::Takes(length, fault) => drop(bench.take_record(rt, length, fault)?),
-        Step::Lines(lines, fault) => bench.take_lines(rt, lines, fault)?,
-        Step::NoRecord => {
-            let taken = hub.take_record(rt, Vec::new(alloc));
-            same(rt, taken.is_err(), true, step);
-        }
-        _ => return Err(Fail::from("a step of no kind")),
-    }
-    Ok(())
-}
+impl<R: Wait + Abort> HubWork<&R> for Run<'_> {
+    type Value = ();
 
-// Runs all steps, and checks that the gate was called, and as often after advances as before them.
-fn take_all<L: HubKind, H: Wait + Drop, R: Wait + Abort>(
-    rt: &R,
-    bench: &mut Bench<L, H>,
-    steps: &[Step],
-) -> Result<(), Fail> {
-    same(rt, bench.pass.len(), 0, "seen at first");
-    for step in steps {
-        take(rt, bench, *step)?;
-    }
-    let before = bench.waiting.before.load(Ordering::SeqCst);
-    same(rt, before > 0, true, "the gate was passed");
-    let after = bench.waiting.after.load(Ordering::SeqCst);
-    same(rt, after, before, "behind the entries too");
-    Ok(())
-}
+    type Fault = Fail;
 
-fn run_in_hub<L: LogId, R: Wait + Abort>(
-    rt: &R,
-    alloc: Global,
-    opened: EmptyWindow,
-    config: Config,
-    placing: Arc<ByTable, Global>,
-    gates: (Looking, Arc<Waiting, Global>),
-    steps: &[Step],
-) -> Result<(), Fail>
-    requires book { opened.seen.book ≡ L.book }
-    requires config { config ≡ L.config }
-    requires placing { by_table (arc_value placing) ≡ L.placing }
-{
-    let (gate, waiting) = gates;
-    let hub = Hub::<Kind<L, ByTable, Looking>, &R>::new(alloc, rt, opened, config, placing, gate)?;
-    let pass = hub.pass();
-    let mut bench = Bench {
-        alloc,
-        hub,
-        pass,
-        waiting,
-        back: None,
-        older: None,
-    };
-    take_all(rt, &mut bench, steps)
+    fn work<L: HubKind>(self, stage: &Stage<L, &R>) -> Result<(), Fail> {
+        let mut bench = Bench {
+            alloc: stage.alloc,
+            hub: Arc::try_clone(&stage.hub)?,
+            pass: stage.hub.pass(),
+            waiting: self.waiting,
+            back: None,
+            older: None,
+        };
+        bench.take_all(stage.rt, self.steps)
+    }
 }
 
 // Runs all steps with a new hub. `home`: the first session's shard; `ride`: whether replies of
@@ -291,15 +276,14 @@ fn check_run<R: Wait + Abort + AllocGlobal + RandomSource>(
         ride,
         anonymous: false,
     };
-    let config = Config::new(shards_for(home), 30_000, 0, 10_000).ok_or("no configuration")?;
-    let config = config.with(options);
-    let placing = Arc::new(alloc, in_turn(alloc, home)?)?;
+    let config = config_of(shards_for(home)).ok_or("no configuration")?;
+    let placing = in_turn(alloc, home)?;
     let waiting = Arc::new(alloc, Waiting::new(rt, home)?)?;
     let gate = Looking {
         waiting: Arc::try_clone(&waiting)?,
     };
-    let gates = (gate, waiting);
-    run_in_hub::<Brand, _>(rt, alloc, EmptyWindow::new(), config, placing, gates, steps)
+    let run = Run { steps, waiting };
+    work_in_hub(rt, alloc, config.with(options), placing, gate, run)
 }
 
 /// Runs each of `runs` with a new hub, once for each of `homes`, the first session's shard: 0, 1 or

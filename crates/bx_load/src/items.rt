@@ -67,10 +67,7 @@ pub fn client_of(reply: &Value) -> Option<&str> {
 
 // Returns `true` if `text` has only ASCII letters and digits, which JSON does not escape.
 fn is_plain(text: &str) -> bool {
-    for byte in text.bytes() {
-        if !byte.is_ascii_alphanumeric() {
-            return false;
-        }
-    }
-    true
+    text.as_bytes()
+        .iter()
+        .all(|byte| byte.is_ascii_alphanumeric())
 }

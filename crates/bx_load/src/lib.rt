@@ -14,7 +14,7 @@ mod tests;
 pub use arrivals::{Arrivals, Reception};
 pub use items::{Received, Stamp, client_of, item_of};
 pub use latencies::Latencies;
-pub use requests::{connect, handshake, publish, subscribe, touch};
+pub use requests::Requests;
 pub use response::{Malformed, Response, read_response};
 pub use settings::{LoadSettings, SettingsFault, Target};
 pub use shares::{due, events_of};

@@ -121,11 +121,9 @@ impl LoadSettings {
             return Err(SettingsFault::Count);
         };
         let (host, path) = place_of(url.as_str()).ok_or(SettingsFault::Url)?;
-        let sessions = sessions
-            .as_str()
-            .parse()
-            .ok()
-            .ok_or(SettingsFault::Sessions)?;
+        let Ok(sessions) = sessions.as_str().parse() else {
+            return Err(SettingsFault::Sessions);
+        };
         let channels = count_of(channels.as_str()).ok_or(SettingsFault::Channels)?;
         let publishers = count_of(publishers.as_str()).ok_or(SettingsFault::Publishers)?;
         let events = count_of(events.as_str()).ok_or(SettingsFault::Events)?;
@@ -139,6 +137,11 @@ impl LoadSettings {
             rate,
             is_acknowledging,
         })
+    }
+
+    /// Returns the number of sessions and publishers together.
+    pub fn clients(&self) -> u64 {
+        self.sessions as u64 + self.publishers as u64
     }
 }
 
@@ -180,10 +183,5 @@ fn place_of(url: &str) -> Option<(&str, &str)> {
 
 // Returns `true` if `text` has only visible ASCII characters, which the head of a request may have.
 fn is_plain(text: &str) -> bool {
-    for byte in text.bytes() {
-        if !byte.is_ascii_graphic() {
-            return false;
-        }
-    }
-    true
+    text.as_bytes().iter().all(|byte| byte.is_ascii_graphic())
 }

@@ -1,5 +1,5 @@
 //! Tests of the settings, of when a response is complete, and of events.
-use crate::{LoadSettings, Received, SettingsFault, Stamp, item_of, publish, read_response};
+use crate::{LoadSettings, Received, Requests, SettingsFault, Stamp, item_of, read_response};
 use serde_json::Value;
 use std::alloc::Global;
 use std::test::Fail;
@@ -75,7 +75,12 @@ fn an_event_says_what_was_published(rt: HostRuntime) -> Result<(), Fail> {
         number: 7,
         moment: 12,
     };
-    let request = publish(rt.alloc(), &settings.target, "c", 5, stamp)?;
+    let requests = Requests {
+        alloc: rt.alloc(),
+        target: &settings.target,
+        client: "c",
+    };
+    let request = requests.publish(5, stamp)?;
     let (head, body) = request.as_str().split_once("\r\n\r\n").ok_or("no body")?;
     assert!(rt; head.starts_with("POST /x HTTP/1.1\r\nhost: h:1\r\n"));
     let messages = Value::from_str(rt.alloc(), body)?;

@@ -1,23 +1,18 @@
 //! The part `hub`: hubs of two shards and of one, with a record.
-ghost use Rattle.std.specs.Prelude.{◌≡◌};
-ghost use Rattle.bx_entry.specs.Placings.{by_remainder};
-
+mod caller;
 mod learns;
-mod said;
 mod waits;
 
 use crate::requests::{add_line, config};
-use crate::unlike::Unlike;
-use bx_advice::Config;
-use bx_entry::ByRemainder;
-use bx_hub::{Hub, HubKind, Kind, OpenGate};
+use crate::unlike::{Unlike, check};
+use bx_calls::{HubWork, Stage, work_in_open_hub};
+use bx_hub::{Hub, HubKind};
 use bx_record::RecordFault;
-use bx_window::{EmptyWindow, LogId};
-use said::Said;
+use caller::Caller;
+use futures::test::MockTask;
 use std::alloc::{AllocGlobal, Global};
-use std::marker::Brand;
 use std::random::RandomSource;
-use std::sync::{Arc, Wait};
+use std::sync::Wait;
 
 /// Runs two sessions and a tick over a hub of two shards, and then over a hub of one.
 ///
@@ -37,54 +32,51 @@ pub fn run<R>(rt: &R, alloc: Global) -> Result<String, Unlike>
 where
     R: Wait + RandomSource + AllocGlobal,
 {
-    let mut text = run_over(rt, alloc, 2)?;
-    add_line(&mut text, run_over(rt, alloc, 1)?.as_str())?;
+    let mut text = String::new(alloc);
+    for is_awaited in [false, true] {
+        let config = config(if is_awaited { 1 } else { 2 })?;
+        let task = MockTask::new(rt).map_err(|_| Unlike::Memory)?;
+        let exchange = Exchange { task, is_awaited };
+        let lines = work_in_open_hub(rt, alloc, config, exchange)?;
+        add_line(&mut text, lines.as_str())?;
+    }
     Ok(text)
 }
 
-fn run_over<R>(rt: &R, alloc: Global, shards: usize) -> Result<String, Unlike>
-where
-    R: Wait + RandomSource + AllocGlobal,
-{
-    let config = config(shards)?;
-    let placing = Arc::new(alloc, ByRemainder)?;
-    serves::<Brand, R>(rt, alloc, EmptyWindow::new(), config, placing)
+// The exchange of a run: the messages of both sessions, and the tick.
+#[derive(Drop)]
+struct Exchange {
+    task: MockTask,
+    // Whether `task` waits for the answer, or a pass learns that it is filed.
+    is_awaited: bool,
 }
 
-fn serves<L, R>(
-    rt: &R,
-    alloc: Global,
-    opened: EmptyWindow,
-    config: Config,
-    placing: Arc<ByRemainder, Global>,
-) -> Result<String, Unlike>
-where
-    L: LogId,
-    R: Wait + RandomSource + AllocGlobal,
-    requires book { opened.seen.book ≡ L.book }
-    requires config { config ≡ L.config }
-    requires placing { by_remainder ≡ L.placing }
-{
-    let shards = config.shards;
-    let hub = Hub::<Kind<L, ByRemainder, OpenGate>, &R>::new(
-        alloc, rt, opened, config, placing, OpenGate,
-    )?;
-    let hub = Arc::new(alloc, hub)?;
-    let mut said = Said::new(alloc);
-    if hub.start_record(rt, alloc).is_err() {
-        return Err(Unlike::Wrong("no record"));
+impl<R: Wait> HubWork<&R> for Exchange {
+    type Value = String;
+
+    type Fault = Unlike;
+
+    fn work<L: HubKind>(self, stage: &Stage<L, &R>) -> Result<String, Unlike> {
+        let (rt, alloc, hub) = (stage.rt, stage.alloc, &stage.hub);
+        check(hub.start_record(rt, alloc).is_ok(), "no record")?;
+        let mut caller = Caller::new(rt, alloc, hub);
+        let answer = if self.is_awaited {
+            caller.awaited_answer(&self.task)?
+        } else {
+            caller.learned_answer()?
+        };
+        caller.add_answer(answer)?;
+        check_record(rt, alloc, hub)?;
+        Ok(caller.into_text())
     }
-    exchange(rt, alloc, &hub, shards, &mut said)?;
-    check_record(rt, alloc, &*hub)?;
-    Ok(said.into_text())
 }
 
 // Checks that the record of `hub` ends with the tick, or that it stopped because memory ran out.
-fn check_record<'a, L, R>(rt: &'a R, alloc: Global, hub: &Hub<L, &'a R>) -> Result<(), Unlike>
-where
-    L: HubKind,
-    R: Wait,
-{
+fn check_record<L: HubKind, H: Wait + Drop, R: Wait>(
+    rt: &R,
+    alloc: Global,
+    hub: &Hub<L, H>,
+) -> Result<(), Unlike> {
     let Ok(taken) = hub.take_record(rt, Vec::new(alloc)) else {
         return Err(Unlike::Wrong("the record is gone"));
     };
@@ -92,23 +84,5 @@ where
         None if taken.chunk.bytes().ends_with(b"0 T\n") => Ok(()),
         Some(RecordFault::Memory) => Ok(()),
         _ => Err(Unlike::Wrong("another record")),
-    }
-}
-
-fn exchange<'a, L, R>(
-    rt: &'a R,
-    alloc: Global,
-    hub: &Arc<Hub<L, &'a R>, Global>,
-    shards: usize,
-    said: &mut Said,
-) -> Result<(), Unlike>
-where
-    L: HubKind,
-    R: Wait + RandomSource + AllocGlobal,
-{
-    if shards == 1 {
-        waits::run(rt, alloc, hub, said)
-    } else {
-        learns::run(rt, alloc, hub, said)
     }
 }

@@ -1,19 +1,16 @@
 //! The part `pieces`: responses that are written in several pieces.
 use crate::requests::add_line;
-use crate::unlike::Unlike;
-use bx_message::{Event, Item, RawJson, SharedEvent, Text};
-use bx_names::ChannelName;
+use crate::unlike::{Unlike, check};
+use bx_calls::{event, json_string};
+use bx_message::Item;
 use bx_pieces::Pieces;
 use bytes::{Buf, Bytes};
 use futures::task::Poll;
 use futures::test::MockTask;
 use http_body::Body;
 use http_body_util::BodyExt;
-use std::alloc::{AllocGlobal, Global};
+use std::alloc::{AllocError, AllocGlobal, Global};
 use std::random::RandomSource;
-
-// The number of events in a response.
-const EVENTS: usize = 3;
 
 // The number of letters in the data of each event. A piece of 64 KiB has no room for two events.
 const SIGNS: usize = 40_000;
@@ -45,16 +42,15 @@ pub fn run<R: RandomSource + AllocGlobal>(rt: &R, alloc: Global) -> Result<Strin
 // response is a script.
 fn given(alloc: Global, task: &MockTask, callback: Option<&str>) -> Result<String, Unlike> {
     let wanted = wanted(alloc, callback)?;
-    let mut first = answered(alloc, callback)?;
-    if let Some(line) = read(alloc, task, &mut first, wanted.as_str())? {
-        return Ok(line);
+    for _ in 0..2 {
+        let mut body = answered(alloc, callback)?;
+        if let Some(line) = read(alloc, task, &mut body, wanted.as_str())? {
+            return Ok(line);
+        }
+        let part = next_part(task, &mut body)?;
+        check(part.is_none(), "a frame follows an error")?;
     }
-    check_ended(task, &mut first)?;
-    let mut second = answered(alloc, callback)?;
-    match read(alloc, task, &mut second, wanted.as_str())? {
-        Some(line) => Ok(line),
-        None => Err(Unlike::Memory),
-    }
+    Err(Unlike::Memory)
 }
 
 // Reads the response `body`, and returns the line with the lengths of its frames.
@@ -70,111 +66,59 @@ fn read(
     let mut line = String::new(alloc);
     for _ in 0..MOST_FRAMES {
         let data = match next_part(task, body)? {
-            Part::Data(data) => data,
-            Part::End => break,
-            Part::BrokenOff => return Ok(None),
+            None => break,
+            Some(Ok(data)) => data,
+            Some(Err(_)) => return Ok(None),
         };
         whole.extend_from_slice(data.chunk())?;
-        let part = said(alloc, data.len(), body.size_hint().exact())?;
-        line.push_str(part.as_str())?;
+        let left = body.size_hint().exact();
+        let left = left.ok_or(Unlike::Wrong("the length is not known"))?;
+        line.push_str(format!(in alloc; "{} and {left} left, ", data.len())?.as_str())?;
     }
-    if whole.as_slice() != wanted.as_bytes() {
-        return Err(Unlike::Wrong("another text"));
-    }
+    check(whole.as_slice() == wanted.as_bytes(), "another text")?;
     line.push_str("the events")?;
     Ok(Some(line))
 }
 
-// Checks that a response that broke off has no further frame.
-fn check_ended(task: &MockTask, body: &mut Pieces<Bytes>) -> Result<(), Unlike> {
-    match next_part(task, body)? {
-        Part::End => Ok(()),
-        _ => Err(Unlike::Wrong("a frame follows an error")),
-    }
-}
-
-// Returns the text for a frame of `size` bytes after which `left` bytes remain. Fails if `left` is
-// `None`.
-fn said(alloc: Global, size: usize, left: Option<u64>) -> Result<String, Unlike> {
-    let Some(left) = left else {
-        return Err(Unlike::Wrong("the length is not known"));
-    };
-    Ok(format!(in alloc; "{size} and {left} left, ")?)
-}
-
-// What a response gives next.
-#[derive(Drop)]
-enum Part {
-    // The data of a frame.
-    Data(Bytes),
-    // The end of the response.
-    End,
-    // An error, because memory ran out.
-    BrokenOff,
-}
-
-// Returns what `body` gives next.
-fn next_part(task: &MockTask, body: &mut Pieces<Bytes>) -> Result<Part, Unlike> {
+// Returns the data of the next frame of `body`, an error if memory ran out, or `None` at the end.
+fn next_part(
+    task: &MockTask,
+    body: &mut Pieces<Bytes>,
+) -> Result<Option<Result<Bytes, AllocError>>, Unlike> {
     match task.poll(&mut body.frame()) {
         Poll::Pending => Err(Unlike::Wrong("a body waits")),
-        Poll::Ready(None) => Ok(Part::End),
-        Poll::Ready(Some(Err(_))) => Ok(Part::BrokenOff),
+        Poll::Ready(None) => Ok(None),
+        Poll::Ready(Some(Err(error))) => Ok(Some(Err(error))),
         Poll::Ready(Some(Ok(frame))) => match frame.into_data() {
-            Ok(data) => Ok(Part::Data(data)),
+            Ok(data) => Ok(Some(Ok(data))),
             Err(_) => Err(Unlike::Wrong("no data")),
         },
     }
 }
 
-// Creates a response with `EVENTS` events, and retries once if memory runs out. If `callback` is
+// Creates a response with three events, and retries once if memory runs out. If `callback` is
 // given, the response is a script that calls it.
 fn answered(alloc: Global, callback: Option<&str>) -> Result<Pieces<Bytes>, Unlike> {
-    let items = events(alloc)?;
+    let data = json_string(alloc, "x", SIGNS)?;
+    let event = event(alloc, "/a/b", data.as_str())?;
+    let mut items = Vec::new(alloc);
+    for _ in 0..3 {
+        items.push(Item::EventItem(event.clone()?))?;
+    }
     match Pieces::answer(alloc, callback, items.as_slice()) {
         Ok(body) => Ok(body),
         Err(_) => Ok(Pieces::answer(alloc, callback, items.as_slice())?),
     }
 }
 
-// Returns the data of an event: a JSON string of `SIGNS` letters.
-fn data(alloc: Global) -> Result<String, Unlike> {
-    let mut text = String::new(alloc);
-    text.push_str("\"")?;
-    for _ in 0..SIGNS {
-        text.push_str("x")?;
-    }
-    text.push_str("\"")?;
-    Ok(text)
-}
-
-fn events(alloc: Global) -> Result<Vec<Item>, Unlike> {
-    let mut items = Vec::new(alloc);
-    for _ in 0..EVENTS {
-        let event = Event {
-            channel: Text::new(alloc, "/a/b")?,
-            payload: RawJson::new(alloc, data(alloc)?.as_str())?,
-            id: None,
-        };
-        let name = ChannelName::read(alloc, "/a/b").map_err(|_| Unlike::Memory)?;
-        items.push(Item::EventItem(SharedEvent::new(alloc, event, name)?))?;
-    }
-    Ok(items)
-}
-
 // Returns the expected text of the whole response. If `callback` is given, it is called with the
 // array of the events.
 fn wanted(alloc: Global, callback: Option<&str>) -> Result<String, Unlike> {
-    let mut text = String::new(alloc);
-    if let Some(name) = callback {
-        text.push_str(name)?;
-        text.push_str("(")?;
+    let data = json_string(alloc, "x", SIGNS)?;
+    let event = format!(in alloc; "{{\"channel\":\"/a/b\",\"data\":{data}}}")?;
+    let events = format!(in alloc; "[{event},{event},{event}]")?;
+    match callback {
+        Some(name) => Ok(format!(in alloc; "{name}({events})")?),
+        None => Ok(events),
     }
-    for place in 0..EVENTS {
-        text.push_str(if place == 0 { "[" } else { "," })?;
-        text.push_str("{\"channel\":\"/a/b\",\"data\":")?;
-        text.push_str(data(alloc)?.as_str())?;
-        text.push_str("}")?;
-    }
-    text.push_str(if callback.is_some() { "])" } else { "]" })?;
-    Ok(text)
 }

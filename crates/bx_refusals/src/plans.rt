@@ -15,41 +15,26 @@ use std::alloc::Global;
 const PUBLISH: &str =
     r#"[{"channel":"/a/b","clientId":"000000000000000000000000000000000000000000000001","data":1}]"#;
 
-// A request with its moment in milliseconds and its body, or a tick with its moment.
-#[derive(Clone, Copy, Debug)]
-enum Deed {
-    Request(u64, &'static str),
-    Tick(u64),
-}
-
-// The requests and ticks of the run. The second session sends its last message later than the
-// first, so the second tick closes only the first session.
-const DEEDS: [Deed; 6] = [
-    Deed::Request(0, HANDSHAKE),
-    Deed::Request(5, HANDSHAKE),
-    Deed::Request(5, SUBSCRIBE_OTHER),
-    Deed::Tick(10_000),
-    Deed::Tick(10_001),
-    Deed::Request(10_001, PUBLISH),
+// The requests and ticks of the run. Each has its moment in milliseconds, and a request has its
+// body. The second session sends its last message later than the first, so the second tick closes
+// only the first session.
+const DEEDS: [(u64, Option<&str>); 6] = [
+    (0, Some(HANDSHAKE)),
+    (5, Some(HANDSHAKE)),
+    (5, Some(SUBSCRIBE_OTHER)),
+    (10_000, None),
+    (10_001, None),
+    (10_001, Some(PUBLISH)),
 ];
 
-// What can be read of a registry: how many entries and live sessions it has, and whether sessions 1
-// and 2 are live.
-#[derive(Clone, Copy, Debug, PartialEq, Eq)]
-struct Counts {
-    entries: u64,
-    sessions: usize,
-    is_first_live: bool,
-    is_second_live: bool,
-}
-
-fn counts_of(registry: &Registry) -> Counts {
-    Counts {
-        entries: registry.entries(),
-        sessions: registry.sessions(),
-        is_first_live: registry.live(1),
-        is_second_live: registry.live(2),
-    }
+// Returns how many entries and live sessions a registry has, and whether sessions 1 and 2 are live.
+fn counts_of(registry: &Registry) -> (u64, usize, bool, bool) {
+    (
+        registry.entries(),
+        registry.sessions(),
+        registry.live(1),
+        registry.live(2),
+    )
 }
 
 /// Admits requests and ticks, in order, and returns a line for each.
@@ -64,10 +49,10 @@ fn counts_of(registry: &Registry) -> Counts {
 pub fn run(alloc: Global) -> Result<String, Unlike> {
     let mut registry = Registry::new(alloc, config(1)?)?;
     let mut text = String::new(alloc);
-    for deed in DEEDS {
-        let line = match deed {
-            Deed::Request(moment, body) => request(alloc, &mut registry, moment, body)?,
-            Deed::Tick(moment) => tick(alloc, &mut registry, moment)?,
+    for (moment, body) in DEEDS {
+        let line = match body {
+            Some(body) => request(alloc, &mut registry, moment, body)?,
+            None => tick(alloc, &mut registry, moment)?,
         };
         add_line(&mut text, line.as_str())?;
     }
@@ -88,31 +73,12 @@ fn request(
         elements,
         change,
         ..
-    } = planned(alloc, registry, moment, &messages)?;
+    } = planned(alloc, registry, moment, Some(messages.as_slice()))?;
     registry.commit(change, &elements);
     match slots.as_slice().first() {
         Some(Slot::Ready(ready)) => reply(alloc, ready),
         _ => Err(Unlike::Wrong("not answered at once")),
     }
-}
-
-// Returns the plan of a request. Retries once if memory runs out and the registry is unchanged.
-fn planned(
-    alloc: Global,
-    registry: &mut Registry,
-    moment: u64,
-    messages: &[Message],
-) -> Result<Plan, Unlike>
-    ensures { IfOk result (λ plan. LeadsTo registry.new plan.change plan.elements) }
-{
-    let before = counts_of(registry);
-    let plan = match registry.plan(alloc, &AllFirst, moment, 0, messages) {
-        Err(AdmitFault::Memory) if counts_of(registry) == before => {
-            registry.plan(alloc, &AllFirst, moment, 0, messages)
-        }
-        plan => plan,
-    };
-    plan.map_err(|_| Unlike::Wrong("not planned"))
 }
 
 // Admits a tick, and returns a line with the numbers of the sessions that it closes.
@@ -122,33 +88,45 @@ fn tick(alloc: Global, registry: &mut Registry, moment: u64) -> Result<String, U
         elements,
         change,
         ..
-    } = planned_tick(alloc, registry, moment)?;
+    } = planned(alloc, registry, moment, None)?;
     registry.commit(change, &elements);
-    let mut text = format!(in alloc; "closed:")?;
-    if let Some(
+    let Some(
         Entry {
             kind: EntryKind::Tick(numbers),
             ..
         },
     ) = batch.entries.as_slice().first()
-    {
-        for number in numbers.as_slice() {
-            text.push_str(format!(in alloc; " {number}")?.as_str())?;
-        }
+    else {
+        return Err(Unlike::Wrong("a tick has no entry"));
+    };
+    let mut text = format!(in alloc; "closed:")?;
+    for number in numbers.as_slice() {
+        text.push_str(format!(in alloc; " {number}")?.as_str())?;
     }
     Ok(text)
 }
 
-// Returns the plan of a tick. Retries once if memory runs out and the registry is unchanged.
-fn planned_tick(alloc: Global, registry: &mut Registry, moment: u64) -> Result<Plan, Unlike>
+// Returns the plan of a request with `messages`, or of a tick if there are none. Retries once if
+// memory runs out and the registry is unchanged.
+fn planned(
+    alloc: Global,
+    registry: &mut Registry,
+    moment: u64,
+    messages: Option<&[Message]>,
+) -> Result<Plan, Unlike>
     ensures { IfOk result (λ plan. LeadsTo registry.new plan.change plan.elements) }
 {
     let before = counts_of(registry);
-    let plan = match registry.plan_tick(alloc, moment) {
-        Err(AdmitFault::Memory) if counts_of(registry) == before => {
-            registry.plan_tick(alloc, moment)
+    for _ in 0..2 {
+        let plan = match messages {
+            Some(messages) => registry.plan(alloc, &AllFirst, moment, 0, messages),
+            None => registry.plan_tick(alloc, moment),
+        };
+        match plan {
+            Ok(plan) => return Ok(plan),
+            Err(AdmitFault::Memory) if counts_of(registry) == before => (),
+            Err(_) => return Err(Unlike::Wrong("not planned")),
         }
-        plan => plan,
-    };
-    plan.map_err(|_| Unlike::Wrong("no tick is planned"))
+    }
+    Err(Unlike::Wrong("refused once more"))
 }

@@ -1,6 +1,7 @@
 //! The configuration of the runs, and the texts of responses and of lines.
 use crate::unlike::Unlike;
 use bx_advice::Config;
+use bx_calls::config_of;
 use bx_message::{Answer, Item, Reply, body_text, reply_text};
 use std::alloc::Global;
 
@@ -10,9 +11,7 @@ use std::alloc::Global;
 ///
 /// `Wrong` if `shards` is not from 1 to 64.
 pub fn config(shards: usize) -> Result<Config, Unlike> {
-    let mut config = Config::new(shards, 30_000, 0, 10_000).ok_or(Unlike::Wrong(
-        "no configuration",
-    ))?;
+    let mut config = config_of(shards).ok_or(Unlike::Wrong("no configuration"))?;
     config.limits.sessions = 4;
     Ok(config)
 }

@@ -1,7 +1,6 @@
 //! The part `rounds`: rounds that start with two shards, which one worker advances.
-
 use crate::requests::{add_line, config, response};
-use crate::unlike::Unlike;
+use crate::unlike::{Unlike, check};
 use bx_advice::{Options, ShardCount, WorkerCount};
 use bx_calls::arrival;
 use bx_calls::texts::{ACK_CONNECT, ACK_HANDSHAKE, CONNECT, HANDSHAKE, PUBLISH, SUBSCRIBE};
@@ -163,123 +162,23 @@ const WORKED: [Worked; 6] = [
 pub fn run<R: Threads + Sync>(rt: &R, alloc: Global) -> Result<String, Unlike> {
     let mut text = String::new(alloc);
     for worked in WORKED {
-        let mut outs = Vec::new(alloc);
-        let line = worked_text(rt, alloc, worked, &mut outs)?;
-        add_line(&mut text, line.as_str())?;
+        let mut dealer = Dealer {
+            rt,
+            alloc,
+            outs: Vec::new(alloc),
+        };
+        let round = dealer.round_of(worked)?;
+        add_line(&mut text, dealer.written()?.as_str())?;
+        for number in round.held(alloc)? {
+            let line = format!(in alloc; "{} held", number.saturating_add(1))?;
+            add_line(&mut text, line.as_str())?;
+        }
     }
     Ok(text)
-}
-
-fn worked_text<R: Threads + Sync>(
-    rt: &R,
-    alloc: Global,
-    worked: Worked,
-    outs: &mut Vec<Out>,
-) -> Result<String, Unlike> {
-    let placings = (placing(alloc)?, placing(alloc)?);
-    let mut round = first(rt, alloc, worked, placings, outs)?;
-    ended(rt, alloc, &mut round, worked.then, outs)
-}
-
-// Returns a round after the first requests of `worked`. If `worked` has a new number of shards, the
-// sessions are redistributed, with `once` and `again` as the placings of the two attempts.
-fn first<R: Threads + Sync>(
-    rt: &R,
-    alloc: Global,
-    worked: Worked,
-    (once, again): (Arc<ByRemainder>, Arc<ByRemainder>),
-    outs: &mut Vec<Out>,
-) -> Result<Round<ByRemainder>, Unlike> {
-    let round = begun(rt, alloc, worked, outs)?;
-    match worked.shards {
-        None => Ok(round),
-        Some(shards) => match ShardCount::new(shards) {
-            Some(shards) => redistributed(rt, alloc, round, shards, once, again),
-            None => Err(Unlike::Wrong("too many shards")),
-        },
-    }
-}
-
-// Returns a round of two shards after the first requests of `worked`. Appends the outs.
-fn begun<R: Threads + Sync>(
-    rt: &R,
-    alloc: Global,
-    worked: Worked,
-    outs: &mut Vec<Out>,
-) -> Result<Round<ByRemainder>, Unlike> {
-    let config = config(2)?.with(Options {
-        ride: worked.ride,
-        anonymous: false,
-    });
-    let mut round = Round::new(alloc, config, placing(alloc)?, WorkerCount::one())?;
-    deal(rt, alloc, &mut round, worked.first, outs)?;
-    Ok(round)
 }
 
 fn placing(alloc: Global) -> Result<Arc<ByRemainder>, Unlike> {
     Ok(Arc::new(alloc, ByRemainder)?)
-}
-
-// Returns `round` with its sessions redistributed to `shards` shards. On an error, retries once
-// with the round that the error returns.
-fn redistributed<R: Threads + Sync>(
-    rt: &R,
-    alloc: Global,
-    round: Round<ByRemainder>,
-    shards: ShardCount,
-    once: Arc<ByRemainder>,
-    again: Arc<ByRemainder>,
-) -> Result<Round<ByRemainder>, Unlike> {
-    match round.reshard(rt, alloc, shards, once) {
-        Ok(round) => Ok(round),
-        Err((round, _)) => redistributed_again(rt, alloc, round, shards, again),
-    }
-}
-
-fn redistributed_again<R: Threads + Sync>(
-    rt: &R,
-    alloc: Global,
-    round: Round<ByRemainder>,
-    shards: ShardCount,
-    placing: Arc<ByRemainder>,
-) -> Result<Round<ByRemainder>, Unlike> {
-    match round.reshard(rt, alloc, shards, placing) {
-        Ok(round) => Ok(round),
-        Err(_) => Err(Unlike::Wrong("not redistributed")),
-    }
-}
-
-// Runs `requests`, and returns the lines of all responses and held connects of the run.
-fn ended<R: Threads + Sync>(
-    rt: &R,
-    alloc: Global,
-    round: &mut Round<ByRemainder>,
-    requests: Requests,
-    outs: &mut Vec<Out>,
-) -> Result<String, Unlike> {
-    deal(rt, alloc, round, requests, outs)?;
-    let mut text = written(alloc, outs)?;
-    for number in round.held(alloc)? {
-        let line = format!(in alloc; "{} held", number.saturating_add(1))?;
-        add_line(&mut text, line.as_str())?;
-    }
-    Ok(text)
-}
-
-// Runs `requests` and appends their outs. If memory runs out, continues once with the requests that
-// were not admitted.
-fn deal<R: Threads + Sync>(
-    rt: &R,
-    alloc: Global,
-    round: &mut Round<ByRemainder>,
-    requests: Requests,
-    outs: &mut Vec<Out>,
-) -> Result<(), Unlike> {
-    let inputs = inputs(alloc, requests)?;
-    match refused_behind(rt, alloc, round, &inputs, outs)? {
-        Some(admitted) => go_on(rt, alloc, round, &inputs, admitted, outs),
-        None => Ok(()),
-    }
 }
 
 fn inputs(alloc: Global, requests: Requests) -> Result<Vec<Input>, Unlike> {
@@ -292,60 +191,103 @@ fn inputs(alloc: Global, requests: Requests) -> Result<Vec<Input>, Unlike> {
     Ok(inputs)
 }
 
-// Runs the inputs after the first `admitted`. Checks that `outs` still begins with the earlier
-// outs.
-fn go_on<R: Threads + Sync>(
-    rt: &R,
+// A runner of requests, and the outs so far.
+#[derive(Drop)]
+struct Dealer<'a, R> {
+    rt: &'a R,
     alloc: Global,
-    round: &mut Round<ByRemainder>,
-    inputs: &[Input],
-    admitted: usize,
-    outs: &mut Vec<Out>,
-) -> Result<(), Unlike> {
-    let front = written(alloc, outs)?;
-    let Some(rest) = inputs.get(admitted..) else {
-        return Err(Unlike::Wrong("more was taken in than there is"));
-    };
-    if refused_behind(rt, alloc, round, rest, outs)?.is_some() {
-        return Err(Unlike::Wrong("refused once more"));
-    }
-    if written(alloc, outs)?.as_str().starts_with(front.as_str()) {
-        Ok(())
-    } else {
-        Err(Unlike::Wrong("what was given did not stay"))
-    }
+    outs: Vec<Out>,
 }
 
-// Runs `inputs` and appends their outs. Returns `None`, or how many inputs were admitted if memory
-// ran out.
-fn refused_behind<R: Threads + Sync>(
-    rt: &R,
-    alloc: Global,
-    round: &mut Round<ByRemainder>,
-    inputs: &[Input],
-    outs: &mut Vec<Out>,
-) -> Result<Option<usize>, Unlike> {
-    let before = round.started_inputs();
-    if before > MOST_INPUTS || inputs.len() > MOST_INPUTS {
-        return Err(Unlike::Wrong("too many inputs"));
+impl<R: Threads + Sync> Dealer<'_, R> {
+    // Returns a round that starts with two shards, after all of `worked`.
+    fn round_of(&mut self, worked: Worked) -> Result<Round<ByRemainder>, Unlike> {
+        let config = config(2)?.with(Options {
+            ride: worked.ride,
+            anonymous: false,
+        });
+        let placing = placing(self.alloc)?;
+        let mut round = Round::new(self.alloc, config, placing, WorkerCount::one())?;
+        self.deal(&mut round, worked.first)?;
+        if let Some(shards) = worked.shards {
+            round = self.redistributed(round, shards)?;
+        }
+        self.deal(&mut round, worked.then)?;
+        Ok(round)
     }
-    match round.run(rt, alloc, &OpenGate, inputs, outs) {
-        Ok(()) => Ok(None),
-        Err(RoundFault::Memory { admitted })
-            if round.started_inputs() == before.saturating_add(admitted) => { Ok(Some(admitted)) }
-        Err(_) => Err(Unlike::Wrong("another number was taken in")),
-    }
-}
 
-fn written(alloc: Global, outs: &[Out]) -> Result<String, Unlike> {
-    let mut text = String::new(alloc);
-    for out in outs {
-        let Ok(items) = &out.result else {
-            return Err(Unlike::Wrong("an input is refused"));
+    // Returns `round` with its sessions redistributed to `shards` shards. On an error, retries once
+    // with the round that the error returns.
+    fn redistributed(
+        &self,
+        round: Round<ByRemainder>,
+        shards: usize,
+    ) -> Result<Round<ByRemainder>, Unlike> {
+        let (rt, alloc) = (self.rt, self.alloc);
+        let Some(shards) = ShardCount::new(shards) else {
+            return Err(Unlike::Wrong("too many shards"));
         };
-        let body = response(alloc, items.as_slice())?;
-        let line = format!(in alloc; "{} 200 {body}", out.input.saturating_add(1))?;
-        add_line(&mut text, line.as_str())?;
+        let (once, again) = (placing(alloc)?, placing(alloc)?);
+        match round.reshard(rt, alloc, shards, once) {
+            Ok(round) => Ok(round),
+            Err((back, _)) => match back.reshard(rt, alloc, shards, again) {
+                Ok(round) => Ok(round),
+                Err(_) => Err(Unlike::Wrong("not redistributed")),
+            },
+        }
     }
-    Ok(text)
+
+    // Runs `requests` and appends their outs. If memory runs out, continues once with the requests
+    // that were not admitted, and checks that the earlier outs stay.
+    fn deal(&mut self, round: &mut Round<ByRemainder>, requests: Requests) -> Result<(), Unlike> {
+        let inputs = inputs(self.alloc, requests)?;
+        let Some(admitted) = self.run(round, inputs.as_slice())? else {
+            return Ok(());
+        };
+        let front = self.written()?;
+        let Some(rest) = inputs.as_slice().get(admitted..) else {
+            return Err(Unlike::Wrong("more was taken in than there is"));
+        };
+        check(self.run(round, rest)?.is_none(), "refused once more")?;
+        let whole = self.written()?;
+        check(
+            whole.as_str().starts_with(front.as_str()),
+            "what was given did not stay",
+        )
+    }
+
+    // Runs `inputs` and appends their outs. Returns `None`, or how many inputs were admitted if
+    // memory ran out.
+    fn run(
+        &mut self,
+        round: &mut Round<ByRemainder>,
+        inputs: &[Input],
+    ) -> Result<Option<usize>, Unlike> {
+        let before = round.started_inputs();
+        if before > MOST_INPUTS || inputs.len() > MOST_INPUTS {
+            return Err(Unlike::Wrong("too many inputs"));
+        }
+        match round.run(self.rt, self.alloc, &OpenGate, inputs, &mut self.outs) {
+            Ok(()) => Ok(None),
+            Err(RoundFault::Memory { admitted })
+                if round.started_inputs() == before.saturating_add(admitted) => {
+                Ok(Some(admitted))
+            }
+            Err(_) => Err(Unlike::Wrong("another number was taken in")),
+        }
+    }
+
+    // Returns a line for each response so far.
+    fn written(&self) -> Result<String, Unlike> {
+        let mut text = String::new(self.alloc);
+        for out in self.outs.as_slice() {
+            let Ok(items) = &out.result else {
+                return Err(Unlike::Wrong("an input is refused"));
+            };
+            let body = response(self.alloc, items.as_slice())?;
+            let line = format!(in self.alloc; "{} 200 {body}", out.input.saturating_add(1))?;
+            add_line(&mut text, line.as_str())?;
+        }
+        Ok(text)
+    }
 }

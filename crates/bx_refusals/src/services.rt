@@ -1,25 +1,17 @@
 //! The part `service`: a service over a hub of two shards.
-ghost use Rattle.std.specs.Prelude.{◌≡◌};
-ghost use Rattle.bx_entry.specs.Placings.{by_remainder};
-
 mod asked;
 mod client;
 mod exchanges;
-mod list;
 
 use crate::requests::config;
 use crate::unlike::Unlike;
-use bx_advice::Config;
-use bx_entry::{Access, ByRemainder};
-use bx_hub::{Hub, Kind, OpenGate};
+use bx_calls::{HubWork, Stage, work_in_open_hub};
+use bx_entry::Access;
+use bx_hub::HubKind;
 use bx_service::{BayeuxService, Clock, HubBackend, Nonces};
-use bx_window::{EmptyWindow, LogId};
 use client::Client;
-use exchanges::made;
 use futures::test::MockTask;
-use list::{HubList, List};
 use std::alloc::{AllocGlobal, Global};
-use std::marker::Brand;
 use std::random::RandomSource;
 use std::sync::{Arc, Wait};
 
@@ -53,46 +45,40 @@ pub fn run<R>(rt: R) -> Result<String, Unlike>
 where
     R: Wait + RandomSource + AllocGlobal + Copy + Drop,
 {
-    let alloc = rt.alloc();
-    let config = config(2)?;
-    let placing = Arc::new(alloc, ByRemainder)?;
     let task = MockTask::new(&rt).map_err(|_| Unlike::Memory)?;
-    serves::<Brand, R>(rt, alloc, EmptyWindow::new(), config, placing, task)
+    work_in_open_hub(rt, rt.alloc(), config(2)?, ServiceRun { task })
 }
 
-fn serves<L, R>(
-    rt: R,
-    alloc: Global,
-    opened: EmptyWindow,
-    config: Config,
-    placing: Arc<ByRemainder, Global>,
+// The exchanges, and the task that polls them.
+#[derive(Drop)]
+struct ServiceRun {
     task: MockTask,
-) -> Result<String, Unlike>
-where
-    L: LogId,
-    R: Wait + Copy + Drop,
-    requires book { opened.seen.book ≡ L.book }
-    requires config { config ≡ L.config }
-    requires placing { by_remainder ≡ L.placing }
-{
-    let hub = Hub::<Kind<L, ByRemainder, OpenGate>, R>::new(
-        alloc, rt, opened, config, placing, OpenGate,
-    )?;
-    let hub = Arc::new(alloc, hub)?;
-    let backend = HubBackend::new(
-        rt,
-        alloc,
-        Arc::try_clone(&hub)?,
-        Access::ReadWrite,
-        Still,
-        Zeros,
-    );
-    let service = BayeuxService::new(alloc, backend)?;
-    let mut client = Client {
-        alloc,
-        service,
-        list: List::new(HubList { rt, hub }),
-        task,
-    };
-    made(&mut client)
+}
+
+impl<R: Wait + Copy + Drop> HubWork<R> for ServiceRun {
+    type Value = String;
+
+    type Fault = Unlike;
+
+    fn work<L: HubKind>(self, stage: &Stage<L, R>) -> Result<String, Unlike> {
+        let (rt, alloc) = (stage.rt, stage.alloc);
+        let ServiceRun { task } = self;
+        let hub = Arc::try_clone(&stage.hub)?;
+        let clone = Arc::try_clone(&hub)?;
+        let backend = HubBackend::new(rt, alloc, clone, Access::ReadWrite, Still, Zeros);
+        let service = BayeuxService::new(alloc, backend)?;
+        let mut client = Client {
+            rt,
+            alloc,
+            hub,
+            service,
+            task,
+            text: String::new(alloc),
+            entries: 0,
+            sessions: 0,
+        };
+        client.make_all()?;
+        let Client { text, .. } = client;
+        Ok(text)
+    }
 }

@@ -1,9 +1,10 @@
 //! The part `shard`: the only shard of a server, to which entries are applied one by one.
 use crate::requests::{add_line, config, reply, text_of};
 use crate::unlike::Unlike;
+use bx_calls::event;
 use bx_entry::{ByRemainder, Entry, EntryKind, Ticket};
-use bx_message::{Answer, Event, RawJson, Sequence, SharedEvent, Text};
-use bx_names::{ChannelName, Pattern};
+use bx_message::{Answer, Sequence, Text};
+use bx_names::Pattern;
 use bx_shard::{Shard, Wakers};
 use std::alloc::Global;
 use std::sync::Arc;
@@ -17,24 +18,34 @@ const MOST_EVENTS: usize = 1_024;
 // What an entry does. Sessions are given by their numbers.
 #[derive(Clone, Copy, Debug)]
 enum Deed {
-    Open(u64),
-    // Opens an acknowledging session.
-    OpenAck(u64),
+    // Opens a session, which acknowledges batches if the flag is set.
+    Open(u64, bool),
     Subscribe(u64, &'static str),
     Unsubscribe(u64, &'static str),
-    // Posts a connect that may be held.
-    Connect(u64),
-    // Posts a connect that is never held.
-    ConnectAtOnce(u64),
-    // Posts a connect of a session that acknowledges the batch with the second number and is never
-    // held.
-    Acknowledge(u64, u64),
+    // Posts a connect of a session, with the batch that it acknowledges, to be held for at most
+    // this number of milliseconds.
+    Connect(u64, Option<u64>, u64),
     // Publishes data to a channel.
     Publish(&'static str, &'static str),
 }
 
+// A connect of the first session that may be held.
+const CONNECT: Deed = Deed::Connect(1, None, 30_000);
+
+// A connect of the first session that is never held.
+const CONNECT_AT_ONCE: Deed = Deed::Connect(1, None, 0);
+
+// The three entries `ACKNOWLEDGE_..` are connects of the first session that are never held. The
+// name of each has the batch that it acknowledges.
+
+const ACKNOWLEDGE_NONE: Deed = Deed::Connect(1, Some(0), 0);
+
+const ACKNOWLEDGE_FIRST: Deed = Deed::Connect(1, Some(1), 0);
+
+const ACKNOWLEDGE_SECOND: Deed = Deed::Connect(1, Some(2), 0);
+
 // Entries that open a session and subscribe it to `/a/b`.
-const HEARS: &[Deed] = &[Deed::Open(1), Deed::Subscribe(1, "/a/b")];
+const HEARS: &[Deed] = &[Deed::Open(1, false), Deed::Subscribe(1, "/a/b")];
 
 const EVENT: Deed = Deed::Publish("/a/b", "1");
 
@@ -46,10 +57,10 @@ const WORKED: [Worked; 4] = [
     // A publish answers a held connect.
     (
         &[
-            Deed::Open(1),
-            Deed::Open(2),
+            Deed::Open(1, false),
+            Deed::Open(2, false),
             Deed::Subscribe(1, "/a/*"),
-            Deed::Connect(1),
+            CONNECT,
             Deed::Publish("/a/b", "7"),
         ],
         false,
@@ -59,26 +70,26 @@ const WORKED: [Worked; 4] = [
     // unsubscription.
     (
         &[
-            Deed::OpenAck(1),
+            Deed::Open(1, true),
             Deed::Subscribe(1, "/a/*"),
             Deed::Publish("/a/x", "1"),
-            Deed::Acknowledge(1, 0),
+            ACKNOWLEDGE_NONE,
             Deed::Publish("/a/y", "2"),
             Deed::Publish("/a/z", "3"),
-            Deed::Acknowledge(1, 0),
+            ACKNOWLEDGE_NONE,
             Deed::Unsubscribe(1, "/a/*"),
-            Deed::Acknowledge(1, 0),
-            Deed::Acknowledge(1, 1),
-            Deed::Acknowledge(1, 2),
+            ACKNOWLEDGE_NONE,
+            ACKNOWLEDGE_FIRST,
+            ACKNOWLEDGE_SECOND,
         ],
         false,
         &[],
     ),
     // The queue is full: an event at which the session overflows, a connect that fails, and another
     // event.
-    (HEARS, true, &[EVENT, Deed::ConnectAtOnce(1), EVENT]),
+    (HEARS, true, &[EVENT, CONNECT_AT_ONCE, EVENT]),
     // The queue is full: four connects, which get all events.
-    (HEARS, true, &[Deed::ConnectAtOnce(1); 4]),
+    (HEARS, true, &[CONNECT_AT_ONCE; 4]),
 ];
 
 /// Applies the entries of each run to a new shard, and returns a line for each answered connect.
@@ -176,11 +187,7 @@ fn told(alloc: Global, answer: Answer) -> Result<String, Unlike> {
 
 fn kind(alloc: Global, deed: Deed) -> Result<EntryKind, Unlike> {
     match deed {
-        Deed::Open(session) => Ok(EntryKind::Opened {
-            session,
-            ack: false,
-        }),
-        Deed::OpenAck(session) => Ok(EntryKind::Opened { session, ack: true }),
+        Deed::Open(session, ack) => Ok(EntryKind::Opened { session, ack }),
         Deed::Subscribe(session, pattern) => Ok(EntryKind::Subscribe {
             session,
             patterns: patterns(alloc, pattern)?,
@@ -189,9 +196,13 @@ fn kind(alloc: Global, deed: Deed) -> Result<EntryKind, Unlike> {
             session,
             patterns: patterns(alloc, pattern)?,
         }),
-        Deed::Connect(session) => connect(alloc, session, None, 30_000),
-        Deed::ConnectAtOnce(session) => connect(alloc, session, None, 0),
-        Deed::Acknowledge(session, batch) => connect(alloc, session, Some(batch), 0),
+        Deed::Connect(session, acked, hold) => Ok(EntryKind::Connect {
+            session,
+            client: client(alloc, session)?,
+            id: None,
+            acked,
+            hold,
+        }),
         Deed::Publish(channel, data) => Ok(EntryKind::Publish(event(alloc, channel, data)?)),
     }
 }
@@ -202,29 +213,7 @@ fn patterns(alloc: Global, text: &str) -> Result<Sequence<Pattern>, Unlike> {
     Ok(patterns)
 }
 
-// Creates the entry of a connect, to be held for at most `hold` milliseconds. The client id is
-// `session` as 48 hexadecimal digits.
-fn connect(
-    alloc: Global,
-    session: u64,
-    acked: Option<u64>,
-    hold: u64,
-) -> Result<EntryKind, Unlike> {
-    Ok(EntryKind::Connect {
-        session,
-        client: Text::from_string(format!(in alloc; "{session:048x}")?)?,
-        id: None,
-        acked,
-        hold,
-    })
-}
-
-fn event(alloc: Global, channel: &str, data: &str) -> Result<SharedEvent, Unlike> {
-    let event = Event {
-        channel: Text::new(alloc, channel)?,
-        payload: RawJson::new(alloc, data)?,
-        id: None,
-    };
-    let name = ChannelName::read(alloc, channel).map_err(|_| Unlike::Memory)?;
-    Ok(SharedEvent::new(alloc, event, name)?)
+// Returns a client id of `session`: its number as 48 hexadecimal digits.
+fn client(alloc: Global, session: u64) -> Result<Text, Unlike> {
+    Ok(Text::from_string(format!(in alloc; "{session:048x}")?)?)
 }

@@ -4,7 +4,7 @@ ghost use Rattle.std.specs.Prelude.{◌≡◌};
 mod shows;
 
 use crate::requests::add_line;
-use crate::unlike::Unlike;
+use crate::unlike::{Unlike, check};
 use bx_calls::Ticker;
 use bx_window::{EmptyWindow, LogId, LogReader, PublishFault, log_pair};
 use shows::shown;
@@ -51,84 +51,48 @@ fn worked<L: LogId, R: Wait>(rt: &R, alloc: Global, opened: EmptyWindow) -> Resu
 {
     let (writer, mut readers) = log_pair::<L, &R>(alloc, rt, opened, 2)?;
     let mut writer = Ticker::new(writer);
-    match (readers.pop(), readers.pop()) {
-        (Some(mut other), Some(mut reader)) => told(alloc, &mut writer, &mut reader, &mut other),
-        _ => Err(Unlike::Wrong("no reader")),
-    }
-}
-
-fn told<L: LogId, R: Wait + Drop>(
-    alloc: Global,
-    writer: &mut Ticker<L, R>,
-    reader: &mut LogReader<L>,
-    other: &mut LogReader<L>,
-) -> Result<String, Unlike> {
+    let (Some(mut other), Some(mut reader)) = (readers.pop(), readers.pop()) else {
+        return Err(Unlike::Wrong("no reader"));
+    };
     let mut text = String::new(alloc);
-    work(alloc, writer, reader, &mut text)?;
-    let line = shown(alloc, other, writer.end)?;
+    for deed in DEEDS {
+        change(alloc, &mut writer, &mut reader, deed)?;
+        let line = shown(alloc, &mut reader, writer.end)?;
+        add_line(&mut text, line.as_str())?;
+    }
+    let line = shown(alloc, &mut other, writer.end)?;
     add_line(&mut text, line.as_str())?;
     Ok(text)
 }
 
-// Makes all changes of `DEEDS`. After each, appends a line with what `reader` finds.
-fn work<L: LogId, R: Wait + Drop>(
+// Makes the change `deed`. If memory runs out, checks that `reader` still finds what it found
+// before, and makes the change again. A batch is then published again as it was returned.
+fn change<L: LogId, R: Wait + Drop>(
     alloc: Global,
     writer: &mut Ticker<L, R>,
     reader: &mut LogReader<L>,
-    text: &mut String,
+    deed: Deed,
 ) -> Result<(), Unlike> {
-    for deed in DEEDS {
-        let before = shown(alloc, reader, writer.end)?;
-        match deed {
-            Deed::Publish(count) => publish(alloc, writer, reader, count, before.as_str())?,
-            Deed::Trim(place) => trim(alloc, writer, reader, place, before.as_str())?,
+    let before = shown(alloc, reader, writer.end)?;
+    match deed {
+        Deed::Publish(count) => {
+            let bundle = writer.bundle(alloc, count)?;
+            let Err((back, why)) = writer.publish_bundle(alloc, bundle, count) else {
+                return Ok(());
+            };
+            check(why == PublishFault::Memory, "the window is full")?;
+            check_same(alloc, writer, reader, before.as_str())?;
+            let again = writer.publish_bundle(alloc, back, count);
+            check(again.is_ok(), "not published")
         }
-        let after = shown(alloc, reader, writer.end)?;
-        add_line(text, after.as_str())?;
+        Deed::Trim(place) => {
+            if writer.trim(place) {
+                return Ok(());
+            }
+            check_same(alloc, writer, reader, before.as_str())?;
+            check(writer.trim(place), "not trimmed")
+        }
     }
-    Ok(())
-}
-
-// Publishes a batch of `count` ticks. If memory runs out, checks that `reader` still finds what the
-// text `before` has, and publishes the returned batch.
-fn publish<L: LogId, R: Wait + Drop>(
-    alloc: Global,
-    writer: &mut Ticker<L, R>,
-    reader: &mut LogReader<L>,
-    count: u64,
-    before: &str,
-) -> Result<(), Unlike> {
-    let bundle = writer.bundle(alloc, count)?;
-    let Err((back, why)) = writer.publish_bundle(alloc, bundle, count) else {
-        return Ok(());
-    };
-    if why != PublishFault::Memory {
-        return Err(Unlike::Wrong("the window is full"));
-    }
-    check_same(alloc, writer, reader, before)?;
-    match writer.publish_bundle(alloc, back, count) {
-        Ok(()) => Ok(()),
-        Err(_) => Err(Unlike::Wrong("not published")),
-    }
-}
-
-// Drops the batches that end at or before `place`. If memory runs out, checks that `reader` still
-// finds what the text `before` has, and tries again.
-fn trim<L: LogId, R: Wait + Drop>(
-    alloc: Global,
-    writer: &mut Ticker<L, R>,
-    reader: &mut LogReader<L>,
-    place: u64,
-    before: &str,
-) -> Result<(), Unlike> {
-    if writer.trim(place) {
-        return Ok(());
-    }
-    check_same(alloc, writer, reader, before)?;
-    if writer.trim(place) {
-        return Ok(());
-    }
-    Err(Unlike::Wrong("not trimmed"))
 }
 
 // Checks that `reader` still finds what the text `before` has, and has seen all changes of the
@@ -140,8 +104,8 @@ fn check_same<L: LogId, R: Wait + Drop>(
     before: &str,
 ) -> Result<(), Unlike> {
     let after = shown(alloc, reader, writer.end)?;
-    if after.as_str() == before && writer.tell().steps() == reader.note().steps() {
-        return Ok(());
-    }
-    Err(Unlike::Wrong("a refused call changes the window"))
+    check(
+        after.as_str() == before && writer.tell().steps() == reader.note().steps(),
+        "a refused call changes the window",
+    )
 }

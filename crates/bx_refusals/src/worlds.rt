@@ -1,6 +1,6 @@
 //! The part `world`: two shards that one worker advances.
 use crate::requests::{config, text_of};
-use crate::unlike::Unlike;
+use crate::unlike::{Unlike, check};
 use bx_advice::WorkerCount;
 use bx_calls::arrival;
 use bx_calls::texts::{CONNECT, HANDSHAKE, PUBLISH, SUBSCRIBE};
@@ -71,17 +71,18 @@ fn bring_up<R: Threads + Sync>(
     world: &mut World<ByRemainder>,
 ) -> Result<(), Unlike> {
     let behind = world.bring_up(rt, alloc, &OpenGate, WorkerCount::one());
-    if behind.saturating_add(level(alloc, world)) != SHARDS {
-        return Err(Unlike::Wrong("not so many shards are behind"));
-    }
+    check(
+        behind.saturating_add(level(alloc, world)) == SHARDS,
+        "not so many shards are behind",
+    )?;
     if behind == 0 {
         return Ok(());
     }
     let left = world.bring_up(rt, alloc, &OpenGate, WorkerCount::one());
-    if behind == 1 && left == 0 && level(alloc, world) == SHARDS {
-        return Ok(());
-    }
-    Err(Unlike::Wrong("shards stay behind"))
+    check(
+        behind == 1 && left == 0 && level(alloc, world) == SHARDS,
+        "shards stay behind",
+    )
 }
 
 // Returns the number of shards that have applied the whole list. Applies one entry to each other

@@ -18,6 +18,10 @@ const LARGE: usize = 40_000;
 // Number of frames of a response with the events of `items`.
 const FRAMES: usize = 3;
 
+// The events of `items`: three large ones and, before the last of them, a small one. Each has this
+// sign as its data, this many times.
+const SIGNS: [(&str, usize); 4] = [("x", LARGE), ("y", LARGE), ("\u{2028}", 1), ("z", LARGE)];
+
 // Number of events in a large response, number of characters in the data of each, and number of
 // bytes in the response. Each event has 28 bytes more, and one byte after it.
 const EVENTS: usize = 256;
@@ -36,33 +40,24 @@ pub fn event(alloc: Global, sign: &str, count: usize) -> Result<Item, Fail> {
     Ok(Item::EventItem(bx_calls::event(alloc, "/a/b", data.as_str())?))
 }
 
-// Returns three large events and, before the last of them, a small one.
+// Returns the events of `SIGNS`.
 fn items(alloc: Global) -> Result<Vec<Item>, Fail> {
     let mut items = Vec::new(alloc);
-    items.push(event(alloc, "x", LARGE)?)?;
-    items.push(event(alloc, "y", LARGE)?)?;
-    items.push(event(alloc, "\u{2028}", 1)?)?;
-    items.push(event(alloc, "z", LARGE)?)?;
+    for (sign, count) in SIGNS {
+        items.push(event(alloc, sign, count)?)?;
+    }
     Ok(items)
 }
 
 // Returns the text of a response with the events of `items`, between `front` and `back`. `sign`:
 // the small event's data.
 fn wanted(alloc: Global, front: &str, sign: &str, back: &str) -> Result<String, Fail> {
-    let mut text = String::new(alloc);
-    text.push_str(front)?;
-    for (sign, count, behind) in [
-        ("x", LARGE, "},"),
-        ("y", LARGE, "},"),
-        (sign, 1, "},"),
-        ("z", LARGE, "}"),
-    ] {
-        text.push_str("{\"channel\":\"/a/b\",\"data\":")?;
-        text.push_str(json_string(alloc, sign, count)?.as_str())?;
-        text.push_str(behind)?;
-    }
-    text.push_str(back)?;
-    Ok(text)
+    let x = json_string(alloc, "x", LARGE)?;
+    let y = json_string(alloc, "y", LARGE)?;
+    let z = json_string(alloc, "z", LARGE)?;
+    Ok(format!(in alloc;
+        r#"{front}{{"channel":"/a/b","data":{x}}},{{"channel":"/a/b","data":{y}}},{{"channel":"/a/b","data":"{sign}"}},{{"channel":"/a/b","data":{z}}}{back}"#
+    )?)
 }
 
 // Returns the data of the next frame, or `None` at the end. Fails if the body waits or fails.
@@ -71,10 +66,7 @@ fn next_data(task: &MockTask, body: &mut Pieces<Bytes>) -> Result<Option<Bytes>,
         Poll::Pending => Err(Fail::from("it waits")),
         Poll::Ready(None) => Ok(None),
         Poll::Ready(Some(Err(_))) => Err(Fail::from("no memory")),
-        Poll::Ready(Some(Ok(frame))) => match frame.into_data() {
-            Ok(data) => Ok(Some(data)),
-            Err(_) => Err(Fail::from("no data")),
-        },
+        Poll::Ready(Some(Ok(frame))) => Ok(Some(frame.into_data().ok().ok_or("no data")?)),
     }
 }
 

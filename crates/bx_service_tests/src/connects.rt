@@ -1,21 +1,42 @@
 //! Tests of held connects: what they return, and which tasks they wake.
-ghost use Rattle.std.specs.Prelude.{◌≡◌};
-ghost use Rattle.bx_entry.specs.Placings.{by_remainder};
-
-mod bench;
-
-use bench::{Bench, TICKET, Want, check_poll};
-use bx_advice::Config;
-use bx_calls::{Task, Tasks, hold, post, texts, tick};
-use bx_entry::{ByRemainder, Ticket};
+use bx_calls::{
+    HubWork, Stage, Task, Tasks, config_of, hold, post_all, text_of, texts, tick, work_in_open_hub,
+};
+use bx_entry::Ticket;
 use bx_held::PendingAnswer;
-use bx_hub::{Hub, HubFault, HubKind, Kind, OpenGate};
-use bx_window::{EmptyWindow, LogId};
+use bx_hub::{Hub, HubFault, HubKind, Pass};
+use futures::task::Poll;
 use std::alloc::Global;
-use std::marker::Brand;
 use std::process::Abort;
 use std::sync::{Arc, Wait};
 use std::test::*;
+
+// The ticket of the connect that each run holds.
+const TICKET: Ticket = Ticket { place: 2, shard: 1 };
+
+// What a poll of a held connect must return.
+#[derive(Clone, Copy, Debug)]
+enum Want {
+    // A poll must be pending: there is no answer yet.
+    Pending,
+    // A poll must return an answer. The field is the JSON array of the answer's events, followed
+    // by its reply.
+    Answer(&'static str),
+    // A poll must return that there is no answer, now or later.
+    None,
+    // A poll must return this fault.
+    Fault(HubFault),
+}
+
+// A hub, a caller's pass, and two tasks that can poll a held connect.
+#[derive(Drop)]
+struct Bench<'a, L: HubKind, H: Wait + Drop, R> {
+    rt: &'a R,
+    alloc: Global,
+    hub: Arc<Hub<L, H>, Global>,
+    pass: Pass<L>,
+    tasks: Tasks,
+}
 
 // A step of a run, and what it checks.
 #[derive(Clone, Copy, Debug)]
@@ -29,7 +50,8 @@ enum Step {
     Other(Ticket, Want),
     // Checks that this task was woken since its last poll if the flag is `true`, and not otherwise.
     Woken(Task, bool),
-    Post(&'static str),
+    // Posts each of these bodies.
+    Post(&'static [&'static str]),
     Tick(u64),
     Close,
     // Pauses the shard of the held connect.
@@ -42,11 +64,8 @@ const WAITS: Step = Step::Waits(Task::First);
 
 const IS_WOKEN: Step = Step::Woken(Task::First, true);
 
-// A step that opens the second session.
-const HANDSHAKE: Step = Step::Post(texts::HANDSHAKE);
-
-// A step in which the second session publishes an event that the first one gets.
-const PUBLISH: Step = Step::Post(texts::PUBLISH);
+// A step in which the second session is opened, and publishes an event that the first one gets.
+const PUBLISH: Step = Step::Post(&[texts::HANDSHAKE, texts::PUBLISH]);
 
 const EVENT: Want = Want::Answer(texts::ANSWER);
 
@@ -54,45 +73,37 @@ const GIVES_EVENT: Step = Step::Gives(Task::First, EVENT);
 
 const GIVES_NOTHING: Step = Step::Gives(Task::First, Want::None);
 
+// The steps with another answer or fault for the first task.
+const CONNECTED: Step = Step::Gives(Task::First, Want::Answer(texts::CONNECTED));
+
+const SUPERSEDED: Step = Step::Gives(Task::First, Want::Answer(texts::SUPERSEDED));
+
+const ENDED: Step = Step::Gives(Task::First, Want::Answer(texts::SESSION_ENDED));
+
+const CLOSED: Step = Step::Gives(Task::First, Want::Fault(HubFault::Closed));
+
+const PAUSED: Step = Step::Gives(Task::First, Want::Fault(HubFault::Paused));
+
+// A tick at the deadline of the held connect.
+const DEADLINE: Step = Step::Tick(30_000);
+
 // All runs, each over its own hub, with the first session's connect held.
 const RUNS: [&[Step]; 12] = [
     // A publish answers the held connect with the published event.
-    &[WAITS, HANDSHAKE, PUBLISH, IS_WOKEN, GIVES_EVENT],
+    &[WAITS, PUBLISH, IS_WOKEN, GIVES_EVENT],
     // A newer connect answers the held one.
-    &[
-        WAITS,
-        Step::Post(texts::CONNECT),
-        IS_WOKEN,
-        Step::Gives(Task::First, Want::Answer(texts::SUPERSEDED)),
-    ],
+    &[WAITS, Step::Post(&[texts::CONNECT]), IS_WOKEN, SUPERSEDED],
     // The session's disconnect answers its held connect.
-    &[
-        WAITS,
-        Step::Post(texts::DISCONNECT),
-        IS_WOKEN,
-        Step::Gives(Task::First, Want::Answer(texts::SESSION_ENDED)),
-    ],
+    &[WAITS, Step::Post(&[texts::DISCONNECT]), IS_WOKEN, ENDED],
     // A tick at the deadline answers the held connect. An earlier tick does not.
-    &[
-        Step::Tick(29_999),
-        WAITS,
-        Step::Tick(30_000),
-        IS_WOKEN,
-        Step::Gives(Task::First, Want::Answer(texts::CONNECTED)),
-    ],
+    &[Step::Tick(29_999), WAITS, DEADLINE, IS_WOKEN, CONNECTED],
     // Closing the hub wakes the task of the held connect, and a poll then returns a fault.
-    &[
-        WAITS,
-        Step::Close,
-        IS_WOKEN,
-        Step::Gives(Task::First, Want::Fault(HubFault::Closed)),
-    ],
+    &[WAITS, Step::Close, IS_WOKEN, CLOSED],
     // An answer filed before the hub closed can still be taken.
-    &[HANDSHAKE, PUBLISH, Step::Close, GIVES_EVENT],
+    &[PUBLISH, Step::Close, GIVES_EVENT],
     // A ticket gives no answer if its answer was taken, if its place is that of another message, or
     // if its shard is unknown.
     &[
-        HANDSHAKE,
         PUBLISH,
         Step::Other(TICKET, EVENT),
         GIVES_NOTHING,
@@ -100,12 +111,11 @@ const RUNS: [&[Step]; 12] = [
         Step::Other(Ticket { place: 2, shard: 2 }, Want::None),
     ],
     // A swept answer cannot be taken.
-    &[WAITS, Step::Tick(30_000), Step::Sweep, GIVES_NOTHING],
+    &[WAITS, DEADLINE, Step::Sweep, GIVES_NOTHING],
     // The held connect moves to the second task. Only the task that polled last is woken.
     &[
         WAITS,
         Step::Waits(Task::Second),
-        HANDSHAKE,
         PUBLISH,
         Step::Woken(Task::Second, true),
         Step::Woken(Task::First, false),
@@ -116,145 +126,132 @@ const RUNS: [&[Step]; 12] = [
         WAITS,
         Step::Waits(Task::Second),
         WAITS,
-        HANDSHAKE,
         PUBLISH,
         IS_WOKEN,
         Step::Woken(Task::Second, false),
         GIVES_EVENT,
     ],
     // Repeated polls do not wake the task, and a later event does.
-    &[
-        WAITS,
-        WAITS,
-        WAITS,
-        WAITS,
-        HANDSHAKE,
-        PUBLISH,
-        IS_WOKEN,
-        GIVES_EVENT,
-    ],
+    &[WAITS, WAITS, WAITS, WAITS, PUBLISH, IS_WOKEN, GIVES_EVENT],
     // A paused shard does not answer a held connect, and a poll returns a fault.
     &[
         WAITS,
         Step::Pause,
-        HANDSHAKE,
         PUBLISH,
         Step::Woken(Task::First, false),
-        Step::Gives(Task::First, Want::Fault(HubFault::Paused)),
+        PAUSED,
     ],
 ];
 
-// Checks that a poll of a new future of `ticket` returns `want`.
-fn other<L: HubKind, H: Wait + Drop, R: Wait + Abort>(
-    rt: &R,
-    bench: &Bench<L, H>,
-    ticket: Ticket,
-    want: Want,
-) -> Result<(), Fail> {
-    let mut held = bench.wait(ticket)?;
-    check_poll(
-        rt,
-        bench.alloc,
-        bench.poll(rt, Task::First, &mut held),
-        want,
-    )
-}
-
-// Checks that a poll of `held` returns `want`, and that two more return no answer.
-fn gives<L: HubKind, H: Wait + Drop, R: Wait + Abort>(
-    rt: &R,
-    bench: &Bench<L, H>,
-    task: Task,
-    held: &mut PendingAnswer<L>,
-    want: Want,
-) -> Result<(), Fail> {
-    check_poll(rt, bench.alloc, bench.poll(rt, task, held), want)?;
-    for _ in 0..2 {
-        check_poll(rt, bench.alloc, bench.poll(rt, task, held), Want::None)?;
-    }
-    Ok(())
-}
-
-fn take<L: HubKind, H: Wait + Drop, R: Wait + Abort>(
-    rt: &R,
-    bench: &mut Bench<L, H>,
-    held: &mut PendingAnswer<L>,
-    step: Step,
-) -> Result<(), Fail> {
-    match step {
-        Step::Waits(task) => {
-            check_poll(rt, bench.alloc, bench.poll(rt, task, held), Want::Pending)?;
-            assert!(rt; !bench.tasks.task(task).is_woken(), "{step:?}");
+impl<L: HubKind, H: Wait + Drop, R: Wait + Abort> Bench<'_, L, H, R> {
+    // Returns a future of the answer under `ticket`. Fails if the pass has not seen its entry.
+    fn wait(&self, ticket: Ticket) -> Result<PendingAnswer<L>, Fail> {
+        let pass = self.pass.again();
+        if ticket.place >= pass.len() {
+            return Err(Fail::from("the ticket is beyond the list"));
         }
-        Step::Gives(task, want) => gives(rt, bench, task, held, want)?,
-        Step::Other(ticket, want) => other(rt, bench, ticket, want)?,
-        Step::Woken(task, want) => assert_eq!(rt;
-            bench.tasks.task(task).is_woken(),
-            want,
-            "{step:?}"
-        ),
-        Step::Post(body) => {
-            post(rt, bench.alloc, &bench.hub, &mut bench.pass, body)?;
-        }
-        Step::Tick(moment) => {
-            tick(rt, bench.alloc, &bench.hub, &mut bench.pass, moment)?;
-        }
-        Step::Close => drop(bench.hub.close(rt)),
-        Step::Pause => assert!(rt; bench.hub.pause(rt, TICKET.shard).is_some()),
-        Step::Sweep => assert_eq!(rt; bench.hub.sweep(rt, 1_000).dropped(), 1),
+        Ok(PendingAnswer::new(pass, ticket))
     }
-    Ok(())
+
+    // Polls `held` once, in `task`, and checks that the output is what `want` describes.
+    fn check_poll(&self, task: Task, held: &mut PendingAnswer<L>, want: Want) -> Result<(), Fail> {
+        let (rt, task) = (self.rt, self.tasks.task(task));
+        let (polled, _left) = task.enter(|cx| held.poll(rt, self.alloc, &self.hub, cx));
+        match (polled, want) {
+            (Poll::Pending, Want::Pending) | (Poll::Ready(Ok(None)), Want::None) => Ok(()),
+            (Poll::Ready(Ok(Some(answer))), Want::Answer(text)) => {
+                let found = text_of(self.alloc, answer)?;
+                assert!(rt;
+                    found.as_slice() == text.as_bytes(),
+                    "another answer than {text}"
+                );
+                Ok(())
+            }
+            (Poll::Ready(Err(stopped)), Want::Fault(fault)) => {
+                assert_eq!(rt; stopped.fault(), fault);
+                Ok(())
+            }
+            _ => Err(Fail::from("a poll gave something else")),
+        }
+    }
+
+    // Checks that a poll of `held` returns `want`, and that two more return no answer.
+    fn gives(&self, task: Task, held: &mut PendingAnswer<L>, want: Want) -> Result<(), Fail> {
+        for want in [want, Want::None, Want::None] {
+            self.check_poll(task, held, want)?;
+        }
+        Ok(())
+    }
+
+    fn take(&mut self, held: &mut PendingAnswer<L>, step: Step) -> Result<(), Fail> {
+        let (rt, alloc) = (self.rt, self.alloc);
+        match step {
+            Step::Waits(task) => {
+                self.check_poll(task, held, Want::Pending)?;
+                assert!(rt; !self.tasks.task(task).is_woken(), "{step:?}");
+            }
+            Step::Gives(task, want) => self.gives(task, held, want)?,
+            Step::Other(ticket, want) => {
+                self.check_poll(Task::First, &mut self.wait(ticket)?, want)?;
+            }
+            Step::Woken(task, want) => assert_eq!(rt;
+                self.tasks.task(task).is_woken(),
+                want,
+                "{step:?}"
+            ),
+            Step::Post(bodies) => post_all(rt, alloc, &self.hub, &mut self.pass, bodies)?,
+            Step::Tick(moment) => {
+                tick(rt, alloc, &self.hub, &mut self.pass, moment)?;
+            }
+            Step::Close => drop(self.hub.close(rt)),
+            Step::Pause => assert!(rt; self.hub.pause(rt, TICKET.shard).is_some()),
+            Step::Sweep => assert_eq!(rt; self.hub.sweep(rt, 1_000).dropped(), 1),
+        }
+        Ok(())
+    }
+
+    fn run(&mut self, steps: &[Step]) -> Result<(), Fail> {
+        hold(self.rt, self.alloc, &self.hub, &mut self.pass)?;
+        let mut held = self.wait(TICKET)?;
+        for step in steps {
+            self.take(&mut held, *step)?;
+        }
+        Ok(())
+    }
 }
 
-fn run<L: HubKind, H: Wait + Drop, R: Wait + Abort>(
-    rt: &R,
-    bench: &mut Bench<L, H>,
-    steps: &[Step],
-) -> Result<(), Fail> {
-    hold(rt, bench.alloc, &bench.hub, &mut bench.pass)?;
-    let mut held = bench.wait(TICKET)?;
-    for step in steps {
-        take(rt, bench, &mut held, *step)?;
-    }
-    Ok(())
-}
-
-fn run_in_hub<L: LogId, R: Wait + Abort>(
-    rt: &R,
-    alloc: Global,
-    opened: EmptyWindow,
-    config: Config,
-    placing: Arc<ByRemainder, Global>,
+// A run, and the tasks that poll its held connect.
+#[derive(Drop)]
+struct HeldConnect {
     tasks: Tasks,
-    steps: &[Step],
-) -> Result<(), Fail>
-    requires book { opened.seen.book ≡ L.book }
-    requires config { config ≡ L.config }
-    requires placing { by_remainder ≡ L.placing }
-{
-    let hub = Hub::<Kind<L, ByRemainder, OpenGate>, &R>::new(
-        alloc, rt, opened, config, placing, OpenGate,
-    )?;
-    let pass = hub.pass();
-    let mut bench = Bench {
-        alloc,
-        hub,
-        pass,
-        tasks,
-    };
-    run(rt, &mut bench, steps)
+    steps: &'static [Step],
+}
+
+impl<R: Wait + Abort> HubWork<&R> for HeldConnect {
+    type Value = ();
+
+    type Fault = Fail;
+
+    fn work<L: HubKind>(self, stage: &Stage<L, &R>) -> Result<(), Fail> {
+        let HeldConnect { tasks, steps } = self;
+        let mut bench = Bench {
+            rt: stage.rt,
+            alloc: stage.alloc,
+            hub: Arc::try_clone(&stage.hub)?,
+            pass: stage.hub.pass(),
+            tasks,
+        };
+        bench.run(steps)
+    }
 }
 
 // Checks that held connects return their answers or faults, and wake the task that polled last.
 #[test]
 fn held_connects(rt: HostRuntime) -> Result<(), Fail> {
-    let alloc = rt.alloc();
-    let config = Config::new(2, 30_000, 0, 10_000).ok_or("no configuration")?;
+    let config = config_of(2).ok_or("no configuration")?;
     for steps in RUNS {
-        let placing = Arc::new(alloc, ByRemainder)?;
         let tasks = Tasks::new(&rt)?;
-        let opened = EmptyWindow::new();
-        run_in_hub::<Brand, _>(&rt, alloc, opened, config, placing, tasks, steps)?;
+        work_in_open_hub(&rt, rt.alloc(), config, HeldConnect { tasks, steps })?;
     }
     Ok(())
 }

@@ -6,15 +6,11 @@
 #[cfg(test)]
 mod answers;
 #[cfg(test)]
-mod bench;
-#[cfg(test)]
 mod connects;
 #[cfg(test)]
 mod exchanges;
 #[cfg(test)]
 mod observers;
-#[cfg(test)]
-mod pieces;
 #[cfg(test)]
 mod requests;
 #[cfg(test)]

@@ -1,12 +1,12 @@
 //! Requests of the runs, and checks of their responses.
-use crate::pieces::Pieces;
 use bx_service::{Collect, ServiceFault};
 use bytes::Bytes;
 use futures::Future;
-use futures::task::Poll;
+use futures::task::{Context, Poll};
 use futures::test::MockTask;
 use http::header::{ALLOW, CONTENT_LENGTH, CONTENT_TYPE, TRANSFER_ENCODING};
 use http::{Request, Response};
+use http_body::{Body, Frame};
 use std::alloc::Global;
 use std::process::Abort;
 use std::test::*;
@@ -19,6 +19,39 @@ pub const FORM: &str = "application/x-www-form-urlencoded";
 
 /// The output of an HTTP exchange: a response, or a fault of the service.
 pub type Given = Result<Response<bx_pieces::Pieces<Bytes>>, ServiceFault>;
+
+/// The error of a body that breaks off.
+#[derive(Clone, Copy, Debug)]
+pub struct Broken;
+
+/// A body of one frame, followed by its end or an error.
+#[derive(Drop)]
+pub struct Pieces {
+    // Whether the first poll is pending.
+    is_late: bool,
+    // The data of the frame, until it is read.
+    data: Option<Bytes>,
+    // Whether an error follows the frame.
+    is_broken: bool,
+}
+
+impl Body for Pieces {
+    type Data = Bytes;
+
+    type Error = Broken;
+
+    fn poll_frame(&mut self, cx: &mut Context<'_>) -> Poll<Option<Result<Frame<Bytes>, Broken>>> {
+        if self.is_late {
+            self.is_late = false;
+            return cx.yield_now();
+        }
+        match self.data.take() {
+            Some(data) => Poll::Ready(Some(Ok(Frame::data(data)))),
+            None if self.is_broken => Poll::Ready(Some(Err(Broken))),
+            None => Poll::Ready(None),
+        }
+    }
+}
 
 /// A request to the service, as the tests describe it.
 ///

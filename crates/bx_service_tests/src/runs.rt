@@ -10,6 +10,8 @@ use bx_calls::texts;
 pub enum Step {
     /// Checks that a POST of the first JSON gets status 200 with the second.
     Post(&'static str, &'static str),
+    /// Checks that a GET of this target gets status 200 with this script.
+    Query(&'static str, &'static str),
     /// Checks that a request to the publishers' listener gets `Want`.
     Ask(Ask, Want),
     /// Checks that a request to a service with a limit of [`SMALL`] bytes gets `Want`.
@@ -209,64 +211,54 @@ const OTHER_FORMS: Run = Run {
             Want::Json(texts::BOTH_OF_THE_FORM),
         ),
         Step::Post(texts::CONNECT_AT_ONCE, texts::CONNECTED_BY_THE_FORM),
-        Step::Ask(
-            Ask::Get(texts::QUERY_PUBLISH),
-            Want::Script(texts::SCRIPT_PUBLISHED),
-        ),
-        Step::Ask(
-            Ask::Get(texts::QUERY_CONNECT),
-            Want::Script(texts::SCRIPT_CONNECTED),
-        ),
+        Step::Query(texts::QUERY_PUBLISH, texts::SCRIPT_PUBLISHED),
+        Step::Query(texts::QUERY_CONNECT, texts::SCRIPT_CONNECTED),
         Step::Ask(Ask::Get("/cometd?message=[]"), CALLED),
     ],
     ..NOTHING
 };
 
-// The steps after which the first session's connect still waits, the steps that then wake its task,
-// and the response to the connect.
-const ENDS: [(&[Step], &[Step], Want); 5] = [
+// A connect, the steps after which it still waits, the steps after those, whether they wake its
+// task, and the response to the connect.
+const ENDS: [(&str, &[Step], &[Step], bool, Want); 7] = [
     // A publish answers a held connect with its event.
-    (&[], &[PUBLISH], Want::Json(texts::ANSWER)),
-    // A newer connect answers the held one.
     (
+        texts::CONNECT,
         &[],
-        &[Step::Wait(texts::CONNECT)],
-        Want::Json(texts::SUPERSEDED),
+        &[PUBLISH],
+        true,
+        Want::Json(texts::ANSWER),
     ),
+    // A newer connect answers the held one.
+    (texts::CONNECT, &[], &[RECONNECT], true, SUPERSEDED),
     // The session's disconnect answers the held connect.
-    (&[], &[DISCONNECT], Want::Json(texts::SESSION_ENDED)),
+    (texts::CONNECT, &[], &[DISCONNECT], true, ENDED),
     // A tick at the deadline answers the held connect. An earlier one does not.
-    (&[Step::Tick(29_999)], &[Step::Tick(30_000)], CONNECTED),
+    (texts::CONNECT, &[EARLY], &[DEADLINE], true, CONNECTED),
     // Closing the hub answers the held connect with 503.
-    (&[], &[Step::Close], UNAVAILABLE),
+    (texts::CONNECT, &[], &[Step::Close], true, UNAVAILABLE),
+    // So it does for the second session's connect, which is in another shard.
+    (texts::CONNECT_OTHER, &[], &[Step::Close], true, UNAVAILABLE),
+    // Pausing the shard of a held connect does not wake the task, but the next poll gets 503.
+    (texts::CONNECT, &[], &[Step::Pause], false, UNAVAILABLE),
 ];
+
+// A step in which the first session sends another connect.
+const RECONNECT: Step = Step::Wait(texts::CONNECT);
 
 // A step in which the first session disconnects.
 const DISCONNECT: Step = Step::Post(texts::DISCONNECT, texts::DISCONNECTED);
 
+// Ticks before and at the deadline of a held connect.
+const EARLY: Step = Step::Tick(29_999);
+
+const DEADLINE: Step = Step::Tick(30_000);
+
 const CONNECTED: Want = Want::Json(texts::CONNECTED);
 
-// Pausing the shard of a held connect does not wake the task, but the next poll gets 503.
-const PAUSED: Run = Run {
-    held: Some(Held {
-        then: &[Step::Pause],
-        gives: Some((false, UNAVAILABLE)),
-        ..CONNECT
-    }),
-    ..OPEN
-};
+const SUPERSEDED: Want = Want::Json(texts::SUPERSEDED);
 
-// Closing the hub also answers the second session's connect, in another shard than the first
-// session, with 503.
-const FIRST_SHARD_SHUT: Run = Run {
-    held: Some(Held {
-        ask: Ask::Body(JSON, texts::CONNECT_OTHER),
-        then: &[Step::Close],
-        gives: Some((true, UNAVAILABLE)),
-        ..CONNECT
-    }),
-    ..OPEN
-};
+const ENDED: Want = Want::Json(texts::SESSION_ENDED);
 
 // While the first session's shard is paused, only requests that need its answer get 503.
 const OTHERS_GO_ON: Run = Run {
@@ -334,10 +326,7 @@ const RIDDEN: Run = Run {
         Step::Post(texts::SUBSCRIBE, texts::SUBSCRIBED),
         PUBLISH,
         Step::Post(texts::PUBLISH_OWN, texts::RIDDEN),
-        Step::Ask(
-            Ask::Get(texts::QUERY_PUBLISH),
-            Want::Script(texts::SCRIPT_RIDDEN),
-        ),
+        Step::Query(texts::QUERY_PUBLISH, texts::SCRIPT_RIDDEN),
     ],
     held: Some(Held {
         then: &[Step::Post(texts::PUBLISH_TWO, texts::SECOND_RIDDEN)],
@@ -351,14 +340,12 @@ const RIDDEN: Run = Run {
     ride: true,
 };
 
-const RUNS: [Run; 15] = [
+const RUNS: [Run; 13] = [
     ANSWERED,
     REFUSED,
     SMALL_LIMIT,
     CLOSED,
     OTHER_FORMS,
-    FIRST_SHARD_SHUT,
-    PAUSED,
     OTHERS_GO_ON,
     BROKEN_OFF,
     GIVEN_UP,
@@ -379,11 +366,12 @@ pub fn run_at(number: usize) -> Option<Run> {
     if let Some(run) = RUNS.get(number) {
         return Some(*run);
     }
-    let (before, then, want) = ENDS.get(number.checked_sub(RUNS.len())?)?;
+    let (connect, before, then, is_woken, want) = ENDS.get(number.checked_sub(RUNS.len())?)?;
     let held = Held {
+        ask: Ask::post(*connect),
         before: *before,
         then: *then,
-        gives: Some((true, *want)),
+        gives: Some((*is_woken, *want)),
         ..CONNECT
     };
     Some(Run {

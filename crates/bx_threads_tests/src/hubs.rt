@@ -1,12 +1,12 @@
-//! Hubs of the tests that need no gate.
+//! New hubs, and the work that the threads of a test do with them.
 ghost use Rattle.std.specs.Prelude.{◌≡◌};
-ghost use Rattle.bx_entry.specs.Placings.{by_remainder};
+ghost use Rattle.std.specs.Arc.{arc_value};
 
-use crate::rounds::Turns;
-use crate::{crowd, rounds, threads};
+use crate::{bells, crowd, gates, locks, rounds, threads};
 use bx_advice::Config;
-use bx_entry::ByRemainder;
-use bx_hub::{Hub, Kind, OpenGate};
+use bx_calls::{Stage, config_of};
+use bx_entry::Placing;
+use bx_hub::{Gate, Hub, Kind};
 use bx_window::{EmptyWindow, LogId};
 use std::alloc::Global;
 use std::marker::Brand;
@@ -17,50 +17,76 @@ use std::thread::Threads;
 use std::time::Clock;
 
 /// What the threads of a test do with a new hub.
-#[derive(Clone, Copy)]
-pub enum Work<'a> {
+#[derive(Drop)]
+pub enum Work<'a, C: Clock + Drop> {
+    /// Eight threads publish, tick, sweep and receive.
+    Crowd,
+    /// Three threads: a call is stopped in a shard while two others call.
+    Locks(locks::Scene<'a, C>),
+    /// Two threads take turns: one waits for the other's event.
+    Rounds(&'a rounds::Turns),
+    /// Two threads: a publish is stopped in shard 0 while the other thread calls.
+    Stopped(&'a locks::Flags<C>),
     /// Two threads publish and tick.
     Two,
-    /// Eight threads publish, tick, sweep and receive.
-    Eight,
-    /// Two threads take turns: one waits for the other's event.
-    Rounds(&'a Turns),
+    /// Three threads: the wake of a task is blocked while the others lock each shard.
+    Wake(bells::Scene),
 }
 
-fn work_in_hub<L: LogId + Send + Sync, R: Threads + Wait + Clock + Abort + Sync>(
+fn work_in_window<
+    L: LogId + Send + Sync,
+    R: Threads + Wait + Clock + Abort + Sync,
+    P: Placing + Drop + Send + Sync,
+    G: Gate + Drop + Send + Sync,
+    C: Clock + Drop + Sync,
+>(
     rt: &R,
     alloc: Global,
     opened: EmptyWindow,
     config: Config,
-    placing: Arc<ByRemainder, Global>,
-    work: Work<'_>,
+    placing: Arc<P, Global>,
+    gate: G,
+    work: Work<'_, C>,
 ) -> Result<(), Fail>
     requires book { opened.seen.book ≡ L.book }
     requires config { config ≡ L.config }
-    requires placing { by_remainder ≡ L.placing }
+    requires placing { P.place_of (arc_value placing) ≡ L.placing }
 {
-    let hub = Hub::<Kind<L, ByRemainder, OpenGate>, &R>::new(
-        alloc, rt, opened, config, placing, OpenGate,
-    )?;
+    let hub = Hub::<Kind<L, P, G>, &R>::new(alloc, rt, opened, config, placing, gate)?;
+    let hub = Arc::new(alloc, hub)?;
+    let stage = Stage { rt, alloc, hub };
     match work {
-        Work::Two => threads::meet_once(rt, alloc, &hub),
-        Work::Eight => crowd::check_given(rt, alloc, &hub),
-        Work::Rounds(turns) => rounds::play(rt, alloc, &hub, turns),
+        Work::Crowd => crowd::run(&stage),
+        Work::Locks(scene) => locks::run(&stage, scene),
+        Work::Rounds(turns) => rounds::run(&stage, turns),
+        Work::Stopped(flags) => gates::run(&stage, flags),
+        Work::Two => threads::run(&stage),
+        Work::Wake(scene) => bells::run(&stage, scene),
     }
 }
 
-/// Runs `work` with a new hub of `shards` shards, and checks its results.
+/// Performs `work` with a new hub of `shards` shards, and checks its results.
+///
+/// The shards call `gate` before and after they apply entries.
 ///
 /// # Errors
 ///
-/// [`Fail`] if memory runs out, or a call fails unexpectedly.
-pub fn work_in_new_hub<R: Threads + Wait + Clock + Abort + Sync>(
+/// [`Fail`] if `shards` is not 1 to 64, memory runs out, or a call fails unexpectedly.
+pub fn work_in_hub<
+    R: Threads + Wait + Clock + Abort + Sync,
+    P: Placing + Drop + Send + Sync,
+    G: Gate + Drop + Send + Sync,
+    C: Clock + Drop + Sync,
+>(
     rt: &R,
     alloc: Global,
     shards: usize,
-    work: Work<'_>,
+    placing: P,
+    gate: G,
+    work: Work<'_, C>,
 ) -> Result<(), Fail> {
-    let config = Config::new(shards, 30_000, 0, 10_000).ok_or("no configuration")?;
-    let placing = Arc::new(alloc, ByRemainder)?;
-    work_in_hub::<Brand, _>(rt, alloc, EmptyWindow::new(), config, placing, work)
+    let config = config_of(shards).ok_or("no configuration")?;
+    let placing = Arc::new(alloc, placing)?;
+    let opened = EmptyWindow::new();
+    work_in_window::<Brand, R, P, G, C>(rt, alloc, opened, config, placing, gate, work)
 }

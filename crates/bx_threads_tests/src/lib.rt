@@ -6,6 +6,8 @@
 #[cfg(test)]
 mod bells;
 #[cfg(test)]
+mod caller;
+#[cfg(test)]
 mod crowd;
 #[cfg(test)]
 mod gates;

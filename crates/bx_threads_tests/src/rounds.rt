@@ -1,12 +1,13 @@
 //! Test of wakers. In each round, one thread posts a connect and sleeps until another thread's
 //! event answers the connect.
 
-use crate::hubs::{Work, work_in_new_hub};
+use crate::caller::Caller;
+use crate::hubs::{Work, work_in_hub};
 use crate::same::same;
 use bx_calls::texts::{CONNECT, HANDSHAKE, SUBSCRIBE};
-use bx_calls::{Found, find, post};
-use bx_entry::Ticket;
-use bx_hub::{Hub, HubKind, Pass, Watch};
+use bx_calls::{Found, Stage};
+use bx_entry::{ByRemainder, Ticket};
+use bx_hub::{HubKind, OpenGate, Watch};
 use futures::task::{Doorbell, Poll, Queue, Source, Waker};
 use std::alloc::{AllocError, Global};
 use std::process::Abort;
@@ -65,16 +66,12 @@ pub struct Turns {
 impl Turns {
     // Sleeps until the task is woken, and stores a new waker in `slot`.
     //
-    // Returns `true`, or `false` if the task was shut down.
-    fn sleep<R: Wait>(&self, rt: &R, slot: &mut Option<Waker>) -> bool {
-        match self.task.next(rt) {
-            Some(mut cx) => {
-                let _: Poll<()> = cx.register(&self.source, slot);
-                cx.park();
-                true
-            }
-            None => false,
-        }
+    // Returns `None` if the task was shut down.
+    fn sleep<R: Wait>(&self, rt: &R, slot: &mut Option<Waker>) -> Option<()> {
+        let mut cx = self.task.next(rt)?;
+        let _: Poll<()> = cx.register(&self.source, slot);
+        cx.park();
+        Some(())
     }
 
     // Waits until the event of `round` may be published, and returns what the publisher does next.
@@ -114,14 +111,12 @@ enum Next {
 
 // Returns `true` if less than `SECONDS` seconds have passed since `start`, and the clock works.
 fn has_time<R: Clock>(rt: &R, start: Instant) -> bool {
-    match start.elapsed(rt) {
-        Ok(elapsed) => elapsed.as_secs() < SECONDS,
-        Err(_) => false,
-    }
+    let elapsed = start.elapsed(rt);
+    elapsed.is_ok_and(|elapsed| elapsed.as_secs() < SECONDS)
 }
 
 // Counts of rounds begun and ended, of wakers registered with the hub, and of wakes from sleep.
-#[derive(Clone, Copy, Debug, PartialEq, Eq)]
+#[derive(Clone, Copy, Debug, Default, PartialEq, Eq)]
 struct Told {
     begun: u64,
     ended: u64,
@@ -129,238 +124,155 @@ struct Told {
     woken: u64,
 }
 
-impl Told {
-    fn none() -> Told {
-        Told {
-            begun: 0,
-            ended: 0,
-            left: 0,
-            woken: 0,
-        }
-    }
+// The thread that posts connects, and sleeps until they are answered.
+#[derive(Drop)]
+struct Sleeper<'a, L: HubKind, R: Wait + Drop> {
+    caller: Caller<'a, L, R>,
+    turns: &'a Turns,
+    // A waker of the task, for the next connect.
+    slot: Option<Waker>,
+    told: Told,
 }
 
-// Registers the waker in `slot` with a connect, and sleeps until the task is woken.
-//
-// If the connect was already answered, puts the waker back and does not sleep. Otherwise counts the
-// waker and the wake in `told`, and stores a new waker in `slot`. Returns `None` if `slot` is
-// empty, the hub does not store the waker or has another one, or the task was shut down.
-fn wait<L: HubKind, H: Wait + Drop, R: Wait>(
-    rt: &R,
-    hub: &Hub<L, H>,
-    ticket: Ticket,
-    turns: &Turns,
-    slot: &mut Option<Waker>,
-    told: &mut Told,
-) -> Option<()> {
-    let (said, _watching) = hub.watch(rt, ticket, slot.take()?);
-    match said {
-        Watch::Stored(None) => {
-            told.left = told.left.wrapping_add(1);
-            if !turns.sleep(rt, slot) {
-                return None;
+impl<'a, L: HubKind, R: Wait + Clock + Drop> Sleeper<'a, L, R> {
+    // Registers the waker in `slot` with a connect, and sleeps until the task is woken.
+    //
+    // If the connect was already answered, puts the waker back and does not sleep. Otherwise counts
+    // the waker and the wake in `told`, and stores a new waker in `slot`. Returns `None` if `slot`
+    // is empty, the hub does not store the waker or has another one, or the task was shut down.
+    fn wait(&mut self, ticket: Ticket) -> Option<()> {
+        let Stage { rt, hub, .. } = self.caller.stage;
+        let (said, _watching) = hub.watch(rt, ticket, self.slot.take()?);
+        match said {
+            Watch::Stored(None) => {
+                self.told.left = self.told.left.wrapping_add(1);
+                self.turns.sleep(rt, &mut self.slot)?;
+                self.told.woken = self.told.woken.wrapping_add(1);
             }
-            told.woken = told.woken.wrapping_add(1);
-            Some(())
+            Watch::Ready(waker) => self.slot = Some(waker),
+            Watch::Stored(Some(_waker)) | Watch::Unknown(_waker) | Watch::Shut(_waker) =>
+                return None,
         }
-        Watch::Ready(waker) => {
-            *slot = Some(waker);
-            Some(())
+        Some(())
+    }
+
+    // Polls for the answer under `ticket`. If there is none yet, calls `wait` and polls once again.
+    //
+    // Returns `None` unless a poll finds an answer with the text `wanted`.
+    fn receive(&mut self, ticket: Ticket, wanted: &str) -> Option<()> {
+        let mut found = self.caller.find(ticket, wanted).ok()?;
+        if found == Found::Nothing {
+            self.wait(ticket)?;
+            found = self.caller.find(ticket, wanted).ok()?;
         }
-        _ => None,
+        (found == Found::Wanted).then_some(())
     }
-}
 
-// Polls for the answer under `ticket`. If there is none yet, calls `wait` and polls once again.
-//
-// Returns `None` unless a poll finds an answer with the text `wanted`.
-fn answered<L: HubKind, H: Wait + Drop, R: Wait>(
-    rt: &R,
-    alloc: Global,
-    hub: &Hub<L, H>,
-    pass: &mut Pass<L>,
-    ticket: Ticket,
-    wanted: &str,
-    turns: &Turns,
-    slot: &mut Option<Waker>,
-    told: &mut Told,
-) -> Option<()> {
-    match find(rt, alloc, hub, pass, ticket, wanted).ok()? {
-        Found::Wanted => return Some(()),
-        Found::Other | Found::Stopped(_) => return None,
-        Found::Nothing => {}
-    }
-    wait(rt, hub, ticket, turns, slot, told)?;
-    match find(rt, alloc, hub, pass, ticket, wanted).ok()? {
-        Found::Wanted => Some(()),
-        _ => None,
-    }
-}
-
-// Posts a connect of the first session, lets the event of `round` be published, and returns a
-// ticket.
-//
-// In even rounds the event may be published already before the connect. Returns `None` if the post
-// fails.
-fn connects<L: HubKind, H: Wait + Drop, R: Wait>(
-    rt: &R,
-    alloc: Global,
-    hub: &Hub<L, H>,
-    pass: &mut Pass<L>,
-    turns: &Turns,
-    round: u64,
-) -> Option<Ticket> {
-    if round % 2 == 0 {
-        turns.round.store(round, Ordering::SeqCst);
-    }
-    let (_, ticket) = post(rt, alloc, hub, pass, CONNECT).ok()?;
-    turns.round.store(round, Ordering::SeqCst);
-    ticket
-}
-
-// Posts the connect of `round`, and waits for its answer. Returns `None` unless the answer has the
-// event of `round`.
-fn plays<L: HubKind, H: Wait + Drop, R: Wait>(
-    rt: &R,
-    alloc: Global,
-    hub: &Hub<L, H>,
-    pass: &mut Pass<L>,
-    turns: &Turns,
-    slot: &mut Option<Waker>,
-    told: &mut Told,
-    round: u64,
-) -> Option<()> {
-    let ticket = connects(rt, alloc, hub, pass, turns, round)?;
-    let wanted = text_of(alloc, ANSWER, round).ok()?;
-    let wanted = wanted.as_str();
-    answered(rt, alloc, hub, pass, ticket, wanted, turns, slot, told)
-}
-
-// Plays at most `ROUNDS` rounds, until one fails or time is up, and returns the counts.
-//
-// Then sets `turns.round` to `OVER`, so that the publishing thread ends.
-fn waits<L: HubKind, H: Wait + Drop, R: Wait + Clock>(
-    rt: &R,
-    alloc: Global,
-    hub: &Hub<L, H>,
-    turns: &Turns,
-    start: Instant,
-) -> Told {
-    let mut pass = hub.pass();
-    let mut told = Told::none();
-    let mut slot = None;
-    turns.sleep(rt, &mut slot);
-    for round in 1..=ROUNDS {
-        if !has_time(rt, start) {
-            break;
+    // Posts a connect of the first session, lets the event of `round` be published, and returns a
+    // ticket.
+    //
+    // In even rounds the event may be published already before the connect. Returns `None` if the
+    // post fails.
+    fn connect(&mut self, round: u64) -> Option<Ticket> {
+        if round % 2 == 0 {
+            self.turns.round.store(round, Ordering::SeqCst);
         }
-        told.begun = round;
-        if plays(
-            rt, alloc, hub, &mut pass, turns, &mut slot, &mut told, round,
-        )
-        .is_none()
-        {
-            break;
+        let ticket = self.caller.post(CONNECT).ok()?;
+        self.turns.round.store(round, Ordering::SeqCst);
+        ticket
+    }
+
+    // Posts the connect of `round`, and waits for its answer. Returns `None` unless the answer has
+    // the event of `round`.
+    fn play(&mut self, round: u64) -> Option<()> {
+        let ticket = self.connect(round)?;
+        let wanted = text_of(self.caller.stage.alloc, ANSWER, round).ok()?;
+        self.receive(ticket, wanted.as_str())
+    }
+
+    // Plays at most `ROUNDS` rounds, until one fails or time is up, and returns the counts.
+    //
+    // Then sets `turns.round` to `OVER`, so that the publishing thread ends.
+    fn play_all(stage: &'a Stage<L, R>, turns: &'a Turns, start: Instant) -> Told {
+        let mut sleeper = Sleeper {
+            caller: Caller::of(stage),
+            turns,
+            slot: None,
+            told: Told::default(),
+        };
+        turns.sleep(&stage.rt, &mut sleeper.slot);
+        for round in 1..=ROUNDS {
+            if !has_time(&stage.rt, start) {
+                break;
+            }
+            sleeper.told.begun = round;
+            if sleeper.play(round).is_none() {
+                break;
+            }
+            sleeper.told.ended = round;
         }
-        told.ended = round;
+        turns.round.store(OVER, Ordering::SeqCst);
+        sleeper.told
     }
-    turns.round.store(OVER, Ordering::SeqCst);
-    told
 }
 
-// Publishes an event in each round, and returns the number of events.
-//
-// Returns `None` if a publish fails or a round does not begin in time.
-fn publishes<L: HubKind, H: Wait + Drop, R: Wait + Clock>(
-    rt: &R,
-    alloc: Global,
-    hub: &Hub<L, H>,
-    turns: &Turns,
-) -> Option<u64> {
-    let mut pass = hub.pass();
-    for round in 1..=ROUNDS {
-        match turns.next(rt, round) {
-            Next::Publish => publish(rt, alloc, hub, &mut pass, round)?,
-            Next::Over => return Some(round - 1),
-            Next::Late => return None,
+impl<L: HubKind, R: Wait + Clock + Drop> Caller<'_, L, R> {
+    // Publishes an event in each round, and returns the number of events.
+    //
+    // Returns `None` if a publish fails or a round does not begin in time.
+    fn publish_rounds(&mut self, turns: &Turns) -> Option<u64> {
+        for round in 1..=ROUNDS {
+            match turns.next(&self.stage.rt, round) {
+                Next::Publish => {
+                    let body = text_of(self.stage.alloc, PUBLISH, round).ok()?;
+                    self.post(body.as_str()).ok()?;
+                }
+                Next::Over => return Some(round - 1),
+                Next::Late => return None,
+            }
         }
+        Some(ROUNDS)
     }
-    Some(ROUNDS)
-}
 
-fn publish<L: HubKind, H: Wait + Drop, R: Wait>(
-    rt: &R,
-    alloc: Global,
-    hub: &Hub<L, H>,
-    pass: &mut Pass<L>,
-    round: u64,
-) -> Option<()> {
-    let body = text_of(alloc, PUBLISH, round).ok()?;
-    post(rt, alloc, hub, pass, body.as_str()).ok()?;
-    Some(())
-}
-
-// Runs `publishes` and returns its result. If that is `None`, shuts the waiting task down, so that
-// it does not sleep forever.
-fn publishes_all<L: HubKind, H: Wait + Drop, R: Wait + Clock>(
-    rt: &R,
-    alloc: Global,
-    hub: &Hub<L, H>,
-    turns: &Turns,
-) -> Option<u64> {
-    let published = publishes(rt, alloc, hub, turns);
-    if published.is_none() {
-        turns.task.shut_down();
+    // Runs `publish_rounds` and returns its result. If that is `None`, shuts the waiting task down,
+    // so that it does not sleep forever.
+    fn publish_or_shut_down(&mut self, turns: &Turns) -> Option<u64> {
+        let published = self.publish_rounds(turns);
+        if published.is_none() {
+            turns.task.shut_down();
+        }
+        published
     }
-    published
-}
-
-// Opens two sessions and subscribes the first.
-fn opens<L: HubKind, H: Wait + Drop, R: Wait>(
-    rt: &R,
-    alloc: Global,
-    hub: &Hub<L, H>,
-) -> Result<(), Fail> {
-    let mut pass = hub.pass();
-    for body in [HANDSHAKE, HANDSHAKE, SUBSCRIBE] {
-        post(rt, alloc, hub, &mut pass, body)?;
-    }
-    Ok(())
 }
 
 /// Opens two sessions, plays the rounds in two threads, and checks the counts.
 ///
+/// Each round that began must have ended, and each registered waker must have woken the task once.
+/// At least one waker must have been registered, and one event published in each round.
+///
 /// # Errors
 ///
-/// An error if memory runs out, or a call fails unexpectedly.
-pub fn play<
+/// [`Fail`] if a call before the rounds or the clock fails.
+pub fn run<
     L: HubKind<Placing: Send + Sync, Gate: Send + Sync> + Send + Sync,
-    H: Wait + Drop + Send,
-    R: Threads + Wait + Clock + Abort + Sync,
->(rt: &R, alloc: Global, hub: &Hub<L, H>, turns: &Turns) -> Result<(), Fail> {
-    opens(rt, alloc, hub)?;
-    let start = Instant::now(rt)?;
+    R: Threads + Wait + Clock + Abort + Send + Sync + Drop,
+>(stage: &Stage<L, R>, turns: &Turns) -> Result<(), Fail> {
+    Caller::of(stage).post_all(&[HANDSHAKE, HANDSHAKE, SUBSCRIBE])?;
+    let start = Instant::now(&stage.rt)?;
     let (told, published) = join(
-        rt,
-        || waits(rt, alloc, hub, turns, start),
-        || publishes_all(rt, alloc, hub, turns),
+        &stage.rt,
+        || Sleeper::play_all(stage, turns, start),
+        || Caller::of(stage).publish_or_shut_down(turns),
     );
-    check(rt, told, published);
-    Ok(())
-}
-
-// Checks that each round that began has ended, and that each registered waker woke the task once.
-//
-// At least one waker must have been registered, and one event published in each round.
-fn check<R: Abort>(rt: &R, told: Told, published: Option<u64>) {
     let wanted = Told {
         ended: told.begun,
         woken: told.left,
         ..told
     };
-    same(rt, told, wanted, published);
-    same(rt, published, Some(told.begun), "published");
-    same(rt, told.left > 0, true, "some waker was left");
+    same(&stage.rt, told, wanted, published);
+    same(&stage.rt, published, Some(told.begun), "published");
+    same(&stage.rt, told.left > 0, true, "some waker was left");
+    Ok(())
 }
 
 // Checks that each waker registered with a held connect wakes its task once.
@@ -372,5 +284,6 @@ fn each_waker_wakes_once(rt: HostRuntime) -> Result<(), Fail> {
         round: AtomicU64::new(0),
     };
     turns.task.add()?.schedule();
-    work_in_new_hub(&rt, rt.alloc(), 2, Work::Rounds(&turns))
+    let work = Work::<&HostRuntime>::Rounds(&turns);
+    work_in_hub(&rt, rt.alloc(), 2, ByRemainder, OpenGate, work)
 }

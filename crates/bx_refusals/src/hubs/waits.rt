@@ -1,60 +1,14 @@
 //! A task that waits for the answer to a connect, in a hub of one shard.
-use crate::hubs::said::{Said, connect, post, tick};
-use crate::unlike::Unlike;
-use bx_calls::texts::{HANDSHAKE, PUBLISH};
+use crate::hubs::caller::Caller;
+use crate::unlike::{Unlike, check};
 use bx_calls::waker_of;
 use bx_entry::Ticket;
 use bx_held::PendingAnswer;
-use bx_hub::{Hub, HubFault, HubKind, Pass, Watch};
+use bx_hub::{HubFault, HubKind, Pass, Watch};
 use bx_message::Answer;
 use futures::task::Poll;
 use futures::test::MockTask;
-use std::alloc::{AllocGlobal, Global};
-use std::random::RandomSource;
-use std::sync::{Arc, Wait};
-
-/// Connects a session, and lets a task wait for the answer until another session publishes.
-///
-/// Appends to `said` a line for each message, for the tick, and for the answer.
-///
-/// # Errors
-///
-/// `Memory` if memory runs out outside of the retried calls; `Wrong` for another result than
-/// expected, or if a second attempt fails.
-pub fn run<'a, L, R>(
-    rt: &'a R,
-    alloc: Global,
-    hub: &Arc<Hub<L, &'a R>, Global>,
-    said: &mut Said,
-) -> Result<(), Unlike>
-where
-    L: HubKind,
-    R: Wait + RandomSource + AllocGlobal,
-{
-    let task = MockTask::new(rt).map_err(|_| Unlike::Memory)?;
-    let mut pass = hub.pass();
-    let (ticket, is_behind) = connect(rt, alloc, hub, &mut pass, said)?;
-    if is_there(rt, hub, ticket, &task)? == is_behind {
-        return Err(Unlike::Wrong("behind and not behind"));
-    }
-    wait(rt, alloc, hub, &mut pass, ticket, &task, said)
-}
-
-// Returns `true` if the shard holds the connect, and `false` if it has not applied the connect yet.
-// Fails if the connect is answered, or if the hub is closed.
-fn is_there<L: HubKind, H: Wait + Drop, R: Wait>(
-    rt: &R,
-    hub: &Hub<L, H>,
-    ticket: Ticket,
-    task: &MockTask,
-) -> Result<bool, Unlike> {
-    let (said, _evidence) = hub.watch(rt, ticket, waker_of(task).ok_or(Unlike::Memory)?);
-    match said {
-        Watch::Stored(_) => Ok(true),
-        Watch::Unknown(_) => Ok(false),
-        Watch::Ready(_) | Watch::Shut(_) => Err(Unlike::Wrong("no connect is held")),
-    }
-}
+use std::sync::Wait;
 
 // Returns a future of the answer under `ticket`. Fails if `pass` ends before the ticket's place.
 fn waiting<L: HubKind>(pass: &Pass<L>, ticket: Ticket) -> Result<PendingAnswer<L>, Unlike> {
@@ -65,82 +19,80 @@ fn waiting<L: HubKind>(pass: &Pass<L>, ticket: Ticket) -> Result<PendingAnswer<L
     Ok(PendingAnswer::new(pass, ticket))
 }
 
-// Polls `held` once for `task`. Returns the answer or the fault if it is ready, and `Pending` if
-// not.
-fn polled<L: HubKind, H: Wait + Drop, R: Wait>(
-    rt: &R,
-    alloc: Global,
-    hub: &Hub<L, H>,
-    task: &MockTask,
-    held: &mut PendingAnswer<L>,
-) -> Poll<Result<Option<Answer>, HubFault>> {
-    let (polled, _left) = task.enter(|cx| held.poll(rt, alloc, hub, cx));
-    match polled {
-        Poll::Ready(Ok(answer)) => Poll::Ready(Ok(answer)),
-        Poll::Ready(Err(stopped)) => Poll::Ready(Err(stopped.fault())),
-        Poll::Pending => Poll::Pending,
+impl<L: HubKind, H: Wait + Drop, R: Wait> Caller<'_, L, H, R> {
+    /// Connects a session, and lets `task` wait for the answer until another session publishes.
+    ///
+    /// Posts a tick, and returns the answer. The poll that takes the answer does not allocate, so
+    /// it is not retried.
+    ///
+    /// # Errors
+    ///
+    /// As described at [`Caller`].
+    pub fn awaited_answer(&mut self, task: &MockTask) -> Result<Answer, Unlike> {
+        let mut pass = self.hub.pass();
+        let (ticket, is_behind) = self.connect(&mut pass)?;
+        let is_held = self.is_held(ticket, task)?;
+        check(is_held != is_behind, "behind and not behind")?;
+        let mut held = self.wait(&pass, ticket, task)?;
+        self.publish_and_wake(task)?;
+        match self.poll_held(task, &mut held) {
+            Poll::Ready(Ok(Some(answer))) => Ok(answer),
+            Poll::Ready(_) | Poll::Pending => Err(Unlike::Wrong("no answer")),
+        }
     }
-}
 
-// Checks that the task waits for the answer under `ticket`, and that a publish then gives the
-// answer. If memory runs out in the first poll, polls a new future.
-fn wait<L: HubKind, H: Wait + Drop, R: Wait>(
-    rt: &R,
-    alloc: Global,
-    hub: &Hub<L, H>,
-    pass: &mut Pass<L>,
-    ticket: Ticket,
-    task: &MockTask,
-    said: &mut Said,
-) -> Result<(), Unlike> {
-    let mut held = waiting(pass, ticket)?;
-    let mut first = polled(rt, alloc, hub, task, &mut held);
-    if matches!(first, Poll::Ready(Err(HubFault::Memory))) {
-        held = waiting(pass, ticket)?;
-        first = polled(rt, alloc, hub, task, &mut held);
+    // Returns `true` if the shard holds the connect, and `false` if it has not applied the connect
+    // yet. Fails if the connect is answered, or if the hub is closed.
+    fn is_held(&self, ticket: Ticket, task: &MockTask) -> Result<bool, Unlike> {
+        let waker = waker_of(task).ok_or(Unlike::Memory)?;
+        let (said, _evidence) = self.hub.watch(self.rt, ticket, waker);
+        match said {
+            Watch::Stored(_) => Ok(true),
+            Watch::Unknown(_) => Ok(false),
+            Watch::Ready(_) | Watch::Shut(_) => Err(Unlike::Wrong("no connect is held")),
+        }
     }
-    if first.is_ready() || task.is_woken() {
-        return Err(Unlike::Wrong("an answer too soon"));
-    }
-    answer(rt, alloc, hub, task, &mut held, said)
-}
 
-// Publishes, checks that `held` is then ready, and appends its answer to `said`. The poll does not
-// allocate, so it is not retried.
-fn answer<L: HubKind, H: Wait + Drop, R: Wait>(
-    rt: &R,
-    alloc: Global,
-    hub: &Hub<L, H>,
-    task: &MockTask,
-    held: &mut PendingAnswer<L>,
-    said: &mut Said,
-) -> Result<(), Unlike> {
-    publish(rt, alloc, hub, task, said)?;
-    match polled(rt, alloc, hub, task, held) {
-        Poll::Ready(Ok(Some(answer))) => said.add_answer(alloc, answer),
-        Poll::Ready(_) | Poll::Pending => Err(Unlike::Wrong("no answer")),
+    // Polls `held` once for `task`. Returns the answer or the fault if it is ready, and `Pending`
+    // if not.
+    fn poll_held(
+        &self,
+        task: &MockTask,
+        held: &mut PendingAnswer<L>,
+    ) -> Poll<Result<Option<Answer>, HubFault>> {
+        let (polled, _left) = task.enter(|cx| held.poll(self.rt, self.alloc, self.hub, cx));
+        match polled {
+            Poll::Ready(Ok(answer)) => Poll::Ready(Ok(answer)),
+            Poll::Ready(Err(stopped)) => Poll::Ready(Err(stopped.fault())),
+            Poll::Pending => Poll::Pending,
+        }
     }
-}
 
-// Publishes and posts a tick. Checks that the publish wakes the task or, if memory ran out when the
-// shard was to apply the publish, that the tick does.
-fn publish<L: HubKind, H: Wait + Drop, R: Wait>(
-    rt: &R,
-    alloc: Global,
-    hub: &Hub<L, H>,
-    task: &MockTask,
-    said: &mut Said,
-) -> Result<(), Unlike> {
-    let mut pass = hub.pass();
-    post(rt, alloc, hub, &mut pass, said, 3, HANDSHAKE)?;
-    let published = post(rt, alloc, hub, &mut pass, said, 4, PUBLISH)?;
-    if task.is_woken() == published.is_behind {
-        return Err(Unlike::Wrong("behind and not behind"));
+    // Returns a future of the answer under `ticket`, for which `task` waits. If memory runs out in
+    // the first poll, polls a new future.
+    fn wait(
+        &self,
+        pass: &Pass<L>,
+        ticket: Ticket,
+        task: &MockTask,
+    ) -> Result<PendingAnswer<L>, Unlike> {
+        let mut held = waiting(pass, ticket)?;
+        let mut first = self.poll_held(task, &mut held);
+        if matches!(first, Poll::Ready(Err(HubFault::Memory))) {
+            held = waiting(pass, ticket)?;
+            first = self.poll_held(task, &mut held);
+        }
+        check(first.is_pending() && !task.is_woken(), "an answer too soon")?;
+        Ok(held)
     }
-    tick(rt, alloc, hub, &mut pass, said)?;
-    if task.is_woken() {
-        Ok(())
-    } else {
-        Err(Unlike::Wrong("not woken"))
+
+    // Publishes and posts a tick. Checks that the publish wakes the task or, if memory ran out when
+    // the shard was to apply the publish, that the tick does.
+    fn publish_and_wake(&mut self, task: &MockTask) -> Result<(), Unlike> {
+        let mut pass = self.hub.pass();
+        let is_behind = self.publish(&mut pass)?;
+        check(task.is_woken() != is_behind, "behind and not behind")?;
+        self.tick(&mut pass)?;
+        check(task.is_woken(), "not woken")
     }
 }

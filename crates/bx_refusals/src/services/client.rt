@@ -4,8 +4,9 @@ ghost use Rattle.futures.specs.Poll.{OnPending};
 
 use crate::requests::string;
 use crate::services::asked::{Asked, request};
-use crate::services::list::{Adds, Count, List};
-use crate::unlike::Unlike;
+use crate::unlike::{Unlike, check};
+use bx_calls::post;
+use bx_hub::{Hub, HubKind};
 use bx_pieces::Pieces;
 use bx_service::{Backend, BayeuxService, Collect, ServiceFault};
 use bytes::Bytes;
@@ -15,24 +16,75 @@ use futures::test::MockTask;
 use http::Response;
 use hyper::service::Service;
 use std::alloc::Global;
+use std::sync::{Arc, Wait};
 
 /// The result of an exchange: an HTTP response, or the fault of the service.
 pub type Given = Result<Response<Pieces<Bytes>>, ServiceFault>;
 
-/// A service, its hub's list, and the task that polls the exchanges.
-#[derive(Drop)]
-pub struct Client<S: Drop, C: Drop> {
-    /// The allocator for requests and lines.
-    pub alloc: Global,
-    /// The service that answers the requests.
-    pub service: BayeuxService<S>,
-    /// The list of the service's hub, with its expected counts.
-    pub list: List<C>,
-    /// The task that polls the exchanges.
-    pub task: MockTask,
+/// What a request adds to the hub's list.
+#[derive(Clone, Copy, Debug, PartialEq, Eq)]
+pub enum Adds {
+    /// The request adds no entry to the list: it is rejected, or its entry is already counted.
+    Nothing,
+    /// The request adds one entry to the list, and opens no session.
+    Entry,
+    /// The request adds one entry to the list, which opens a session.
+    Session,
 }
 
-impl<S: Backend<Items: Drop>, C: Count + Drop> Client<S, C> {
+/// A client of a service over a hub, and the lines of the responses.
+#[derive(Drop)]
+pub struct Client<S: Drop, L: HubKind, R: Wait + Drop> {
+    /// The right to wait for the hub's locks.
+    pub rt: R,
+    /// The allocator for requests and lines.
+    pub alloc: Global,
+    /// The hub of the service.
+    pub hub: Arc<Hub<L, R>, Global>,
+    /// The service that answers the requests.
+    pub service: BayeuxService<S>,
+    /// The task that polls the exchanges.
+    pub task: MockTask,
+    /// The lines so far, separated by newlines.
+    pub text: String,
+    /// The expected number of entries in the hub's list.
+    pub entries: u64,
+    /// The expected number of sessions that the entries of the hub's list opened.
+    pub sessions: u64,
+}
+
+impl<S: Backend<Items: Drop>, L: HubKind, R: Wait + Drop> Client<S, L, R> {
+    /// Adds what a request added to the list to the expected numbers of entries and sessions.
+    pub fn count(&mut self, adds: Adds) {
+        if adds != Adds::Nothing {
+            self.entries = self.entries.saturating_add(1);
+        }
+        if adds == Adds::Session {
+            self.sessions = self.sessions.saturating_add(1);
+        }
+    }
+
+    /// Checks that a failed request added nothing, or just `adds`, and counts what it added.
+    ///
+    /// To learn the number of entries in the hub's list, posts a request without messages, which
+    /// adds no entry.
+    ///
+    /// # Errors
+    ///
+    /// `Wrong` if the hub fails, or if the request added something else.
+    pub fn check_list(&mut self, adds: Adds) -> Result<(), Unlike> {
+        let mut pass = self.hub.pass();
+        let counted = post(&self.rt, self.alloc, &self.hub, &mut pass, "[]");
+        let (entries, _) = counted.map_err(|_| Unlike::Wrong("not counted"))?;
+        if entries != self.entries {
+            self.count(adds);
+        }
+        check(
+            entries == self.entries,
+            "a refused request changes the list",
+        )
+    }
+
     /// Makes an exchange that must not wait, and returns the line of its response.
     ///
     /// Retries once if memory runs out. `adds`: what the request adds to the list.
@@ -44,10 +96,10 @@ impl<S: Backend<Items: Drop>, C: Count + Drop> Client<S, C> {
     pub fn ask(&mut self, asked: Asked<'_>, adds: Adds) -> Result<String, Unlike> {
         let mut line = self.ask_once(asked)?;
         if line.is_none() {
-            self.list.check(self.alloc, adds)?;
+            self.check_list(adds)?;
             line = self.ask_once(asked)?;
         }
-        self.list.add(adds);
+        self.count(adds);
         line.ok_or(Unlike::Wrong("refused once more"))
     }
 

@@ -1,8 +1,8 @@
 //! Runs with requests to the read-only listener.
 use crate::requests::{Ask, FORM, JSON, Want};
 use crate::runs::{
-    BAD, CONNECT, CONNECTED, FORBIDDEN, Held, MISSING, NOT_ALLOWED, NOTHING, OK, PUBLISH, Run,
-    Step, TOO_LARGE, UNAVAILABLE,
+    BAD, CONNECT, CONNECTED, ENDED, FORBIDDEN, Held, MISSING, NOT_ALLOWED, NOTHING, OK, PUBLISH,
+    Run, Step, TOO_LARGE, UNAVAILABLE,
 };
 use bx_advice::BODY_LIMIT;
 use bx_calls::texts;
@@ -64,7 +64,7 @@ pub const HEAR: Run = Run {
     held: Some(Held {
         before: &[Step::ReadText(texts::PUBLISH_OWN, FORBIDDEN)],
         then: &[Step::ReadText(texts::DISCONNECT, Want::Json(texts::DISCONNECTED))],
-        gives: Some((true, Want::Json(texts::SESSION_ENDED))),
+        gives: Some((true, ENDED)),
         ..CONNECT
     }),
     last: &[

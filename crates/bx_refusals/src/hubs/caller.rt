@@ -1,0 +1,196 @@
+//! Calls of a hub, each retried once if memory runs out, and the lines of their results.
+use crate::requests::{add_line, reply, text_of};
+use crate::unlike::{Unlike, check};
+use bx_calls::arrival;
+use bx_calls::texts::{CONNECT, HANDSHAKE, PUBLISH, SUBSCRIBE};
+use bx_entry::{Slot, Ticket};
+use bx_hub::{Hub, HubFault, HubKind, Lagging, Pass, PostFault, PostReceipt, Tick};
+use bx_message::Answer;
+use std::alloc::Global;
+use std::sync::Wait;
+
+/// A caller that retries each call of a hub once if memory runs out.
+///
+/// # Errors
+///
+/// Each call fails with `Memory` if memory runs out outside of the hub's call, and with `Wrong` for
+/// another result than expected, or if the second attempt fails.
+#[derive(Drop)]
+pub struct Caller<'a, L: HubKind, H: Wait + Drop, R: Wait> {
+    /// The right to wait for the hub's locks.
+    pub rt: &'a R,
+    /// The allocator for requests and lines.
+    pub alloc: Global,
+    /// The hub that is called.
+    pub hub: &'a Hub<L, H>,
+    // The lines so far, separated by newlines.
+    text: String,
+    // The expected place of the next message or tick.
+    place: u64,
+    // The number of shards that were not advanced for lack of memory.
+    behind: usize,
+}
+
+impl<'a, L: HubKind, H: Wait + Drop, R: Wait> Caller<'a, L, H, R> {
+    /// Creates a caller of `hub` without lines. The hub's list is empty.
+    pub fn new(rt: &'a R, alloc: Global, hub: &'a Hub<L, H>) -> Caller<'a, L, H, R> {
+        Caller {
+            rt,
+            alloc,
+            hub,
+            text: String::new(alloc),
+            place: 0,
+            behind: 0,
+        }
+    }
+
+    /// Returns the lines, separated by newlines.
+    pub fn into_text(self) -> String {
+        let Caller { text, .. } = self;
+        text
+    }
+
+    /// Appends a line with the events and the reply of `answer`.
+    ///
+    /// # Errors
+    ///
+    /// As described at [`Caller`].
+    pub fn add_answer(&mut self, answer: Answer) -> Result<(), Unlike> {
+        add_line(&mut self.text, text_of(self.alloc, answer)?.as_str())
+    }
+
+    // Appends a line with the next place and `what`, which describes the message or tick there.
+    fn add(&mut self, what: &str) -> Result<(), Unlike> {
+        let line = format!(in self.alloc; "{} {what}", self.place)?;
+        self.place = self.place.saturating_add(1);
+        add_line(&mut self.text, line.as_str())
+    }
+
+    // Returns `true` if a call did not advance a shard to the end because memory ran out. Fails if
+    // another reason kept a shard from the end. Fails also at a second such shard, because only one
+    // allocation fails in a run.
+    fn is_behind(&mut self, behind: Lagging) -> Result<bool, Unlike> {
+        let memory = behind.memory;
+        let by_memory = Lagging {
+            memory,
+            ..Lagging::none()
+        };
+        self.behind = self.behind.saturating_add(memory);
+        check(
+            behind == by_memory && self.behind <= 1,
+            "more stays behind than is refused",
+        )?;
+        Ok(memory == 1)
+    }
+
+    /// Posts `body` and appends a line for each message: its reply, or `waits`.
+    ///
+    /// Returns the ticket of the last message that waits, or `None` if every message has its reply.
+    /// Returns also whether the post did not advance a shard to the end because memory ran out.
+    ///
+    /// # Errors
+    ///
+    /// As described at [`Caller`].
+    pub fn post(
+        &mut self,
+        pass: &mut Pass<L>,
+        body: &str,
+    ) -> Result<(Option<Ticket>, bool), Unlike> {
+        let mut arrival = arrival(self.alloc, body)?;
+        for _ in 0..2 {
+            match self.hub.post(self.rt, self.alloc, pass, arrival) {
+                Ok(posted) => return self.end_of(posted),
+                Err((back, why)) => {
+                    check(why.fault() == PostFault::Memory, "not posted")?;
+                    arrival = back;
+                }
+            }
+        }
+        Err(Unlike::Wrong("refused once more"))
+    }
+
+    fn end_of(&mut self, posted: PostReceipt<L>) -> Result<(Option<Ticket>, bool), Unlike> {
+        check(posted.first == self.place, "posted elsewhere")?;
+        let is_behind = self.is_behind(posted.advanced.behind())?;
+        let mut ticket = None;
+        for slot in posted.slots.as_slice() {
+            match slot {
+                Slot::Ready(told) => self.add(reply(self.alloc, told)?.as_str())?,
+                Slot::Waiting(waiting) => {
+                    self.add("waits")?;
+                    ticket = Some(*waiting);
+                }
+            }
+        }
+        Ok((ticket, is_behind))
+    }
+
+    /// Opens and subscribes the first session, and posts its connect.
+    ///
+    /// Returns the ticket of the connect, and whether its post did not advance a shard to the end
+    /// because memory ran out.
+    ///
+    /// # Errors
+    ///
+    /// As described at [`Caller`].
+    pub fn connect(&mut self, pass: &mut Pass<L>) -> Result<(Ticket, bool), Unlike> {
+        for body in [HANDSHAKE, SUBSCRIBE] {
+            self.post(pass, body)?;
+        }
+        let (ticket, is_behind) = self.post(pass, CONNECT)?;
+        let ticket = ticket.ok_or(Unlike::Wrong("no connect"))?;
+        Ok((ticket, is_behind))
+    }
+
+    /// Opens the second session, and publishes from it.
+    ///
+    /// Returns whether the publish did not advance a shard to the end because memory ran out.
+    ///
+    /// # Errors
+    ///
+    /// As described at [`Caller`].
+    pub fn publish(&mut self, pass: &mut Pass<L>) -> Result<bool, Unlike> {
+        self.post(pass, HANDSHAKE)?;
+        let (_, is_behind) = self.post(pass, PUBLISH)?;
+        Ok(is_behind)
+    }
+
+    /// Posts a tick at moment 0 and appends its line.
+    ///
+    /// # Errors
+    ///
+    /// As described at [`Caller`].
+    pub fn tick(&mut self, pass: &mut Pass<L>) -> Result<(), Unlike> {
+        let mut tick = Tick::new(0);
+        for _ in 0..2 {
+            match self.hub.tick(self.rt, self.alloc, pass, tick) {
+                Ok(ticked) => {
+                    check(ticked.place == self.place, "ticks elsewhere")?;
+                    self.is_behind(ticked.advanced.behind())?;
+                    return self.add("ticks");
+                }
+                Err((back, why)) => {
+                    check(why.fault() == PostFault::Memory, "no tick")?;
+                    tick = back;
+                }
+            }
+        }
+        Err(Unlike::Wrong("refused once more"))
+    }
+
+    /// Takes the answer under `ticket`, or returns `None` if it is not filed.
+    ///
+    /// # Errors
+    ///
+    /// As described at [`Caller`].
+    pub fn poll(&self, pass: &mut Pass<L>, ticket: Ticket) -> Result<Option<Answer>, Unlike> {
+        for _ in 0..2 {
+            let (polled, _unfiled) = self.hub.poll_answer(self.rt, self.alloc, pass, ticket);
+            match polled {
+                Ok(answer) => return Ok(answer),
+                Err(stopped) => check(stopped.fault() == HubFault::Memory, "no telling")?,
+            }
+        }
+        Err(Unlike::Wrong("refused once more"))
+    }
+}
