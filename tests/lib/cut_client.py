@@ -4,13 +4,11 @@ import enum
 import json
 import urllib.parse
 
-from base import CheckFailed
+from base import TIMEOUT_SECONDS, CheckFailed
 from daemon import HANDSHAKE, Response, expect_success, get, post
 
 # The patterns of clients. The publishers' channels are /cut/0, /cut/1 and so on.
 PATTERNS = ["/cut/**", "/cut/*", "/cut/{}", "/**"]
-# How long to wait for a response, in seconds.
-TIMEOUT_SECONDS = 30.0
 # The most bytes that a slow connection reads at once, and its pause after that, in seconds.
 PIECE, SLOW_PAUSE = 1000, 0.1
 

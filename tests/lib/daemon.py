@@ -10,10 +10,8 @@ import sys
 import tempfile
 import time
 
-from base import CLEAR_LINE, CheckFailed, run_check, wait_until
+from base import CLEAR_LINE, TIMEOUT_SECONDS, CheckFailed, run_check, wait_until
 
-# How long a connection waits for the daemon before a check fails, in seconds.
-TIMEOUT_SECONDS = 60.0
 # The seed of the daemons. No two bytes are equal, so that a byte read at a wrong place is noticed.
 SEED = bytes(range(1, 33)).hex()
 FORM = b"application/x-www-form-urlencoded"

@@ -108,8 +108,8 @@ where
     }
 
     // Sends each proper prefix of a handshake, starting with the empty one, and then all of it.
-    // Returns a text with the number of prefixes after which the hub's list was empty, the body of
-    // the response to the whole handshake, and the number of entries in the list at the end.
+    // Returns a text. It has the number of prefixes after which the hub's list was empty. It also
+    // has the body of the response to the whole handshake, and the length of the list at the end.
     fn posts<L: HubKind, H: Wait + Drop, R: Wait>(&self, rt: &R, hub: &Hub<L, H>) -> Result<String>
         requires { (each : S) → S.can_call each }
     {

@@ -25,8 +25,8 @@ const MOST_FRAMES: usize = 4;
 ///
 /// # Errors
 ///
-/// `Memory` if memory runs out outside of the calls of `Pieces`, or in a second attempt; `Wrong` if
-/// a frame or the whole text is not as expected, or if a frame follows an error.
+/// - `Memory` if memory runs out outside of the calls of `Pieces`, or in a second attempt.
+/// - `Wrong` if a frame or the whole text is not as expected, or if a frame follows an error.
 pub fn run<R: RandomSource + AllocGlobal>(rt: &R, alloc: Global) -> Result<String, Unlike> {
     let task = MockTask::new(rt).map_err(|_| Unlike::Memory)?;
     let mut text = String::new(alloc);

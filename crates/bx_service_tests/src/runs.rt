@@ -105,7 +105,7 @@ const CODED: Want = Want::Status(501);
 
 const UNAVAILABLE: Want = Want::Status(503);
 
-/// The limit of `Bench::small` on a body or query, in bytes.
+/// The limit on a body or query in a step that is [`Step::Small`], in bytes.
 pub const SMALL: usize = 16;
 
 // Bodies and queries of up to `SMALL` bytes are read, and longer ones get 413. With a

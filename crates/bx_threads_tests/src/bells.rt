@@ -60,7 +60,7 @@ struct Flags {
     is_armed: AtomicBool,
     // A flag that is set when the call that wakes a task has locked shard 1, before the shard
     // advances.
-    stands: AtomicBool,
+    has_locked: AtomicBool,
     // A flag that is set when every shard was locked and unlocked once, during the call that wakes
     // a task.
     swept: AtomicBool,
@@ -68,7 +68,7 @@ struct Flags {
     ended: AtomicBool,
 }
 
-// A gate that sets `Flags::stands` before an advance of shard 1, if `Flags::is_armed` is set.
+// A gate that sets `Flags::has_locked` before an advance of shard 1, if `Flags::is_armed` is set.
 #[derive(Drop)]
 struct Telling {
     flags: Arc<Flags, Global>,
@@ -77,7 +77,7 @@ struct Telling {
 impl Gate for Telling {
     fn before(&self, shard: usize) {
         if shard == 1 && self.flags.is_armed.load(Ordering::SeqCst) {
-            self.flags.stands.store(true, Ordering::SeqCst);
+            self.flags.has_locked.store(true, Ordering::SeqCst);
         }
     }
 
@@ -123,24 +123,23 @@ impl<L: HubKind, R: Wait + Clock + Abort + Drop> Caller<'_, L, R> {
         answered
     }
 
-    // Waits for `flags.stands`, then locks and unlocks every shard once, and sets `flags.swept`.
+    // Waits for `flags.has_locked`, then locks and unlocks every shard once, and sets `flags.swept`.
     //
-    // The wait ends as that of `wait_for` does. Returns `true` if `flags.stands` was
-    // set in that time. The shards are locked in any case.
+    // The wait ends as that of `wait_for` does. Returns `true` if `flags.has_locked` was set in
+    // that time. The shards are locked in any case.
     fn sweep_once(&mut self, flags: &Flags) -> bool {
         let Stage { rt, hub, .. } = self.stage;
-        let stood = wait_for(rt, &flags.stands);
+        let had_locked = wait_for(rt, &flags.has_locked);
         hub.sweep(rt, 0);
         flags.swept.store(true, Ordering::SeqCst);
-        stood
+        had_locked
     }
 }
 
 // Waits for `flags.swept` as `wait_for` does, and lets the blocked wake continue.
 //
 // For that, reads `counter`. Returns whether every shard could be locked while the wake was
-// blocked, whether the call that wakes had ended before, although the wake was blocked, and whether
-// the counter could be read.
+// blocked, whether the call that wakes had ended too early, and whether `counter` could be read.
 fn lets_go<R: Clock>(rt: &R, flags: &Flags, counter: i32) -> (bool, bool, bool) {
     let was_free = wait_for(rt, &flags.swept);
     thread::sleep(rt, Duration::from_millis(20));
@@ -178,12 +177,12 @@ fn check_beside<
     R: Threads + Wait + Clock + Abort + Send + Sync + Drop,
 >(stage: &Stage<L, R>, ticket: Ticket, scene: &Scene) {
     let (waking, flags) = (scene.waking, &*scene.flags);
-    let (answered, (stood, told)) = join(
+    let (answered, (had_locked, told)) = join(
         &stage.rt,
         || Caller::of(stage).wake(ticket, waking, flags),
         || sweep_and_let_go(stage, scene),
     );
-    same(&stage.rt, (answered, stood), (true, true), "the calls");
+    same(&stage.rt, (answered, had_locked), (true, true), "the calls");
     let (was_free, had_ended, let_go) = told;
     same(&stage.rt, was_free, true, ("each shard was free", waking));
     same(&stage.rt, had_ended, false, ("the call had ended", waking));

@@ -34,7 +34,7 @@ impl<L: HubKind, R: Wait + Drop> Caller<'_, L, R> {
     // moment is too large. Admission and shard 1 must be unlocked for both, and the list must have
     // the publish.
     fn tick_and_poll<C: Clock + Drop>(&mut self, ticket: Ticket, flags: &Flags<C>) -> Told {
-        flags.wait_for(&flags.other_stands);
+        flags.wait_for(&flags.is_other_stopped);
         let bad_moment = PostFault::Refused(Refusal::BadMoment);
         let is_bad_moment = self.tick((1 << 62) + 1) == Err(bad_moment);
         let seen = self.pass.len();
@@ -73,8 +73,8 @@ pub fn run<
         || Caller::of(stage).tick_and_poll(ticket, flags),
     );
     same(rt, posted, true, "posted");
-    let stands = flags.other_stands.load(Ordering::SeqCst);
-    same(rt, stands, true, "somebody stands there");
+    let is_stopped = flags.is_other_stopped.load(Ordering::SeqCst);
+    same(rt, is_stopped, true, "a call is stopped");
     let want = Told {
         is_bad_moment: true,
         seen: 5,

@@ -62,9 +62,9 @@ pub struct Flags<C: Clock + Drop> {
     // Whether the next post lets the stopped poll continue, while admission is locked.
     frees_poll: AtomicBool,
     // A flag that is set when a call has stopped in shard 1.
-    call_stands: AtomicBool,
+    is_call_stopped: AtomicBool,
     // A flag that is set when a post has stopped while admission is locked, or a call in shard 0.
-    pub other_stands: AtomicBool,
+    pub is_other_stopped: AtomicBool,
     // A flag that is set when this post or call may continue.
     pub is_free: AtomicBool,
     // A flag that is set when a thread has waited for another flag in vain.
@@ -87,8 +87,8 @@ impl<C: Clock + Drop> Flags<C> {
             holds_post: AtomicBool::new(false),
             holds_poll: AtomicBool::new(false),
             frees_poll: AtomicBool::new(false),
-            call_stands: AtomicBool::new(false),
-            other_stands: AtomicBool::new(false),
+            is_call_stopped: AtomicBool::new(false),
+            is_other_stopped: AtomicBool::new(false),
             is_free: AtomicBool::new(false),
             gave_up: AtomicBool::new(false),
             asked: AtomicU64::new(0),
@@ -106,7 +106,7 @@ impl<C: Clock + Drop> Flags<C> {
 
     // Stops a post or call until it may continue.
     fn stop_other(&self) {
-        self.other_stands.store(true, Ordering::SeqCst);
+        self.is_other_stopped.store(true, Ordering::SeqCst);
         self.wait_for(&self.is_free);
     }
 }
@@ -152,8 +152,8 @@ impl<C: Clock + Drop> Gate for Holding<C> {
             self.flags.between.fetch_add(1, Ordering::SeqCst);
         }
         if shard == 1 && self.flags.holds_call.swap(false, Ordering::SeqCst) {
-            self.flags.call_stands.store(true, Ordering::SeqCst);
-            self.flags.wait_for(&self.flags.other_stands);
+            self.flags.is_call_stopped.store(true, Ordering::SeqCst);
+            self.flags.wait_for(&self.flags.is_other_stopped);
         }
         if shard == 0 && self.flags.holds_poll.swap(false, Ordering::SeqCst) {
             self.flags.stop_other();
@@ -208,8 +208,8 @@ impl<L: HubKind, R: Wait + Drop> Caller<'_, L, R> {
     // admitted.
     //
     // The placing stops this post while admission is locked.
-    fn connect_at_once<C: Clock + Drop>(&mut self, flags: &Flags<C>) -> bool {
-        flags.wait_for(&flags.call_stands);
+    fn connect_once_stopped<C: Clock + Drop>(&mut self, flags: &Flags<C>) -> bool {
+        flags.wait_for(&flags.is_call_stopped);
         flags.holds_post.store(true, Ordering::SeqCst);
         self.post(CONNECT).is_ok()
     }
@@ -220,7 +220,7 @@ impl<L: HubKind, R: Wait + Drop> Caller<'_, L, R> {
     // The call that was stopped in shard 1 can continue meanwhile. Returns `true` if no answers
     // were dropped.
     fn sweep_meanwhile<C: Clock + Drop>(&mut self, flags: &Flags<C>) -> bool {
-        flags.wait_for(&flags.other_stands);
+        flags.wait_for(&flags.is_other_stopped);
         let Stage { rt, hub, .. } = self.stage;
         let mut swept: usize = 0;
         for _ in 0..SWEEPS {
@@ -235,8 +235,8 @@ impl<L: HubKind, R: Wait + Drop> Caller<'_, L, R> {
     // if the poll succeeds.
     //
     // The gate stops this poll while shard 0 is locked.
-    fn poll_at_once<C: Clock + Drop>(&mut self, flags: &Flags<C>) -> bool {
-        flags.wait_for(&flags.call_stands);
+    fn poll_once_stopped<C: Clock + Drop>(&mut self, flags: &Flags<C>) -> bool {
+        flags.wait_for(&flags.is_call_stopped);
         flags.holds_poll.store(true, Ordering::SeqCst);
         self.polls(0)
     }
@@ -246,7 +246,7 @@ impl<L: HubKind, R: Wait + Drop> Caller<'_, L, R> {
     // The call that was stopped in shard 1 can continue before the post, until it waits for shard
     // 0. When the post has locked admission, it lets the poll continue.
     fn connect_later<C: Clock + Drop>(&mut self, flags: &Flags<C>) -> bool {
-        flags.wait_for(&flags.other_stands);
+        flags.wait_for(&flags.is_other_stopped);
         thread::sleep(&flags.clock, Duration::from_millis(SWEEPS as u64));
         flags.frees_poll.store(true, Ordering::SeqCst);
         self.post(CONNECT).is_ok()
@@ -262,12 +262,12 @@ fn both<
     match others {
         Others::PostAndSweeps => join(
             &stage.rt,
-            || Caller::of(stage).connect_at_once(flags),
+            || Caller::of(stage).connect_once_stopped(flags),
             || Caller::of(stage).sweep_meanwhile(flags),
         ),
         Others::PollAndPost => join(
             &stage.rt,
-            || Caller::of(stage).poll_at_once(flags),
+            || Caller::of(stage).poll_once_stopped(flags),
             || Caller::of(stage).connect_later(flags),
         ),
     }
@@ -312,8 +312,13 @@ pub fn run<
         || both(stage, flags, others),
     );
     same(rt, (called, one, other), (true, true, true), "each call");
-    let stood = flags.other_stands.load(Ordering::SeqCst);
-    same(rt, stood, true, "the post or poll stood under its lock");
+    let was_stopped = flags.is_other_stopped.load(Ordering::SeqCst);
+    same(
+        rt,
+        was_stopped,
+        true,
+        "the post or poll was stopped under its lock",
+    );
     let in_vain = flags.gave_up.load(Ordering::SeqCst);
     same(rt, in_vain, false, "waited in vain");
     Ok(())
