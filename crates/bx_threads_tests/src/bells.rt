@@ -123,7 +123,8 @@ impl<L: HubKind, R: Wait + Clock + Abort + Drop> Caller<'_, L, R> {
         answered
     }
 
-    // Waits for `flags.has_locked`, then locks and unlocks every shard once, and sets `flags.swept`.
+    // Waits for `flags.has_locked`, then locks and unlocks every shard once, and sets
+    // `flags.swept`.
     //
     // The wait ends as that of `wait_for` does. Returns `true` if `flags.has_locked` was set in
     // that time. The shards are locked in any case.
