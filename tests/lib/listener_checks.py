@@ -24,6 +24,8 @@ LIMITED = {
 # How much the metrics of memory may differ from what the system reports shortly afterwards, in
 # bytes, or a tenth if that is more, and the start of the process from the time here, in seconds.
 MEMORY_CHANGE, START_CHANGE = 64 << 20, 5
+# A request, and the processor time that such requests must take, in seconds. The metrics show hundredths.
+SMALL_WORK, WORK = post(b"[]"), 0.1
 # The number of the system call `pidfd_getfd`, for which Python has no function.
 PIDFD_GETFD = 438
 # The sessions of the check of lists, in the order in which they are opened. Two events wait for each
@@ -42,6 +44,8 @@ CHANNELS = [{"pattern": "/a", "subscriptions": 1}, {"pattern": "/chat/*", "subsc
 # pattern, and the number of sessions with as many long patterns that the list can have.
 MOST_LISTED, PATTERNS, LONG, LONG_LISTED = 1000, 1024, 250, 5
 TRUNCATED = {"truncated": True}
+# How long a list is at least that is cut because of its length, in bytes.
+LEAST_CUT = 1_000_000
 # The segments and the buffer of a connection over which the system takes little that its peer does not read, in bytes.
 SMALL_SEGMENT, SMALL_BUFFER = 536, 4096
 
@@ -90,6 +94,20 @@ def check_no_delay(daemon):
         raise CheckFailed("small segments are sent only when the client has confirmed those before")
 
 
+def check_processor_time(daemon, metrics):
+    """Checks that the processor time covers all threads of the daemon. `metrics`: the address of the metrics listener."""
+    with Connection(daemon.address) as client:
+        until = daemon.processor_seconds() + WORK
+        while (used := daemon.processor_seconds()) < until:
+            for _ in range(AT_ONCE):
+                client.send(SMALL_WORK)
+            for _ in range(AT_ONCE):
+                client.response()
+    found = scrape(metrics)["process_cpu_seconds_total", ""]
+    if not used <= found <= daemon.processor_seconds():
+        raise CheckFailed(f"processor time after requests: not from {used} to {daemon.processor_seconds()}: {found}")
+
+
 def check_process(program):
     with open(TOP / "VERSION", encoding="ascii") as text:
         version = text.read().strip()
@@ -111,6 +129,7 @@ def check_process(program):
         wait_until("the number of open files", lambda: scrape(metrics)[("process_open_fds", "")] == daemon.descriptors() + 1)
         expect_near("most files", found["process_max_fds"], resource.prlimit(daemon.process.pid, resource.RLIMIT_NOFILE)[0], 0)
         check_no_delay(daemon)
+        check_processor_time(daemon, metrics)
     with FlagDaemon(program, "--metrics", "localhost:0") as daemon:
         unlimited = ("bayeux_limit", '{name="bytes"}')
         if unlimited in scrape(daemon.logged_address("metrics listening address=")):
@@ -123,6 +142,25 @@ def read_list(metrics, path):
     if (response.status, response.fields[b"content-type"]) != (200, b"application/x-ndjson") or response.body[-1:] not in (b"", b"\n"):
         raise CheckFailed(f"no list at {path!r}: {response.status} {response.fields}")
     return [json.loads(line) for line in response.body.splitlines()]
+
+
+def number_of(session):
+    """Returns the number of a session. `session`: the member with its client id, which ends with the number in hexadecimal."""
+    return int(session["clientId"][-16:], 16)
+
+
+def expect_all_shards(program):
+    """Checks that the lists have the sessions of all of 64 shards."""
+    with NonExpiringDaemon(program, "--shards", "64") as daemon, Connection(daemon.address) as client:
+        sessions = open_many(client, 2 * 64)
+        for at, it in enumerate(sessions):
+            subscribe(client, ["/all", f"/{at:03}"], it)
+        numbers = sorted(it["number"] for it in read_list(daemon.metrics, b"/sessions"))
+        if numbers != sorted(map(number_of, sessions)):
+            raise CheckFailed(f"not the numbers of {len(sessions)} sessions of 64 shards: {numbers}")
+        wanted = [*({"pattern": f"/{at:03}", "subscriptions": 1} for at in range(len(sessions))), {"pattern": "/all", "subscriptions": len(sessions)}]
+        if (found := read_list(daemon.metrics, b"/channels")) != wanted:
+            raise CheckFailed(f"not the channels of {len(sessions)} sessions of 64 shards: {found}")
 
 
 def expect_lists(daemon, client, start):
@@ -141,8 +179,8 @@ def expect_lists(daemon, client, start):
             raise CheckFailed(f"a client id in the list of sessions: {text}")
         found = sorted(read_list(daemon.metrics, b"/sessions"), key=lambda it: it["number"])
         ages = [it.pop("age_seconds") for it in found]
-        if not all(0 <= it <= time.monotonic() - start for it in ages) or len({it.pop("number") for it in found}) != len(LISTED):
-            raise CheckFailed(f"wrong ages, or two sessions with one number: {ages} {found}")
+        if not all(0 <= it <= time.monotonic() - start for it in ages) or [it.pop("number") for it in found] != [number_of(it) for it in sessions]:
+            raise CheckFailed(f"wrong ages, or not the numbers of {sessions}: {ages} {found}")
         if found != LISTED:
             raise CheckFailed(f"not the sessions {LISTED}: {found}")
         if read_list(daemon.metrics, b"/channels") != CHANNELS:
@@ -196,6 +234,7 @@ def check_lists(program):
     start = time.monotonic()
     with NonExpiringDaemon(program, "--shards", "2", "--limit", "2") as daemon, Connection(daemon.address) as client:
         expect_lists(daemon, client, start)
+    expect_all_shards(program)
     with NonExpiringDaemon(program, "--shards", "3") as daemon, Connection(daemon.address) as client:
         expect_truncated(daemon, client)
     with NonExpiringDaemon(program, "--shards", "1") as daemon, Connection(daemon.address) as client:
@@ -209,4 +248,6 @@ def check_lists(program):
         found = read_list(daemon.metrics, b"/channels")
         if found[-1] != TRUNCATED or [it["pattern"] for it in found[:PATTERNS]] != [f"/0/{at:04}/{'x' * (LONG - 8)}" for at in range(PATTERNS)]:
             raise CheckFailed(f"not the first patterns, and that there are more: {len(found)} {found[:2]} {found[-1]}")
+        if (length := len(ask_for(daemon.metrics, get(b"", b"/channels")).body)) < LEAST_CUT:
+            raise CheckFailed(f"the list of channels is cut after {length} bytes, and so before a megabyte")
         expect_no_wait_for_reader(daemon.metrics)
