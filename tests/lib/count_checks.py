@@ -9,14 +9,14 @@ import time
 import urllib.parse
 
 from base import TOP, CheckFailed, expect_equal, wait_until
-from daemon import CONNECT, HANDSHAKE, TIMEOUT_SECONDS, Connection, FlagDaemon, NonExpiringDaemon, expect_status, get, open_session, post, post_coded
+from daemon import CONNECT, HANDSHAKE, TIMEOUT_SECONDS, Connection, FlagDaemon, NonExpiringDaemon, expect_status, get, open_session, post, post_coded, send_connect
 from metrics import ask_for, expect_values, scrape
 
 # Metrics that change without a request, and those of what a request takes.
 CHANGING = re.compile(r"process_|bayeux_(uptime|ticks|list_entries|window|processing_seconds_(sum|bucket))")
 TICKED, REFUSED_TICKS, HELD = ("bayeux_ticks_total", ""), ("bayeux_ticks_refused_total", ""), ("bayeux_connects_held", "")
 # The reasons of requests that were judged, so that the time for this counts.
-CLOSED = "the server is shutting down"
+CLOSED, UNANSWERED = "the server is shutting down", "the answer is unavailable"
 JUDGED = ("the messages are not JSON", "a message is not a JSON object", "a message has no channel", "too many messages in one request", "the listener is read-only", CLOSED)
 # The channel to which clients of both listeners may publish, and another one. The limit of bodies, of the events of a session, and
 # of sessions.
@@ -200,22 +200,26 @@ def check_counts(program):
 
 
 def check_closed(program):
-    """Checks the metrics and the log of a daemon that has been told to end, and still serves a connection."""
-    with FlagDaemon(program, "--connections", "2", "--until-eof", "--metrics", "127.0.0.1:0") as daemon, Connection(daemon.address) as connection:
-        daemon.metrics = daemon.logged_address("metrics listening address=")
-        expect_status(connection, post(b"[]"), 200)
+    """Checks the metrics and the log of a daemon that has been told to end, and still serves two connections, one of which held a connect."""
+    with NonExpiringDaemon(program, "--connections", "3", "--until-eof") as daemon, Connection(daemon.address) as connection, Connection(daemon.address) as holder:
+        send_connect(holder, open_session(connection))
+        before = expect_values(daemon.metrics, {HELD: 1})
         daemon.process.stdin.close()
-        wait_until("ticks are refused", lambda: scrape(daemon.metrics)[REFUSED_TICKS])
-        before = scrape(daemon.metrics)
+        expect_equal("the status of a held connect", holder.response().status, 503)
         expect_status(connection, post(b"[]"), 503, CLOSED)
-        refused = ("bayeux_requests_refused_total", f'{{status="503",reason="{CLOSED}"}}')
-        expect_changes(daemon, before, {("bayeux_responses_total", '{status="503"}'): 1, refused: 1, ("bayeux_processing_seconds_count", ""): 1}, b"[]")
-        wait_until("more ticks are refused", lambda: scrape(daemon.metrics)[REFUSED_TICKS] >= before[REFUSED_TICKS] + REFUSED_AT_LEAST)
-        expect_equal("ticks after the end of standard input", scrape(daemon.metrics)[TICKED], before[TICKED])
+        wait_until("ticks are refused", lambda: scrape(daemon.metrics)[REFUSED_TICKS])
+        refused = {("bayeux_requests_refused_total", f'{{status="503",reason="{reason}"}}'): 1 for reason in (CLOSED, UNANSWERED)}
+        # The held connects are those of the last tick.
+        gone = {("bayeux_requests", ""): -1, ("bayeux_requests_held", ""): -1}
+        after = expect_changes(daemon, before, {**refused, **gone, ("bayeux_responses_total", '{status="503"}'): 2, ("bayeux_processing_seconds_count", ""): 1}, b"[]")
+        wait_until("more ticks are refused", lambda: scrape(daemon.metrics)[REFUSED_TICKS] >= after[REFUSED_TICKS] + REFUSED_AT_LEAST)
+        expect_equal("ticks after the end of standard input", scrape(daemon.metrics)[TICKED], after[TICKED])
         expect_equal("the health", ask_for(daemon.metrics, get(b"", b"/healthz")).status, 503)
-        connection.socket.close()
+        for it in (connection, holder):
+            it.socket.close()
         daemon.expect_end()
-        expect_equal("refusals in the log", re.findall(rb'requests failed reason="(.*)" listener=main count=([0-9]+)', daemon.full_log()), [(CLOSED.encode(), b"1")])
+        logged = re.findall(r'requests failed reason="(.*)" listener=main count=([0-9]+)', daemon.full_log().decode())
+        expect_equal("refusals in the log", sorted(logged), sorted((it, "1") for it in (CLOSED, UNANSWERED)))
         expect_documented(daemon.full_log())
 
 

@@ -29,17 +29,18 @@ SMALL_WORK, WORK = post(b"[]"), 0.1
 # The number of the system call `pidfd_getfd`, for which Python has no function.
 PIDFD_GETFD = 438
 # The sessions of the check of lists, in the order in which they are opened. Two events wait for each
-# of the first two. One of these has got them, and has not acknowledged them.
+# of the first two. One of these has got them, and has not acknowledged them. It has a pattern that JSON writes with escapes.
+QUOTED = '/\u00e4"\\'
 SENT = [{"channel": "/chat/x", "data": data} for data in (1, 2)]
 SENT_BYTES = sum(len(json.dumps(event, separators=(",", ":"))) for event in SENT)
 QUIET = {"acknowledges": False, "held": False, "overflowed": False, "events": 0, "bytes": 0, "outstanding": 0, "batch": 0, "patterns": []}
 LISTED = [
-    {**QUIET, "acknowledges": True, "events": 2, "bytes": SENT_BYTES, "outstanding": 2, "batch": 1, "patterns": ["/chat/*", "/a"]},
+    {**QUIET, "acknowledges": True, "events": 2, "bytes": SENT_BYTES, "outstanding": 2, "batch": 1, "patterns": ["/chat/*", QUOTED]},
     {**QUIET, "events": 2, "bytes": SENT_BYTES, "patterns": ["/chat/*"]},
     {**QUIET, "held": True},
     {**QUIET, "overflowed": True},
 ]
-CHANNELS = [{"pattern": "/a", "subscriptions": 1}, {"pattern": "/chat/*", "subscriptions": 2}]
+CHANNELS = [{"pattern": "/chat/*", "subscriptions": 2}, {"pattern": QUOTED, "subscriptions": 1}]
 # The greatest number of sessions in their list, and of patterns of a session, the length of a long
 # pattern, and the number of sessions with as many long patterns that the list can have.
 MOST_LISTED, PATTERNS, LONG, LONG_LISTED = 1000, 1024, 250, 5
@@ -166,7 +167,7 @@ def expect_all_shards(program):
 def expect_lists(daemon, client, start):
     """Checks the lists of a few sessions. `start`: when the first one was opened, at the earliest."""
     sessions = [open_session(client, ext={"ack": True}), *(open_session(client) for _ in LISTED[1:])]
-    for pattern, session in (("/chat/*", 0), ("/a", 0), ("/chat/*", 1), ("/many", 3)):
+    for pattern, session in (("/chat/*", 0), (QUOTED, 0), ("/chat/*", 1), ("/many", 3)):
         subscribe(client, pattern, sessions[session])
     expect_success(client.ask([{**event, **sessions[2]} for event in SENT]), 2)
     expect_events(poll(client, sessions[0]), SENT)

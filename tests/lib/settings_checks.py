@@ -381,7 +381,7 @@ def check_full_output(program):
 
 
 def check_second_address(program):
-    """Checks that a daemon listens at the second address of a name if the first one is in use."""
+    """Checks that each listener listens at the second address of a name if the first one is in use."""
     with socket.create_server(("127.0.0.1", 0)) as taken, tempfile.NamedTemporaryFile("w") as hosts:
         hosts.write(HOSTS)
         hosts.flush()
@@ -392,3 +392,7 @@ def check_second_address(program):
         found = run_daemon(WITH_HOSTS[0], [*WITH_HOSTS[1:], hosts.name, program, "--listen", f"two.test:{port}", "--until-eof"])
         if found[:2] != (0, f"listening 127.0.0.2:{port}\n"):
             raise CheckFailed(f"not the second address of a name whose first one is in use: {found}")
+        for flag, what in (("--readers", "readers listening"), ("--metrics", "metrics listening")):
+            found = run_daemon(WITH_HOSTS[0], [*WITH_HOSTS[1:], hosts.name, program, *ANYWHERE, flag, f"two.test:{port}", "--until-eof"])
+            if found[0] != 0 or f"{what} address=127.0.0.2:{port}\n" not in found[2]:
+                raise CheckFailed(f"not the second address of a name whose first one is in use with {flag}: {found}")
