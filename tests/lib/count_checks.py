@@ -199,6 +199,12 @@ def check_counts(program):
             before = expect_changes(daemon, before, changes + collections.Counter([("bayeux_connections_total", "")]), request)
 
 
+def more_ticks(values, before):
+    """Returns by how much the two metrics of ticks have grown, or `None` if together by less than `REFUSED_AT_LEAST`."""
+    grown = {name: values[name] - before[name] for name in (TICKED, REFUSED_TICKS)}
+    return grown if sum(grown.values()) >= REFUSED_AT_LEAST else None
+
+
 def check_closed(program):
     """Checks the metrics and the log of a daemon that has been told to end, and still serves two connections, one of which held a connect."""
     with NonExpiringDaemon(program, "--connections", "3", "--until-eof") as daemon, Connection(daemon.address) as connection, Connection(daemon.address) as holder:
@@ -207,13 +213,12 @@ def check_closed(program):
         daemon.process.stdin.close()
         expect_equal("the status of a held connect", holder.response().status, 503)
         expect_status(connection, post(b"[]"), 503, CLOSED)
-        wait_until("ticks are refused", lambda: scrape(daemon.metrics)[REFUSED_TICKS])
         refused = {("bayeux_requests_refused_total", f'{{status="503",reason="{reason}"}}'): 1 for reason in (CLOSED, UNANSWERED)}
         # The held connects are those of the last tick.
         gone = {("bayeux_requests", ""): -1, ("bayeux_requests_held", ""): -1}
         after = expect_changes(daemon, before, {**refused, **gone, ("bayeux_responses_total", '{status="503"}'): 2, ("bayeux_processing_seconds_count", ""): 1}, b"[]")
-        wait_until("more ticks are refused", lambda: scrape(daemon.metrics)[REFUSED_TICKS] >= after[REFUSED_TICKS] + REFUSED_AT_LEAST)
-        expect_equal("ticks after the end of standard input", scrape(daemon.metrics)[TICKED], after[TICKED])
+        ticks = wait_until("more ticks", lambda: more_ticks(scrape(daemon.metrics), after))
+        expect_equal("ticks after the end of standard input, and whether some were refused", (ticks[TICKED], ticks[REFUSED_TICKS] > 0), (0, True))
         expect_equal("the health", ask_for(daemon.metrics, get(b"", b"/healthz")).status, 503)
         for it in (connection, holder):
             it.socket.close()
