@@ -9,7 +9,8 @@ import time
 import urllib.parse
 
 from base import TOP, CheckFailed, expect_equal, wait_until
-from daemon import CONNECT, HANDSHAKE, TIMEOUT_SECONDS, Connection, FlagDaemon, NonExpiringDaemon, expect_status, get, open_session, post, post_coded, send_connect
+from daemon import CONNECT, HANDSHAKE, TIMEOUT_SECONDS, Connection, FlagDaemon, NonExpiringDaemon
+from daemon import expect_status, get, open_session, post, post_coded, send_connect
 from metrics import ask_for, expect_values, scrape
 
 # Metrics that change without a request, and those of what a request takes.
@@ -17,7 +18,14 @@ CHANGING = re.compile(r"process_|bayeux_(uptime|ticks|list_entries|window|proces
 TICKED, REFUSED_TICKS, HELD = ("bayeux_ticks_total", ""), ("bayeux_ticks_refused_total", ""), ("bayeux_connects_held", "")
 # The reasons of requests that were judged, so that the time for this counts.
 CLOSED, UNANSWERED = "the server is shutting down", "the answer is unavailable"
-JUDGED = ("the messages are not JSON", "a message is not a JSON object", "a message has no channel", "too many messages in one request", "the listener is read-only", CLOSED)
+JUDGED = (
+    "the messages are not JSON",
+    "a message is not a JSON object",
+    "a message has no channel",
+    "too many messages in one request",
+    "the listener is read-only",
+    CLOSED,
+)
 # The channel to which clients of both listeners may publish, and another one. The limit of bodies, of the events of a session, and
 # of sessions.
 CHANNEL, OTHER, BODY, EVENTS, SESSIONS = "/counted/a", "/other", 60_000, 300, 3
@@ -59,7 +67,10 @@ def expect_documented(log):
 
 
 def cases_of(session):
-    """Yields cases: lists of requests that are sent over a connection each, the first ones of which are held. `session`: the member of a session."""
+    """Yields cases: lists of requests that are sent over a connection each, the first ones of which are held.
+
+    `session`: the member of a session with its client id.
+    """
 
     def of(*messages):
         return post(json.dumps(messages).encode())
@@ -157,7 +168,8 @@ def expect_changes(daemon, before, changes, what):
     end = time.monotonic() + TIMEOUT_SECONDS
     while True:
         values = scrape(daemon.metrics)
-        found = {name: value - before[name] for name, value in values.items() if value != before[name] and not CHANGING.match(name[0])}
+        changed = [name for name, value in values.items() if value != before[name] and not CHANGING.match(name[0])]
+        found = {name: values[name] - before[name] for name in changed}
         if found == wanted:
             return values
         if time.monotonic() > end:
@@ -166,7 +178,10 @@ def expect_changes(daemon, before, changes, what):
 
 
 def check_listener(daemon, address):
-    """Checks that each request to `address` changes the metrics as its response says. Returns all errors and reasons in the responses."""
+    """Checks that each request to `address` changes the metrics as its response says.
+
+    Returns all errors and reasons in the responses.
+    """
     with Connection(address) as connection:
         session = open_session(connection)
     before, texts = expect_values(daemon.metrics, {("bayeux_connections", ""): 0, ("bayeux_sessions", ""): 1}), set()
@@ -182,13 +197,15 @@ def check_listener(daemon, address):
 
 
 def check_counts(program):
-    flags, readers = ["--sessions", str(SESSIONS), "--limit", str(EVENTS), "--body", str(BODY)], ["--readers", "127.0.0.1:0", "--readers-publish", "/counted/**"]
+    flags = ["--sessions", str(SESSIONS), "--limit", str(EVENTS), "--body", str(BODY)]
+    readers = ["--readers", "127.0.0.1:0", "--readers-publish", "/counted/**"]
     wanted = (documented_reasons() | documented_errors()) - set(RARE)
     for is_reader in (False, True):
         with NonExpiringDaemon(program, *flags, *readers) as daemon:
             found = check_listener(daemon, daemon.readers_address() if is_reader else daemon.address)
             expect_equal("refused ticks", scrape(daemon.metrics)[REFUSED_TICKS], 0)
-            expect_equal("errors and reasons that no request caused", wanted - found, {"400::Invalid channel" if is_reader else "the listener is read-only"})
+            missing = {"400::Invalid channel" if is_reader else "the listener is read-only"}
+            expect_equal("errors and reasons that no request caused", wanted - found, missing)
             expect_documented(daemon.full_log())
     with NonExpiringDaemon(program, "--no-callback-polling") as daemon:
         before = scrape(daemon.metrics)
@@ -206,8 +223,13 @@ def more_ticks(values, before):
 
 
 def check_closed(program):
-    """Checks the metrics and the log of a daemon that has been told to end, and still serves two connections, one of which held a connect."""
-    with NonExpiringDaemon(program, "--connections", "3", "--until-eof") as daemon, Connection(daemon.address) as connection, Connection(daemon.address) as holder:
+    """Checks the metrics and the log of a daemon that has been told to end, and still serves two connections.
+
+    One of them held a connect.
+    """
+    with contextlib.ExitStack() as stack:
+        daemon = stack.enter_context(NonExpiringDaemon(program, "--connections", "3", "--until-eof"))
+        connection, holder = (stack.enter_context(Connection(daemon.address)) for _ in range(2))
         send_connect(holder, open_session(connection))
         before = expect_values(daemon.metrics, {HELD: 1})
         daemon.process.stdin.close()
@@ -216,9 +238,11 @@ def check_closed(program):
         refused = {("bayeux_requests_refused_total", f'{{status="503",reason="{reason}"}}'): 1 for reason in (CLOSED, UNANSWERED)}
         # The held connects are those of the last tick.
         gone = {("bayeux_requests", ""): -1, ("bayeux_requests_held", ""): -1}
-        after = expect_changes(daemon, before, {**refused, **gone, ("bayeux_responses_total", '{status="503"}'): 2, ("bayeux_processing_seconds_count", ""): 1}, b"[]")
+        more = {("bayeux_responses_total", '{status="503"}'): 2, ("bayeux_processing_seconds_count", ""): 1}
+        after = expect_changes(daemon, before, {**refused, **gone, **more}, b"[]")
         ticks = wait_until("more ticks", lambda: more_ticks(scrape(daemon.metrics), after))
-        expect_equal("ticks after the end of standard input, and whether some were refused", (ticks[TICKED], ticks[REFUSED_TICKS] > 0), (0, True))
+        found = (ticks[TICKED], ticks[REFUSED_TICKS] > 0)
+        expect_equal("ticks after the end of standard input, and whether some were refused", found, (0, True))
         expect_equal("the health", ask_for(daemon.metrics, get(b"", b"/healthz")).status, 503)
         for it in (connection, holder):
             it.socket.close()
@@ -230,7 +254,8 @@ def check_closed(program):
 
 def refusals_in_log(daemon):
     """Returns the time and the count of each line about requests that are not JSON in the log of `daemon`."""
-    lines = re.findall(rb'^(\S+)Z \[WARN  bayeuxd\] requests failed reason="the messages are not JSON" listener=main count=([0-9]+)$', daemon.timed_log(), re.MULTILINE)
+    line = rb'^(\S+)Z \[WARN  bayeuxd\] requests failed reason="the messages are not JSON" listener=main count=([0-9]+)$'
+    lines = re.findall(line, daemon.timed_log(), re.MULTILINE)
     return [(datetime.datetime.strptime(when.decode(), "%Y-%m-%dT%H:%M:%S.%f"), int(count)) for when, count in lines]
 
 

@@ -34,8 +34,9 @@ QUOTED = '/\u00e4"\\'
 SENT = [{"channel": "/chat/x", "data": data} for data in (1, 2)]
 SENT_BYTES = sum(len(json.dumps(event, separators=(",", ":"))) for event in SENT)
 QUIET = {"acknowledges": False, "held": False, "overflowed": False, "events": 0, "bytes": 0, "outstanding": 0, "batch": 0, "patterns": []}
+BOTH = ["/chat/*", QUOTED]
 LISTED = [
-    {**QUIET, "acknowledges": True, "events": 2, "bytes": SENT_BYTES, "outstanding": 2, "batch": 1, "patterns": ["/chat/*", QUOTED]},
+    {**QUIET, "acknowledges": True, "events": 2, "bytes": SENT_BYTES, "outstanding": 2, "batch": 1, "patterns": BOTH},
     {**QUIET, "events": 2, "bytes": SENT_BYTES, "patterns": ["/chat/*"]},
     {**QUIET, "held": True},
     {**QUIET, "overflowed": True},
@@ -159,7 +160,8 @@ def expect_all_shards(program):
         numbers = sorted(it["number"] for it in read_list(daemon.metrics, b"/sessions"))
         if numbers != sorted(map(number_of, sessions)):
             raise CheckFailed(f"not the numbers of {len(sessions)} sessions of 64 shards: {numbers}")
-        wanted = [*({"pattern": f"/{at:03}", "subscriptions": 1} for at in range(len(sessions))), {"pattern": "/all", "subscriptions": len(sessions)}]
+        wanted = [{"pattern": f"/{at:03}", "subscriptions": 1} for at in range(len(sessions))]
+        wanted.append({"pattern": "/all", "subscriptions": len(sessions)})
         if (found := read_list(daemon.metrics, b"/channels")) != wanted:
             raise CheckFailed(f"not the channels of {len(sessions)} sessions of 64 shards: {found}")
 
@@ -180,7 +182,8 @@ def expect_lists(daemon, client, start):
             raise CheckFailed(f"a client id in the list of sessions: {text}")
         found = sorted(read_list(daemon.metrics, b"/sessions"), key=lambda it: it["number"])
         ages = [it.pop("age_seconds") for it in found]
-        if not all(0 <= it <= time.monotonic() - start for it in ages) or [it.pop("number") for it in found] != [number_of(it) for it in sessions]:
+        numbers = [it.pop("number") for it in found]
+        if not all(0 <= it <= time.monotonic() - start for it in ages) or numbers != [number_of(it) for it in sessions]:
             raise CheckFailed(f"wrong ages, or not the numbers of {sessions}: {ages} {found}")
         if found != LISTED:
             raise CheckFailed(f"not the sessions {LISTED}: {found}")

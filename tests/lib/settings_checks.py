@@ -373,7 +373,8 @@ def check_addresses(program):
 def check_full_output(program):
     """Checks the messages of a daemon that cannot write to standard output."""
     with open("/dev/full", "wb") as full:
-        result = subprocess.run([program, *ANYWHERE, "--until-eof"], stdin=subprocess.DEVNULL, stdout=full, stderr=subprocess.PIPE, text=True, timeout=TIMEOUT_SECONDS, check=False)
+        how = {"stdin": subprocess.DEVNULL, "stdout": full, "stderr": subprocess.PIPE, "text": True, "timeout": TIMEOUT_SECONDS}
+        result = subprocess.run([program, *ANYWHERE, "--until-eof"], check=False, **how)
     lines = without_times(result.stderr.splitlines())
     if result.returncode != 1:
         raise CheckFailed(f"not status 1 if standard output is full: {result}")
@@ -393,6 +394,7 @@ def check_second_address(program):
         if found[:2] != (0, f"listening 127.0.0.2:{port}\n"):
             raise CheckFailed(f"not the second address of a name whose first one is in use: {found}")
         for flag, what in (("--readers", "readers listening"), ("--metrics", "metrics listening")):
-            found = run_daemon(WITH_HOSTS[0], [*WITH_HOSTS[1:], hosts.name, program, *ANYWHERE, flag, f"two.test:{port}", "--until-eof"])
+            flags = [*ANYWHERE, flag, f"two.test:{port}", "--until-eof"]
+            found = run_daemon(WITH_HOSTS[0], [*WITH_HOSTS[1:], hosts.name, program, *flags])
             if found[0] != 0 or f"{what} address=127.0.0.2:{port}\n" not in found[2]:
                 raise CheckFailed(f"not the second address of a name whose first one is in use with {flag}: {found}")

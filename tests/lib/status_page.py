@@ -49,13 +49,17 @@ draw();
 return [...document.querySelectorAll('#facts div')].map(({ firstChild, lastChild }) => `${firstChild.textContent}: ${lastChild.textContent}`);
 """
 
-# Draws samples, of which each is a time in milliseconds and a page of metrics, or null if a read failed. Then moves the pointer to
-# the second sample. Returns what each chart shows before and meanwhile, and the text under the first chart after the pointer has left.
+# Draws samples, of which each is a time in milliseconds and a page of metrics, or null if a read failed. Then moves the pointer
+# to the second sample. Returns what each chart shows before and meanwhile, and the text under the first chart after the pointer
+# has left.
 DRAW = """
-const text = (it, selector) => it.querySelector(selector).textContent, paths = (it, selector) => [...it.querySelectorAll(selector)].map((path) => path.getAttribute('d'));
+const text = (it, selector) => it.querySelector(selector).textContent;
+const paths = (it, selector) => [...it.querySelectorAll(selector)].map((path) => path.getAttribute('d'));
 const shown = () => [...document.querySelectorAll('.card')].map((it) => [
-  text(it, 'h2'), text(it, '.unit'), text(it, '.value'), text(it, '.most'), it.querySelector('svg').getAttribute('aria-label'), paths(it, '.curve'),
-  [...it.querySelectorAll('.key li')].map((item) => item.textContent), text(it, '.rest'), paths(it, '.cursor')[0], text(it, '.now').split(' ')[0],
+  text(it, 'h2'), text(it, '.unit'), text(it, '.value'), text(it, '.most'),
+  it.querySelector('svg').getAttribute('aria-label'), paths(it, '.curve'),
+  [...it.querySelectorAll('.key li')].map((item) => item.textContent), text(it, '.rest'),
+  paths(it, '.cursor')[0], text(it, '.now').split(' ')[0],
 ]);
 samples = arguments[0].map(([time, page]) => ({ time, values: page && parse(page) }));
 draw();
@@ -68,6 +72,7 @@ return [before, meanwhile, text(document, '.now')];
 # Times in milliseconds, and the values of metrics then: counters, one of which begins again, and others. The third read failed.
 TIMES, FAILED = [0, 3000, 6000, 9000, 12000], 2
 REFUSED = 'bayeux_requests_refused_total{{status="{}",reason="{}"}}'
+OTHERS = [1111, 2222, 0, 3333, 4444]
 PLOTTED = {
     "bayeux_requests_admitted_total": [10, 40, 0, 100, 160],
     "bayeux_events_total": [5, 2, 0, 2, 302],
@@ -77,16 +82,19 @@ PLOTTED = {
     REFUSED.format(400, "the messages are not JSON"): [0, 3, 0, 3, 3],
     REFUSED.format(503, "out of memory"): [0, 0, 0, 0, 0],
     **{f'bayeux_shard_lag_entries{{shard="{shard}"}}': [10 * shard] * 5 for shard in range(14)},
-    **{it: [1111, 2222, 0, 3333, 4444] for it in ("bayeux_sessions_opened_total", "bayeux_requests_held", "bayeux_requests", "bayeux_connections")},
-    'bayeux_responses_total{status="200"}': [1111, 2222, 0, 3333, 4444],
+    **{f"bayeux_{it}": OTHERS for it in ("sessions_opened_total", "requests_held", "requests", "connections")},
+    'bayeux_responses_total{status="200"}': OTHERS,
 }
 # What each chart shows of them: its title and unit, the last value and the second one, the greatest value of the axis, the curves,
-# the key with these values, and how many series the key leaves out. A curve has a point for each value, at the place of its time and
-# at a height in proportion, of which 98 of 100 are the greatest value.
+# the key with these values, and how many series the key leaves out. A curve has a point for each value, at the place of its time
+# and at a height in proportion, of which 98 of 100 are the greatest value.
 SHARDS = [f"M888.0 {y}L891.0 {y}M897.0 {y}L900.0 {y}" for y in (f"{100 - 98 * 10 * shard / 200:.2f}" for shard in range(14))]
 SHARD_KEY = [f"shard {shard}: {10 * shard}" for shard in range(13, 1, -1)]
 REFUSALS = ["M891.0 51.00M900.0 2.00", "M891.0 95.10M900.0 100.00", "M891.0 100.00M900.0 100.00"]
-REFUSAL_KEYS = [["404 Bayeux is at /cometd: 20", "400 the messages are not JSON: 0"], ["404 Bayeux is at /cometd: 10", "400 the messages are not JSON: 1"]]
+REFUSAL_KEYS = [
+    ["404 Bayeux is at /cometd: 20", "400 the messages are not JSON: 0"],
+    ["404 Bayeux is at /cometd: 10", "400 the messages are not JSON: 1"],
+]
 CHARTS = [
     ("Requests", "per second", ("20", "10"), "20", ["M891.0 51.00M900.0 2.00"], ([], []), ""),
     ("Events", "per second", ("100", "–"), "100", ["M900.0 2.00"], ([], []), ""),
@@ -95,10 +103,12 @@ CHARTS = [
     ("Refusals", "per second", ("20", "11"), "20", REFUSALS, REFUSAL_KEYS, ""),
     ("Shard lag", "entries", ("130", "130"), "200", SHARDS, (SHARD_KEY, SHARD_KEY), "and 2 more"),
 ]
-# Minutes before now, of three samples. The page shows the last 15. Two minutes without a sample, as while a phone is locked, are a gap.
+# Minutes before now, of three samples. The page shows the last 15.
 AGES = [16, 14, 1]
 SET_AGES = "samples = arguments[0].map((minutes) => ({ time: Date.now() - 60000 * minutes, values: new Map() }));"
-READ_AGES = "return samples.at(-1).values?.has('bayeux_sessions') && samples.map(({ time }) => Math.round((Date.now() - time) / 60000));"
+READ_AGES = """
+return samples.at(-1).values?.has('bayeux_sessions') && samples.map(({ time }) => Math.round((Date.now() - time) / 60000));
+"""
 
 
 def value_of(window, title):
@@ -145,14 +155,15 @@ def check_charts(window):
     shown = window.run(DRAW, list(zip(TIMES, pages)), (TIMES[-1] - TIMES[1]) / 1000)
     for at, (cursor, now) in enumerate((("", "now"), ("M891 0V100", "at"))):
         wanted = [
-            [title, unit, values[at], most, f"{title} in the last 15 minutes, now {values[at]}", curves, list(keys[at]), rest, cursor, now]
-            for title, unit, values, most, curves, keys, rest in CHARTS
+            [title, unit, it[at], most, f"{title} in the last 15 minutes, now {it[at]}", curves, keys[at], rest, cursor, now]
+            for title, unit, it, most, curves, keys, rest in CHARTS
         ]
         wrong = [(found, chart) for found, chart in zip(shown[at], wanted) if found != chart]
         expect_equal("charts, and what they must show", [wrong, len(shown[at])], [[], len(wanted)])
     expect_equal("the time after the pointer has left", shown[2], "now")
     expect_equal("numbers", window.run("return [0.125, 5, 12.34, 1234567].map(format)"), ["0.13", "5", "12.3", "1,234,567"])
-    expect_equal("the greatest values of axes", window.run("return [0, 1, 1.5, 3, 7, 11, 12345].map(roundUp)"), [1, 1, 2, 5, 10, 20, 20000])
+    greatest = window.run("return [0, 1, 1.5, 3, 7, 11, 12345].map(roundUp)")
+    expect_equal("the greatest values of axes", greatest, [1, 1, 2, 5, 10, 20, 20000])
     window.run(SET_AGES, AGES)
     ages = wait_until("the page reads the metrics again", lambda: window.run(READ_AGES))
     expect_equal("the minutes since the samples that are kept", sorted(set(ages)), [0, *sorted(AGES[1:])])
