@@ -84,8 +84,12 @@ class Daemon:
 
     def full_log(self):
         """Returns all that the daemon wrote to standard error, without the times of log lines."""
-        self.errors.seek(0)
-        return re.sub(rb"(?m)^[0-9-]{10}T[0-9:.]{12}Z ", b"", self.errors.read())
+        return re.sub(rb"(?m)^[0-9-]{10}T[0-9:.]{12}Z ", b"", self.timed_log())
+
+    def timed_log(self):
+        """Returns all that the daemon wrote to standard error, with the times of log lines."""
+        # The daemon writes at the file's position, so this reads without moving it.
+        return os.pread(self.errors.fileno(), os.fstat(self.errors.fileno()).st_size, 0)
 
     def check_alive(self):
         """Raises `CheckFailed` if the process has ended."""

@@ -24,24 +24,30 @@ LIMITED = {
 # How much the metrics of memory may differ from what the system reports shortly afterwards, in
 # bytes, or a tenth if that is more, and the start of the process from the time here, in seconds.
 MEMORY_CHANGE, START_CHANGE = 64 << 20, 5
+# A request, and the processor time that such requests must take, in seconds. The metrics show hundredths.
+SMALL_WORK, WORK = post(b"[]"), 0.1
 # The number of the system call `pidfd_getfd`, for which Python has no function.
 PIDFD_GETFD = 438
 # The sessions of the check of lists, in the order in which they are opened. Two events wait for each
-# of the first two. One of these has got them, and has not acknowledged them.
+# of the first two. One of these has got them, and has not acknowledged them. It has a pattern that JSON writes with escapes.
+QUOTED = '/\u00e4"\\'
 SENT = [{"channel": "/chat/x", "data": data} for data in (1, 2)]
 SENT_BYTES = sum(len(json.dumps(event, separators=(",", ":"))) for event in SENT)
 QUIET = {"acknowledges": False, "held": False, "overflowed": False, "events": 0, "bytes": 0, "outstanding": 0, "batch": 0, "patterns": []}
+BOTH = ["/chat/*", QUOTED]
 LISTED = [
-    {**QUIET, "acknowledges": True, "events": 2, "bytes": SENT_BYTES, "outstanding": 2, "batch": 1, "patterns": ["/chat/*", "/a"]},
+    {**QUIET, "acknowledges": True, "events": 2, "bytes": SENT_BYTES, "outstanding": 2, "batch": 1, "patterns": BOTH},
     {**QUIET, "events": 2, "bytes": SENT_BYTES, "patterns": ["/chat/*"]},
     {**QUIET, "held": True},
     {**QUIET, "overflowed": True},
 ]
-CHANNELS = [{"pattern": "/a", "subscriptions": 1}, {"pattern": "/chat/*", "subscriptions": 2}]
+CHANNELS = [{"pattern": "/chat/*", "subscriptions": 2}, {"pattern": QUOTED, "subscriptions": 1}]
 # The greatest number of sessions in their list, and of patterns of a session, the length of a long
 # pattern, and the number of sessions with as many long patterns that the list can have.
 MOST_LISTED, PATTERNS, LONG, LONG_LISTED = 1000, 1024, 250, 5
 TRUNCATED = {"truncated": True}
+# How long a list is at least that is cut because of its length, in bytes.
+LEAST_CUT = 1_000_000
 # The segments and the buffer of a connection over which the system takes little that its peer does not read, in bytes.
 SMALL_SEGMENT, SMALL_BUFFER = 536, 4096
 
@@ -90,6 +96,20 @@ def check_no_delay(daemon):
         raise CheckFailed("small segments are sent only when the client has confirmed those before")
 
 
+def check_processor_time(daemon, metrics):
+    """Checks that the processor time covers all threads of the daemon. `metrics`: the address of the metrics listener."""
+    with Connection(daemon.address) as client:
+        until = daemon.processor_seconds() + WORK
+        while (used := daemon.processor_seconds()) < until:
+            for _ in range(AT_ONCE):
+                client.send(SMALL_WORK)
+            for _ in range(AT_ONCE):
+                client.response()
+    found = scrape(metrics)["process_cpu_seconds_total", ""]
+    if not used <= found <= daemon.processor_seconds():
+        raise CheckFailed(f"processor time after requests: not from {used} to {daemon.processor_seconds()}: {found}")
+
+
 def check_process(program):
     with open(TOP / "VERSION", encoding="ascii") as text:
         version = text.read().strip()
@@ -111,6 +131,7 @@ def check_process(program):
         wait_until("the number of open files", lambda: scrape(metrics)[("process_open_fds", "")] == daemon.descriptors() + 1)
         expect_near("most files", found["process_max_fds"], resource.prlimit(daemon.process.pid, resource.RLIMIT_NOFILE)[0], 0)
         check_no_delay(daemon)
+        check_processor_time(daemon, metrics)
     with FlagDaemon(program, "--metrics", "localhost:0") as daemon:
         unlimited = ("bayeux_limit", '{name="bytes"}')
         if unlimited in scrape(daemon.logged_address("metrics listening address=")):
@@ -125,10 +146,30 @@ def read_list(metrics, path):
     return [json.loads(line) for line in response.body.splitlines()]
 
 
+def number_of(session):
+    """Returns the number of a session. `session`: the member with its client id, which ends with the number in hexadecimal."""
+    return int(session["clientId"][-16:], 16)
+
+
+def expect_all_shards(program):
+    """Checks that the lists have the sessions of all of 64 shards."""
+    with NonExpiringDaemon(program, "--shards", "64") as daemon, Connection(daemon.address) as client:
+        sessions = open_many(client, 2 * 64)
+        for at, it in enumerate(sessions):
+            subscribe(client, ["/all", f"/{at:03}"], it)
+        numbers = sorted(it["number"] for it in read_list(daemon.metrics, b"/sessions"))
+        if numbers != sorted(map(number_of, sessions)):
+            raise CheckFailed(f"not the numbers of {len(sessions)} sessions of 64 shards: {numbers}")
+        wanted = [{"pattern": f"/{at:03}", "subscriptions": 1} for at in range(len(sessions))]
+        wanted.append({"pattern": "/all", "subscriptions": len(sessions)})
+        if (found := read_list(daemon.metrics, b"/channels")) != wanted:
+            raise CheckFailed(f"not the channels of {len(sessions)} sessions of 64 shards: {found}")
+
+
 def expect_lists(daemon, client, start):
     """Checks the lists of a few sessions. `start`: when the first one was opened, at the earliest."""
     sessions = [open_session(client, ext={"ack": True}), *(open_session(client) for _ in LISTED[1:])]
-    for pattern, session in (("/chat/*", 0), ("/a", 0), ("/chat/*", 1), ("/many", 3)):
+    for pattern, session in (("/chat/*", 0), (QUOTED, 0), ("/chat/*", 1), ("/many", 3)):
         subscribe(client, pattern, sessions[session])
     expect_success(client.ask([{**event, **sessions[2]} for event in SENT]), 2)
     expect_events(poll(client, sessions[0]), SENT)
@@ -141,8 +182,9 @@ def expect_lists(daemon, client, start):
             raise CheckFailed(f"a client id in the list of sessions: {text}")
         found = sorted(read_list(daemon.metrics, b"/sessions"), key=lambda it: it["number"])
         ages = [it.pop("age_seconds") for it in found]
-        if not all(0 <= it <= time.monotonic() - start for it in ages) or len({it.pop("number") for it in found}) != len(LISTED):
-            raise CheckFailed(f"wrong ages, or two sessions with one number: {ages} {found}")
+        numbers = [it.pop("number") for it in found]
+        if not all(0 <= it <= time.monotonic() - start for it in ages) or numbers != [number_of(it) for it in sessions]:
+            raise CheckFailed(f"wrong ages, or not the numbers of {sessions}: {ages} {found}")
         if found != LISTED:
             raise CheckFailed(f"not the sessions {LISTED}: {found}")
         if read_list(daemon.metrics, b"/channels") != CHANNELS:
@@ -196,6 +238,7 @@ def check_lists(program):
     start = time.monotonic()
     with NonExpiringDaemon(program, "--shards", "2", "--limit", "2") as daemon, Connection(daemon.address) as client:
         expect_lists(daemon, client, start)
+    expect_all_shards(program)
     with NonExpiringDaemon(program, "--shards", "3") as daemon, Connection(daemon.address) as client:
         expect_truncated(daemon, client)
     with NonExpiringDaemon(program, "--shards", "1") as daemon, Connection(daemon.address) as client:
@@ -209,4 +252,6 @@ def check_lists(program):
         found = read_list(daemon.metrics, b"/channels")
         if found[-1] != TRUNCATED or [it["pattern"] for it in found[:PATTERNS]] != [f"/0/{at:04}/{'x' * (LONG - 8)}" for at in range(PATTERNS)]:
             raise CheckFailed(f"not the first patterns, and that there are more: {len(found)} {found[:2]} {found[-1]}")
+        if (length := sum(len(json.dumps(it, separators=(",", ":"))) + 1 for it in found[:-1])) < LEAST_CUT:
+            raise CheckFailed(f"the list of channels is cut after {length} bytes, and so before a megabyte")
         expect_no_wait_for_reader(daemon.metrics)

@@ -87,6 +87,12 @@ WARNINGS = [
     (["--max-interval", "6"], b'time is below one second max_interval=6ms hint="for seconds, write 6s"\n', True),
     (["--interval", "500", "--max-interval", "1000"], b"time is below one second", False),
     (["--timeout", "0"], b"time is below one second", False),
+    (["--interval", "5s", "--max-interval", "2s"], ENDING.replace(b"max_interval=5s", b"max_interval=2s"), True),
+    (["--timeout", "999"], b'time is below one second timeout=999ms hint="for seconds, write 999s"\n', True),
+    (["--max-interval", "999"], b'time is below one second max_interval=999ms hint="for seconds, write 999s"\n', True),
+    (["--timeout", "1", "--max-interval", "2"], b'time is below one second timeout=1ms hint="for seconds, write 1s"\n', True),
+    (["--timeout", "1", "--max-interval", "2"], b'time is below one second max_interval=2ms hint="for seconds, write 2s"\n', True),
+    (["--timeout", "1000", "--max-interval", "1000"], b"time is below one second", False),
 ]
 ADVICE = {"reconnect": "retry", "interval": 0, "timeout": 30000}
 # The exact messages about wrong positional arguments, and if the daemon cannot listen.
@@ -283,16 +289,21 @@ def expect_lines(found, wanted):
         raise CheckFailed(f"not lines as {wanted}: {found}")
 
 
+def expect_times(times, before):
+    """Raises `CheckFailed` if one of `times`, the texts that log lines begin with, is not between the time `before` and now."""
+    after = datetime.datetime.now(datetime.timezone.utc)
+    for it in times:
+        logged = datetime.datetime.strptime(f"{it[:23]}+0000", "%Y-%m-%dT%H:%M:%S.%f%z")
+        if not before - datetime.timedelta(milliseconds=1) < logged < after:
+            raise CheckFailed(f"not a time from {before} to {after}: {it}")
+
+
 def check_text_log(program):
     """Checks the times of a log of text, and its priorities for systemd's journal."""
     before = datetime.datetime.now(datetime.timezone.utc)
     lines = run_until_end(program, *WARNED)
-    after = datetime.datetime.now(datetime.timezone.utc)
     expect_lines(lines, [f"({LOG_TIME}) {re.escape(it)}.*" for _, it in WARNED_LINES])
-    for line in lines:
-        logged = datetime.datetime.strptime(f"{line[:23]}+0000", "%Y-%m-%dT%H:%M:%S.%f%z")
-        if not before - datetime.timedelta(milliseconds=1) < logged < after:
-            raise CheckFailed(f"not a time from {before} to {after}: {line}")
+    expect_times(lines, before)
     expect_lines(run_until_end(program, *WARNED, journal="{}:{}".format), [f"<{priority}>{re.escape(it)}.*" for priority, it in WARNED_LINES])
     for other in ("{1}:{0}", "{}:{}0", "{}:{} ", "0:0", ""):
         expect_lines(run_until_end(program, *WARNED, journal=other.format), [f"{LOG_TIME} {re.escape(it)}.*" for _, it in WARNED_LINES])
@@ -301,7 +312,8 @@ def check_text_log(program):
 
 
 def check_json_log(program):
-    """Checks that a log of JSON has the keys and the values of a log of text."""
+    """Checks that a log of JSON has the keys and the values of a log of text, also for systemd's journal."""
+    before = datetime.datetime.now(datetime.timezone.utc)
     with tempfile.TemporaryDirectory() as folder:
         path = f'{folder}/a "b" \\c\n\x01ä'
         flags = ["--readers", "localhost:0", "--readers-publish", "/a", "--readers-publish", "/b/*", "--metrics", "localhost:0", *WARNED]
@@ -316,6 +328,10 @@ def check_json_log(program):
             raise CheckFailed(f"not the keys, the level and the event of {text!r}: {pairs}")
         if not re.fullmatch(LOG_TIME, pairs[0][1]) or not all(isinstance(value, str) for _, value in pairs):
             raise CheckFailed(f"not a time, or a value that is no string: {pairs}")
+    expect_times([pairs[0][1] for pairs in lines], before)
+    for line, (_, text) in zip(run_until_end(program, *WARNED, "--log", "json", journal="{}:{}".format), WARNED_LINES):
+        if not line.startswith("{") or json.loads(line)["event"] not in text:
+            raise CheckFailed(f"not a line of JSON for {text!r} if standard error is the journal: {line}")
     logged = {pairs[2][1]: dict(pairs) for pairs in lines}
     for event, values in {
         "starting": {"timeout": "5ms", "max_interval": "10s", "readers_publish": "/a,/b/*", "record": path, "until_eof": "true"},
@@ -350,11 +366,23 @@ def check_addresses(program):
         if os.listdir(folder):
             raise CheckFailed("a daemon whose address is in use leaves the file of a record")
     expect_fault(program, ["--listen", free, "--readers", free], f'cannot listen address={free} error="')
+    check_full_output(program)
     check_second_address(program)
 
 
+def check_full_output(program):
+    """Checks the messages of a daemon that cannot write to standard output."""
+    with open("/dev/full", "wb") as full:
+        how = {"stdin": subprocess.DEVNULL, "stdout": full, "stderr": subprocess.PIPE, "text": True, "timeout": TIMEOUT_SECONDS}
+        result = subprocess.run([program, *ANYWHERE, "--until-eof"], check=False, **how)
+    lines = without_times(result.stderr.splitlines())
+    if result.returncode != 1:
+        raise CheckFailed(f"not status 1 if standard output is full: {result}")
+    expect_lines(lines[-2:], [r'\[ERROR bayeuxd\] cannot serve error=".+"', CANNOT_LISTEN.rstrip()])
+
+
 def check_second_address(program):
-    """Checks that a daemon listens at the second address of a name if the first one is in use."""
+    """Checks that each listener listens at the second address of a name if the first one is in use."""
     with socket.create_server(("127.0.0.1", 0)) as taken, tempfile.NamedTemporaryFile("w") as hosts:
         hosts.write(HOSTS)
         hosts.flush()
@@ -365,3 +393,8 @@ def check_second_address(program):
         found = run_daemon(WITH_HOSTS[0], [*WITH_HOSTS[1:], hosts.name, program, "--listen", f"two.test:{port}", "--until-eof"])
         if found[:2] != (0, f"listening 127.0.0.2:{port}\n"):
             raise CheckFailed(f"not the second address of a name whose first one is in use: {found}")
+        for flag, what in (("--readers", "readers listening"), ("--metrics", "metrics listening")):
+            flags = [*ANYWHERE, flag, f"two.test:{port}", "--until-eof"]
+            found = run_daemon(WITH_HOSTS[0], [*WITH_HOSTS[1:], hosts.name, program, *flags])
+            if found[0] != 0 or f"{what} address=127.0.0.2:{port}\n" not in found[2]:
+                raise CheckFailed(f"not the second address of a name whose first one is in use with {flag}: {found}")

@@ -49,6 +49,67 @@ draw();
 return [...document.querySelectorAll('#facts div')].map(({ firstChild, lastChild }) => `${firstChild.textContent}: ${lastChild.textContent}`);
 """
 
+# Draws samples, of which each is a time in milliseconds and a page of metrics, or null if a read failed. Then moves the pointer
+# to the second sample. Returns what each chart shows before and meanwhile, and the text under the first chart after the pointer
+# has left.
+DRAW = """
+const text = (it, selector) => it.querySelector(selector).textContent;
+const paths = (it, selector) => [...it.querySelectorAll(selector)].map((path) => path.getAttribute('d'));
+const shown = () => [...document.querySelectorAll('.card')].map((it) => [
+  text(it, 'h2'), text(it, '.unit'), text(it, '.value'), text(it, '.most'),
+  it.querySelector('svg').getAttribute('aria-label'), paths(it, '.curve'),
+  [...it.querySelectorAll('.key li')].map((item) => item.textContent), text(it, '.rest'),
+  paths(it, '.cursor')[0], text(it, '.now').split(' ')[0],
+]);
+samples = arguments[0].map(([time, page]) => ({ time, values: page && parse(page) }));
+draw();
+const before = shown(), plot = document.querySelector('.plot'), { left, width } = plot.getBoundingClientRect();
+plot.dispatchEvent(new PointerEvent('pointermove', { clientX: left + width * (1 - arguments[1] / 900) }));
+const meanwhile = shown();
+plot.dispatchEvent(new PointerEvent('pointerleave'));
+return [before, meanwhile, text(document, '.now')];
+"""
+# Times in milliseconds, and the values of metrics then: counters, one of which begins again, and others. The third read failed.
+TIMES, FAILED = [0, 3000, 6000, 9000, 12000], 2
+REFUSED = 'bayeux_requests_refused_total{{status="{}",reason="{}"}}'
+OTHERS = [1111, 2222, 0, 3333, 4444]
+PLOTTED = {
+    "bayeux_requests_admitted_total": [10, 40, 0, 100, 160],
+    "bayeux_events_total": [5, 2, 0, 2, 302],
+    "bayeux_sessions": [1, 7, 0, 12345, 3],
+    "bayeux_connects_held": [4, 4, 0, 4, 42],
+    REFUSED.format(404, "Bayeux is at /cometd"): [0, 30, 0, 30, 90],
+    REFUSED.format(400, "the messages are not JSON"): [0, 3, 0, 3, 3],
+    REFUSED.format(503, "out of memory"): [0, 0, 0, 0, 0],
+    **{f'bayeux_shard_lag_entries{{shard="{shard}"}}': [10 * shard] * 5 for shard in range(14)},
+    **{f"bayeux_{it}": OTHERS for it in ("sessions_opened_total", "requests_held", "requests", "connections")},
+    'bayeux_responses_total{status="200"}': OTHERS,
+}
+# What each chart shows of them: its title and unit, the last value and the second one, the greatest value of the axis, the curves,
+# the key with these values, and how many series the key leaves out. A curve has a point for each value, at the place of its time
+# and at a height in proportion, of which 98 of 100 are the greatest value.
+SHARDS = [f"M888.0 {y}L891.0 {y}M897.0 {y}L900.0 {y}" for y in (f"{100 - 98 * 10 * shard / 200:.2f}" for shard in range(14))]
+SHARD_KEY = [f"shard {shard}: {10 * shard}" for shard in range(13, 1, -1)]
+REFUSALS = ["M891.0 51.00M900.0 2.00", "M891.0 95.10M900.0 100.00", "M891.0 100.00M900.0 100.00"]
+REFUSAL_KEYS = [
+    ["404 Bayeux is at /cometd: 20", "400 the messages are not JSON: 0"],
+    ["404 Bayeux is at /cometd: 10", "400 the messages are not JSON: 1"],
+]
+CHARTS = [
+    ("Requests", "per second", ("20", "10"), "20", ["M891.0 51.00M900.0 2.00"], ([], []), ""),
+    ("Events", "per second", ("100", "–"), "100", ["M900.0 2.00"], ([], []), ""),
+    ("Sessions", "", ("3", "7"), "20,000", ["M888.0 100.00L891.0 99.97M897.0 39.51L900.0 99.99"], ([], []), ""),
+    ("Held connects", "", ("42", "4"), "50", ["M888.0 92.16L891.0 92.16M897.0 92.16L900.0 17.68"], ([], []), ""),
+    ("Refusals", "per second", ("20", "11"), "20", REFUSALS, REFUSAL_KEYS, ""),
+    ("Shard lag", "entries", ("130", "130"), "200", SHARDS, (SHARD_KEY, SHARD_KEY), "and 2 more"),
+]
+# Minutes before now, of three samples. The page shows the last 15.
+AGES = [16, 14, 1]
+SET_AGES = "samples = arguments[0].map((minutes) => ({ time: Date.now() - 60000 * minutes, values: new Map() }));"
+READ_AGES = """
+return samples.at(-1).values?.has('bayeux_sessions') && samples.map(({ time }) => Math.round((Date.now() - time) / 60000));
+"""
+
 
 def value_of(window, title):
     """Returns the text of the value above the chart `title`."""
@@ -84,18 +145,40 @@ def try_values(server, window):
         urllib.request.urlopen(f"http://127.0.0.1:{server.port}/", timeout=TIMEOUT_SECONDS)
     wait_until("the page shows the request that was refused", lambda: any(it.startswith("404 Bayeux is at /cometd: ") for it in window.texts(".key li")))
     wait_until("no shard lags", lambda: [it for it in window.texts(".key li") if "shard" in it] == [f"shard {it}: 0" for it in range(4)])
-    wait_until("each chart has a curve", lambda: all(points > 1 for _, points in window.run(CURVES)))
+    wait_until("each chart has a curve", lambda: all(points > begins for begins, points in window.run(CURVES)))
+
+
+def check_charts(window):
+    """Checks all that the charts show of given metrics, also under the pointer, and for how long they keep samples."""
+    pages = ["".join(f"{name} {values[at]}\n" for name, values in PLOTTED.items()) for at in range(len(TIMES))]
+    pages[FAILED] = None
+    shown = window.run(DRAW, list(zip(TIMES, pages)), (TIMES[-1] - TIMES[1]) / 1000)
+    for at, (cursor, now) in enumerate((("", "now"), ("M891 0V100", "at"))):
+        wanted = [
+            [title, unit, it[at], most, f"{title} in the last 15 minutes, now {it[at]}", curves, keys[at], rest, cursor, now]
+            for title, unit, it, most, curves, keys, rest in CHARTS
+        ]
+        wrong = [(found, chart) for found, chart in zip(shown[at], wanted) if found != chart]
+        expect_equal("charts, and what they must show", [wrong, len(shown[at])], [[], len(wanted)])
+    expect_equal("the time after the pointer has left", shown[2], "now")
+    expect_equal("numbers", window.run("return [0.125, 5, 12.34, 1234567].map(format)"), ["0.13", "5", "12.3", "1,234,567"])
+    greatest = window.run("return [0, 1, 1.5, 3, 7, 11, 12345].map(roundUp)")
+    expect_equal("the greatest values of axes", greatest, [1, 1, 2, 5, 10, 20, 20000])
+    window.run(SET_AGES, AGES)
+    ages = wait_until("the page reads the metrics again", lambda: window.run(READ_AGES))
+    expect_equal("the minutes since the samples that are kept", sorted(set(ages)), [0, *sorted(AGES[1:])])
 
 
 def try_status(fixture):
     """Checks that the status page shows the metrics of a server, and that it says so if there are none.
 
-    It must be readable in light and dark, show counters per second, and show the right metric as each fact.
+    It must be readable in light and dark, show counters per second, and show the right metric as each fact and in each chart.
     """
     metrics = f"127.0.0.1:{free_port()}"
     fixture.server.restart("--metrics", metrics)
     window = Window(fixture.browser, f"http://{metrics}/")
     window.wait_state("connected")
+    expect_equal("the title", window.driver.title, f"bayeuxd at {metrics}")
     try_values(fixture.server, window)
     check_accessible_names(window, [".plot svg"])
     check_accessibility(window)
@@ -108,6 +191,7 @@ def try_status(fixture):
     expect_equal("a counter that grows by 300 in three seconds", window.run(RATE), 100)
     expect_equal("the first shard in the key of 20 shards", window.run(MANY_SHARDS), "shard 19: 19")
     expect_equal("the facts", window.run(READ_FACTS, SHOWN), FACTS)
+    check_charts(window)
     expect_equal("uptimes", window.run("return [5, 65, 3600, 90061].map(formatTime)"), ["5 s", "1 min 5 s", "1 h 0 min", "1 d 1 h"])
     window.close()
     fixture.server.restart()

@@ -1,0 +1,278 @@
+"""Checks that the metrics and the log of a daemon count what its clients saw."""
+import collections
+import contextlib
+import datetime
+import json
+import re
+import socket
+import time
+import urllib.parse
+
+from base import TOP, CheckFailed, expect_equal, wait_until
+from daemon import CONNECT, HANDSHAKE, TIMEOUT_SECONDS, Connection, FlagDaemon, NonExpiringDaemon
+from daemon import expect_status, get, open_session, post, post_coded, send_connect
+from metrics import ask_for, expect_values, scrape
+
+# Metrics that change without a request, and those of what a request takes.
+CHANGING = re.compile(r"process_|bayeux_(uptime|ticks|list_entries|window|processing_seconds_(sum|bucket))")
+TICKED, REFUSED_TICKS, HELD = ("bayeux_ticks_total", ""), ("bayeux_ticks_refused_total", ""), ("bayeux_connects_held", "")
+# The reasons of requests that were judged, so that the time for this counts.
+CLOSED, UNANSWERED = "the server is shutting down", "the answer is unavailable"
+JUDGED = (
+    "the messages are not JSON",
+    "a message is not a JSON object",
+    "a message has no channel",
+    "too many messages in one request",
+    "the listener is read-only",
+    CLOSED,
+)
+# The channel to which clients of both listeners may publish, and another one. The limit of bodies, of the events of a session, and
+# of sessions.
+CHANNEL, OTHER, BODY, EVENTS, SESSIONS = "/counted/a", "/other", 60_000, 300, 3
+# The most messages of a request.
+MESSAGES = 256
+KINDS = ("handshake", "connect", "subscribe", "unsubscribe", "disconnect")
+# The documented reasons that no client can cause: the last is one of a server that has run for ages.
+RARE = ("callback-polling is off", "the content type is not application/json", "the clock is out of range")
+# How many ticks must be refused, and how many lines of a log are read, which appears at most once a second. The server counts ten
+# ticks of at least a tenth of a second for this. The clock of the log may be adjusted meanwhile.
+REFUSED_AT_LEAST, LINES, LEAST_PAUSE = 3, 3, 0.8
+
+
+def documented_reasons():
+    """Returns the reasons for which docs/OPERATING.md says that requests are refused, except those of status 503."""
+    text = (TOP / "docs/OPERATING.md").read_text(encoding="utf-8")
+    rows = re.findall(r"^\| ([0-9, ]+) \| (.*?) \|", text, re.MULTILINE)
+    return {reason for status, reasons in rows if status != "503" for reason in re.findall(r"`([^`]+)`", reasons)}
+
+
+def documented_errors():
+    """Returns the errors of docs/ERRORS.md."""
+    return set(re.findall(r"^\| `(\d{3}::[^`]+)` \|", (TOP / "docs/ERRORS.md").read_text(encoding="utf-8"), re.MULTILINE))
+
+
+def documented_lines():
+    """Returns the pairs of a level and an event that docs/OPERATING.md has for the log, with .. for the end of any event."""
+    text = (TOP / "docs/OPERATING.md").read_text(encoding="utf-8")
+    found = set(re.findall(r"`\[(INFO|WARN|ERROR) +bayeuxd\] ([a-z ]+?|cannot \.\.)(?: \w+=[^`]*)?`", text))
+    return found | {("INFO", f"{it} listening") for it in re.findall(r"`\.\. (\w+) listening \.\.`", text)}
+
+
+def expect_documented(log):
+    """Raises `CheckFailed` if `log`, in text without times, has a line whose level and event are not as documented."""
+    lines = documented_lines()
+    for level, event in re.findall(r"^\[(\w+) +bayeuxd\] ([^=\n]*?)(?= \w+=|$)", log.decode(), re.MULTILINE):
+        if (level, event) not in lines and (level, f"{event.split()[0]} ..") not in lines:
+            raise CheckFailed(f"docs/OPERATING.md has no line of the log with the level and the event {(level, event)}")
+
+
+def cases_of(session):
+    """Yields cases: lists of requests that are sent over a connection each, the first ones of which are held.
+
+    `session`: the member of a session with its client id.
+    """
+
+    def of(*messages):
+        return post(json.dumps(messages).encode())
+
+    def asked(**more):
+        return get(f"?{urllib.parse.urlencode(more)}".encode())
+
+    connect, publish = {**CONNECT, **session}, {"channel": CHANNEL, "data": 1, **session}
+    ready = {**connect, "advice": {"timeout": 0}}
+    subscribe = {"channel": "/meta/subscribe", **session}
+    for request in [
+        of(),
+        of(HANDSHAKE),
+        of(HANDSHAKE, HANDSHAKE),
+        of(HANDSHAKE),
+        of({**HANDSHAKE, "version": "2.0"}, {**HANDSHAKE, "supportedConnectionTypes": ["websocket"]}),
+        of({**HANDSHAKE, "supportedConnectionTypes": ["websocket"]}),
+        of({"channel": "/meta/none", **session}),
+        of(CONNECT),
+        of({**CONNECT, "clientId": "none"}),
+        of({**connect, "connectionType": "websocket"}),
+        *(of({**subscribe, "subscription": it}) for it in ("/counted/*", "/a/", [f"/{number}" for number in range(65)], "/meta/*")),
+        of(subscribe),
+        of({**subscribe, "channel": "/meta/unsubscribe", "subscription": "/none"}),
+        of({"channel": CHANNEL, **session}),
+        of({**publish, "channel": "/counted//"}),
+        of({**publish, "channel": OTHER}),
+        of({**publish, "channel": "/service/a"}),
+        of(*[publish] * MESSAGES),
+        of(ready),
+        asked(message=json.dumps([publish, publish]), jsonp="a"),
+        asked(message=json.dumps([ready]), jsonp="a"),
+        asked(message="[]", jsonp="a b"),
+        asked(jsonp="a"),
+        get(b"", b"/"),
+        post_coded([b" gzip, chunked"]),
+        post(b"[]").replace(b"POST", b"PUT", 1),
+        post(b" " * (BODY + 1)),
+        post(b"["),
+        post(b"[1]"),
+        post(b"[{}]"),
+        of(*[{"channel": CHANNEL}] * (MESSAGES + 1)),
+        post(b"[]")[:-1],
+    ]:
+        yield [request]
+    yield [of(connect), of(ready)]
+    for messages in ([publish] * MESSAGES, [publish] * MESSAGES, [ready], [{"channel": "/meta/disconnect", **session}]):
+        yield [of(*messages)]
+
+
+def serve(daemon, address, requests):
+    """Sends `requests` to `address`, each over a connection of its own. Returns the responses.
+
+    Each but the last one is held until the next one is sent. A request that ends early is followed by the end of its connection.
+    """
+    with contextlib.ExitStack() as stack:
+        connections = []
+        for request in requests:
+            if connections:
+                expect_values(daemon.metrics, {HELD: len(connections)})
+            connections.append(stack.enter_context(Connection(address)))
+            connections[-1].send(request)
+            if request.endswith(b"\r\n\r\n["):
+                connections[-1].socket.shutdown(socket.SHUT_WR)
+        return [it.response() for it in connections]
+
+
+def count_response(response):
+    """Returns the changes of metrics that belong to `response`, by name and labels, and the errors and reasons in it."""
+    changes, texts = collections.Counter({("bayeux_responses_total", f'{{status="{response.status}"}}'): 1}), set()
+    if response.status != 200:
+        reason = response.fields[b"bayeux-error"].decode()
+        changes["bayeux_requests_refused_total", f'{{status="{response.status}",reason="{reason}"}}'] += 1
+        changes["bayeux_processing_seconds_count", ""] += reason in JUDGED
+        return changes, {reason}
+    changes.update([("bayeux_requests_admitted_total", ""), ("bayeux_processing_seconds_count", "")])
+    script = re.search(rb"\((\[.*\])\)", response.body)
+    for item in json.loads(script.group(1) if script else response.body):
+        kind = item["channel"].removeprefix("/meta/")
+        if "successful" not in item:
+            changes["bayeux_events_total", ""] += 1
+        elif not item["successful"]:
+            changes["bayeux_errors_total", f'{{error="{item["error"]}"}}'] += 1
+            texts.add(item["error"])
+        else:
+            changes["bayeux_replies_total", f'{{kind="{kind if kind in KINDS else "publish"}"}}'] += 1
+            changes["bayeux_sessions", ""] += (kind == "handshake") - (kind == "disconnect")
+            changes["bayeux_sessions_opened_total", ""] += kind == "handshake"
+    return changes, texts
+
+
+def expect_changes(daemon, before, changes, what):
+    """Waits until the metrics have changed from `before` by `changes` and in no other way. Returns them."""
+    wanted = {name: value for name, value in changes.items() if value}
+    end = time.monotonic() + TIMEOUT_SECONDS
+    while True:
+        values = scrape(daemon.metrics)
+        changed = [name for name, value in values.items() if value != before[name] and not CHANGING.match(name[0])]
+        found = {name: values[name] - before[name] for name in changed}
+        if found == wanted:
+            return values
+        if time.monotonic() > end:
+            raise CheckFailed(f"the metrics changed by {found} in place of {wanted} because of {what[:300]!r}")
+        time.sleep(0.02)
+
+
+def check_listener(daemon, address):
+    """Checks that each request to `address` changes the metrics as its response says.
+
+    Returns all errors and reasons in the responses.
+    """
+    with Connection(address) as connection:
+        session = open_session(connection)
+    before, texts = expect_values(daemon.metrics, {("bayeux_connections", ""): 0, ("bayeux_sessions", ""): 1}), set()
+    for requests in cases_of(session):
+        responses = serve(daemon, address, requests)
+        changes = collections.Counter({("bayeux_connections_total", ""): len(requests)})
+        for it in responses:
+            more, found = count_response(it)
+            changes.update(more)
+            texts |= found
+        before = expect_changes(daemon, before, changes, b" and ".join(requests))
+    return texts
+
+
+def check_counts(program):
+    flags = ["--sessions", str(SESSIONS), "--limit", str(EVENTS), "--body", str(BODY)]
+    readers = ["--readers", "127.0.0.1:0", "--readers-publish", "/counted/**"]
+    wanted = (documented_reasons() | documented_errors()) - set(RARE)
+    for is_reader in (False, True):
+        with NonExpiringDaemon(program, *flags, *readers) as daemon:
+            found = check_listener(daemon, daemon.readers_address() if is_reader else daemon.address)
+            expect_equal("refused ticks", scrape(daemon.metrics)[REFUSED_TICKS], 0)
+            missing = {"400::Invalid channel" if is_reader else "the listener is read-only"}
+            expect_equal("errors and reasons that no request caused", wanted - found, missing)
+            expect_documented(daemon.full_log())
+    with NonExpiringDaemon(program, "--no-callback-polling") as daemon:
+        before = scrape(daemon.metrics)
+        for request, reason in ((post(b"[]", b"text/plain"), RARE[1]), (get(b"?message=[]"), RARE[0])):
+            (response,) = serve(daemon, daemon.address, [request])
+            changes, found = count_response(response)
+            expect_equal("the reason", found, {reason})
+            before = expect_changes(daemon, before, changes + collections.Counter([("bayeux_connections_total", "")]), request)
+
+
+def more_ticks(values, before):
+    """Returns by how much the two metrics of ticks have grown, or `None` if together by less than `REFUSED_AT_LEAST`."""
+    grown = {name: values[name] - before[name] for name in (TICKED, REFUSED_TICKS)}
+    return grown if sum(grown.values()) >= REFUSED_AT_LEAST else None
+
+
+def check_closed(program):
+    """Checks the metrics and the log of a daemon that has been told to end, and still serves two connections.
+
+    One of them held a connect.
+    """
+    with contextlib.ExitStack() as stack:
+        daemon = stack.enter_context(NonExpiringDaemon(program, "--connections", "3", "--until-eof"))
+        connection, holder = (stack.enter_context(Connection(daemon.address)) for _ in range(2))
+        send_connect(holder, open_session(connection))
+        before = expect_values(daemon.metrics, {HELD: 1})
+        daemon.process.stdin.close()
+        expect_equal("the status of a held connect", holder.response().status, 503)
+        expect_status(connection, post(b"[]"), 503, CLOSED)
+        refused = {("bayeux_requests_refused_total", f'{{status="503",reason="{reason}"}}'): 1 for reason in (CLOSED, UNANSWERED)}
+        # The held connects are those of the last tick.
+        gone = {("bayeux_requests", ""): -1, ("bayeux_requests_held", ""): -1}
+        more = {("bayeux_responses_total", '{status="503"}'): 2, ("bayeux_processing_seconds_count", ""): 1}
+        after = expect_changes(daemon, before, {**refused, **gone, **more}, b"[]")
+        ticks = wait_until("more ticks", lambda: more_ticks(scrape(daemon.metrics), after))
+        found = (ticks[TICKED], ticks[REFUSED_TICKS] > 0)
+        expect_equal("ticks after the end of standard input, and whether some were refused", found, (0, True))
+        expect_equal("the health", ask_for(daemon.metrics, get(b"", b"/healthz")).status, 503)
+        for it in (connection, holder):
+            it.socket.close()
+        daemon.expect_end()
+        logged = re.findall(r'requests failed reason="(.*)" listener=main count=([0-9]+)', daemon.full_log().decode())
+        expect_equal("refusals in the log", sorted(logged), sorted((it, "1") for it in (CLOSED, UNANSWERED)))
+        expect_documented(daemon.full_log())
+
+
+def refusals_in_log(daemon):
+    """Returns the time and the count of each line about requests that are not JSON in the log of `daemon`."""
+    line = rb'^(\S+)Z \[WARN  bayeuxd\] requests failed reason="the messages are not JSON" listener=main count=([0-9]+)$'
+    lines = re.findall(line, daemon.timed_log(), re.MULTILINE)
+    return [(datetime.datetime.strptime(when.decode(), "%Y-%m-%dT%H:%M:%S.%f"), int(count)) for when, count in lines]
+
+
+def check_pace(program):
+    """Checks that the log counts refused requests at most once a second, and each of them once."""
+    with FlagDaemon(program) as daemon:
+        sent, end = 0, time.monotonic() + TIMEOUT_SECONDS
+        with Connection(daemon.address) as connection:
+            while len(refusals_in_log(daemon)) < LINES:
+                if time.monotonic() > end:
+                    raise CheckFailed(f"not {LINES} lines about {sent} refused requests: {daemon.log_tail()!r}")
+                expect_status(connection, post(b"["), 400)
+                sent += 1
+                time.sleep(0.01)
+        daemon.process.stdin.close()
+        daemon.expect_end()
+        lines = refusals_in_log(daemon)
+        pauses = [(later - earlier).total_seconds() for (earlier, _), (later, _) in zip(lines[: LINES - 1], lines[1:LINES])]
+        if min(pauses) < LEAST_PAUSE or sum(count for _, count in lines) != sent:
+            raise CheckFailed(f"more than a line a second, or not {sent} refused requests: {lines}")
