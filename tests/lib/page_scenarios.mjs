@@ -318,6 +318,48 @@ function checkMetrics() {
   assert.deepEqual([page.element('age').hidden, page.element('age').textContent, page.element('metrics').classes.has('old')], [false, 'Received 6 s ago.', true]);
 }
 
+/** Returns the code in `language` of a page of docs that has `text`. */
+function codeOf(page, language, text) {
+  const blocks = read(`../docs/${page}`).matchAll(/^```(\w+)\n(.*?)^```$/gms);
+  const found = [...blocks].filter(([, kind, code]) => kind === language && code.includes(text)).map(([, , code]) => code);
+  assert.equal(found.length, 1, `${page} has ${found.length} blocks in ${language} with ${text}`);
+  return found[0];
+}
+
+// The script of the tutorial draws the last sixty numbers, the newest at the right.
+function checkTutorial() {
+  const page = new Page(SITE);
+  page.run(codeOf('TUTORIAL.md', 'js', 'points.push'));
+  const [[pattern, listener]] = page.client.listeners;
+  assert.deepEqual([page.client.url, pattern, page.client.isStarted], ['/cometd', '/load/*', true]);
+  page.client.onstate('interrupted', 'fetch failed');
+  assert.equal(page.element('state').textContent, 'interrupted fetch failed');
+  const points = () => page.element('curve').attributes.points.split(' ').map((it) => it.split(',').map(Number));
+  listener('text');
+  listener(0.5);
+  assert.deepEqual([page.element('value').textContent, points()], ['0.50', [[0, 75]]]);
+  for (let number = 1; number <= 100; number++) listener(number);
+  assert.equal(page.element('value').textContent, '100.00');
+  assert.deepEqual(points(), Array.from({ length: 60 }, (_, at) => [10 * at, 145 - (140 * (41 + at)) / 100]));
+  assert.match(codeOf('TUTORIAL.md', 'html', 'id="curve"'), /<p id="state" role="status">.*<output id="value">.*<svg viewBox="0 0 600 150" role="img" aria-label="[^"]+"><polyline id="curve"/s);
+}
+
+// What the examples of docs/CLIENT.md show after a publish that failed.
+async function checkFailureExample() {
+  for (const [failure, text] of [
+    [{ message: 'no answer in time', mayHaveArrived: true }, 'No answer: it may have been sent'],
+    [{ message: '402::Unknown client', mayHaveArrived: false }, 'Not sent: 402::Unknown client'],
+  ]) {
+    const page = new Page(SITE);
+    page.failure = failure;
+    page.run('const client = new BayeuxClient("/cometd"), text = "Hello", shown = [], show = (it) => shown.push(it);');
+    page.run(codeOf('CLIENT.md', 'js', 'mayHaveArrived'));
+    await new Promise((go) => setTimeout(go));
+    assert.equal(page.run('shown.join()'), text);
+    assert.deepEqual(page.publishes, [['/chat/hall', 'Hello']]);
+  }
+}
+
 async function checkChat() {
   const open = (name) => {
     const page = new Page('https://site.example/chat/', 'common/page.js', 'chat/chat.js');
@@ -401,7 +443,7 @@ function checkFiles() {
   }
 }
 
-for (const check of [checkServers, checkStates, checkTexts, checkDashboard, checkMetrics, checkChat, checkFiles]) {
+for (const check of [checkServers, checkStates, checkTexts, checkDashboard, checkMetrics, checkChat, checkTutorial, checkFailureExample, checkFiles]) {
   try {
     await check();
   } catch (error) {
