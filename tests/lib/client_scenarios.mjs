@@ -213,6 +213,72 @@ class Place {
   }
 }
 
+/** What windows of one origin share: locks, and channels. A window that crashes sends nothing and gives its locks back. */
+class Origin {
+  constructor(server) {
+    this.server = server;
+    this.channels = new Set();
+    this.locks = []; // the holder of the lock and those that wait for it, in order
+    this.isQuiet = false; // whether messages are lost, as if the other window did not run
+  }
+
+  /** Opens a window with a client for `patterns`, and starts it. */
+  open(...patterns) {
+    const origin = this;
+    class Channel {
+      constructor(name) {
+        this.name = name;
+        origin.channels.add(this);
+      }
+
+      postMessage(data) {
+        const others = [...origin.channels].filter((it) => it !== this && it.name === this.name);
+        if (!origin.isQuiet) setImmediate(() => others.forEach((it) => origin.channels.has(it) && it.onmessage({ data })));
+      }
+
+      close() {
+        origin.channels.delete(this);
+      }
+    }
+    const place = new Place(`${this.server.origin}/page.html`, { origin: this.server.origin, BroadcastChannel: Channel });
+    const request = (_, { signal }, begin) => this.request(place, signal, begin);
+    place.context.navigator.locks = { request };
+    place.client = place.client('/cometd', {}, ...patterns);
+    place.channels = () => [...this.channels].filter((it) => it instanceof Channel);
+    place.started = place.client.start();
+    return place;
+  }
+
+  async request(place, signal, begin) {
+    const lock = { place };
+    const turn = new Promise((go, fail) => {
+      lock.go = go;
+      signal.addEventListener('abort', () => fail(Object.assign(new Error('aborted'), { name: 'AbortError' })));
+    });
+    this.locks.push(lock);
+    this.grant();
+    try {
+      await turn;
+      await begin();
+    } finally {
+      this.locks = this.locks.filter((it) => it !== lock);
+      this.grant();
+    }
+  }
+
+  grant() {
+    this.locks[0]?.go();
+  }
+
+  crash(place) {
+    place.channels().forEach((it) => it.close());
+    place.run('globalThis').fetch = () => new Promise(() => {});
+    place.client.starts++;
+    this.locks = this.locks.filter((it) => it.place !== place);
+    this.grant();
+  }
+}
+
 /** Returns what a promise does: 'done', or the message, `mayHaveArrived` and `status` of its failure. */
 function outcomeOf(promise) {
   return promise.then(() => 'done', ({ message, mayHaveArrived, status }) => [message, mayHaveArrived, status]);
@@ -725,6 +791,110 @@ const SCENARIOS = {
     }
     await until('a connect is held', () => server.held);
     client.stop();
+  },
+
+  async 'windows that share a session: one for all, and its end'(server) {
+    const origin = new Origin(server);
+    const windows = [];
+    for (const patterns of [['/a', '/one'], ['/a', '/two'], ['/two', '/three']]) {
+      windows.push(origin.open(...patterns));
+      await windows.at(-1).started;
+    }
+    const [one, two, three] = windows.map(({ client }) => client);
+    assert.deepEqual(windows.map(({ client }) => [client.state, client.clientId]), Array(3).fill(['connected', 'session 1']));
+    assert.deepEqual(server.messages('/meta/subscribe').map(({ subscription }) => subscription), ['/a', '/one', '/two', '/three']);
+    server.next('/a', rejection('/a', '400::Invalid channel'));
+    assert.deepEqual(await outcomeOf(two.publish('/a', 0)), ['400::Invalid channel', false, undefined]);
+    server.next('/a', (_, response) => response.writeHead(403).end());
+    assert.deepEqual(await outcomeOf(two.publish('/a', 0)), ['publishing is not allowed here: HTTP status 403', false, 403]);
+    assert.deepEqual(await Promise.all([3, 4].map((data) => outcomeOf(two.publish('/a', data)))), ['done', 'done']);
+    assert.deepEqual(server.messages('/a').map(({ data }) => data), [0, 0, 3, 4]);
+    await until('a connect is held', () => server.held);
+    server.emit(['/a', 1], ['/two', 2], ['/three', 3]);
+    await until('the last window gets its events', () => three.log.length === 4);
+    await until('the second window gets its events', () => two.log.length === 4);
+    assert.deepEqual(windows.map(({ client }) => client.log.slice(2)), [[['/a', 1]], [['/a', 1], ['/two', 2]], [['/two', 2], ['/three', 3]]]);
+    // A window that goes does not end the session, and the patterns that only it had are unsubscribed.
+    three.stop([{ channel: '/a', data: 'Bye' }]);
+    await until('a pattern is unsubscribed', () => server.messages('/meta/unsubscribe').length === 1);
+    assert.deepEqual(server.messages('/meta/unsubscribe'), [unsubscribe('/three')]);
+    assert.deepEqual(JSON.parse(await windows[2].beacons[0][1].text()), [{ channel: '/a', data: 'Bye', clientId: 'session 1' }]);
+    two.stop();
+    await until('another pattern is unsubscribed', () => server.messages('/meta/unsubscribe').length === 2);
+    assert.deepEqual([server.messages('/meta/unsubscribe')[1], windows[1].beacons], [unsubscribe('/two'), []]);
+    one.stop();
+    assert.deepEqual(JSON.parse(await windows[0].beacons[0][1].text()), [{ channel: '/meta/disconnect', clientId: 'session 1' }]);
+    assert.equal(server.sessions, 1);
+  },
+
+  async 'a window takes over the session, and the open publishes of others'(server) {
+    for (const isCrash of [false, true]) {
+      server.requests.splice(0);
+      const origin = new Origin(server);
+      const windows = ['/one', '/two', '/three'].map((own) => origin.open('/a', own));
+      await Promise.all(windows.map(({ started }) => started));
+      const [one, two, three] = windows.map(({ client }) => client);
+      const id = one.clientId;
+      for (let number = 1; number <= 2; number++) {
+        await until('a connect is held', () => server.held);
+        server.emit(['/a', number]);
+      }
+      await until('the last window gets its event', () => three.log.at(-1)?.[1] === 2);
+      // The first publish has been sent, and gets no answer. The second one waits for it.
+      server.next('/sent', () => {});
+      const outcomes = [three.publish('/sent', 1), three.publish('/waits', 2)].map(outcomeOf);
+      await until('a publish has come', () => server.messages('/sent').length === 1);
+      await until('the window knows', () => three.windows.taken.size === 1);
+      await until('a connect is held', () => server.held);
+      const before = server.requests.length;
+      if (isCrash) origin.crash(windows[0]);
+      else one.stop();
+      assert.deepEqual(await Promise.all(outcomes), [['no answer in time', true, undefined], 'done']);
+      await until('the next window has the session', () => two.windows.isLeading && server.messages('/meta/connect').at(-1).ext.ack === 2 && server.requests.length > before);
+      assert.deepEqual([server.messages('/sent').length, server.messages('/waits').length], [1, 1]);
+      server.emit(['/a', 3]);
+      await until('all get the next event', () => [two, three].every(({ log }) => log.at(-1)?.[1] === 3));
+      for (const it of [two, three]) assert.deepEqual(it.log.filter(Array.isArray).map(([, data]) => data), [1, 2, 3]);
+      assert.deepEqual([two.clientId, three.clientId, two.log.includes('gap'), three.log.includes('gap')], [id, id, false, false]);
+      // The patterns of the window that is gone are kept until the others have sent theirs.
+      assert.equal(server.messages('/meta/unsubscribe').length, 0);
+      windows[1].limits.filter(([milliseconds]) => milliseconds === NETWORK_TIMEOUT).forEach(([, end]) => end());
+      await until('its pattern is unsubscribed', () => server.messages('/meta/unsubscribe').length === 1);
+      assert.equal(server.messages('/meta/unsubscribe')[0].subscription, '/one');
+      three.stop();
+      two.stop();
+      assert.equal(server.messages('/meta/handshake').length, 1);
+    }
+  },
+
+  async 'windows of a session that is lost, and a leader that does not answer'(server) {
+    const origin = new Origin(server);
+    const windows = ['/one', '/two'].map((own) => origin.open('/a', own));
+    await Promise.all(windows.map(({ started }) => started));
+    const [one, two] = windows.map(({ client }) => client);
+    const moments = [];
+    for (const it of [one, two]) it.ongap = (since) => moments.push(since.getTime());
+    await until('a connect is held', () => server.held);
+    const { held } = server;
+    server.begin();
+    held([unknown('/meta/connect')]);
+    await until('both report a gap', () => moments.length === 2 && two.state === 'connected');
+    assert.deepEqual([moments[0], one.clientId, two.clientId], [moments[1], 'session 2', 'session 2']);
+    assert.deepEqual(server.messages('/meta/subscribe').filter(({ clientId }) => clientId === 'session 2').map(({ subscription }) => subscription), ['/a', '/one', '/two']);
+    two.log.splice(0);
+    // The leader gets no message, so the other window gives up, and joins again when it can.
+    origin.isQuiet = true;
+    const outcome = outcomeOf(two.publish('/a', 1));
+    windows[1].limits.at(-1)[1]();
+    assert.deepEqual(await outcome, ['no answer in time', true, undefined]);
+    assert.deepEqual(two.log, ['interrupted no answer in time']);
+    origin.isQuiet = false;
+    await until('a connect is held', () => server.held);
+    server.emit(['/a', 1]);
+    await until('the event comes', () => two.log.length === 3);
+    assert.deepEqual([two.state, two.log.filter(Array.isArray)], ['connected', [['/a', 1]]]);
+    two.stop();
+    one.stop();
   },
 
   async 'which channels each pattern matches'() {
