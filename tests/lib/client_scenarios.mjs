@@ -93,7 +93,8 @@ class Server {
     if (channel === '/meta/handshake') {
       this.begin();
       const clientId = `session ${++this.sessions}`;
-      return { channel, version: '1.0', supportedConnectionTypes: ['long-polling', 'callback-polling'], clientId, successful: true, advice: ADVICE, ext: { ack: true } };
+      const supportedConnectionTypes = ['long-polling', 'callback-polling'];
+      return { channel, version: '1.0', supportedConnectionTypes, clientId, successful: true, advice: ADVICE, ext: { ack: true } };
     }
     if (channel === '/meta/disconnect') this.answerHeld([], { ...ADVICE, reconnect: 'none' });
     return { channel, subscription, successful: true };
@@ -354,7 +355,11 @@ const SCENARIOS = {
     const client = place.client(server.address, {}, '/**');
     await client.start();
     await until('a connect is held', () => server.held);
-    for (const [number, cut] of [(response) => response.destroy(), (response) => response.write('[{"channel":"/a","data":0},', () => response.destroy())].entries()) {
+    const cuts = [
+      (response) => response.destroy(),
+      (response) => response.write('[{"channel":"/a","data":0},', () => response.destroy()),
+    ];
+    for (const [number, cut] of cuts.entries()) {
       server.next('/meta/connect', (_, response) => {
         server.batch++;
         server.sent = [{ channel: '/a', data: number }];
@@ -405,7 +410,8 @@ const SCENARIOS = {
       assert.equal(place.pauses.length, 10);
       assert.ok(place.pauses[9] <= FIRST_PAUSE, `after a session was lost, the pause is ${place.pauses[9]}`);
       // Each failed retry is reported.
-      assert.deepEqual(client.log.slice(2, -2), ['interrupted 408::Superseded connect', ...Array(8).fill('interrupted HTTP status 503'), 'interrupted 402::Unknown client']);
+      const failures = ['408::Superseded connect', ...Array(8).fill('HTTP status 503'), '402::Unknown client'];
+      assert.deepEqual(client.log.slice(2, -2), failures.map((it) => `interrupted ${it}`));
       client.stop();
     }
   },
@@ -428,8 +434,13 @@ const SCENARIOS = {
     assert.deepEqual(found, expected);
     server.next('/a', rejection('/a', '400::Invalid channel'));
     assert.deepEqual(await outcomeOf(client.publish('/a', 0)), ['400::Invalid channel', false, undefined]);
-    for (const cut of [(_, response) => response.destroy(), (_, response) => response.write('[{', () => response.destroy()), (_, response) => response.end('<html>')]) {
-      server.next('/a', cut);
+    const ends = [
+      (response) => response.destroy(),
+      (response) => response.write('[{', () => response.destroy()),
+      (response) => response.end('<html>'),
+    ];
+    for (const end of ends) {
+      server.next('/a', (_, response) => end(response));
       assert.equal((await outcomeOf(client.publish('/a', 0)))[1], true);
     }
     assert.deepEqual([client.state, client.clientId], ['connected', 'session 1']);
@@ -504,12 +515,14 @@ const SCENARIOS = {
   async 'who unsubscribes and subscribes again gets events again'(server) {
     const place = new Place();
     const client = place.client(server.address, {}, '/a');
-    const other = () => client.log.push('other');
-    client.subscribe('/a', other);
+    // Two functions with the same name and text.
+    const [other, third] = ['other', 'third'].map((it) => () => client.log.push(it));
+    for (const it of [other, third]) client.subscribe('/a', it);
     await client.start();
     await until('a connect is held', () => server.held);
     await client.unsubscribe('/nothing');
     await client.unsubscribe('/a', client.listener);
+    await client.unsubscribe('/a', third);
     server.emit(['/a', 1]);
     await until('the other one gets it', () => client.log.at(-1) === 'other');
     assert.deepEqual(client.log, ['connecting', 'connected', 'other']);
@@ -727,6 +740,7 @@ const SCENARIOS = {
     stopped.stop();
     await client.start();
     place.dispatch('pageshow', { persisted: false });
+    assert.equal(client.state, 'connected');
     place.dispatch('pagehide');
     assert.deepEqual([client.state, client.clientId, place.beacons.length], ['stopped', null, 1]);
     const [[url, blob]] = place.beacons;
@@ -807,6 +821,7 @@ const SCENARIOS = {
     assert.deepEqual(await outcomeOf(two.publish('/a', 0)), ['400::Invalid channel', false, undefined]);
     server.next('/a', (_, response) => response.writeHead(403).end());
     assert.deepEqual(await outcomeOf(two.publish('/a', 0)), ['publishing is not allowed here: HTTP status 403', false, 403]);
+    await until('the others know', () => !three.mayPublish);
     assert.deepEqual(await Promise.all([3, 4].map((data) => outcomeOf(two.publish('/a', data)))), ['done', 'done']);
     assert.deepEqual(server.messages('/a').map(({ data }) => data), [0, 0, 3, 4]);
     await until('a connect is held', () => server.held);
@@ -850,7 +865,8 @@ const SCENARIOS = {
       if (isCrash) origin.crash(windows[0]);
       else one.stop();
       assert.deepEqual(await Promise.all(outcomes), [['no answer in time', true, undefined], 'done']);
-      await until('the next window has the session', () => two.windows.isLeading && server.messages('/meta/connect').at(-1).ext.ack === 2 && server.requests.length > before);
+      await until('the next window has the session', () => two.windows.isLeading && server.requests.length > before);
+      await until('it continues after the last batch', () => server.messages('/meta/connect').at(-1).ext.ack === 2);
       assert.deepEqual([server.messages('/sent').length, server.messages('/waits').length], [1, 1]);
       server.emit(['/a', 3]);
       await until('all get the next event', () => [two, three].every(({ log }) => log.at(-1)?.[1] === 3));
@@ -880,7 +896,8 @@ const SCENARIOS = {
     held([unknown('/meta/connect')]);
     await until('both report a gap', () => moments.length === 2 && two.state === 'connected');
     assert.deepEqual([moments[0], one.clientId, two.clientId], [moments[1], 'session 2', 'session 2']);
-    assert.deepEqual(server.messages('/meta/subscribe').filter(({ clientId }) => clientId === 'session 2').map(({ subscription }) => subscription), ['/a', '/one', '/two']);
+    const again = server.messages('/meta/subscribe').filter(({ clientId }) => clientId === 'session 2');
+    assert.deepEqual(again.map(({ subscription }) => subscription), ['/a', '/one', '/two']);
     two.log.splice(0);
     // The leader gets no message, so the other window gives up, and joins again when it can.
     origin.isQuiet = true;
@@ -893,7 +910,22 @@ const SCENARIOS = {
     server.emit(['/a', 1]);
     await until('the event comes', () => two.log.length === 3);
     assert.deepEqual([two.state, two.log.filter(Array.isArray)], ['connected', [['/a', 1]]]);
+    // The answer of the leader comes too late: the window is connected again, without an event.
+    let go = null;
+    server.next('/late', (_, __, send) => (go = () => send([{ channel: '/late', successful: true }])));
+    const late = outcomeOf(two.publish('/late', 1));
+    await until('the publish has come', () => go);
+    windows[1].limits.at(-1)[1]();
+    assert.deepEqual([await late, two.state], [['no answer in time', true, undefined], 'interrupted']);
+    go();
+    await until('it is connected', () => two.state === 'connected');
+    // A window that stops does not wait for the leader.
+    server.next('/open', () => {});
+    const open = outcomeOf(two.publish('/open', 1));
+    await until('the publish has come', () => server.messages('/open').length === 1);
     two.stop();
+    assert.deepEqual(await open, ['no answer in time', true, undefined]);
+    assert.deepEqual([two.state, two.log.at(-1), windows[1].open.size], ['stopped', 'stopped', 0]);
     one.stop();
   },
 
@@ -931,7 +963,12 @@ const SCENARIOS = {
     const types = read('bayeux.d.ts').replace(/\/\*\*.*?\*\//gs, '');
     const body = (head) => types.match(new RegExp(`^${head} \\{\n(.*?)^\\}`, 'ms'))[1].trim().split(/\n\s*/);
     // Each option and its type, as docs/CLIENT.md describes them. All are optional.
-    assert.deepEqual(body('interface BayeuxOptions'), ['connectionType?: BayeuxConnectionType;', 'headers?: Record<string, string>;', 'share?: boolean;', 'name?: string;']);
+    assert.deepEqual(body('interface BayeuxOptions'), [
+      'connectionType?: BayeuxConnectionType;',
+      'headers?: Record<string, string>;',
+      'share?: boolean;',
+      'name?: string;',
+    ]);
     assert.deepEqual(body('interface BayeuxMessage'), ['channel: string;', 'data: unknown;']);
     assert.deepEqual(body('interface BayeuxFailure extends Error'), ['mayHaveArrived: boolean;', 'status?: number;']);
     assert.deepEqual(body('declare class BayeuxClient').sort(), [
@@ -954,13 +991,18 @@ const SCENARIOS = {
     assert.match(types, /^type BayeuxConnectionType = 'long-polling' \| 'callback-polling';$/m);
     assert.match(types, /^type BayeuxListener<T = any> = \(data: T, channel: string\) => void;$/m);
     const exported = read('bayeux-module.d.ts');
-    for (const it of ['Client as BayeuxClient, Client as default', 'type Failure = BayeuxFailure', 'type Listener<T = any> = BayeuxListener<T>', 'type Message = BayeuxMessage', 'type Options = BayeuxOptions', 'type State = BayeuxState']) {
-      assert.ok(exported.includes(it), `bayeux-module.d.ts has no ${it}`);
-    }
+    const names = [
+      'Client as BayeuxClient, Client as default',
+      'type Failure = BayeuxFailure',
+      'type Listener<T = any> = BayeuxListener<T>',
+      'type Message = BayeuxMessage',
+      'type Options = BayeuxOptions',
+      'type State = BayeuxState',
+    ];
+    for (const it of names) assert.ok(exported.includes(it), `bayeux-module.d.ts has no ${it}`);
     const client = new Place().client('http://127.0.0.1/cometd');
-    for (const it of ['url', 'connectionType', 'state', 'clientId', 'headers', 'onstate', 'ongap', 'onleave', 'start', 'stop', 'subscribe', 'unsubscribe', 'publish']) {
-      assert.ok(it in client, `the client has no ${it}`);
-    }
+    const members = 'url connectionType state clientId headers onstate ongap onleave start stop subscribe unsubscribe publish';
+    for (const it of members.split(' ')) assert.ok(it in client, `the client has no ${it}`);
     const { exports, types: main, engines, type } = JSON.parse(read('package.json'));
     assert.deepEqual([exports['.'].types, main, engines.node, type], ['./bayeux-module.d.ts', './bayeux-module.d.ts', '>=18', 'module']);
     const files = Object.values(exports).flatMap((it) => Object.values(it));
