@@ -1,11 +1,13 @@
-"""Tests of the client for web pages in node, as the package that it is."""
+"""Tests of the client for web pages in node: as the package that it is, with the example of docs/CLIENT.md, and with scenarios."""
 import json
 import pathlib
+import re
 import shutil
 import subprocess
 import tempfile
 
-from base import TIMEOUT_SECONDS, TOP, CheckFailed, wait_until
+from base import TIMEOUT_SECONDS, TOP, CheckFailed, expect_equal, wait_until
+from daemon import HANDSHAKE
 from server import Server
 
 # A program that uses the client, and prints what it got.
@@ -49,34 +51,72 @@ EXPECTED = {
     "events": [["/node/a", {"text": "Hello"}], ["/node/b", "last"]],
     "states": ["connecting", "connected", "stopped"],
 }
+# The scripts that test the client and the pages in node, without a server of ours and without a browser.
+SCENARIOS = ("client_scenarios.mjs", "page_scenarios.mjs")
+# The longest time of such a script, in seconds.
+SCENARIO_SECONDS = 300
 
 
-def try_node(fixture):
-    """Checks the client in node, also with a server that accepts only JSON."""
+def try_node(program):
+    """Checks the client in node, also with a server that accepts only JSON. `program`: the path of a bayeuxd."""
     if not shutil.which("node"):
         print("       left out: the client in node, since there is no node", flush=True)
         return
-    strict = Server(fixture.server.args[0], "--no-callback-polling", "--max-interval", "600s")
-    strict.start()
-    try:
-        for server in (fixture.server, strict):
+    for flags in ([], ["--no-callback-polling"]):
+        server = Server(program, "--max-interval", "600s", *flags)
+        server.start()
+        try:
             check_client(server)
-    finally:
-        strict.stop()
+            check_example(server)
+        finally:
+            server.stop()
 
 
-def check_client(server):
-    """Checks that a program in node can publish, subscribe and stop. It then ends by itself, and so does its session."""
+def try_scenarios(name):
+    """Runs one of `SCENARIOS`. Raises `CheckFailed` with its output if it fails."""
+    if not shutil.which("node"):
+        print(f"       left out: {name}, since there is no node", flush=True)
+        return
+    args = ["node", TOP / "tests/lib" / name]
+    result = subprocess.run(args, capture_output=True, text=True, timeout=SCENARIO_SECONDS, check=False)
+    if result.returncode or result.stdout or result.stderr:
+        raise CheckFailed(f"{name} ended with status {result.returncode}: {result.stdout}{result.stderr}")
+
+
+def run_program(text, *args):
+    """Runs a module in node that may import `gadzilk-client`, and returns what it prints. Raises `CheckFailed` if it fails."""
     with tempfile.TemporaryDirectory() as folder:
         pathlib.Path(folder, "node_modules").mkdir()
         pathlib.Path(folder, "node_modules/gadzilk-client").symlink_to(TOP / "examples/client")
         program = pathlib.Path(folder, "program.mjs")
-        program.write_text(PROGRAM, encoding="utf-8")
-        args = ["node", program, f"http://127.0.0.1:{server.port}/cometd"]
-        result = subprocess.run(args, capture_output=True, text=True, timeout=2 * TIMEOUT_SECONDS, check=False)
+        program.write_text(text, encoding="utf-8")
+        result = subprocess.run(["node", program, *args], capture_output=True, text=True, timeout=2 * TIMEOUT_SECONDS, check=False)
     if result.returncode or result.stderr:
         raise CheckFailed(f"node ended with status {result.returncode} and {result.stderr!r}")
-    found = json.loads(result.stdout)
+    return result.stdout
+
+
+def check_example(server):
+    """Checks that the example for node of docs/CLIENT.md publishes its message, and ends its session."""
+    page = (TOP / "docs/CLIENT.md").read_text(encoding="utf-8")
+    examples = [it for it in re.findall(r"^```js\n(.*?)^```$", page, re.MULTILINE | re.DOTALL) if "from 'gadzilk-client'" in it]
+    expect_equal("examples for node in docs/CLIENT.md", len(examples), 1)
+    address, own = "http://127.0.0.1:8087/cometd", f"http://127.0.0.1:{server.port}/cometd"
+    expect_equal("addresses in the example", examples[0].count(address), 1)
+    session = {"clientId": server.ask(HANDSHAKE)[0]["clientId"]}
+    server.ask({"channel": "/meta/subscribe", "subscription": "/**", **session})
+    # The program prints its client id before it stops, so that its session can be looked up.
+    text = examples[0].replace(address, own).replace("client.stop();", "console.log(client.clientId);\nclient.stop();")
+    client_id = run_program(text).strip()
+    events = server.ask({"channel": "/meta/connect", "connectionType": "long-polling", "advice": {"timeout": 0}, **session})[:-1]
+    expect_equal("the events of the example", events, [{"channel": "/chat/hall", "data": {"text": "Hello"}}])
+    publish = {"channel": "/nobody", "data": 0, "clientId": client_id}
+    wait_until("the session of the example is gone", lambda: server.ask(publish)[0].get("error") == "402::Unknown client")
+
+
+def check_client(server):
+    """Checks that a program in node can publish, subscribe and stop. It then ends by itself, and so does its session."""
+    found = json.loads(run_program(PROGRAM, f"http://127.0.0.1:{server.port}/cometd"))
     publish = {"channel": "/nobody", "data": 0, "clientId": found.pop("clientId")}
     if found != EXPECTED:
         raise CheckFailed(f"node printed {found}, and not {EXPECTED}")
