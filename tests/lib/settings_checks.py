@@ -358,7 +358,9 @@ def run_daemon(program, args):
 
 def check_flags(program):
     for flags, status, message in FLAGS:
-        found = run_daemon(program, flags)
+        # A daemon that accepts wrong flags then ends at once.
+        ends = [] if any(it.startswith("--until-eof") for it in flags) else ["--until-eof"]
+        found = run_daemon(program, [*ends, *flags])
         if found[:2] != (status, "") or not found[2].startswith("error: ") or message not in found[2]:
             raise CheckFailed(f"not {status} and {message!r} for {flags}: {found}")
     for args in BAD_ARGUMENTS:
