@@ -1,4 +1,4 @@
-"""Checks of a daemon's settings, flags, positional arguments, advice and log, and of addresses in use."""
+"""Checks of a daemon's settings, flags, help, positional arguments, seed, advice and log, and of its addresses and threads."""
 import datetime
 import json
 import os
@@ -7,9 +7,36 @@ import select
 import socket
 import subprocess
 import tempfile
+import time
 
-from base import CheckFailed, free_port
-from daemon import HANDSHAKE, SEED, TIMEOUT_SECONDS, Connection, FlagDaemon, expect_error, expect_success
+from base import TOP, CheckFailed, expect_equal, free_port, wait_until
+from chacha import drawn
+from daemon import HANDSHAKE, SEED, TIMEOUT_SECONDS, Connection, Daemon, FlagDaemon, check_serves, expect_error, expect_success
+from daemon import open_session
+from metrics import scrape
+
+
+def documented_flags():
+    """Returns what OPERATING has of each flag, by name.
+
+    The values are its argument or "", its default, its greatest value or "", and its text in lower case.
+    """
+    section = (TOP / "docs/OPERATING.md").read_text(encoding="utf-8").partition("\n## Flags\n")[2].partition("\n## ")[0]
+    item = r"^- `--([a-z-]+)(?: ([A-Z]+))?` \((`[^`]+`|[^;:)]+)(?:[;:] ([^)]*))?\): (.*(?:\n  .*)*)"
+    found = {}
+    for name, argument, default, more, text in re.findall(item, section, re.MULTILINE):
+        plain = " ".join(re.sub(r"\[([^\]]*)\]\([^)]*\)", r"\1", text).replace("`", "").split())
+        found[name] = (argument, default.strip("`"), more.rpartition("1 to ")[2] if "1 to " in more else "", plain.lower())
+    return found
+
+
+DOCUMENTED = documented_flags()
+# Flags with an argument, and those without one.
+VALUES = [(name, argument) for name, (argument, _, _, _) in DOCUMENTED.items() if argument]
+SWITCHES = [name for name, (argument, _, _, _) in DOCUMENTED.items() if not argument]
+# The greatest value of each flag with a range, whose least value is 1. The flags for times, and those for addresses.
+GREATEST = {name: int(greatest) for name, (_, _, greatest, _) in DOCUMENTED.items() if greatest}
+TIMES, ADDRESSES = ([name for name, argument in VALUES if argument == it] for it in ("TIME", "ADDRESS"))
 
 # The settings in the log of a daemon without flags.
 DEFAULTS = {
@@ -78,21 +105,54 @@ SETTINGS = [
     (["--figures", "localhost:0"], {"metrics": "localhost:0"}),
     (["--log", "text", "--log-level", "info"], {}),
     (["127.0.0.1:0", "2", "30000", "0", "10000", "0f" * 32, "1"], {"listen": "127.0.0.1:0", "shards": "2", "connections": "1"}),
+    *(([f"--{name}", str(value)], {name: str(value)}) for name, greatest in GREATEST.items() for value in (1, greatest)),
+    *(
+        ([f"--{name}", value], {name.replace("-", "_"): logged})
+        for name in TIMES
+        for value, logged in (("0", "0"), ("1", "1ms"), ("999ms", "999ms"), ("7200s", "7200s"), ("4294967295", "4294967295ms"))
+    ),
+    *(([f"--{name}", value], {name: value}) for name in ADDRESSES for value in ("127.0.0.1:65535", "[::1]:1")),
+    *((["--connections", it], {"connections": it}) for it in ("1", "4294967296", "18446744073709551615")),
+    (
+        ["[::1]:0", "7", "1", "2000", "4294967295", SEED, "18446744073709551615", "ra", "65536"],
+        {
+            **{"listen": "[::1]:0", "shards": "7", "timeout": "1ms", "interval": "2s", "max_interval": "4294967295ms"},
+            **{"connections": "18446744073709551615", "ride": "true", "anonymous": "true", "limit": "65536"},
+        },
+    ),
 ]
-# Flags, the text of a warning, and whether the log has it with these flags.
-ENDING = b'sessions end between two connects interval=5s max_interval=5s hint="raise --max-interval"\n'
+
+
+def below_second(name, milliseconds):
+    """Returns the warning of a time below a second."""
+    return f'time is below one second {name}={milliseconds}ms hint="for seconds, write {milliseconds}s"'
+
+
+def ending(interval, max_interval):
+    """Returns the warning that sessions end between two connects."""
+    return f'sessions end between two connects interval={interval} max_interval={max_interval} hint="raise --max-interval"'
+
+
+# Flags, and all warnings in the log of a daemon with them.
 WARNINGS = [
-    (["--interval", "5s", "--max-interval", "5s"], ENDING, True),
-    (["--interval", "5s", "--max-interval", "5001"], ENDING, False),
-    (["--max-interval", "6"], b'time is below one second max_interval=6ms hint="for seconds, write 6s"\n', True),
-    (["--interval", "500", "--max-interval", "1000"], b"time is below one second", False),
-    (["--timeout", "0"], b"time is below one second", False),
-    (["--interval", "5s", "--max-interval", "2s"], ENDING.replace(b"max_interval=5s", b"max_interval=2s"), True),
-    (["--timeout", "999"], b'time is below one second timeout=999ms hint="for seconds, write 999s"\n', True),
-    (["--max-interval", "999"], b'time is below one second max_interval=999ms hint="for seconds, write 999s"\n', True),
-    (["--timeout", "1", "--max-interval", "2"], b'time is below one second timeout=1ms hint="for seconds, write 1s"\n', True),
-    (["--timeout", "1", "--max-interval", "2"], b'time is below one second max_interval=2ms hint="for seconds, write 2s"\n', True),
-    (["--timeout", "1000", "--max-interval", "1000"], b"time is below one second", False),
+    ([], []),
+    (["--interval", "5s", "--max-interval", "5s"], [ending("5s", "5s")]),
+    (["--interval", "5s", "--max-interval", "4s"], [ending("5s", "4s")]),
+    (["--interval", "1", "--max-interval", "0"], [ending("1ms", "0")]),
+    (["--interval", "5s", "--max-interval", "5001"], []),
+    (["--interval", "0", "--max-interval", "0"], []),
+    (["--timeout", "1"], [below_second("timeout", 1)]),
+    (["--timeout", "999"], [below_second("timeout", 999)]),
+    (["--timeout", "1s"], []),
+    (["--timeout", "0"], []),
+    (["--max-interval", "6"], [below_second("max_interval", 6)]),
+    (["--max-interval", "999"], [below_second("max_interval", 999)]),
+    (["--interval", "500", "--max-interval", "1000"], []),
+    (["--timeout", "5", "--max-interval", "6"], [below_second("timeout", 5), below_second("max_interval", 6)]),
+    (
+        ["--timeout", "5", "--interval", "6", "--max-interval", "6"],
+        [below_second("timeout", 5), below_second("max_interval", 6), ending("6ms", "6ms")],
+    ),
 ]
 ADVICE = {"reconnect": "retry", "interval": 0, "timeout": 30000}
 # The exact messages about wrong positional arguments, and if the daemon cannot listen.
@@ -142,14 +202,23 @@ ADDRESS = "a host and a port such as 127.0.0.1:8087"
 # Runs a command with its own /etc/hosts, in which a name has two addresses.
 WITH_HOSTS = ["unshare", "--user", "--map-root-user", "--mount", "sh", "-c", 'mount --bind "$0" /etc/hosts && exec "$@"']
 HOSTS = "127.0.0.1 two.test\n127.0.0.2 two.test\n"
-# Flags with which no daemon serves, its exit status, and a part of what it prints: on standard
-# output if the status is 0, otherwise on standard error.
+# Flags that can be repeated.
+REPEATED = ["readers-publish"]
+# Flags with which no daemon serves, its exit status, and a part of what it prints on
+# standard error. It prints nothing on standard output.
 FLAGS = [
     (["--shards", "65"], 2, "--shards: expected a number from 1 to 64, got 65"),
     (["--shards", "0"], 2, "--shards: expected a number from 1 to 64, got 0"),
-    *((["--timeout", it], 2, f"--timeout: expected {TIME}, got {it}") for it in ("3m", "4294967296", "s", "ms", "+5", "5 s", "")),
-    (["--interval=4294968s"], 2, "--interval: expected "),
-    (["--max-interval=-1"], 2, "--max-interval: expected "),
+    *(
+        ([f"--{name}={it}"], 2, f"--{name}: expected {TIME}, got {it}")
+        for name in TIMES
+        for it in ("3m", "4294967296", "4294968s", "s", "ms", "-1", "+5", "5 s", "5S", "1.5s", "1h", "1k", "")
+    ),
+    *(
+        ([f"--{name}={it}"], 2, f"--{name}: expected a number from 1 to {greatest}, got {it}")
+        for name, greatest in GREATEST.items()
+        for it in (0, greatest + 1, "4096m", "x", "+1", "1s", "")
+    ),
     (["--limit", "65537"], 2, "--limit: expected a number from 1 to 65536, got 65537"),
     *(([f"--patterns={it}"], 2, f"--patterns: expected a number from 1 to 1024, got {it}") for it in ("0", "1025", "4294967297", "x", "-1", "")),
     (["--sessions", "0"], 2, "--sessions: expected a number from 1 to 65536, got 0"),
@@ -158,43 +227,90 @@ FLAGS = [
     (["--sessions=65537"], 2, "--sessions: expected a number from 1 to 65536, got 65537"),
     (["--body", "0"], 2, "--body: expected a number from 1 to 1048576, got 0"),
     *(([f"--body={it}"], 2, f"--body: expected a number from 1 to 1048576, got {it}") for it in ("1048577", "2m", "1025k", "0k", "k", "1K", "17179869184m")),
-    (["--body", "9", "--body", "9"], 2, "the argument '--body <N>' cannot be used multiple times"),
-    (["--connections", "x"], 2, "--connections: expected a number, got x"),
+    *(
+        ([f"--connections={it}"], 2, f"--connections: expected a number, got {it}")
+        for it in ("x", "5k", "1m", "-1", "+1", "18446744073709551616", "")
+    ),
     (["--shard", "4"], 2, "unexpected argument '--shard' found"),
-    (["--listen"], 2, "a value is required for '--listen <ADDRESS>'"),
-    *((["--listen", it], 2, f"--listen: expected {ADDRESS}, got {it}") for it in ("127.0.0.1", "localhost", "127.0.0.1:", "127.0.0.1:65536", "[::1]", "")),
-    (["--listen", "192.0.2.1:0"], 1, '[ERROR bayeuxd] cannot listen address=192.0.2.1:0 error="'),
-    (["--listen", "192.0.2.1:0"], 1, f"\n{CANNOT_LISTEN}"),
-    (["--readers"], 2, "a value is required for '--readers <ADDRESS>'"),
-    (["--readers", "localhost:0", "--readers", "localhost:0"], 2, "the argument '--readers <ADDRESS>' cannot be used multiple times"),
-    (["--readers", "127.0.0.1"], 2, f"--readers: expected {ADDRESS}, got 127.0.0.1"),
+    (["--ride", "x"], 2, "unexpected argument 'x' found"),
+    *(
+        ([f"--{name}", it], 2, f"--{name}: expected {ADDRESS}, got {it}")
+        for name in ADDRESSES
+        for it in ("127.0.0.1", "localhost", "127.0.0.1:", "127.0.0.1:65536", "127.0.0.1:x", "[::1]", "")
+    ),
     (["--readers-publish", "/hall"], 2, "the following required arguments were not provided:\n  --readers <ADDRESS>"),
     (["--readers", "localhost:0", "--readers-publish", "/hall", "--readers-publish", "hall"], 2, "--readers-publish: expected a pattern of channels such as /chat/*, got hall"),
     (["--readers", "localhost:0", "--readers-publish", "/*/hall"], 2, "--readers-publish: expected a pattern of channels such as /chat/*, got /*/hall"),
-    (["--readers", "192.0.2.1:0"], 1, '[ERROR bayeuxd] cannot listen address=192.0.2.1:0 error="'),
-    (["--readers", "192.0.2.1:0"], 1, f"\n{CANNOT_LISTEN}"),
-    (["--seed-file", "/dev/null"], 1, "bayeuxd: cannot read the seed at /dev/null: "),
-    (["--seed-file", "/dev/null"], 1, "[ERROR bayeuxd] cannot read the seed at=/dev/null error="),
-    ([*ANYWHERE, "--metrics", "127.0.0.1"], 2, f"--metrics: expected {ADDRESS}, got 127.0.0.1"),
-    ([*ANYWHERE, "--metrics", "192.0.2.1:0"], 1, "bayeuxd: cannot listen for metrics at 192.0.2.1:0: "),
-    ([*ANYWHERE, "--metrics", "192.0.2.1:0"], 1, "[ERROR bayeuxd] cannot listen for metrics at=192.0.2.1:0 error="),
-    ([*ANYWHERE, "--record", "/dev/null"], 1, "bayeuxd: cannot create the record at /dev/null: "),
-    ([*ANYWHERE, "--record", "/dev/null"], 1, "[ERROR bayeuxd] cannot create the record at=/dev/null error="),
-    ([*ANYWHERE, "--record", "/dev/null"], 1, "\nbayeuxd: a record needs a new file: name another one, or move this one away\n"),
-    ([*ANYWHERE, "--record", "/dev/null/record"], 1, "bayeuxd: cannot create the record at /dev/null/record: "),
     (["--record-answers"], 2, "the following required arguments were not provided:\n  --record <FILE>"),
-    (["--record", "a", "--record", "b"], 2, "the argument '--record <FILE>' cannot be used multiple times"),
-    (["--record"], 2, "a value is required for '--record <FILE>'"),
     *((["--log", it], 2, f"--log: expected text or json, got {it}\n") for it in ("xml", "JSON", "jsons", "")),
     *((["--log-level", it], 2, f"--log-level: expected error, warn or info, got {it}\n") for it in ("debug", "off", "warning", "INFO", "")),
-    (["--log"], 2, "a value is required for '--log <FORMAT>'"),
-    (["--log-level"], 2, "a value is required for '--log-level <LEVEL>'"),
-    (["--log", "text", "--log", "json"], 2, "the argument '--log <FORMAT>' cannot be used multiple times"),
-    (["-h"], 0, "--log-level <LEVEL>"),
-    (["-h"], 0, "--max-interval <TIME>"),
-    (["--help"], 0, "--max-interval <TIME>"),
-    (["--version"], 0, "bayeuxd "),
+    *(([f"--{name}"], 2, f"a value is required for '--{name} <{argument}>'") for name, argument in VALUES),
+    *(([f"--{name}=yes"], 2, f"unexpected value 'yes' for '--{name}' found") for name in SWITCHES),
+    # No flag occurs twice, except those that can be repeated.
+    *(
+        ([f"--{name}=1"] * 2, 2, f"the argument '--{name} <{argument}>' cannot be used multiple times")
+        for name, argument in VALUES
+        if name not in REPEATED
+    ),
+    *(([f"--{name}"] * 2, 2, f"the argument '--{name}' cannot be used multiple times") for name in SWITCHES),
 ]
+# The second line of a daemon that has no place to listen at.
+NO_PLACE = [r'\[ERROR bayeuxd\] cannot listen address=192\.0\.2\.1:0 error=".+"', re.escape(CANNOT_LISTEN.rstrip())]
+
+
+def cannot(what, name):
+    """Returns patterns of the two lines of a daemon that cannot do `what` at `name`, an address or a file."""
+    return [rf"\[ERROR bayeuxd\] {what} at={re.escape(name)} error=.+", rf"bayeuxd: {what} at {re.escape(name)}: .+"]
+
+
+# What to do if the file of a record exists.
+RECORD_EXISTS = "bayeuxd: a record needs a new file: name another one, or move this one away"
+# Flags with which a daemon ends with status 1, and patterns of all lines on standard error that are no information.
+FAULTS = [
+    (["--listen", "192.0.2.1:0"], NO_PLACE),
+    ([*ANYWHERE, "--readers", "192.0.2.1:0"], NO_PLACE),
+    ([*ANYWHERE, "--metrics", "192.0.2.1:0"], cannot("cannot listen for metrics", "192.0.2.1:0")),
+    ([*ANYWHERE, "--seed-file", "/dev/null"], cannot("cannot read the seed", "/dev/null")),
+    (
+        [*ANYWHERE, "--record", "/dev/null"],
+        [*cannot("cannot create the record", "/dev/null"), RECORD_EXISTS],
+    ),
+    ([*ANYWHERE, "--record", "/dev/null/record"], cannot("cannot create the record", "/dev/null/record")),
+    ([*ANYWHERE, "--record", "/nowhere/record"], cannot("cannot create the record", "/nowhere/record")),
+    ([*ANYWHERE, "--record", ""], cannot("cannot create the record", "")),
+]
+# Defaults in the help that OPERATING states in other words. A flag that is off has none, unless it has an argument.
+HELP_DEFAULTS = {"off": "none", "one per processor": "one for each processor", "1048576": "1m"}
+# Words that OPERATING and the help have of each flag.
+HELP_WORDS = {
+    "listen": "host name or ip address with a port",
+    "readers": "also listen at address",
+    "readers-publish": "publish",
+    "shards": "divide the sessions among n shards",
+    "seed-file": "64 hexadecimal digits",
+    "timeout": "hold a connect",
+    "interval": "advise clients to wait for time between two connects",
+    "max-interval": "accepted message",
+    "bytes": "bytes",
+    "sessions": "live",
+    "patterns": "patterns",
+    "limit": "at most n",
+    "body": "body or query",
+    "ride": "waiting events with",
+    "anonymous": "accept publishes without a",
+    "no-callback-polling": "accept only posts of application/json",
+    "connections": "exit",
+    "metrics": "serve metrics",
+    "record": "record every",
+    "record-answers": "record the sha-256 of each answer",
+    "until-eof": "standard input",
+    "log": "write the log as text",
+    "log-level": "log only errors (error",
+}
+# The contents of a seed file: those that are right, and those that are not.
+RIGHT_SEEDS = [SEED, f"{SEED}\n", f"{SEED.upper()}\r\n", f"{SEED} \t\n\n"]
+WRONG_SEEDS = ["", "\n", SEED[:-1], f"{SEED}0", SEED * 2, f" {SEED}", f"\n{SEED}", f"{SEED}\n#", f"g{SEED[1:]}", f"0x{SEED}"]
+WRONG_SEEDS += [f"{SEED[:32]}\n{SEED[32:]}", f"{SEED[2:]}\n\n"]
 
 
 def logged_settings(program, flags):
@@ -223,13 +339,13 @@ def check_settings(program):
         recording = [(["--record", one], {"record": one}), (["--record-answers", f"--record={two}"], {"record": two, "record_answers": "true"})]
         for flags, change in SETTINGS + recording:
             found, wanted = logged_settings(program, flags), {**DEFAULTS, **change}
-            wrong = [f"{name}={found.get(name)}" for name, value in wanted.items() if found.get(name) != value]
+            wrong = [f"{name}={found.get(name)}" for name in {**found, **wanted} if found.get(name) != wanted.get(name)]
             if wrong:
                 raise CheckFailed(f"neither given nor a default: {' '.join(wrong)} with {flags}")
-    for flags, warning, warns in WARNINGS:
+    for flags, warnings in WARNINGS:
         with FlagDaemon(program, *flags) as daemon:
-            if (warning in daemon.log_tail()) != warns:
-                raise CheckFailed(f"not {warns}, that the log has {warning!r} with {flags}: {daemon.log_tail()!r}")
+            found = re.findall(r"^\[WARN  bayeuxd\] (.*)$", daemon.full_log().decode(), re.MULTILINE)
+            expect_equal(f"the warnings with {flags}", found, warnings)
     expect_advice(program, ["--ride"], ADVICE)
     expect_advice(program, ["--interval", "2s", "--timeout", "7s"], {**ADVICE, "interval": 2000, "timeout": 7000})
 
@@ -242,13 +358,108 @@ def run_daemon(program, args):
 
 def check_flags(program):
     for flags, status, message in FLAGS:
-        found = run_daemon(program, flags)
-        if found[0] != status or message not in found[2 if status else 1]:
+        # A daemon that accepts wrong flags then ends at once.
+        ends = [] if any(it.startswith("--until-eof") for it in flags) else ["--until-eof"]
+        found = run_daemon(program, [*ends, *flags])
+        if found[:2] != (status, "") or not found[2].startswith("error: ") or message not in found[2]:
             raise CheckFailed(f"not {status} and {message!r} for {flags}: {found}")
     for args in BAD_ARGUMENTS:
         found = run_daemon(program, args)
         if found != (2, "", USAGE):
             raise CheckFailed(f"not 2 and the usage line for {args}: {found}")
+
+
+def check_faults(program):
+    """Checks all that a daemon prints that cannot start, and one that cannot write to standard output."""
+    for flags, wanted in FAULTS:
+        status, output, errors = run_daemon(program, flags)
+        expect_equal(f"the status and the output with {flags}", (status, output), (1, ""))
+        expect_lines([it for it in without_times(errors.splitlines()) if not it.startswith("[INFO  ")], wanted)
+    with open("/dev/full", "wb") as full:
+        args = [program, *ANYWHERE, "--until-eof", "--log-level=error"]
+        how = {"stdin": subprocess.DEVNULL, "stdout": full, "stderr": subprocess.PIPE, "text": True}
+        result = subprocess.run(args, **how, timeout=TIMEOUT_SECONDS, check=False)
+    expect_equal("the status if standard output cannot be written", result.returncode, 1)
+    wanted = [r'\[ERROR bayeuxd\] cannot serve error=".+"', re.escape(CANNOT_LISTEN.rstrip())]
+    expect_lines(without_times(result.stderr.splitlines()), wanted)
+
+
+def check_help(program):
+    """Checks the help, which has the flags of OPERATING with their arguments, defaults and ranges, and the version."""
+    version = (TOP / "VERSION").read_text(encoding="ascii").strip()
+    for flag in ("--version", "-V"):
+        expect_equal(f"what {flag} prints", run_daemon(program, [flag]), (0, f"bayeuxd {version}\n", ""))
+    status, text, errors = run_daemon(program, ["--help"])
+    expect_equal("the status and the errors of --help", (status, errors), (0, ""))
+    expect_equal("what -h prints", run_daemon(program, ["-h"]), (0, text, ""))
+    rows = re.findall(r"^ +(?:-\w, )?--([a-z-]+)(?: <([A-Z]+)>)? +(\S.*)$", text, re.MULTILINE)
+    expect_equal("the flags of the help", sorted(name for name, _, _ in rows), sorted([*DOCUMENTED, "help", "version"]))
+    wrong = []
+    for name, argument, help_text in rows[:-2]:
+        wanted, default, greatest, words = DOCUMENTED[name]
+        default = HELP_DEFAULTS.get(default, default) if wanted and name not in REPEATED else None
+        shown, limits = re.search(r"\[default: ([^\]]*)\]$", help_text), re.search(r"\b1 to (\w+)", help_text)
+        found = (argument, shown and shown[1], limits and limits[1].replace("1m", str(1 << 20)))
+        if found != (wanted, default, greatest if limits else None) or not limits and greatest and name != "bytes":
+            wrong.append(f"--{name} has {found}, not {(wanted, default, greatest)}")
+        if HELP_WORDS[name] not in help_text.lower() or HELP_WORDS[name] not in words:
+            wrong.append(f"{HELP_WORDS[name]!r} is not in {help_text!r} or not in {words!r}")
+    expect_equal("what is wrong in the help", wrong, [])
+
+
+def check_seeds(program):
+    """Checks which seed files a daemon accepts, that its first client id is the one of the seed, and that no log has the seed."""
+    with tempfile.NamedTemporaryFile("w", newline="") as file:
+
+        def write(seed):
+            file.seek(0)
+            file.truncate()
+            file.write(seed)
+            file.flush()
+
+        for seed in RIGHT_SEEDS:
+            write(seed)
+            with FlagDaemon(program, "--seed-file", file.name) as daemon:
+                expect_first_id(daemon, f"the first client id with {seed!r}")
+        for seed in WRONG_SEEDS:
+            write(seed)
+            wanted = cannot("cannot read the seed", file.name)
+            status, output, errors = run_daemon(program, [*ANYWHERE, "--until-eof", "--seed-file", file.name])
+            expect_equal(f"the status and the output with {seed!r}", (status, output), (1, ""))
+            expect_lines(without_times(errors.splitlines()), wanted)
+    with Daemon(program, 30_000, 10_000) as daemon:
+        expect_first_id(daemon, "the first client id with a seed in the arguments")
+    for path in ("/nowhere/seed", "/"):
+        expect_fault(program, [*ANYWHERE, "--seed-file", path], f"bayeuxd: cannot read the seed at {path}: ")
+
+
+def expect_first_id(daemon, what):
+    """Raises `CheckFailed` if the first client id of `daemon` is not the one of `SEED`, or if its log has the seed."""
+    with Connection(daemon.address) as client:
+        expect_equal(what, open_session(client), {"clientId": f"{drawn(SEED, 0)}{1:016x}"})
+    if SEED[:8] in daemon.full_log().decode().lower():
+        raise CheckFailed(f"the log has the seed: {daemon.full_log()!r}")
+
+
+def count_threads(daemon):
+    """Returns the number of threads of a daemon."""
+    return len(os.listdir(f"/proc/{daemon.process.pid}/task"))
+
+
+def check_processors(program):
+    """Checks that a daemon has a shard and a worker thread for each processor that it may use, and no more."""
+    allowed = sorted(os.sched_getaffinity(0))
+    for count in sorted({1, 2, len(allowed)} & {*range(1, len(allowed) + 1)}):
+        for flags, shards in (([], min(64, count)), (["--shards", "5"], 5)):
+            with FlagDaemon(program, *flags, preexec_fn=lambda count=count: os.sched_setaffinity(0, allowed[:count])) as daemon:
+                check_serves(daemon.address, "/processors")
+                if f" shards={shards} " not in daemon.full_log().decode():
+                    raise CheckFailed(f"not {shards} shards with {flags} and {count} processors: {daemon.full_log()!r}")
+                # The others are the first, and those of ticks and standard input.
+                wanted = count + 3
+                wait_until(f"{wanted} threads", lambda daemon=daemon, wanted=wanted: count_threads(daemon) >= wanted)
+                time.sleep(0.1)
+                expect_equal("the number of threads", count_threads(daemon), wanted)
 
 
 def expect_fault(program, args, message):
@@ -368,6 +579,7 @@ def check_addresses(program):
     expect_fault(program, ["--listen", free, "--readers", free], f'cannot listen address={free} error="')
     check_full_output(program)
     check_second_address(program)
+    check_ipv6(program)
 
 
 def check_full_output(program):
@@ -390,11 +602,37 @@ def check_second_address(program):
             print("tests/daemon/operation: addresses: a name with two addresses is not tried, since unshare is not allowed")
             return
         port = taken.getsockname()[1]
-        found = run_daemon(WITH_HOSTS[0], [*WITH_HOSTS[1:], hosts.name, program, "--listen", f"two.test:{port}", "--until-eof"])
-        if found[:2] != (0, f"listening 127.0.0.2:{port}\n"):
-            raise CheckFailed(f"not the second address of a name whose first one is in use: {found}")
-        for flag, what in (("--readers", "readers listening"), ("--metrics", "metrics listening")):
-            flags = [*ANYWHERE, flag, f"two.test:{port}", "--until-eof"]
-            found = run_daemon(WITH_HOSTS[0], [*WITH_HOSTS[1:], hosts.name, program, *flags])
-            if found[0] != 0 or f"{what} address=127.0.0.2:{port}\n" not in found[2]:
-                raise CheckFailed(f"not the second address of a name whose first one is in use with {flag}: {found}")
+        for flag, what in (("--listen", "] listening"), ("--readers", "] readers listening"), ("--metrics", "] metrics listening")):
+            others = [] if flag == "--listen" else ANYWHERE
+            args = [*WITH_HOSTS, hosts.name, program, flag, f"two.test:{port}", *others, "--until-eof"]
+            status, output, errors = run_daemon(args[0], args[1:])
+            if status or f"{what} address=127.0.0.2:{port}\n" not in errors:
+                raise CheckFailed(f"not the second address of a name whose first one is in use: {flag}: {status} {errors!r}")
+            if flag == "--listen":
+                expect_equal("the output", output, f"listening 127.0.0.2:{port}\n")
+
+
+class PlainDaemon(Daemon):
+    """A daemon with exactly the arguments `flags`."""
+
+    def __init__(self, program, *flags):
+        # pylint: disable=super-init-not-called
+        self.begin([program, *flags])
+
+
+def check_ipv6(program):
+    """Checks that each listener serves at an address of IPv6."""
+    try:
+        socket.create_server(("::1", 0), family=socket.AF_INET6).close()
+    except OSError:
+        print("tests/daemon/operation: addresses: IPv6 is not tried, since the machine has no ::1")
+        return
+    with PlainDaemon(program, "--listen", "[::1]:0", "--readers", "[::1]:0", "--metrics", "[::1]:0") as daemon:
+        readers = daemon.readers_address()
+        own, metrics = (daemon.logged_address(f"{it} listening address=") for it in ("]", "metrics"))
+        expect_equal("the hosts", {daemon.address[0], own[0], readers[0], metrics[0]}, {"::1"})
+        expect_equal("the address of standard output", daemon.address, own)
+        check_serves(own, "/six")
+        with Connection(readers) as client:
+            open_session(client)
+        scrape(metrics)
