@@ -6,15 +6,12 @@ import select
 import signal
 import socket
 import struct
-import time
 
-from base import CheckFailed, expect_equal, wait_until
+from base import CheckFailed, expect_equal
 from daemon import Connection, NonExpiringDaemon, expect_events, expect_status, open_session, post, publish, send_connect, subscribe
 from metrics import expect_values, scrape
-from patience_checks import CASES, clocked_daemon, slow_reader, wait_for_reads
+from patience_checks import CASES, clocked_daemon, slow_reader, wait_for_reads, wait_until_idle
 
-# How often the states of the daemon's threads are read, and the pause between two looks, in seconds.
-LOOKS, PAUSE = 30, 0.01
 # For how long a daemon reads nothing before a client sends no more, in seconds.
 STUCK = 0.5
 # The connections that arrive at once: more than the daemon spawns tasks for before it yields to other tasks.
@@ -28,32 +25,6 @@ UNREAD, EVENTS, EVENT, MOST_GROWTH = 16, 40, 200_000, 40 << 10
 SENT, MOST_BUFFERED = 64 << 20, 8 << 10
 OPEN, OPENED = ("bayeux_connections", ""), ("bayeux_connections_total", "")
 HELD, SERVED = ("bayeux_connects_held", ""), ("bayeux_responses_total", '{status="200"}')
-
-
-def has_running_thread(process):
-    """Returns `True` if a thread of a process runs, or waits for a processor."""
-    folder = f"/proc/{process}/task"
-    for it in os.listdir(folder):
-        with contextlib.suppress(FileNotFoundError), open(f"{folder}/{it}/stat", encoding="utf-8", errors="replace") as text:
-            if text.read().rpartition(")")[2].split()[0] == "R":
-                return True
-    return False
-
-
-def wait_until_idle(what, daemon):
-    """Waits until the daemon runs rarely. Raises `CheckFailed` if it always runs.
-
-    `what`: what it waits for, for the message.
-    """
-
-    def is_idle():
-        running = 0
-        for _ in range(LOOKS):
-            running += has_running_thread(daemon.process.pid)
-            time.sleep(PAUSE)
-        return running < LOOKS / 2
-
-    wait_until(f"the daemon takes little processor time while it waits for {what}", is_idle)
 
 
 def hold(daemon, pattern, count=1):

@@ -11,6 +11,7 @@ import socket
 import struct
 import subprocess
 import tempfile
+import time
 
 from base import TOP, CheckFailed, expect_equal, wait_until
 from daemon import Connection, ConnectionEnded, FlagDaemon, check_serves, expect_events, expect_status, expect_success
@@ -41,6 +42,8 @@ ALMOST, REST, STEP = PATIENCE - 0.5, 1.0, 20
 # Metrics.
 OPEN, TICKED, UPTIME = ("bayeux_connections", ""), ("bayeux_ticks_total", ""), ("bayeux_uptime_seconds_total", "")
 HELD, SESSIONS = ("bayeux_connects_held", ""), ("bayeux_sessions", "")
+# How often the states of the daemon's threads are read, and the pause between two looks, in seconds.
+LOOKS, PAUSE = 30, 0.01
 # How often a check is tried, and for how long it waits for the end of a connection, in seconds.
 TRIES, END = 3, 30
 # 40 days, in seconds, and the values of `--timeout` and `--max-interval`, which are 46 days. Together they have more milliseconds
@@ -117,6 +120,32 @@ def wait_for_reads(*connections):
         wait_until("the daemon has read what was sent", lambda it=it: unread_bytes(it) == 0)
 
 
+def has_running_thread(process):
+    """Returns `True` if a thread of a process runs, or waits for a processor."""
+    folder = f"/proc/{process}/task"
+    for it in os.listdir(folder):
+        with contextlib.suppress(FileNotFoundError), open(f"{folder}/{it}/stat", encoding="utf-8", errors="replace") as text:
+            if text.read().rpartition(")")[2].split()[0] == "R":
+                return True
+    return False
+
+
+def wait_until_idle(what, daemon):
+    """Waits until the daemon runs rarely. Raises `CheckFailed` if it always runs.
+
+    `what`: what it waits for, for the message.
+    """
+
+    def is_idle():
+        running = 0
+        for _ in range(LOOKS):
+            running += has_running_thread(daemon.process.pid)
+            time.sleep(PAUSE)
+        return running < LOOKS / 2
+
+    wait_until(f"the daemon takes little processor time while it waits for {what}", is_idle)
+
+
 def retry(check):
     """Calls `check` until it passes, at most `TRIES` times. Returns what was wrong the last time, as a list.
 
@@ -143,7 +172,7 @@ def wait_for_timers(metrics):
 def responses_in(text):
     """Returns the status and the reason of each response in `text`."""
     found = re.findall(rb"HTTP/1\.1 ([0-9]{3}) [^\r\n]*\r\n((?:[^\r\n]+\r\n)*)\r\n", text)
-    return [(int(status), "".join(re.findall(r"^bayeux-error: (.*)\r$", fields.decode(), re.MULTILINE))) for status, fields in found]
+    return [(int(status), "".join(re.findall(r"^bayeux-error: (.*)\r$", it.decode(), re.MULTILINE))) for status, it in found]
 
 
 def received(connection):
@@ -205,8 +234,11 @@ def ending(address, sessions):
 
 
 def check_readers(daemon, clock):
-    """Checks that a response waits for its reader, who may pause, but not for as long as `PATIENCE`."""
-    before = scrape(daemon.metrics)[OPEN]
+    """Checks that a response waits for its reader, who may pause, but not for as long as `PATIENCE`.
+
+    One other connection has a held connect.
+    """
+    expect_values(daemon.metrics, {HELD: 1, OPEN: 1})
     with Connection(daemon.address) as connection:
         sessions = [open_session(connection) for _ in range(2)]
     with slow_reader(daemon.address) as slow, slow_reader(daemon.address) as stuck, ending(daemon.address, sessions):
@@ -216,27 +248,32 @@ def check_readers(daemon, clock):
         # The daemon has begun to write, since something arrives.
         for it in (slow, stuck):
             it.receive()
+        wait_until_idle("the readers of its responses", daemon)
         clock.add(ALMOST)
         wait_for_timers(daemon.metrics)
         expect_events(slow.response().items(), events)
         slow.socket.close()
         # The system may have taken some more of the other response.
         clock.add(PATIENCE + REST)
-        expect_values(daemon.metrics, {OPEN: before})
+        expect_values(daemon.metrics, {OPEN: 1})
         with contextlib.suppress(ConnectionEnded):
             stuck.response()
             raise CheckFailed("a response was kept for a client that does not read")
 
 
 def check_unfinished(daemon, clock):
-    """Checks that the daemon waits for clients for `PATIENCE` and no longer, and ends their connections then."""
-    before = scrape(daemon.metrics)[OPEN]
+    """Checks that the daemon waits for clients for `PATIENCE` and no longer, and ends their connections then.
+
+    One other connection has a held connect.
+    """
+    expect_values(daemon.metrics, {HELD: 1, OPEN: 1})
     with contextlib.ExitStack() as stack:
         found = {name: stack.enter_context(Connection(daemon.address)) for name in CASES}
         for name, connection in found.items():
             connection.send(CASES[name][0])
-        expect_values(daemon.metrics, {OPEN: before + len(CASES)})
+        expect_values(daemon.metrics, {OPEN: 1 + len(CASES)})
         wait_for_reads(*found.values())
+        wait_until_idle("the rest of requests", daemon)
         clock.add(ALMOST)
         wait_for_timers(daemon.metrics)
         ended = [name for name, it in found.items() if received(it)]
@@ -296,7 +333,6 @@ def check_patience(program):
         send_connect(holder, session)
         wrong = []
         for check in (check_unfinished, check_bodies, check_readers):
-            expect_values(daemon.metrics, {HELD: 1, OPEN: 1})
             wrong += retry(lambda check=check: check(daemon, clock))
         try:
             check_long_times(daemon, clock, holder, session)
