@@ -12,8 +12,6 @@ from daemon import Connection, NonExpiringDaemon, expect_events, expect_status, 
 from metrics import expect_values, scrape
 from patience_checks import CASES, clocked_daemon, slow_reader, wait_for_reads, wait_until_idle
 
-# For how long a daemon reads nothing before a client sends no more, in seconds.
-STUCK = 0.5
 # The connections that arrive at once: more than the daemon spawns tasks for before it yields to other tasks.
 CROWD = 400
 # After how many connections one of them has a request. The system's queue of new connections has room for as many.
@@ -21,8 +19,6 @@ WITHOUT_REQUEST = 100
 # The clients that read no response, the events of each response, the bytes of an event, and how much memory may grow then, in
 # units of 1,024 bytes. The table in docs/OPERATING.md allows 600,000 bytes for the pieces of a response. Its events are shared.
 UNREAD, EVENTS, EVENT, MOST_GROWTH = 16, 40, 200_000, 40 << 10
-# The bytes that a client sends behind a held connect, and how much memory may grow then. The table allows 1 MiB and 520,000 bytes.
-SENT, MOST_BUFFERED = 64 << 20, 8 << 10
 OPEN, OPENED = ("bayeux_connections", ""), ("bayeux_connections_total", "")
 HELD, SERVED = ("bayeux_connects_held", ""), ("bayeux_responses_total", '{status="200"}')
 
@@ -152,15 +148,3 @@ def check_unread(program):
         expect_events(connections[-1].response().items(), events)
     if growth > MOST_GROWTH:
         raise CheckFailed(f"memory grew by {growth} KiB for {UNREAD} responses with the same {EVENTS} events of {EVENT} bytes")
-
-
-def check_buffers(program):
-    """Checks that the daemon does not read without end what a client sends behind a held connect."""
-    with NonExpiringDaemon(program) as daemon, hold(daemon, "/held") as held:
-        before, requests, sent = daemon.kilobytes(), post(b"[]".ljust(1 << 16)) * 16, 0
-        # Until the daemon reads no more. The system has buffers, too.
-        while sent < SENT and select.select([], [held.socket], [], STUCK)[1]:
-            sent += held.socket.send(requests[sent % len(requests) :])
-        growth = daemon.kilobytes() - before
-        if growth > MOST_BUFFERED:
-            raise CheckFailed(f"memory grew by {growth} KiB after a client sent {sent >> 10} KiB behind a held connect")
