@@ -18,7 +18,7 @@ CROWD = 400
 WITHOUT_REQUEST = 100
 # The clients that read no response, the events of each response, the bytes of an event, and how much memory may grow then, in
 # units of 1,024 bytes. The table in docs/OPERATING.md allows 600,000 bytes for the pieces of a response. Its events are shared.
-UNREAD, EVENTS, EVENT, MOST_GROWTH = 16, 40, 200_000, 80 << 10
+UNREAD, EVENTS, EVENT, MOST_GROWTH = 16, 40, 200_000, 100 << 10
 OPEN, OPENED = ("bayeux_connections", ""), ("bayeux_connections_total", "")
 HELD, SERVED = ("bayeux_connects_held", ""), ("bayeux_responses_total", '{status="200"}')
 
