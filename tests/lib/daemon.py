@@ -132,8 +132,8 @@ class Daemon:
 class FlagDaemon(Daemon):
     """A daemon that is started with `flags`.
 
-    It ends at the end of its standard input, or after the number of connections in `flags`, if they
-    have one. Without a `--max-interval`, no session expires during a check, also on a slow machine.
+    It listens at localhost, if `flags` name no other address. It ends at the end of its standard input,
+    or after the number of connections in `flags`, if they have one. Without a `--max-interval`, no session expires during a check, also on a slow machine.
     `streams`: keyword arguments of `Popen`.
     """
 
@@ -141,7 +141,8 @@ class FlagDaemon(Daemon):
         # pylint: disable=super-init-not-called
         until = [] if "--connections" in flags else ["--until-eof"]
         lasting = [] if any(it.startswith("--max-interval") for it in flags) else ["--max-interval", "600s"]
-        self.begin([program, "--listen", "localhost:0", *until, *lasting, *flags], stdin=subprocess.PIPE, **streams)
+        listening = [] if "--listen" in flags else ["--listen", "localhost:0"]
+        self.begin([program, *listening, *until, *lasting, *flags], stdin=subprocess.PIPE, **streams)
 
     def end(self):
         self.process.stdin.close()
@@ -151,11 +152,11 @@ class FlagDaemon(Daemon):
 class NonExpiringDaemon(FlagDaemon):
     """A daemon with a page of metrics, in which no session and no hold expires during a check.
 
-    This also holds on a slow machine.
+    This also holds on a slow machine. `streams`: keyword arguments of `Popen`.
     """
 
-    def __init__(self, program, *flags):
-        super().__init__(program, "--timeout", "600s", "--metrics", "127.0.0.1:0", *flags)
+    def __init__(self, program, *flags, **streams):
+        super().__init__(program, "--timeout", "600s", "--metrics", "127.0.0.1:0", *flags, **streams)
         self.metrics = self.logged_address("metrics listening address=")
 
 

@@ -1,0 +1,150 @@
+"""Checks of what connections cost a daemon: processor time and memory while clients wait, and many connections."""
+import contextlib
+import os
+import resource
+import select
+import signal
+import socket
+import struct
+
+from base import CheckFailed, expect_equal
+from daemon import Connection, NonExpiringDaemon, expect_events, expect_status, open_session, post, publish, send_connect, subscribe
+from metrics import expect_values, scrape
+from patience_checks import CASES, clocked_daemon, slow_reader, wait_for_reads, wait_until_idle
+
+# The connections that arrive at once: more than the daemon spawns tasks for before it yields to other tasks.
+CROWD = 400
+# After how many connections one of them has a request. The system's queue of new connections has room for as many.
+WITHOUT_REQUEST = 100
+# The clients that read no response, the events of each response, the bytes of an event, and how much memory may grow then, in
+# units of 1,024 bytes. The table in docs/OPERATING.md allows 600,000 bytes for the pieces of a response. Its events are shared.
+UNREAD, EVENTS, EVENT, MOST_GROWTH = 16, 40, 200_000, 100 << 10
+OPEN, OPENED = ("bayeux_connections", ""), ("bayeux_connections_total", "")
+HELD, SERVED = ("bayeux_connects_held", ""), ("bayeux_responses_total", '{status="200"}')
+
+
+def hold(daemon, pattern, count=1):
+    """Opens a session, subscribes it to `pattern`, and sends its connect. Waits until `count` connects are held.
+
+    Returns the connection.
+    """
+    connection = Connection(daemon.address)
+    session = open_session(connection)
+    subscribe(connection, pattern, session)
+    send_connect(connection, session)
+    expect_values(daemon.metrics, {HELD: count})
+    return connection
+
+
+def large_batches(daemon, count):
+    """Opens `count` sessions for which the same large events wait. Returns the sessions and the events."""
+    events = [{"channel": "/large", "data": f"{number:02}".ljust(EVENT, "x")} for number in range(EVENTS)]
+    with Connection(daemon.address) as connection:
+        sessions = [open_session(connection) for _ in range(count)]
+        for session in sessions:
+            subscribe(connection, "/large", session)
+        for event in events:
+            publish(connection, "/large", event["data"], sessions[0])
+    return sessions, events
+
+
+def ask_for_batches(daemon, sessions):
+    """Returns connections that have asked for the events of `sessions`, and read nothing."""
+    served = scrape(daemon.metrics)[SERVED]
+    connections = [slow_reader(daemon.address) for _ in sessions]
+    for it in zip(connections, sessions):
+        send_connect(*it)
+    expect_values(daemon.metrics, {SERVED: served + len(sessions)})
+    return connections
+
+
+def check_idle(program):
+    """Checks that the daemon takes little processor time while it waits for clients, whatever they have left unfinished.
+
+    Its clock does not move, so that it waits for ever.
+    """
+    with clocked_daemon(program) as (daemon, clock), contextlib.ExitStack() as stack:
+        held = stack.enter_context(hold(daemon, "/held"))
+        sessions, _ = large_batches(daemon, 1)
+        for it in ask_for_batches(daemon, sessions):
+            stack.enter_context(it)
+        wait_until_idle("the reader of a response", daemon)
+        for sent, _ in CASES.values():
+            connection = stack.enter_context(Connection(daemon.address))
+            connection.send(sent)
+            wait_for_reads(connection)
+        wait_until_idle("requests that do not continue", daemon)
+        # A request behind the held connect, and the beginning of another one.
+        held.send(post(b"[]") + post(b"[]")[:-1])
+        wait_until_idle("an event, while the next request has arrived", daemon)
+        check_idle_without_files(daemon, clock)
+        with Connection(daemon.address) as publisher:
+            publish(publisher, "/held", 1, open_session(publisher))
+        expect_events(held.response().items(), [{"channel": "/held", "data": 1}])
+        expect_equal("the response to a request without messages", held.response().items(), [])
+        expect_status(held, b"]", 200)
+
+
+def check_idle_without_files(daemon, clock):
+    """Checks the same while the daemon has no free file descriptor for a connection."""
+    process = daemon.process.pid
+    files = {int(it) for it in os.listdir(f"/proc/{process}/fd")}
+    limits = resource.prlimit(process, resource.RLIMIT_NOFILE)
+    resource.prlimit(process, resource.RLIMIT_NOFILE, (min(set(range(len(files) + 1)) - files), limits[1]))
+    with Connection(daemon.address) as first, Connection(daemon.address) as second:
+        wait_until_idle("a free file descriptor", daemon)
+        resource.prlimit(process, resource.RLIMIT_NOFILE, limits)
+        clock.add(1)
+        for it in (first, second):
+            expect_status(it, post(b"[]"), 200)
+
+
+def check_crowd(program):
+    """Checks that the daemon serves many clients whose connections it finds at once, because it had no processor for a while."""
+    with NonExpiringDaemon(program) as daemon, contextlib.ExitStack() as stack:
+        os.kill(daemon.process.pid, signal.SIGSTOP)
+        try:
+            sockets = [stack.enter_context(socket.socket()) for _ in range(CROWD)]
+            for it in sockets:
+                it.setblocking(False)
+                it.connect_ex(daemon.address)
+        finally:
+            os.kill(daemon.process.pid, signal.SIGCONT)
+        for it in sockets:
+            it.settimeout(60)
+            if not select.select([], [it], [], 60)[1]:
+                raise CheckFailed("a connection of a crowd is not accepted")
+            it.sendall(post(b"[]"))
+        for it in sockets:
+            if not it.recv(1 << 10).startswith(b"HTTP/1.1 200 "):
+                raise CheckFailed("not 200 for a client of a crowd")
+        expect_values(daemon.metrics, {OPEN: CROWD, OPENED: CROWD})
+
+
+def check_connections(program, count):
+    """Checks that the daemon serves its clients after `count` connections, most of which have no request."""
+    with NonExpiringDaemon(program) as daemon:
+        for number in range(1, count + 1):
+            with socket.socket() as it:
+                it.settimeout(60)
+                it.connect(daemon.address)
+                if number % WITHOUT_REQUEST == 0 or number == count:
+                    it.sendall(post(b"[]"))
+                    if not it.recv(1 << 10).startswith(b"HTTP/1.1 200 "):
+                        raise CheckFailed(f"not 200 at connection {number}")
+                # A reset, so that the system need not remember the connection.
+                it.setsockopt(socket.SOL_SOCKET, socket.SO_LINGER, struct.pack("ii", 1, 0))
+        expect_values(daemon.metrics, {OPEN: 0, OPENED: count})
+
+
+def check_unread(program):
+    """Checks that responses which nobody reads share their events, so that they need little memory."""
+    env = {**os.environ, "ASAN_OPTIONS": f"{os.environ.get('ASAN_OPTIONS', '')}:quarantine_size_mb=1"}
+    with NonExpiringDaemon(program, env=env) as daemon, contextlib.ExitStack() as stack:
+        sessions, events = large_batches(daemon, UNREAD)
+        before = daemon.kilobytes()
+        connections = [stack.enter_context(it) for it in ask_for_batches(daemon, sessions)]
+        growth = daemon.kilobytes() - before
+        expect_events(connections[-1].response().items(), events)
+    if growth > MOST_GROWTH:
+        raise CheckFailed(f"memory grew by {growth} KiB for {UNREAD} responses with the same {EVENTS} events of {EVENT} bytes")

@@ -1,0 +1,351 @@
+"""Checks of how long a daemon waits for its clients. They take little time, because a library replaces the daemon's clock.
+
+The times are those of docs/PROTOCOL.md and of docs/ERRORS.md, "Statuses of HTTP".
+"""
+import contextlib
+import errno
+import os
+import re
+import shutil
+import socket
+import struct
+import subprocess
+import tempfile
+import time
+
+from base import TOP, CheckFailed, expect_equal, wait_until
+from daemon import Connection, ConnectionEnded, FlagDaemon, check_serves, expect_events, expect_status, expect_success
+from daemon import has_sanitizer, open_session, post, publish, send_connect, subscribe
+from metrics import expect_values, scrape
+
+HEAD = b"POST /cometd HTTP/1.1\r\nhost: h\r\ncontent-type: application/json\r\n"
+CHUNKED = HEAD + b"transfer-encoding: chunked\r\n\r\n"
+# The status and the reason of the response to a body that is late, and those of other responses.
+LATE, SERVED, ASKED_FOR = (400, "the body ended early"), (200, ""), (100, "")
+# Requests that do not continue: the bytes sent, and the statuses and reasons of the responses before the connection ends.
+CASES = {
+    "no byte of a body": (HEAD + b"content-length: 100\r\n\r\n", [LATE]),
+    "a part of a body": (HEAD + b"content-length: 100\r\n\r\n[{", [LATE]),
+    "a part of a long body": (HEAD + b"content-length: 1000000\r\n\r\n" + b" " * 200000, [LATE]),
+    "a chunk, and no further one": (CHUNKED + b"2\r\n[{\r\n", [LATE]),
+    "a part of a chunk": (CHUNKED + b"100\r\n[{", [LATE]),
+    "a body that waits to be asked for": (HEAD + b"expect: 100-continue\r\ncontent-length: 9\r\n\r\n", [ASKED_FOR, LATE]),
+    "a request, and a part of a body": (post(b"[]") + HEAD + b"content-length: 9\r\n\r\n[", [SERVED, LATE]),
+    "a request, and no further one": (post(b"[]"), [SERVED]),
+    "a part of a head": (HEAD, []),
+    "nothing": (b"", []),
+}
+# How long the daemon waits for a request, for more of a body, and for the reader of a response, and how long a body may take.
+PATIENCE, WHOLE_BODY = 30, 300
+# A pause that is just short enough, the rest of the time, and the pause between the parts of a body.
+ALMOST, REST, STEP = PATIENCE - 0.5, 1.0, 20
+# Metrics.
+OPEN, TICKED, UPTIME = ("bayeux_connections", ""), ("bayeux_ticks_total", ""), ("bayeux_uptime_seconds_total", "")
+HELD, SESSIONS = ("bayeux_connects_held", ""), ("bayeux_sessions", "")
+# How often the states of the daemon's threads are read, and the pause between two looks, in seconds.
+LOOKS, PAUSE = 30, 0.01
+# How often a check is tried, and for how long it waits for the end of a connection, in seconds.
+TRIES, END = 3, 30
+# 40 days, in seconds, and the values of `--timeout` and `--max-interval`, which are 46 days. Together they have more milliseconds
+# than 32 bits can count.
+DAYS, LONG = 3_456_000, 4_000_000
+LONG_TIMES = ["--timeout", f"{LONG}s", "--max-interval", f"{LONG}s"]
+# The bytes of an event, and of the buffer of a client that does not read.
+EVENT, SMALL_BUFFER = 1_000_000, 1 << 16
+# Errors of an accept that say something of the peer or of the system. The server then accepts the next connection.
+ACCEPT_ERRORS = [
+    *("EPERM", "EINTR", "EIO", "ENOMEM", "EACCES", "EFAULT", "EINVAL", "ENFILE", "EMFILE", "ENOSR", "EPROTO", "ENOPROTOOPT"),
+    *("EPROTONOSUPPORT", "ESOCKTNOSUPPORT", "EOPNOTSUPP", "ENETDOWN", "ENETUNREACH", "ENETRESET", "ECONNABORTED", "ECONNRESET"),
+    *("ENOBUFS", "ETIMEDOUT", "EHOSTDOWN", "EHOSTUNREACH", "ENONET"),
+]
+
+
+def environment(program, folder, **variables):
+    """Returns the environment of `program` with the library of `system.c`, which it compiles in `folder`, and with `variables`."""
+    library = f"{folder}/system.so"
+    subprocess.run(["cc", "-O2", "-Wall", "-shared", "-fPIC", "-o", library, f"{TOP}/tests/lib/system.c"], check=True)
+    found = {**os.environ, "LD_PRELOAD": library, **variables}
+    if has_sanitizer(program):
+        found["ASAN_OPTIONS"] = f"{os.environ.get('ASAN_OPTIONS', '')}:verify_asan_link_order=0"
+    return found
+
+
+def needs_compiler(name, check):
+    """Returns `check`, or a check that only says that `name` is not tried if there is no C compiler."""
+    if shutil.which("cc"):
+        return check
+    return lambda _: print(f"tests/daemon/operation: {name}: not tried, since there is no C compiler")
+
+
+class Clock:
+    """The clock of a daemon, which moves only when it is set forward. `path`: the file that the daemon's library reads."""
+
+    def __init__(self, path):
+        self.path, self.seconds = path, 0.0
+        with open(path, "wb") as file:
+            file.write(struct.pack("<q", 0))
+
+    def add(self, seconds):
+        """Sets the clock forward by `seconds`."""
+        self.seconds += seconds
+        with open(self.path, "r+b") as file:
+            file.write(struct.pack("<q", round(self.seconds * 1000)))
+
+
+@contextlib.contextmanager
+def clocked_daemon(program):
+    """A daemon with metrics, and its clock."""
+    with tempfile.TemporaryDirectory() as folder:
+        clock = Clock(f"{folder}/clock")
+        variables = environment(program, folder, CLOCK_FILE=clock.path)
+        with FlagDaemon(program, *LONG_TIMES, "--metrics", "127.0.0.1:0", env=variables) as daemon:
+            daemon.metrics = daemon.logged_address("metrics listening address=")
+            yield daemon, clock
+
+
+def unread_bytes(connection):
+    """Returns how many bytes that came over `connection` the daemon has not read yet. Returns 0 if the connection has ended."""
+    own, other = connection.socket.getsockname()[1], connection.address[1]
+    with open("/proc/net/tcp", encoding="ascii") as lines:
+        for line in lines:
+            _, local, remote, _, queues, *_ = line.split()
+            if local.endswith(f":{other:04X}") and remote.endswith(f":{own:04X}"):
+                return int(queues.partition(":")[2], 16)
+    return 0
+
+
+def wait_for_reads(*connections):
+    """Waits until the daemon has read all that was sent over each of `connections`."""
+    for it in connections:
+        wait_until("the daemon has read what was sent", lambda it=it: unread_bytes(it) == 0)
+
+
+def has_running_thread(process):
+    """Returns `True` if a thread of a process runs, or waits for a processor."""
+    folder = f"/proc/{process}/task"
+    for it in os.listdir(folder):
+        with contextlib.suppress(FileNotFoundError), open(f"{folder}/{it}/stat", encoding="utf-8", errors="replace") as text:
+            if text.read().rpartition(")")[2].split()[0] == "R":
+                return True
+    return False
+
+
+def wait_until_idle(what, daemon):
+    """Waits until the daemon runs rarely. Raises `CheckFailed` if it always runs.
+
+    `what`: what it waits for, for the message.
+    """
+
+    def is_idle():
+        running = 0
+        for _ in range(LOOKS):
+            running += has_running_thread(daemon.process.pid)
+            time.sleep(PAUSE)
+        return running < LOOKS / 2
+
+    wait_until(f"the daemon takes little processor time while it waits for {what}", is_idle)
+
+
+def retry(check):
+    """Calls `check` until it passes, at most `TRIES` times. Returns what was wrong the last time, as a list.
+
+    A thread of the daemon may be stopped for a moment before it starts a timer, while the clock is set forward.
+    """
+    for left in reversed(range(TRIES)):
+        try:
+            check()
+            return []
+        except (CheckFailed, OSError) as failed:
+            wrong = [f"{failed}"] if not left else []
+    return wrong
+
+
+def wait_for_timers(metrics):
+    """Waits until the daemon has most probably noticed that its clock was set forward: some ticks pass.
+
+    `metrics`: the address of its metrics.
+    """
+    first = scrape(metrics)[TICKED]
+    wait_until("some ticks pass", lambda: scrape(metrics)[TICKED] > first + 1)
+
+
+def responses_in(text):
+    """Returns the status and the reason of each response in `text`."""
+    found = re.findall(rb"HTTP/1\.1 ([0-9]{3}) [^\r\n]*\r\n((?:[^\r\n]+\r\n)*)\r\n", text)
+    return [(int(status), "".join(re.findall(r"^bayeux-error: (.*)\r$", it.decode(), re.MULTILINE))) for status, it in found]
+
+
+def received(connection):
+    """Returns `True` if the daemon has ended the connection. Appends what has arrived to its `input`."""
+    connection.socket.setblocking(False)
+    try:
+        while data := connection.socket.recv(1 << 16):
+            connection.input += data
+        return True
+    except BlockingIOError:
+        return False
+    except ConnectionError:
+        return True
+    finally:
+        connection.socket.settimeout(connection.timeout)
+
+
+def wait_for_end(name, connection, wanted):
+    """Waits until the daemon has ended the connection. Raises `CheckFailed` if the responses are not `wanted`.
+
+    `name`: for the message.
+    """
+    wait_until(f"the connection ends: {name}", lambda: received(connection), END)
+    expect_equal(f"the responses to {name}", responses_in(connection.input), wanted)
+
+
+def slow_reader(address):
+    """Returns a connection over which the system takes little that its client does not read."""
+    connection = Connection(address)
+    connection.socket.close()
+    connection.socket = socket.socket()
+    connection.socket.settimeout(connection.timeout)
+    connection.socket.setsockopt(socket.SOL_SOCKET, socket.SO_RCVBUF, SMALL_BUFFER)
+    connection.socket.connect(address)
+    return connection
+
+
+def events_for(address, sessions):
+    """Publishes large events to the sessions, more than the system buffers for a client. Returns the events."""
+    with open("/proc/sys/net/ipv4/tcp_wmem", encoding="ascii") as text:
+        count = int(text.read().split()[2]) // EVENT + 3
+    events = [{"channel": "/much", "data": chr(ord("a") + number % 26) * EVENT} for number in range(count)]
+    with Connection(address) as connection:
+        for session in sessions:
+            subscribe(connection, "/much", session)
+        for event in events:
+            publish(connection, event["channel"], event["data"], sessions[0])
+    return events
+
+
+@contextlib.contextmanager
+def ending(address, sessions):
+    """Ends `sessions` afterwards."""
+    try:
+        yield
+    finally:
+        with Connection(address) as connection:
+            expect_success(connection.ask([{"channel": "/meta/disconnect", **it} for it in sessions]), len(sessions))
+
+
+def check_readers(daemon, clock):
+    """Checks that a response waits for its reader, who may pause, but not for as long as `PATIENCE`.
+
+    One other connection has a held connect.
+    """
+    expect_values(daemon.metrics, {HELD: 1, OPEN: 1})
+    with Connection(daemon.address) as connection:
+        sessions = [open_session(connection) for _ in range(2)]
+    with slow_reader(daemon.address) as slow, slow_reader(daemon.address) as stuck, ending(daemon.address, sessions):
+        events = events_for(daemon.address, sessions)
+        for it in zip((slow, stuck), sessions):
+            send_connect(*it)
+        # The daemon has begun to write, since something arrives.
+        for it in (slow, stuck):
+            it.receive()
+        wait_until_idle("the readers of its responses", daemon)
+        clock.add(ALMOST)
+        wait_for_timers(daemon.metrics)
+        expect_events(slow.response().items(), events)
+        slow.socket.close()
+        # The system may have taken some more of the other response.
+        clock.add(PATIENCE + REST)
+        expect_values(daemon.metrics, {OPEN: 1})
+        with contextlib.suppress(ConnectionEnded):
+            stuck.response()
+            raise CheckFailed("a response was kept for a client that does not read")
+
+
+def check_unfinished(daemon, clock):
+    """Checks that the daemon waits for clients for `PATIENCE` and no longer, and ends their connections then.
+
+    One other connection has a held connect.
+    """
+    expect_values(daemon.metrics, {HELD: 1, OPEN: 1})
+    with contextlib.ExitStack() as stack:
+        found = {name: stack.enter_context(Connection(daemon.address)) for name in CASES}
+        for name, connection in found.items():
+            connection.send(CASES[name][0])
+        expect_values(daemon.metrics, {OPEN: 1 + len(CASES)})
+        wait_for_reads(*found.values())
+        wait_until_idle("the rest of requests", daemon)
+        clock.add(ALMOST)
+        wait_for_timers(daemon.metrics)
+        ended = [name for name, it in found.items() if received(it)]
+        expect_equal(f"the connections that end within {ALMOST} seconds", ended, [])
+        clock.add(REST)
+        for name, connection in found.items():
+            wait_for_end(name, connection, CASES[name][1])
+
+
+def check_bodies(daemon, clock):
+    """Checks that a body may come in parts with pauses, for `WHOLE_BODY` and no longer. An idle connection is served meanwhile."""
+    steps = WHOLE_BODY // STEP
+    request = post(b"[%s]" % (b" " * steps))
+    with Connection(daemon.address) as idle, Connection(daemon.address) as whole, Connection(daemon.address) as endless:
+        whole.send(request[: -steps - 1])
+        endless.send(request[: -steps - 1])
+        for left in range(steps, 0, -1):
+            if left > 1:
+                whole.send(b" ")
+            else:
+                expect_status(whole, b" ]", 200)
+            endless.send(b" ")
+            wait_for_reads(whole, endless)
+            expect_status(idle, post(b"[]"), 200)
+            clock.add(STEP)
+        wait_for_end(f"a body that comes in parts for {WHOLE_BODY} seconds", endless, [LATE])
+
+
+def check_long_times(daemon, clock, holder, session):
+    """Checks after `DAYS` that events come, and that a hold and a session last as long as `LONG_TIMES` say.
+
+    `holder`: a connection with a held connect of `session`, which is subscribed to /held.
+    """
+    clock.add(DAYS)
+    wait_for_timers(daemon.metrics)
+    with Connection(daemon.address) as connection:
+        publish(connection, "/held", 1, session)
+        expect_events(holder.response().items(), [{"channel": "/held", "data": 1}])
+        # It sends nothing more.
+        open_session(connection)
+    send_connect(holder, session)
+    expect_values(daemon.metrics, {HELD: 1})
+    clock.add(LONG - REST)
+    wait_for_timers(daemon.metrics)
+    expect_values(daemon.metrics, {HELD: 1, SESSIONS: 2, UPTIME: int(clock.seconds)})
+    clock.add(2 * REST)
+    expect_values(daemon.metrics, {HELD: 0, SESSIONS: 1})
+    expect_success(holder.response().items(), 1)
+
+
+def check_patience(program):
+    """Checks for how long the daemon waits for its clients, and how long a hold and a session last."""
+    with clocked_daemon(program) as (daemon, clock), Connection(daemon.address) as holder:
+        with Connection(daemon.address) as connection:
+            session = open_session(connection)
+            subscribe(connection, "/held", session)
+        send_connect(holder, session)
+        wrong = []
+        for check in (check_unfinished, check_bodies, check_readers):
+            wrong += retry(lambda check=check: check(daemon, clock))
+        try:
+            check_long_times(daemon, clock, holder, session)
+        except CheckFailed as failed:
+            wrong.append(f"{failed}")
+    if wrong:
+        raise CheckFailed("; ".join(wrong))
+
+
+def check_accepts(program):
+    """Checks that the daemon accepts the next connection whatever the error of an accept."""
+    errors = [getattr(errno, it) for it in ACCEPT_ERRORS]
+    with tempfile.TemporaryDirectory() as folder:
+        variables = environment(program, folder, ACCEPT_ERRORS=",".join(map(str, errors)))
+        with FlagDaemon(program, env=variables) as daemon:
+            check_serves(daemon.address, "/accepts")
