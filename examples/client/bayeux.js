@@ -150,7 +150,10 @@ async function askByScript(url, messages, timeout) {
     }, timeout);
     window[name] = (items) => finish(resolve, items);
     script.onerror = () => finish(reject, new Error('the server cannot be reached, or refused the request'));
-    script.src = `${url}?jsonp=${name}&message=${encodeURIComponent(JSON.stringify(messages))}`;
+    const address = addressOf(url);
+    const given = address.search && `${address.search}&`;
+    address.search = `${given}jsonp=${name}&message=${encodeURIComponent(JSON.stringify(messages))}`;
+    script.src = address;
     document.head.append(script);
   });
 }
@@ -179,6 +182,17 @@ function isMatch(pattern, channel) {
 
 function pause(milliseconds) {
   return new Promise((resolve) => setTimeout(resolve, milliseconds));
+}
+
+/** Calls `listener`. An error that it throws is reported to the console, and stops nothing else. */
+function callSafely(listener) {
+  try {
+    listener();
+  } catch (failure) {
+    queueMicrotask(() => {
+      throw failure;
+    });
+  }
 }
 
 /** Returns whether windows can share a session: not from disk, over HTTP only on this machine. */
@@ -326,7 +340,8 @@ class BayeuxWindows {
   }
 
   join() {
-    const report = ({ pattern, message }) => pattern && this.client.onstate(this.client.state, message);
+    const { client } = this;
+    const report = ({ pattern, message }) => pattern && callSafely(() => client.onstate(client.state, message));
     if (!this.isLeading) this.sendPatterns().catch(report);
   }
 
@@ -545,14 +560,19 @@ class BayeuxClient {
       atSending();
       try {
         await this.ask({ channel, data });
-        this.mayPublish = true;
+        this.setMayPublish(true);
       } catch (failure) {
         if (failure.status !== FORBIDDEN) throw failure;
-        this.mayPublish = false;
-        this.windows?.shareState();
+        this.setMayPublish(false);
         throw failureOf(`publishing is not allowed here: ${failure.message}`, false, { status: FORBIDDEN });
       }
     });
+  }
+
+  setMayPublish(mayPublish) {
+    if (mayPublish === this.mayPublish) return;
+    this.mayPublish = mayPublish;
+    this.windows?.shareState();
   }
 
   // Returns whether another window has the session.
@@ -668,7 +688,7 @@ class BayeuxClient {
     this.knownId = id;
     this.lastEventTime = Date.now();
     this.windows?.shareState();
-    if (hadOne) this.ongap(since);
+    if (hadOne) callSafely(() => this.ongap(since));
   }
 
   // Sends a connect. The server holds it until there is an event, or until its timeout has passed.
@@ -751,7 +771,7 @@ class BayeuxClient {
     this.why = why;
     this.windows?.shareState();
     if (state === 'connected') this.confirmStart();
-    this.onstate(state, why);
+    callSafely(() => this.onstate(state, why));
   }
 
   // Resolves the promise of `start`. If another window has the session, that one first has to

@@ -124,7 +124,7 @@ function shape(kind, attributes, text = '') {
 // Returns round bounds for the axis that enclose `values` and 0.
 function scaleOf(values) {
   const least = Math.min(0, ...values);
-  const greatest = Math.max(...values, least + 1e-9);
+  const greatest = Math.max(0, ...values, least + 1e-9);
   const rough = (greatest - least) / LINES;
   const power = 10 ** Math.floor(Math.log10(rough));
   const step = [1, 2, 2.5, 5, 10].map((factor) => factor * power).find((size) => size >= rough);

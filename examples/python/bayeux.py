@@ -22,11 +22,17 @@ class Client:
         self.ext = {"ack": True} | ({"name": name} if name else {})
 
     def ask(self, channel, hold=0, **members):
-        """Sends one message, and returns the events of the response and the reply. `hold`: how long it may be held, in seconds."""
+        """Sends one message, and returns the events of the response and the reply. `hold`: how long it may be held, in seconds.
+
+        Raises `Refused` if the server rejects the message, and `OSError` if there is no valid response.
+        """
         message = {"channel": channel, **members, **({"clientId": self.id} if self.id else {})}
         request = urllib.request.Request(self.url, json.dumps([message]).encode(), {"Content-Type": "application/json"})
-        with urllib.request.urlopen(request, timeout=hold + 10) as response:
-            *events, reply = json.load(response)
+        try:
+            with urllib.request.urlopen(request, timeout=hold + 10) as response:
+                *events, reply = json.load(response)
+        except (ValueError, http.client.HTTPException) as failure:
+            raise OSError(failure) from failure
         self.advice.update(reply.get("advice", {}))
         if not reply["successful"]:
             if reply.get("advice", {}).get("reconnect") == "handshake":
@@ -57,7 +63,7 @@ class Client:
         try:
             if self.id:
                 self.ask("/meta/disconnect")
-        except (OSError, ValueError, Refused, http.client.HTTPException):
+        except (OSError, Refused):
             pass
         self.id = None
 
@@ -83,7 +89,7 @@ class Client:
                 self.batch, pause = reply["ext"]["ack"], 0.25
                 yield from ((it["channel"], it["data"]) for it in events)
                 time.sleep(self.advice.get("interval", 0) / 1000)
-            except (OSError, ValueError, Refused, http.client.HTTPException) as failure:
+            except (OSError, Refused) as failure:
                 if isinstance(failure, Refused) and self.id:
                     raise
                 print(f"bayeux.py: {self.url}: {failure}; trying again", file=sys.stderr)

@@ -512,6 +512,39 @@ const SCENARIOS = {
     client.stop();
   },
 
+  async 'functions for states and gaps that throw: the session continues'(server) {
+    const place = new Place();
+    const client = place.client(server.address, {}, '/a');
+    const { onstate, ongap } = client;
+    const errors = [];
+    const report = (error) => errors.push(error.message);
+    process.on('uncaughtException', report);
+    client.onstate = (state, why) => {
+      onstate(state, why);
+      throw new Error(state);
+    };
+    client.ongap = () => {
+      ongap();
+      throw new Error('gap');
+    };
+    await client.start();
+    await until('a connect is held', () => server.held);
+    const { held } = server;
+    server.begin();
+    held([unknown('/meta/connect')]);
+    await until('a gap', () => client.log.includes('gap'));
+    await until('a connect is held', () => server.held);
+    server.emit(['/a', 1]);
+    await until('an event', () => client.log.some(([channel, data]) => channel === '/a' && data === 1));
+    assert.equal(client.state, 'connected');
+    client.stop();
+    await until('all errors are reported', () => errors.includes('stopped'));
+    process.off('uncaughtException', report);
+    const expected = client.log.filter((it) => typeof it === 'string').map((it) => it.split(' ')[0]);
+    assert.deepEqual(errors, expected);
+    assert.ok(['connecting', 'connected', 'interrupted', 'gap', 'stopped'].every((it) => errors.includes(it)), `${errors}`);
+  },
+
   async 'who unsubscribes and subscribes again gets events again'(server) {
     const place = new Place();
     const client = place.client(server.address, {}, '/a');
@@ -729,6 +762,11 @@ const SCENARIOS = {
     const id = { clientId: 'session 1' };
     // Another origin takes only plain text.
     assert.deepEqual(place.beacons, [[server.address, JSON.stringify([{ channel: '/a', data: 'Bye', ...id }, { channel: '/meta/disconnect', ...id }])]]);
+    // An address may have a query.
+    const other = place.client(`${server.address}?token=a%20b`, {});
+    await other.start();
+    assert.deepEqual([other.state, new URL(place.scripts.at(-1).src).searchParams.get('token')], ['connected', 'a b']);
+    other.stop();
   },
 
   async 'a page that is left, and one to which the user returns'(server) {
@@ -823,6 +861,7 @@ const SCENARIOS = {
     assert.deepEqual(await outcomeOf(two.publish('/a', 0)), ['publishing is not allowed here: HTTP status 403', false, 403]);
     await until('the others know', () => !three.mayPublish);
     assert.deepEqual(await Promise.all([3, 4].map((data) => outcomeOf(two.publish('/a', data)))), ['done', 'done']);
+    await until('the others know this too', () => three.mayPublish);
     assert.deepEqual(server.messages('/a').map(({ data }) => data), [0, 0, 3, 4]);
     await until('a connect is held', () => server.held);
     server.emit(['/a', 1], ['/two', 2], ['/three', 3]);

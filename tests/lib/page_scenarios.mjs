@@ -287,7 +287,7 @@ function checkDashboard() {
   assert.equal(text(card, '.age'), '46 s ago');
 }
 
-// The axis encloses all values, and begins at 0 if none is negative. It has five lines, and the curve is within it.
+// The axis encloses all values and 0, and begins at 0 if none is negative. It has five lines, and the curve is within it.
 function checkAxis() {
   for (const values of [[0], [0, 0.004], [-5, 100], [-100, 5], [-3, -2, -1], [99.9, 100.1], [-7, 7], [1e9, 1], [-0.001, 2.5], [-1, 199]]) {
     const page = new Page(SITE, 'common/page.js', 'dashboard/dashboard.js');
@@ -300,7 +300,7 @@ function checkAxis() {
     const lines = grid.filter((it) => !it.textContent).map(({ attributes }) => [attributes.x1, attributes.x2, attributes.y1, attributes.y2].map(Number));
     const { low, high } = page.run('({ scaleOf })').scaleOf(values);
     const [least, greatest] = [Math.min(...values), Math.max(...values)];
-    assert.ok(low <= least && high >= greatest && high > low && (least < 0 || low === 0), `${values}: from ${low} to ${high}`);
+    assert.ok(low <= Math.min(0, least) && high >= Math.max(0, greatest) && high > low && (least < 0 || low === 0), `${values}: from ${low} to ${high}`);
     assert.deepEqual(lines.map(([x1, x2, y1, y2]) => [x1, x2, y1 - y2]), Array(5).fill([50, 592, 0]), `${values}`);
     assert.deepEqual([lines[0][2], lines[4][2]], [144, 10], `${values}`);
     const brief = (value) => value.toLocaleString('en', { notation: 'compact', maximumSignificantDigits: 3 });
