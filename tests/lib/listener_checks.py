@@ -231,7 +231,10 @@ def expect_no_wait_for_reader(metrics):
         stuck.setsockopt(socket.SOL_SOCKET, socket.SO_RCVBUF, SMALL_BUFFER)
         stuck.connect(metrics)
         stuck.sendall(get(b"", b"/sessions"))
-        scrape(metrics)
+        try:
+            scrape(metrics)
+        except CheckFailed as error:
+            raise CheckFailed(f"a client gets no metrics while another one reads nothing: {error}") from error
 
 
 def check_lists(program):

@@ -62,17 +62,25 @@ def scrape(address):
     return read_page(response.body.decode())
 
 
+def differences(values, expected):
+    """Returns a text with the values that are not as `expected`, or an empty text if there are none."""
+    return ", ".join(f"{''.join(name)} is {values[name]}, not {value}" for name, value in expected.items() if values[name] != value)
+
+
 def expect_values(address, expected):
     """Waits until the metrics have the values `expected`, and returns all values.
 
-    Raises `CheckFailed` after `TIMEOUT_SECONDS` seconds.
+    Raises `CheckFailed` after `TIMEOUT_SECONDS` seconds, or if the daemon ends before. The message has the values that differ.
     """
-    end = time.monotonic() + TIMEOUT_SECONDS
+    end, wrong = time.monotonic() + TIMEOUT_SECONDS, ""
     while True:
-        values = scrape(address)
-        found = {name: values[name] for name in expected}
-        if found == expected:
+        try:
+            values = scrape(address)
+        except (CheckFailed, OSError) as error:
+            raise CheckFailed(f"{wrong}, and then {error}" if wrong else f"{error}") from error
+        wrong = differences(values, expected)
+        if not wrong:
             return values
         if time.monotonic() > end:
-            raise CheckFailed(f"not {expected}: {found}")
+            raise CheckFailed(wrong)
         time.sleep(0.05)
