@@ -10,6 +10,8 @@ mod caller;
 #[cfg(test)]
 mod crowd;
 #[cfg(test)]
+mod digests;
+#[cfg(test)]
 mod gates;
 #[cfg(test)]
 mod hubs;
