@@ -45,8 +45,8 @@ fn log_answer<R: Wait>(
     flags.has_logged.store(true, Ordering::SeqCst);
 }
 
-// Waits for `flags.is_logging`, and takes lines `TAKES` times. Returns `true` if the answer is still
-// not logged.
+// Waits for `flags.is_logging`, and takes lines `TAKES` times. Returns `true` if the answer is
+// still not logged.
 fn takes_meanwhile<R: Wait + Clock>(
     rt: &R,
     alloc: Global,
