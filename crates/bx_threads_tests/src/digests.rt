@@ -19,45 +19,40 @@ const LENGTH: usize = 4 << 20;
 // How often the lines are taken while another thread logs the answer.
 const TAKES: usize = 100;
 
-// In how many logs all these takes must end before the answer is logged, and how many logs are
-// tried. The thread that takes may have no processor meanwhile.
+// For how many answers all these takes must find no line, and how many answers are tried. The
+// thread that takes may have no processor while the digest is computed.
 const WANTED: usize = 3;
 
 const TRIES: usize = 100;
 
-// Whether a thread is about to log an answer, and whether it has logged it.
-#[derive(Default, Drop)]
-struct Flags {
-    is_logging: AtomicBool,
-    has_logged: AtomicBool,
-}
-
-// Logs the answer `items`. Sets `flags.is_logging` before that, and `flags.has_logged` after it.
+// Sets `is_logging`, and logs the answer `items`.
 fn log_answer<R: Wait>(
     rt: &R,
     alloc: Global,
     log: &WaitingAnswerLines,
     items: &[Item],
-    flags: &Flags,
+    is_logging: &AtomicBool,
 ) {
-    flags.is_logging.store(true, Ordering::SeqCst);
+    is_logging.store(true, Ordering::SeqCst);
     log.log_answer(rt, alloc, 0, items);
-    flags.has_logged.store(true, Ordering::SeqCst);
 }
 
-// Waits for `flags.is_logging`, and takes lines `TAKES` times. Returns `true` if the answer is
-// still not logged.
-fn takes_meanwhile<R: Wait + Clock>(
+// Waits for `is_logging`, and takes lines `TAKES` times. Returns `true` if there are none.
+//
+// If the log were locked while the digest is computed, the first take would wait for the line.
+fn takes_nothing<R: Wait + Clock>(
     rt: &R,
     alloc: Global,
     log: &WaitingAnswerLines,
-    flags: &Flags,
+    is_logging: &AtomicBool,
 ) -> bool {
-    wait_for(rt, &flags.is_logging);
+    wait_for(rt, is_logging);
+    let mut has_line = false;
     for _ in 0..TAKES {
-        log.take(rt, Vec::new(alloc));
+        let taken = log.take(rt, Vec::new(alloc));
+        has_line = has_line || !taken.bytes.is_empty();
     }
-    !flags.has_logged.load(Ordering::SeqCst)
+    !has_line
 }
 
 #[test]
@@ -67,13 +62,13 @@ fn digests_are_computed_without_a_lock(rt: HostRuntime) -> Result<(), Fail> {
     let items = [Item::EventItem(event(alloc, "/a", data.as_str())?)];
     let mut found: usize = 0;
     for _ in 0..TRIES {
-        let (log, flags) = (WaitingAnswerLines::new(alloc), Flags::default());
-        let ((), was_first) = join(
+        let (log, is_logging) = (WaitingAnswerLines::new(alloc), AtomicBool::new(false));
+        let ((), was_empty) = join(
             &rt,
-            || log_answer(&rt, alloc, &log, &items, &flags),
-            || takes_meanwhile(&rt, alloc, &log, &flags),
+            || log_answer(&rt, alloc, &log, &items, &is_logging),
+            || takes_nothing(&rt, alloc, &log, &is_logging),
         );
-        if was_first {
+        if was_empty {
             found = found.saturating_add(1);
         }
         if found == WANTED {
