@@ -1,4 +1,4 @@
-"""Checks of what connections cost a daemon: processor time and memory while clients wait, and many connections."""
+"""Checks of connections: what they cost a daemon while clients wait, a lack of descriptors, and many connections."""
 import contextlib
 import os
 import resource
@@ -6,10 +6,12 @@ import select
 import signal
 import socket
 import struct
+import time
 
-from base import CheckFailed, expect_equal
-from daemon import Connection, NonExpiringDaemon, expect_events, expect_status, open_session, post, publish, send_connect, subscribe
-from metrics import expect_values, scrape
+from base import CheckFailed, expect_equal, wait_until
+from daemon import Connection, FlagDaemon, NonExpiringDaemon, check_serves, expect_events, expect_status, get, open_session, post
+from daemon import publish, send_connect, subscribe
+from metrics import expect_values, read_page, scrape
 from patience_checks import CASES, clocked_daemon, slow_reader, wait_for_reads, wait_until_idle
 
 # The connections that arrive at once: more than the daemon spawns tasks for before it yields to other tasks.
@@ -19,6 +21,12 @@ WITHOUT_REQUEST = 100
 # The clients that read no response, the events of each response, the bytes of an event, and how much memory may grow then, in
 # units of 1,024 bytes. The table in docs/OPERATING.md allows 600,000 bytes for the pieces of a response. Its events are shared.
 UNREAD, EVENTS, EVENT, MOST_GROWTH = 16, 40, 200_000, 100 << 10
+# The daemon's limit of descriptors, the number of connections, and how soon a client must be served once descriptors
+# are free, in seconds.
+FILES, COMING, MAX_WAIT = 40, 60, 15.0
+# How long the metrics listener is given until it waits for a connection, and then until an accept has failed, in
+# seconds, and how often the states of its threads are then read.
+PAUSE, LOOKS = 0.3, 30
 OPEN, OPENED = ("bayeux_connections", ""), ("bayeux_connections_total", "")
 HELD, SERVED = ("bayeux_connects_held", ""), ("bayeux_responses_total", '{status="200"}')
 
@@ -148,3 +156,70 @@ def check_unread(program):
         expect_events(connections[-1].response().items(), events)
     if growth > MOST_GROWTH:
         raise CheckFailed(f"memory grew by {growth} KiB for {UNREAD} responses with the same {EVENTS} events of {EVENT} bytes")
+
+
+def check_files(program):
+    with FlagDaemon(program, preexec_fn=lambda: resource.setrlimit(resource.RLIMIT_NOFILE, (FILES, FILES))) as daemon:
+        connections = [Connection(daemon.address) for _ in range(COMING)]
+        wait_until("the daemon has no free descriptor", lambda: daemon.descriptors() >= FILES)
+        time.sleep(0.2)
+        daemon.check_alive()
+        for connection in connections:
+            connection.socket.close()
+        start = time.monotonic()
+        check_serves(daemon.address, "/after")
+        if time.monotonic() - start > MAX_WAIT:
+            raise CheckFailed(f"served {time.monotonic() - start:.1f} seconds after descriptors are free")
+    check_metrics_without_files(program)
+
+
+def busy_threads(process):
+    """Returns the threads of a process that run, or wait for a processor, at each of `LOOKS` looks within `PAUSE` seconds."""
+    folder = f"/proc/{process}/task"
+    busy = set(os.listdir(folder))
+    for _ in range(LOOKS):
+        for it in list(busy):
+            with open(f"{folder}/{it}/stat", encoding="utf-8", errors="replace") as text:
+                if text.read().rpartition(")")[2].split()[0] != "R":
+                    busy.discard(it)
+        time.sleep(PAUSE / LOOKS)
+    return busy
+
+
+def ask_without_files(daemon):
+    """Asks for the metrics of `daemon` while it has no free descriptor. Returns the response and the threads that are then busy.
+
+    Returns `None` if the response needs a free descriptor, since the listener did not wait for a connection yet.
+    """
+    # By now the listener probably waits for the next connection.
+    time.sleep(PAUSE)
+    process, used = daemon.process.pid, os.listdir(f"/proc/{daemon.process.pid}/fd")
+    free = next(number for number in range(len(used) + 1) if str(number) not in used)
+    limits = resource.prlimit(process, resource.RLIMIT_NOFILE)
+    resource.prlimit(process, resource.RLIMIT_NOFILE, (free, limits[1]))
+    # An accept that waits already has its descriptor. Then the next one is the first to fail.
+    with Connection(daemon.metrics) as connection:
+        connection.send(get(b"", b"/metrics"))
+        is_there = select.select([connection.socket], [], [], MAX_WAIT)[0]
+        time.sleep(PAUSE)
+        busy = busy_threads(process)
+        resource.prlimit(process, resource.RLIMIT_NOFILE, limits)
+        (response,) = connection.read_to_end()
+    return (response, busy) if is_there else None
+
+
+def check_metrics_without_files(program):
+    """Checks that the metrics listener serves again after a time in which the daemon had no free descriptor.
+
+    Meanwhile the metrics must leave out what the system reports of the process, on which an alert of packaging/alerts.yml relies.
+    """
+    with NonExpiringDaemon(program) as daemon:
+        check_serves(daemon.address, "/before")
+        expect_values(daemon.metrics, {("bayeux_connections", ""): 0})
+        response, busy = wait_until("metrics without a free descriptor", lambda: ask_without_files(daemon))
+        shown = [name for name, _ in read_page(response.body.decode()) if name.startswith("process_")]
+        if shown:
+            raise CheckFailed(f"without a free descriptor, the metrics show what cannot be read: {shown}")
+        if busy:
+            raise CheckFailed(f"threads {busy} of the daemon never pause without a free descriptor")
+        scrape(daemon.metrics)

@@ -9,8 +9,8 @@ import time
 import urllib.parse
 
 from base import TOP, CheckFailed, expect_equal, wait_until
-from daemon import CONNECT, HANDSHAKE, TIMEOUT_SECONDS, Connection, FlagDaemon, NonExpiringDaemon
-from daemon import expect_status, get, open_session, post, post_coded, send_connect
+from daemon import CONNECT, HANDSHAKE, TIMEOUT_SECONDS, Connection, FlagDaemon, NonExpiringDaemon, check_serves, expect_error
+from daemon import expect_status, expect_success, get, open_session, poll, post, post_coded, send_connect, subscribe
 from metrics import ask_for, expect_values, scrape
 
 # Metrics that change without a request, and those of what a request takes.
@@ -37,6 +37,9 @@ RARE = ("callback-polling is off", "the content type is not application/json", "
 # How many ticks must be refused, and how many lines of a log are read, which appears at most once a second. The server counts ten
 # ticks of at least a tenth of a second for this. The clock of the log may be adjusted meanwhile.
 REFUSED_AT_LEAST, LINES, LEAST_PAUSE = 3, 3, 0.8
+# The channel of the check `overflows`. The number of sessions that overflow, and of daemons that end directly after a
+# rejected handshake. If these were logged only once a second, few of them would be.
+WATCHED, OVERFLOWING, REJECTED_ENDS = "/watched", 3, 2
 
 
 def documented_reasons():
@@ -276,3 +279,49 @@ def check_pace(program):
         pauses = [(later - earlier).total_seconds() for (earlier, _), (later, _) in zip(lines[: LINES - 1], lines[1:LINES])]
         if min(pauses) < LEAST_PAUSE or sum(count for _, count in lines) != sent:
             raise CheckFailed(f"more than a line a second, or not {sent} refused requests: {lines}")
+
+
+def overflow(connection):
+    """Opens a session and overflows it: two events for it wait, of which it may have one."""
+    session = open_session(connection)
+    subscribe(connection, WATCHED, session)
+    expect_success(connection.ask([{"channel": WATCHED, "data": data, **session} for data in (1, 2)]), 2)
+    expect_error(poll(connection, session), "413::Queue overflow")
+    expect_success(connection.ask([{"channel": "/meta/disconnect", **session}]), 1)
+
+
+def logged(daemon, message):
+    """Returns the sum of the counts in the log lines with `message`."""
+    return sum(map(int, re.findall(rf"^\[WARN  bayeuxd\] {message} count=([0-9]+)$", daemon.log_tail().decode(), re.MULTILINE)))
+
+
+def check_overflows(program):
+    with FlagDaemon(program, "--limit", "1") as daemon, Connection(daemon.address) as connection:
+        check_serves(daemon.address, "/other")
+        for _ in range(OVERFLOWING):
+            overflow(connection)
+        wait_until("the log has the sessions that overflowed", lambda: logged(daemon, "sessions overflowed") == OVERFLOWING)
+        overflow(connection)
+        daemon.process.stdin.close()
+        daemon.expect_end()
+        if logged(daemon, "sessions overflowed") != OVERFLOWING + 1:
+            raise CheckFailed(f"not {OVERFLOWING + 1} sessions that overflowed: {daemon.log_tail()!r}")
+        expect_documented(daemon.full_log())
+    for _ in range(REJECTED_ENDS):
+        check_rejected(program)
+    check_pace(program)
+
+
+def check_rejected(program):
+    """Checks that the log counts rejected handshakes, also those directly before the end."""
+    with FlagDaemon(program, "--sessions", "1") as daemon:
+        with Connection(daemon.address) as connection:
+            open_session(connection)
+            expect_error(connection.ask([HANDSHAKE]), "503::Too many sessions")
+            wait_until("the log has the rejected handshake", lambda: logged(daemon, "handshakes rejected") == 1)
+            expect_error(connection.ask([HANDSHAKE]), "503::Too many sessions")
+        daemon.process.stdin.close()
+        daemon.expect_end()
+        if logged(daemon, "handshakes rejected") != 2:
+            raise CheckFailed(f"not 2 rejected handshakes: {daemon.log_tail()!r}")
+        expect_documented(daemon.full_log())
