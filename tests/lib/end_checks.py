@@ -1,16 +1,15 @@
 """Checks of the end of a daemon: at the end of standard input, and after the last of its connections."""
 import contextlib
 import os
-import re
 import select
 import subprocess
 import time
 
-from base import CheckFailed
-from count_checks import expect_documented
-from daemon import HANDSHAKE, TIMEOUT_SECONDS, Connection, ConnectionEnded, DaemonWithReaders, FlagDaemon, NonExpiringDaemon
-from daemon import expect_events, expect_status, expect_success, get, open_session, post, publish, send_connect, subscribe
-from metrics import ask_for, expect_values, scrape
+from base import TIMEOUT_SECONDS, CheckFailed
+from count_checks import UNANSWERED, expect_documented
+from daemon import Connection, ConnectionEnded, DaemonWithReaders, FlagDaemon, NonExpiringDaemon, expect_events, expect_status
+from daemon import expect_success, get, open_session, post, publish, send_connect, subscribe
+from metrics import REFUSED_TICKS, REQUESTS_HELD, TICKED, ask_for, expect_values, scrape
 
 # The number of shards, and the numbers of the sessions with a held connect. Sessions are assigned to shards in turn.
 SHARDS, HOLDING = 64, range(0, 64, 9)
@@ -19,7 +18,6 @@ LATER = 0.3
 # How long the end may take on a slow machine, in seconds, and in how many ticks the daemon ends in spite of an idle
 # connection (a second), with room for a machine that is slow to look.
 MAX_END, MOST_END_TICKS = 9.0, 40
-TICKED, REFUSED_TICKS = ("bayeux_ticks_total", ""), ("bayeux_ticks_refused_total", "")
 
 
 def accepts_requests(address):
@@ -37,7 +35,7 @@ def check_ends(program):
         held = [Connection(it) for it in (daemon.readers, daemon.address, daemon.readers)]
         for it in held:
             send_connect(it, open_session(it))
-        expect_values(daemon.metrics, {("bayeux_requests_held", ""): len(held)})
+        expect_values(daemon.metrics, {REQUESTS_HELD: len(held)})
         daemon.process.stdin.close()
         for it in held:
             if it.response().status != 503:
@@ -66,7 +64,7 @@ def check_held(daemon):
     """
     with Connection(daemon.address) as publisher:
         held = hold_connects(daemon, publisher)
-        values = expect_values(daemon.metrics, {("bayeux_requests_held", ""): len(held)})
+        values = expect_values(daemon.metrics, {REQUESTS_HELD: len(held)})
         if sum(name == "bayeux_shard_lag_entries" for name, _ in values) != SHARDS:
             raise CheckFailed(f"not {SHARDS} shards: {values}")
         last, session = held.pop()
@@ -85,9 +83,9 @@ def check_log_at_end(daemon, count):
     """
     status = daemon.process.wait(TIMEOUT_SECONDS)
     log = daemon.log_tail().decode()
-    counts = re.findall(r'^\[WARN  bayeuxd\] requests failed reason="the answer is unavailable" listener=[a-z-]+ count=([0-9]+)$', log, re.MULTILINE)
+    counted = sum(it for _, reason, _, it in daemon.failed_requests() if reason == UNANSWERED)
     expect_documented(daemon.full_log())
-    if status or sum(map(int, counts)) != count or not log.endswith("[INFO  bayeuxd] ended\n"):
+    if status or counted != count or not log.endswith("[INFO  bayeuxd] ended\n"):
         raise CheckFailed(f"not status 0, {count} answers that cannot be given, and the end: {status} {log!r}")
 
 
@@ -162,7 +160,7 @@ def check_last(program):
     check_unreadable_input(program)
     with FlagDaemon(program, "--until-eof", "--connections", "1", "--timeout", "3s") as daemon:
         with Connection(daemon.address) as connection:
-            session = {"clientId": expect_success(connection.ask([HANDSHAKE]), 1)[0]["clientId"]}
+            session = open_session(connection)
             send_connect(connection, session)
             expect_success(connection.response().items(), 1)
             expect_success(connection.ask([{"channel": "/meta/disconnect", **session}]), 1)

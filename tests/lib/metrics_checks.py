@@ -6,23 +6,21 @@ import threading
 import time
 
 from base import CheckFailed, wait_until
-from daemon import Connection, ConnectionEnded, FlagDaemon, expect_error, expect_status, expect_success
+from daemon import MOST_MESSAGES, Connection, ConnectionEnded, FlagDaemon, expect_error, expect_status, expect_success
 from daemon import get, open_session, post, post_coded, send_connect, subscribe
-from metrics import ask_for, expect_values, scrape
+from metrics import CONNECTS_HELD, FILED, OPEN, OPENED, REQUESTS_HELD, SERVED, SESSIONS, TICKED, ask_for, expect_values, scrape
 
 # The pause between the bytes of a slow head, in seconds.
 SLOW_PAUSE = 1.5
 # How long a client that asks slowly is waited for, and the pause between the parts of a request, in seconds.
 PAUSE = 0.3
-# In how many ticks the metrics listener gives up a slow client (two seconds), with room for a machine that is slow to look.
+# In how many ticks the metrics listener gives up a slow client (two seconds), with room for a machine that is slow to
+# look.
 MOST_SLOW_TICKS = 100
 CHANNEL = "/watched"
-# The metric of the time that requests took, and a time in which no machine processes `MESSAGES`
-# publishes, in seconds.
+# The metric of the time that requests took, and a time in which no machine processes `MOST_MESSAGES` publishes, in
+# seconds.
 SPENT, LEAST_SPENT = ("bayeux_processing_seconds_sum", ""), 150e-6
-# The most messages of a request.
-MESSAGES = 256
-TICKED = ("bayeux_ticks_total", "")
 # The bytes of a field in a long head for the metrics listener.
 LONG_FIELD = 2000
 # Requests to the metrics listener, and their statuses.
@@ -50,30 +48,30 @@ PARTS = [b"GET /heal", b"thz HTTP/1.1\r\nhost: h\r\n", b"\r\n"]
 SILENT = ["bayeux_errors_total", "bayeux_requests_refused_total", "bayeux_responses_missing_total"]
 # Metrics while one of two clients has a held connect.
 WAITING = {
-    ("bayeux_requests_held", ""): 1,
+    REQUESTS_HELD: 1,
     ("bayeux_requests", ""): 1,
-    ("bayeux_connections", ""): 2,
-    ("bayeux_sessions", ""): 1,
-    ("bayeux_connects_held", ""): 1,
-    ("bayeux_answers_filed", ""): 0,
+    OPEN: 2,
+    SESSIONS: 1,
+    CONNECTS_HELD: 1,
+    FILED: 0,
 }
 # Metrics at the end: of two connections, five requests were admitted. Two were rejected because of
 # their bodies, one because of its path, and one because of its transfer coding. The time of the
 # first seven was measured.
 COUNTED = {
-    ("bayeux_connections", ""): 2,
-    ("bayeux_connections_total", ""): 2,
+    OPEN: 2,
+    OPENED: 2,
     ("bayeux_requests", ""): 0,
-    ("bayeux_requests_held", ""): 0,
-    ("bayeux_sessions", ""): 1,
+    REQUESTS_HELD: 0,
+    SESSIONS: 1,
     ("bayeux_sessions_opened_total", ""): 1,
-    ("bayeux_connects_held", ""): 0,
-    ("bayeux_answers_filed", ""): 0,
+    CONNECTS_HELD: 0,
+    FILED: 0,
     ("bayeux_shard_lag_entries", '{shard="0"}'): 0,
     ("bayeux_shard_lag_entries", '{shard="1"}'): 0,
     ("bayeux_requests_admitted_total", ""): 5,
     ("bayeux_processing_seconds_count", ""): 7,
-    ("bayeux_responses_total", '{status="200"}'): 5,
+    SERVED: 5,
     ("bayeux_responses_total", '{status="400"}'): 2,
     ("bayeux_responses_total", '{status="404"}'): 1,
     ("bayeux_responses_total", '{status="501"}'): 1,
@@ -154,14 +152,14 @@ def watch_clients(metrics, first, second):
     growing = (TICKED, ("bayeux_list_entries_total", ""))
     wait_until(f"{growing} grow", lambda: all(value > before[name] for name, value in scrape(metrics).items() if name in growing))
     spent = scrape(metrics)[SPENT]
-    expect_success(second.ask([{"channel": CHANNEL, "data": data, **session} for data in range(MESSAGES)]), MESSAGES)
+    expect_success(second.ask([{"channel": CHANNEL, "data": data, **session} for data in range(MOST_MESSAGES)]), MOST_MESSAGES)
     if scrape(metrics)[SPENT] - spent < LEAST_SPENT:
-        raise CheckFailed(f"{MESSAGES} publishes took no time")
+        raise CheckFailed(f"{MOST_MESSAGES} publishes took no time")
 
 
 def check_metrics(program):
     with FlagDaemon(program, "--shards=2", "--connections", "2", "--metrics", "localhost:0", "--timeout", "600s") as daemon:
-        metrics = daemon.logged_address("metrics listening address=")
+        metrics = daemon.metrics_address()
         for request, status in METRICS_REQUESTS:
             if ask_for(metrics, request).status != status:
                 raise CheckFailed(f"not {status} for {request!r}")

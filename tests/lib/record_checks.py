@@ -5,11 +5,8 @@ import time
 
 from base import CheckFailed, limit_file_size, wait_until
 from count_checks import expect_documented
-from daemon import TIMEOUT_SECONDS, Connection, FlagDaemon, expect_success, post, publish
-from listener_checks import AT_ONCE
+from daemon import MOST_MESSAGES, TIMEOUT_SECONDS, Connection, FlagDaemon, expect_success, post, publish, with_sanitizer_options
 
-# The most messages of a request.
-MESSAGES = 256
 # For how long a record is watched, in seconds, and how often it must grow. It is written ten times a
 # second.
 LOOKING, GROWTHS = 1.5, 5
@@ -48,8 +45,8 @@ def check_burst(program):
                 connection.send(post(LARGEST))
             for connection in connections:
                 expect_success(connection.response().items(), 1)
-            many = [{"channel": "/many", "data": number} for number in range(MESSAGES)]
-            expect_success(connections[0].ask(many), MESSAGES)
+            many = [{"channel": "/many", "data": number} for number in range(MOST_MESSAGES)]
+            expect_success(connections[0].ask(many), MOST_MESSAGES)
             publish(connections[0], "/last", 1, {})
             daemon.process.stdin.close()
             daemon.process.wait(TIMEOUT_SECONDS)
@@ -57,8 +54,8 @@ def check_burst(program):
         with open(record, "rb") as file:
             text = file.read()
     found = [text.count(it) for it in (LARGEST, b'"/many"', b'"/last"')]
-    if found != [4, MESSAGES, 1]:
-        raise CheckFailed(f"the record has {found} of 4 large messages, {MESSAGES} of one request, and the last: {log!r}")
+    if found != [4, MOST_MESSAGES, 1]:
+        raise CheckFailed(f"the record has {found} of 4 large messages, {MOST_MESSAGES} of one request, and the last: {log!r}")
 
 
 def check_closing(program):
@@ -89,20 +86,17 @@ def send_largest(connection, count):
 
 def send_many(connection, count):
     """Sends `count` small publishes, many at a time."""
-    request = post(b'[{"channel":"/small"}]')
-    for _ in range(0, count, AT_ONCE):
-        connection.send(request * AT_ONCE)
-        for _ in range(AT_ONCE):
-            connection.response()
+    for _ in connection.repeat(post(b'[{"channel":"/small"}]'), count):
+        pass
 
 
 def check_full(program):
-    env = {**os.environ, "ASAN_OPTIONS": "quarantine_size_mb=1"}
+    env = with_sanitizer_options("quarantine_size_mb=1")
     with tempfile.TemporaryDirectory() as folder:
         flags = ["--anonymous", "--record", f"{folder}/record", "--record-answers"]
         with FlagDaemon(program, *flags, preexec_fn=lambda: limit_file_size(FULL_RECORD), env=env) as daemon, Connection(daemon.address) as connection:
             send_largest(connection, 1)
-            wait_until("the log says that the record ended", lambda: b"recording ended early" in daemon.log_tail())
+            daemon.wait_for_log("recording ended early")
             expect_documented(daemon.full_log())
             # Before each measurement, such requests are sent, so that the daemon has the memory that they need.
             send_largest(connection, LARGEST_BODIES)

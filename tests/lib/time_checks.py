@@ -1,36 +1,33 @@
 """Checks of what a daemon does as time passes: ticks, answers that nobody takes, ages, and moments after fifty days."""
-import sys
 import tempfile
 import threading
 import time
 
 from base import CheckFailed, wait_until
-from clock import Clock, can_advance
-from daemon import TIMEOUT_SECONDS, Connection, FlagDaemon, NonExpiringDaemon, expect_error, expect_events, expect_status
+from daemon import TIMEOUT_SECONDS, Connection, NonExpiringDaemon, expect_error, expect_events, expect_status
 from daemon import hold_connect, open_session, poll, post, publish, send_connect, subscribe
 from listener_checks import read_list
-from metrics import expect_values, scrape
+from metrics import CONNECTS_HELD, FILED, OPEN, REQUESTS_HELD, SESSIONS, SWEPT, TICKED, UPTIME, expect_values, scrape
+from system import Clock, environment
 
-# The number of sessions and of shards, how often each session leaves an answer, and for how many
-# ticks the number of answers is checked.
+# The number of sessions and of shards, how often each session leaves an answer, and for how many ticks the number of
+# answers is checked.
 LIVE, TURNS, TICKS = 16, 3, 5
-# The number of ticks before the first answer. If there are too many answers, the daemon keeps each
-# for fewer ticks than this.
+# The number of ticks before the first answer. If there are too many answers, the daemon keeps each for fewer ticks than
+# this.
 BEFORE = 15
 # In how many ticks the daemon drops answers if there are too many (a second), and in how many it drops any answer (a
 # minute). Both have room for a machine that is slow to look.
 MOST_SWEEP_TICKS, MOST_KEPT_TICKS = 50, 700
-# How often and for how long a check that lasts pauses, in seconds. The daemon waits 30 seconds for
-# a request and for more of a body.
+# How often and for how long a check that lasts pauses, in seconds. The daemon waits 30 seconds for a request and for
+# more of a body.
 PAUSES, LONG_PAUSE = 5, 11.0
-# For how long an answer that nobody takes is kept, the seconds of an uptime that is read, the
-# number of seconds in which ticks are counted, and the number of ticks in each second that must be
-# exceeded once. A busy machine has that rarely, so this is tried often.
-KEPT, UPTIME, COUNTING, LEAST_TICKS = 60.0, 62.0, 1.0, 6.0
-TICKED, SWEPT = ("bayeux_ticks_total", ""), ("bayeux_answers_swept_total", "")
-FILED, UP = ("bayeux_answers_filed", ""), ("bayeux_uptime_seconds_total", "")
-# How far the clocks are put forward, in seconds: fifty days, which are more than 2^32 milliseconds. The
-# number of ticks then, and by how many seconds an age or an uptime may differ on a slow machine.
+# For how long an answer that nobody takes is kept, the seconds of an uptime that is read, the number of seconds in
+# which ticks are counted, and the number of ticks in each second that must be exceeded once. A busy machine has that
+# rarely, so this is tried often.
+KEPT, LEAST_UPTIME, COUNTING, LEAST_TICKS = 60.0, 62.0, 1.0, 6.0
+# How far the clocks are put forward, in seconds: fifty days, which are more than 2^32 milliseconds. The number of ticks
+# then, and by how many seconds an age or an uptime may differ on a slow machine.
 AHEAD, TICKS_AHEAD, AGES = 50 * 86_400, 3, 3600
 
 
@@ -43,13 +40,13 @@ def leave_answers(daemon, sessions):
     connections = [Connection(daemon.address) for _ in sessions]
     for it in zip(connections, sessions):
         send_connect(*it)
-    expect_values(metrics, {("bayeux_requests_held", ""): len(sessions), ("bayeux_connects_held", ""): len(sessions)})
+    expect_values(metrics, {REQUESTS_HELD: len(sessions), CONNECTS_HELD: len(sessions)})
     for connection in connections:
         connection.socket.close()
-    expect_values(metrics, {("bayeux_connections", ""): 0, ("bayeux_requests_held", ""): 0, ("bayeux_connects_held", ""): len(sessions)})
+    expect_values(metrics, {OPEN: 0, REQUESTS_HELD: 0, CONNECTS_HELD: len(sessions)})
     with Connection(daemon.address) as connection:
         publish(connection, "/all", 1, sessions[0])
-    expect_values(metrics, {("bayeux_connects_held", ""): 0})
+    expect_values(metrics, {CONNECTS_HELD: 0})
 
 
 def pages(metrics, count):
@@ -65,9 +62,9 @@ def pages(metrics, count):
 
 
 def expect_filed(metrics, count):
-    """Waits until `count` answers are filed, for at most `MOST_SWEEP_TICKS` ticks, and checks that they stay for `TICKS` ticks.
+    """Waits until `count` answers are filed, for at most `MOST_SWEEP_TICKS` ticks.
 
-    `metrics`: the address of the metrics listener.
+    Checks that they then stay for `TICKS` ticks. `metrics`: the address of the metrics listener.
     """
     first = scrape(metrics)[TICKED]
     ticks = expect_values(metrics, {FILED: count})[TICKED] - first
@@ -166,9 +163,9 @@ class Lasting(threading.Thread):
     @staticmethod
     def check_uptime(metrics, start, listening):
         """Checks the uptime of a daemon that was started at the time `start`, and listened at `listening`."""
-        time.sleep(max(0.0, listening + UPTIME - time.monotonic()))
+        time.sleep(max(0.0, listening + LEAST_UPTIME - time.monotonic()))
         least = int(time.monotonic() - listening)
-        value = scrape(metrics)[UP]
+        value = scrape(metrics)[UPTIME]
         if not least <= value <= time.monotonic() - start:
             raise CheckFailed(f"an uptime of {value} seconds in place of {least} to {time.monotonic() - start:.1f}")
 
@@ -203,33 +200,29 @@ def moments_of(record):
 
 
 def check_days(program):
-    if not can_advance():
-        print("tests/daemon/operation: days is left out, since there is no C compiler", file=sys.stderr)
-        return
     with tempfile.TemporaryDirectory() as folder:
-        clock, record = Clock(folder, AHEAD), f"{folder}/record"
-        flags = ["--timeout", "600s", "--shards", "2", "--metrics", "127.0.0.1:0", "--record", record]
-        with FlagDaemon(program, *flags, env=clock.env) as daemon:
-            metrics = daemon.logged_address("metrics listening address=")
+        clock, record = Clock(folder), f"{folder}/record"
+        env = environment(folder, **clock.variables)
+        with NonExpiringDaemon(program, "--shards", "2", "--record", record, env=env) as daemon:
+            metrics = daemon.metrics
             with Connection(daemon.address) as connection:
                 old = open_session(connection)
-            clock.advance()
-            first = wait_until("a tick", lambda: scrape(metrics)[UP] >= AHEAD and scrape(metrics)[TICKED])
+            clock.add(AHEAD)
+            first = wait_until("a tick", lambda: scrape(metrics)[UPTIME] >= AHEAD and scrape(metrics)[TICKED])
             wait_until("more ticks", lambda: scrape(metrics)[TICKED] >= first + TICKS_AHEAD)
             with Connection(daemon.address) as connection:
                 expect_error(poll(connection, old), "402::Unknown client")
                 session = open_session(connection)
                 held = [hold_connect(daemon.address, "/days") for _ in range(4)]
-                expect_values(metrics, {("bayeux_connects_held", ""): len(held)})
+                expect_values(metrics, {CONNECTS_HELD: len(held)})
                 ticked = scrape(metrics)[TICKED]
                 wait_until("ticks meanwhile", lambda: scrape(metrics)[TICKED] >= ticked + TICKS_AHEAD)
-                expect_values(metrics, {("bayeux_connects_held", ""): len(held), ("bayeux_sessions", ""): len(held) + 1})
+                expect_values(metrics, {CONNECTS_HELD: len(held), SESSIONS: len(held) + 1})
                 publish(connection, "/days", 1, session)
                 for it in held:
                     expect_events(it.response().items(), [{"channel": "/days", "data": 1}])
-            ages, uptime = [it["age_seconds"] for it in read_list(metrics, b"/sessions")], scrape(metrics)[UP]
-            daemon.process.stdin.close()
-            daemon.expect_end()
+            ages, uptime = [it["age_seconds"] for it in read_list(metrics, b"/sessions")], scrape(metrics)[UPTIME]
+            daemon.close()
         moments = moments_of(record)
     if len(ages) != len(held) + 1 or max(ages) > AGES or not AHEAD <= uptime <= AHEAD + AGES:
         raise CheckFailed(f"ages of {ages} seconds, and an uptime of {uptime} seconds, after {AHEAD} seconds and a few more")
