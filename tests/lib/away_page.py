@@ -3,7 +3,7 @@ import contextlib
 import re
 import time
 
-from base import TOP, CheckFailed, wait_until
+from base import CheckFailed, read, wait_until
 from browser import Window
 from chat_page import Chat
 from client_page import Client
@@ -117,7 +117,7 @@ def try_example(fixture):
 
     It does so at the start and after a gap, and shows events.
     """
-    blocks = re.findall(r"^```js\n(.*?)^```$", (TOP / "docs/CLIENT.md").read_text(encoding="utf-8"), re.MULTILINE | re.DOTALL)
+    blocks = re.findall(r"^```js\n(.*?)^```$", read("docs/CLIENT.md"), re.MULTILINE | re.DOTALL)
     examples = [block for block in blocks if "client.ongap = " in block]
     if len(examples) != 1:
         raise CheckFailed(f"docs/CLIENT.md has {len(examples)} examples with ongap")

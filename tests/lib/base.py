@@ -1,8 +1,9 @@
-"""What the scripts of the tests share: paths, arguments, exit statuses, waiting, and ports."""
+"""What the scripts of the tests share: paths, pages, arguments, exit statuses, waiting, ports, and a C compiler."""
 import argparse
 import os
 import pathlib
 import resource
+import shutil
 import signal
 import socket
 import subprocess
@@ -23,6 +24,22 @@ TIMEOUT_SECONDS = 240
 
 class CheckFailed(Exception):
     """A check failed. The message says what is wrong."""
+
+
+def read(path):
+    """Returns the text of a file of the repository. `path`: from the top on."""
+    return (TOP / path).read_text(encoding="utf-8")
+
+
+def section(page, heading):
+    """Returns the text below a heading of the second level, up to the next one. `page`: a page's path from the top on.
+
+    Raises `CheckFailed` if the page has no such heading.
+    """
+    _, found, rest = read(page).partition(f"\n## {heading}\n")
+    if not found:
+        raise CheckFailed(f"{page} has no section {heading!r}")
+    return rest.partition("\n## ")[0]
 
 
 class ScriptParser(argparse.ArgumentParser):
@@ -149,6 +166,32 @@ def wait_until(what, condition, seconds=TIMEOUT_SECONDS):
         if time.monotonic() > deadline:
             raise CheckFailed(f"not in {seconds} seconds: {what}")
         time.sleep(0.05)
+
+
+def retry(check, tries):
+    """Calls `check` until it passes, at most `tries` times. Raises its last `CheckFailed` or `OSError` if it does not."""
+    for left in reversed(range(tries)):
+        try:
+            check()
+            return
+        except (CheckFailed, OSError):
+            if not left:
+                raise
+
+
+def has_compiler():
+    """Returns `True` if there is a C compiler."""
+    return shutil.which("cc") is not None
+
+
+def compile_library(source, folder, *flags):
+    """Compiles a library that programs are to preload, and returns its path.
+
+    `source`: its C file, from the top on. `folder`: a folder for the library. `flags`: more flags of the compiler.
+    """
+    library = f"{folder}/{pathlib.Path(source).stem}.so"
+    subprocess.run(["cc", "-O2", "-Wall", "-shared", "-fPIC", *flags, "-o", library, f"{TOP}/{source}"], check=True)
+    return library
 
 
 def has_loopback():

@@ -1,4 +1,4 @@
-"""Checks of what connections cost a daemon: processor time and memory while clients wait, and many connections."""
+"""Checks of connections: what they cost a daemon while clients wait, a lack of descriptors, and many connections."""
 import contextlib
 import os
 import resource
@@ -6,11 +6,13 @@ import select
 import signal
 import socket
 import struct
+import time
 
-from base import CheckFailed, expect_equal
-from daemon import Connection, NonExpiringDaemon, expect_events, expect_status, open_session, post, publish, send_connect, subscribe
-from metrics import expect_values, scrape
-from patience_checks import CASES, clocked_daemon, slow_reader, wait_for_reads, wait_until_idle
+from base import CheckFailed, expect_equal, wait_until
+from daemon import Connection, FlagDaemon, NonExpiringDaemon, SlowReader, check_serves, expect_events, expect_status, get, hold_connect
+from daemon import open_session, post, publish, publish_to, send_connect, with_sanitizer_options
+from metrics import CONNECTS_HELD, OPEN, OPENED, SERVED, expect_values, read_page, scrape
+from patience_checks import CASES, LOOKS, PAUSE, SMALL_BUFFER, clocked_daemon, wait_for_reads, wait_until_idle
 
 # The connections that arrive at once: more than the daemon spawns tasks for before it yields to other tasks.
 CROWD = 400
@@ -19,21 +21,12 @@ WITHOUT_REQUEST = 100
 # The clients that read no response, the events of each response, the bytes of an event, and how much memory may grow then, in
 # units of 1,024 bytes. The table in docs/OPERATING.md allows 600,000 bytes for the pieces of a response. Its events are shared.
 UNREAD, EVENTS, EVENT, MOST_GROWTH = 16, 40, 200_000, 100 << 10
-OPEN, OPENED = ("bayeux_connections", ""), ("bayeux_connections_total", "")
-HELD, SERVED = ("bayeux_connects_held", ""), ("bayeux_responses_total", '{status="200"}')
-
-
-def hold(daemon, pattern, count=1):
-    """Opens a session, subscribes it to `pattern`, and sends its connect. Waits until `count` connects are held.
-
-    Returns the connection.
-    """
-    connection = Connection(daemon.address)
-    session = open_session(connection)
-    subscribe(connection, pattern, session)
-    send_connect(connection, session)
-    expect_values(daemon.metrics, {HELD: count})
-    return connection
+# The daemon's limit of descriptors, the number of connections, and how soon a client must be served once descriptors
+# are free, in seconds.
+FILES, COMING, MAX_WAIT = 40, 60, 15.0
+# How long the metrics listener is given until it waits for a connection, and then until an accept has failed, in
+# seconds.
+LISTENING_PAUSE = 0.3
 
 
 def large_batches(daemon, count):
@@ -41,17 +34,14 @@ def large_batches(daemon, count):
     events = [{"channel": "/large", "data": f"{number:02}".ljust(EVENT, "x")} for number in range(EVENTS)]
     with Connection(daemon.address) as connection:
         sessions = [open_session(connection) for _ in range(count)]
-        for session in sessions:
-            subscribe(connection, "/large", session)
-        for event in events:
-            publish(connection, "/large", event["data"], sessions[0])
+    publish_to(daemon.address, sessions, events)
     return sessions, events
 
 
 def ask_for_batches(daemon, sessions):
     """Returns connections that have asked for the events of `sessions`, and read nothing."""
     served = scrape(daemon.metrics)[SERVED]
-    connections = [slow_reader(daemon.address) for _ in sessions]
+    connections = [SlowReader(daemon.address, SMALL_BUFFER) for _ in sessions]
     for it in zip(connections, sessions):
         send_connect(*it)
     expect_values(daemon.metrics, {SERVED: served + len(sessions)})
@@ -64,7 +54,8 @@ def check_idle(program):
     Its clock does not move, so that it waits for ever.
     """
     with clocked_daemon(program) as (daemon, clock), contextlib.ExitStack() as stack:
-        held = stack.enter_context(hold(daemon, "/held"))
+        held = stack.enter_context(hold_connect(daemon.address, "/held"))
+        expect_values(daemon.metrics, {CONNECTS_HELD: 1})
         sessions, _ = large_batches(daemon, 1)
         for it in ask_for_batches(daemon, sessions):
             stack.enter_context(it)
@@ -87,13 +78,10 @@ def check_idle(program):
 
 def check_idle_without_files(daemon, clock):
     """Checks the same while the daemon has no free file descriptor for a connection."""
-    process = daemon.process.pid
-    files = {int(it) for it in os.listdir(f"/proc/{process}/fd")}
-    limits = resource.prlimit(process, resource.RLIMIT_NOFILE)
-    resource.prlimit(process, resource.RLIMIT_NOFILE, (min(set(range(len(files) + 1)) - files), limits[1]))
-    with Connection(daemon.address) as first, Connection(daemon.address) as second:
-        wait_until_idle("a free file descriptor", daemon)
-        resource.prlimit(process, resource.RLIMIT_NOFILE, limits)
+    with contextlib.ExitStack() as stack:
+        with daemon.without_descriptors():
+            first, second = (stack.enter_context(Connection(daemon.address)) for _ in range(2))
+            wait_until_idle("a free file descriptor", daemon)
         clock.add(1)
         for it in (first, second):
             expect_status(it, post(b"[]"), 200)
@@ -139,7 +127,7 @@ def check_connections(program, count):
 
 def check_unread(program):
     """Checks that responses which nobody reads share their events, so that they need little memory."""
-    env = {**os.environ, "ASAN_OPTIONS": f"{os.environ.get('ASAN_OPTIONS', '')}:quarantine_size_mb=1"}
+    env = with_sanitizer_options("quarantine_size_mb=1")
     with NonExpiringDaemon(program, env=env) as daemon, contextlib.ExitStack() as stack:
         sessions, events = large_batches(daemon, UNREAD)
         before = daemon.kilobytes()
@@ -148,3 +136,64 @@ def check_unread(program):
         expect_events(connections[-1].response().items(), events)
     if growth > MOST_GROWTH:
         raise CheckFailed(f"memory grew by {growth} KiB for {UNREAD} responses with the same {EVENTS} events of {EVENT} bytes")
+
+
+def check_files(program):
+    with FlagDaemon(program, preexec_fn=lambda: resource.setrlimit(resource.RLIMIT_NOFILE, (FILES, FILES))) as daemon:
+        connections = [Connection(daemon.address) for _ in range(COMING)]
+        wait_until("the daemon has no free descriptor", lambda: daemon.descriptors() >= FILES)
+        time.sleep(0.2)
+        daemon.check_alive()
+        for connection in connections:
+            connection.socket.close()
+        start = time.monotonic()
+        check_serves(daemon.address, "/after")
+        if time.monotonic() - start > MAX_WAIT:
+            raise CheckFailed(f"served {time.monotonic() - start:.1f} seconds after descriptors are free")
+    check_metrics_without_files(program)
+
+
+def busy_threads(daemon):
+    """Returns the threads of `daemon` that run, or wait for a processor, at each of `LOOKS` looks."""
+    busy = daemon.threads()
+    for _ in range(LOOKS):
+        busy &= daemon.running_threads()
+        time.sleep(PAUSE)
+    return busy
+
+
+def ask_without_files(daemon):
+    """Asks for the metrics of `daemon` while it has no free descriptor.
+
+    Returns the response, and the threads that are then busy. Returns `None` if the response needs a free descriptor, since
+    the listener did not wait for a connection yet.
+    """
+    # By now the listener probably waits for the next connection.
+    time.sleep(LISTENING_PAUSE)
+    with contextlib.ExitStack() as stack:
+        # An accept that waits already has its descriptor. Then the next one is the first to fail.
+        with daemon.without_descriptors():
+            connection = stack.enter_context(Connection(daemon.metrics))
+            connection.send(get(b"", b"/metrics"))
+            is_there = select.select([connection.socket], [], [], MAX_WAIT)[0]
+            time.sleep(LISTENING_PAUSE)
+            busy = busy_threads(daemon)
+        (response,) = connection.read_to_end()
+    return (response, busy) if is_there else None
+
+
+def check_metrics_without_files(program):
+    """Checks that the metrics listener serves again after a time in which the daemon had no free descriptor.
+
+    Meanwhile the metrics must leave out what the system reports of the process, on which an alert of packaging/alerts.yml relies.
+    """
+    with NonExpiringDaemon(program) as daemon:
+        check_serves(daemon.address, "/before")
+        expect_values(daemon.metrics, {OPEN: 0})
+        response, busy = wait_until("metrics without a free descriptor", lambda: ask_without_files(daemon))
+        shown = [name for name, _ in read_page(response.body.decode()) if name.startswith("process_")]
+        if shown:
+            raise CheckFailed(f"without a free descriptor, the metrics show what cannot be read: {shown}")
+        if busy:
+            raise CheckFailed(f"threads {busy} of the daemon never pause without a free descriptor")
+        scrape(daemon.metrics)

@@ -1,21 +1,20 @@
 """Checks that the metrics and the log of a daemon count what its clients saw."""
 import collections
 import contextlib
-import datetime
 import json
 import re
 import socket
 import time
 import urllib.parse
 
-from base import TOP, CheckFailed, expect_equal, wait_until
-from daemon import CONNECT, HANDSHAKE, TIMEOUT_SECONDS, Connection, FlagDaemon, NonExpiringDaemon
-from daemon import expect_status, get, open_session, post, post_coded, send_connect
-from metrics import ask_for, expect_values, scrape
+from base import CheckFailed, expect_equal, read, wait_until
+from daemon import CONNECT, HANDSHAKE, MOST_MESSAGES, TIMEOUT_SECONDS, Connection, FlagDaemon, NonExpiringDaemon, check_serves
+from daemon import expect_error, expect_status, expect_success, get, open_session, poll, post, post_coded, send_connect, subscribe
+from metrics import CONNECTS_HELD, OPEN, OPENED, REFUSED_TICKS, REQUESTS_HELD, SESSIONS, TICKED
+from metrics import ask_for, expect_values, scrape, wait_for_metrics
 
 # Metrics that change without a request, and those of what a request takes.
 CHANGING = re.compile(r"process_|bayeux_(uptime|ticks|list_entries|window|processing_seconds_(sum|bucket))")
-TICKED, REFUSED_TICKS, HELD = ("bayeux_ticks_total", ""), ("bayeux_ticks_refused_total", ""), ("bayeux_connects_held", "")
 # The reasons of requests that were judged, so that the time for this counts.
 CLOSED, UNANSWERED = "the server is shutting down", "the answer is unavailable"
 JUDGED = (
@@ -28,32 +27,32 @@ JUDGED = (
 )
 # The channel to which clients of both listeners may publish, and another one. The limit of bodies, of the events of a session, and
 # of sessions.
-CHANNEL, OTHER, BODY, EVENTS, SESSIONS = "/counted/a", "/other", 60_000, 300, 3
-# The most messages of a request.
-MESSAGES = 256
+CHANNEL, OTHER, BODY, EVENTS, MOST_SESSIONS = "/counted/a", "/other", 60_000, 300, 3
 KINDS = ("handshake", "connect", "subscribe", "unsubscribe", "disconnect")
 # The documented reasons that no client can cause: the last is one of a server that has run for ages.
 RARE = ("callback-polling is off", "the content type is not application/json", "the clock is out of range")
 # How many ticks must be refused, and how many lines of a log are read, which appears at most once a second. The server counts ten
 # ticks of at least a tenth of a second for this. The clock of the log may be adjusted meanwhile.
 REFUSED_AT_LEAST, LINES, LEAST_PAUSE = 3, 3, 0.8
+# The channel of the check `overflows`. The number of sessions that overflow, and of daemons that end directly after a
+# rejected handshake. If these were logged only once a second, few of them would be.
+WATCHED, OVERFLOWING, REJECTED_ENDS = "/watched", 3, 2
 
 
 def documented_reasons():
     """Returns the reasons for which docs/OPERATING.md says that requests are refused, except those of status 503."""
-    text = (TOP / "docs/OPERATING.md").read_text(encoding="utf-8")
-    rows = re.findall(r"^\| ([0-9, ]+) \| (.*?) \|", text, re.MULTILINE)
+    rows = re.findall(r"^\| ([0-9, ]+) \| (.*?) \|", read("docs/OPERATING.md"), re.MULTILINE)
     return {reason for status, reasons in rows if status != "503" for reason in re.findall(r"`([^`]+)`", reasons)}
 
 
 def documented_errors():
     """Returns the errors of docs/ERRORS.md."""
-    return set(re.findall(r"^\| `(\d{3}::[^`]+)` \|", (TOP / "docs/ERRORS.md").read_text(encoding="utf-8"), re.MULTILINE))
+    return set(re.findall(r"^\| `(\d{3}::[^`]+)` \|", read("docs/ERRORS.md"), re.MULTILINE))
 
 
 def documented_lines():
     """Returns the pairs of a level and an event that docs/OPERATING.md has for the log, with .. for the end of any event."""
-    text = (TOP / "docs/OPERATING.md").read_text(encoding="utf-8")
+    text = read("docs/OPERATING.md")
     found = set(re.findall(r"`\[(INFO|WARN|ERROR) +bayeuxd\] ([a-z ]+?|cannot \.\.)(?: \w+=[^`]*)?`", text))
     return found | {("INFO", f"{it} listening") for it in re.findall(r"`\.\. (\w+) listening \.\.`", text)}
 
@@ -99,7 +98,7 @@ def cases_of(session):
         of({**publish, "channel": "/counted//"}),
         of({**publish, "channel": OTHER}),
         of({**publish, "channel": "/service/a"}),
-        of(*[publish] * MESSAGES),
+        of(*[publish] * MOST_MESSAGES),
         of(ready),
         asked(message=json.dumps([publish, publish]), jsonp="a"),
         asked(message=json.dumps([ready]), jsonp="a"),
@@ -112,12 +111,12 @@ def cases_of(session):
         post(b"["),
         post(b"[1]"),
         post(b"[{}]"),
-        of(*[{"channel": CHANNEL}] * (MESSAGES + 1)),
+        of(*[{"channel": CHANNEL}] * (MOST_MESSAGES + 1)),
         post(b"[]")[:-1],
     ]:
         yield [request]
     yield [of(connect), of(ready)]
-    for messages in ([publish] * MESSAGES, [publish] * MESSAGES, [ready], [{"channel": "/meta/disconnect", **session}]):
+    for messages in ([publish] * MOST_MESSAGES, [publish] * MOST_MESSAGES, [ready], [{"channel": "/meta/disconnect", **session}]):
         yield [of(*messages)]
 
 
@@ -130,7 +129,7 @@ def serve(daemon, address, requests):
         connections = []
         for request in requests:
             if connections:
-                expect_values(daemon.metrics, {HELD: len(connections)})
+                expect_values(daemon.metrics, {CONNECTS_HELD: len(connections)})
             connections.append(stack.enter_context(Connection(address)))
             connections[-1].send(request)
             if request.endswith(b"\r\n\r\n["):
@@ -157,7 +156,7 @@ def count_response(response):
             texts.add(item["error"])
         else:
             changes["bayeux_replies_total", f'{{kind="{kind if kind in KINDS else "publish"}"}}'] += 1
-            changes["bayeux_sessions", ""] += (kind == "handshake") - (kind == "disconnect")
+            changes[SESSIONS] += (kind == "handshake") - (kind == "disconnect")
             changes["bayeux_sessions_opened_total", ""] += kind == "handshake"
     return changes, texts
 
@@ -165,16 +164,13 @@ def count_response(response):
 def expect_changes(daemon, before, changes, what):
     """Waits until the metrics have changed from `before` by `changes` and in no other way. Returns them."""
     wanted = {name: value for name, value in changes.items() if value}
-    end = time.monotonic() + TIMEOUT_SECONDS
-    while True:
-        values = scrape(daemon.metrics)
+
+    def fault_of(values):
         changed = [name for name, value in values.items() if value != before[name] and not CHANGING.match(name[0])]
         found = {name: values[name] - before[name] for name in changed}
-        if found == wanted:
-            return values
-        if time.monotonic() > end:
-            raise CheckFailed(f"the metrics changed by {found} in place of {wanted} because of {what[:300]!r}")
-        time.sleep(0.02)
+        return "" if found == wanted else f"the metrics changed by {found} in place of {wanted} because of {what[:300]!r}"
+
+    return wait_for_metrics(daemon.metrics, fault_of)
 
 
 def check_listener(daemon, address):
@@ -184,10 +180,10 @@ def check_listener(daemon, address):
     """
     with Connection(address) as connection:
         session = open_session(connection)
-    before, texts = expect_values(daemon.metrics, {("bayeux_connections", ""): 0, ("bayeux_sessions", ""): 1}), set()
+    before, texts = expect_values(daemon.metrics, {OPEN: 0, SESSIONS: 1}), set()
     for requests in cases_of(session):
         responses = serve(daemon, address, requests)
-        changes = collections.Counter({("bayeux_connections_total", ""): len(requests)})
+        changes = collections.Counter({OPENED: len(requests)})
         for it in responses:
             more, found = count_response(it)
             changes.update(more)
@@ -197,7 +193,7 @@ def check_listener(daemon, address):
 
 
 def check_counts(program):
-    flags = ["--sessions", str(SESSIONS), "--limit", str(EVENTS), "--body", str(BODY)]
+    flags = ["--sessions", str(MOST_SESSIONS), "--limit", str(EVENTS), "--body", str(BODY)]
     readers = ["--readers", "127.0.0.1:0", "--readers-publish", "/counted/**"]
     wanted = (documented_reasons() | documented_errors()) - set(RARE)
     for is_reader in (False, True):
@@ -213,7 +209,7 @@ def check_counts(program):
             (response,) = serve(daemon, daemon.address, [request])
             changes, found = count_response(response)
             expect_equal("the reason", found, {reason})
-            before = expect_changes(daemon, before, changes + collections.Counter([("bayeux_connections_total", "")]), request)
+            before = expect_changes(daemon, before, changes + collections.Counter([OPENED]), request)
 
 
 def more_ticks(values, before):
@@ -231,13 +227,13 @@ def check_closed(program):
         daemon = stack.enter_context(NonExpiringDaemon(program, "--connections", "3", "--until-eof"))
         connection, holder = (stack.enter_context(Connection(daemon.address)) for _ in range(2))
         send_connect(holder, open_session(connection))
-        before = expect_values(daemon.metrics, {HELD: 1})
+        before = expect_values(daemon.metrics, {CONNECTS_HELD: 1})
         daemon.process.stdin.close()
         expect_equal("the status of a held connect", holder.response().status, 503)
         expect_status(connection, post(b"[]"), 503, CLOSED)
         refused = {("bayeux_requests_refused_total", f'{{status="503",reason="{reason}"}}'): 1 for reason in (CLOSED, UNANSWERED)}
         # The held connects are those of the last tick.
-        gone = {("bayeux_requests", ""): -1, ("bayeux_requests_held", ""): -1}
+        gone = {("bayeux_requests", ""): -1, REQUESTS_HELD: -1}
         more = {("bayeux_responses_total", '{status="503"}'): 2, ("bayeux_processing_seconds_count", ""): 1}
         after = expect_changes(daemon, before, {**refused, **gone, **more}, b"[]")
         ticks = wait_until("more ticks", lambda: more_ticks(scrape(daemon.metrics), after))
@@ -247,16 +243,14 @@ def check_closed(program):
         for it in (connection, holder):
             it.socket.close()
         daemon.expect_end()
-        logged = re.findall(r'requests failed reason="(.*)" listener=main count=([0-9]+)', daemon.full_log().decode())
-        expect_equal("refusals in the log", sorted(logged), sorted((it, "1") for it in (CLOSED, UNANSWERED)))
+        found = sorted(it for _, *it in daemon.failed_requests())
+        expect_equal("refusals in the log", found, sorted([it, "main", 1] for it in (CLOSED, UNANSWERED)))
         expect_documented(daemon.full_log())
 
 
 def refusals_in_log(daemon):
     """Returns the time and the count of each line about requests that are not JSON in the log of `daemon`."""
-    line = rb'^(\S+)Z \[WARN  bayeuxd\] requests failed reason="the messages are not JSON" listener=main count=([0-9]+)$'
-    lines = re.findall(line, daemon.timed_log(), re.MULTILINE)
-    return [(datetime.datetime.strptime(when.decode(), "%Y-%m-%dT%H:%M:%S.%f"), int(count)) for when, count in lines]
+    return [(moment, count) for moment, *names, count in daemon.failed_requests() if names == [JUDGED[0], "main"]]
 
 
 def check_pace(program):
@@ -270,9 +264,52 @@ def check_pace(program):
                 expect_status(connection, post(b"["), 400)
                 sent += 1
                 time.sleep(0.01)
-        daemon.process.stdin.close()
-        daemon.expect_end()
+        daemon.close()
         lines = refusals_in_log(daemon)
         pauses = [(later - earlier).total_seconds() for (earlier, _), (later, _) in zip(lines[: LINES - 1], lines[1:LINES])]
         if min(pauses) < LEAST_PAUSE or sum(count for _, count in lines) != sent:
             raise CheckFailed(f"more than a line a second, or not {sent} refused requests: {lines}")
+
+
+def overflow(connection):
+    """Opens a session and overflows it: two events for it wait, of which it may have one."""
+    session = open_session(connection)
+    subscribe(connection, WATCHED, session)
+    expect_success(connection.ask([{"channel": WATCHED, "data": data, **session} for data in (1, 2)]), 2)
+    expect_error(poll(connection, session), "413::Queue overflow")
+    expect_success(connection.ask([{"channel": "/meta/disconnect", **session}]), 1)
+
+
+def logged(daemon, message):
+    """Returns the sum of the counts in the log lines with `message`."""
+    return sum(map(int, re.findall(rf"^\[WARN  bayeuxd\] {message} count=([0-9]+)$", daemon.log_tail().decode(), re.MULTILINE)))
+
+
+def check_overflows(program):
+    with FlagDaemon(program, "--limit", "1") as daemon, Connection(daemon.address) as connection:
+        check_serves(daemon.address, "/other")
+        for _ in range(OVERFLOWING):
+            overflow(connection)
+        wait_until("the log has the sessions that overflowed", lambda: logged(daemon, "sessions overflowed") == OVERFLOWING)
+        overflow(connection)
+        daemon.close()
+        if logged(daemon, "sessions overflowed") != OVERFLOWING + 1:
+            raise CheckFailed(f"not {OVERFLOWING + 1} sessions that overflowed: {daemon.log_tail()!r}")
+        expect_documented(daemon.full_log())
+    for _ in range(REJECTED_ENDS):
+        check_rejected(program)
+    check_pace(program)
+
+
+def check_rejected(program):
+    """Checks that the log counts rejected handshakes, also those directly before the end."""
+    with FlagDaemon(program, "--sessions", "1") as daemon:
+        with Connection(daemon.address) as connection:
+            open_session(connection)
+            expect_error(connection.ask([HANDSHAKE]), "503::Too many sessions")
+            wait_until("the log has the rejected handshake", lambda: logged(daemon, "handshakes rejected") == 1)
+            expect_error(connection.ask([HANDSHAKE]), "503::Too many sessions")
+        daemon.close()
+        if logged(daemon, "handshakes rejected") != 2:
+            raise CheckFailed(f"not 2 rejected handshakes: {daemon.log_tail()!r}")
+        expect_documented(daemon.full_log())

@@ -1,7 +1,10 @@
 """A daemon on a free port of loopback, a connection to it, and a line of progress."""
+import contextlib
+import datetime
 import json
 import os
 import re
+import resource
 import select
 import signal
 import socket
@@ -14,6 +17,8 @@ from base import CLEAR_LINE, TIMEOUT_SECONDS, CheckFailed, run_check, wait_until
 
 # The seed of the daemons. No two bytes are equal, so that a byte read at a wrong place is noticed.
 SEED = bytes(range(1, 33)).hex()
+# The most messages of a request, and how many requests are sent at a time.
+MOST_MESSAGES, AT_ONCE = 256, 200
 FORM = b"application/x-www-form-urlencoded"
 CONNECT = {"channel": "/meta/connect", "connectionType": "long-polling"}
 HANDSHAKE = {"channel": "/meta/handshake", "version": "1.0", "supportedConnectionTypes": ["long-polling"]}
@@ -75,8 +80,22 @@ class Daemon:
 
     def readers_address(self):
         """Waits until the log has the address of the readers' listener, and returns it."""
-        wait_until("a line that tells where readers come", lambda: re.search(rb"readers listening address=\S+\n", self.log_tail()))
+        self.wait_for_log(r"readers listening address=\S+\n")
         return self.logged_address("readers listening address=")
+
+    def metrics_address(self):
+        """Returns the address of the metrics listener, which the log has when the daemon listens."""
+        return self.logged_address("metrics listening address=")
+
+    def wait_for_log(self, pattern):
+        """Waits until the last 2,000 bytes of the log match `pattern`, and returns the match."""
+        return wait_until(f"the log has {pattern!r}", lambda: re.search(pattern, self.log_tail().decode(errors="replace")))
+
+    def failed_requests(self):
+        """Returns the lines of the log about failed requests, each as its time, reason, listener, and count."""
+        line = r'^(\S+)Z \[WARN  bayeuxd\] requests failed reason="([^"]+)" listener=([a-z-]+) count=([0-9]+)$'
+        found = re.findall(line, self.timed_log().decode(), re.MULTILINE)
+        return [(datetime.datetime.strptime(moment, "%Y-%m-%dT%H:%M:%S.%f"), *names, int(count)) for moment, *names, count in found]
 
     def log_tail(self):
         """Returns the last 2,000 bytes that the daemon wrote to standard error, without the times of log lines."""
@@ -104,6 +123,30 @@ class Daemon:
     def descriptors(self):
         """Returns how many file descriptors the process has open."""
         return len(os.listdir(f"/proc/{self.process.pid}/fd"))
+
+    @contextlib.contextmanager
+    def without_descriptors(self):
+        """Limits the file descriptors of the process, so that none is free. An accept that waits already has one."""
+        used = os.listdir(f"/proc/{self.process.pid}/fd")
+        free = next(number for number in range(len(used) + 1) if str(number) not in used)
+        limits = resource.prlimit(self.process.pid, resource.RLIMIT_NOFILE)
+        resource.prlimit(self.process.pid, resource.RLIMIT_NOFILE, (free, limits[1]))
+        yield
+        resource.prlimit(self.process.pid, resource.RLIMIT_NOFILE, limits)
+
+    def threads(self):
+        """Returns the threads of the process, as a set of their numbers in decimal."""
+        return set(os.listdir(f"/proc/{self.process.pid}/task"))
+
+    def running_threads(self):
+        """Returns the threads of the process that run, or wait for a processor."""
+        found = set()
+        for it in self.threads():
+            path = f"/proc/{self.process.pid}/task/{it}/stat"
+            with contextlib.suppress(FileNotFoundError, ProcessLookupError), open(path, encoding="utf-8", errors="replace") as text:
+                if text.read().rpartition(")")[2].split()[0] == "R":
+                    found.add(it)
+        return found
 
     def processor_seconds(self):
         """Returns the processor time that the process has used so far, in seconds."""
@@ -144,6 +187,14 @@ class FlagDaemon(Daemon):
         listening = [] if "--listen" in flags else ["--listen", "localhost:0"]
         self.begin([program, *listening, *until, *lasting, *flags], stdin=subprocess.PIPE, **streams)
 
+    def close(self):
+        """Closes the daemon's standard input.
+
+        Raises `CheckFailed` if the daemon does not then end with status 0.
+        """
+        self.process.stdin.close()
+        self.expect_end()
+
     def end(self):
         self.process.stdin.close()
         super().end()
@@ -157,7 +208,7 @@ class NonExpiringDaemon(FlagDaemon):
 
     def __init__(self, program, *flags, **streams):
         super().__init__(program, "--timeout", "600s", "--metrics", "127.0.0.1:0", *flags, **streams)
-        self.metrics = self.logged_address("metrics listening address=")
+        self.metrics = self.metrics_address()
 
 
 class DaemonWithReaders(NonExpiringDaemon):
@@ -278,6 +329,34 @@ class Connection:
             raise CheckFailed(f"status {response.status} for {messages}")
         return response.items()
 
+    def repeat(self, request, count):
+        """Sends `request` `count` times, `AT_ONCE` at a time, and yields the responses."""
+        for at in range(0, count, AT_ONCE):
+            more = min(AT_ONCE, count - at)
+            self.send(request * more)
+            for _ in range(more):
+                yield self.response()
+
+
+class SlowReader(Connection):
+    """A connection over which the system takes little that its client does not read.
+
+    `buffer`: the bytes of the client's buffer. `segment`: the most bytes of a segment, or `None` for any number.
+    """
+
+    def __init__(self, address, buffer, segment=None):
+        self.buffer, self.segment = buffer, segment
+        super().__init__(address)
+
+    def open(self):
+        self.input, self.was_reset = b"", False
+        self.socket = socket.socket()
+        self.socket.settimeout(self.timeout)
+        if self.segment:
+            self.socket.setsockopt(socket.IPPROTO_TCP, socket.TCP_MAXSEG, self.segment)
+        self.socket.setsockopt(socket.SOL_SOCKET, socket.SO_RCVBUF, self.buffer)
+        self.socket.connect(self.address)
+
 
 def post(body, kind=b"application/json", path=b"/cometd"):
     """Returns a POST of `body` to `path`. `kind`: its content type."""
@@ -353,6 +432,15 @@ def publish(connection, channel, data, session):
     expect_success(connection.ask([{"channel": channel, "data": data, **session}]), 1)
 
 
+def publish_to(address, sessions, events):
+    """Subscribes each of `sessions` to the channel of `events`, and then publishes these in the first session."""
+    with Connection(address) as connection:
+        for session in sessions:
+            subscribe(connection, events[0]["channel"], session)
+        for event in events:
+            publish(connection, event["channel"], event["data"], sessions[0])
+
+
 def send_connect(connection, session):
     """Sends a connect, and does not wait for the response."""
     connection.send(post(json.dumps([{**CONNECT, **session}]).encode()))
@@ -395,6 +483,11 @@ def has_sanitizer(program):
     """Returns `True` if `program` was compiled with AddressSanitizer."""
     with open(program, "rb") as file:
         return b"__asan_init" in file.read()
+
+
+def with_sanitizer_options(options):
+    """Returns the environment with more `options` of AddressSanitizer. They have no effect on a program without it."""
+    return {**os.environ, "ASAN_OPTIONS": f"{os.environ.get('ASAN_OPTIONS', '')}:{options}"}
 
 
 def run_with_daemon(name, daemon, check):

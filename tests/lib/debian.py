@@ -2,6 +2,7 @@
 
 Programs in it run with their own network, processes and mounts.
 """
+import argparse
 import os
 import pathlib
 import shutil
@@ -10,7 +11,7 @@ import subprocess
 import sys
 import tempfile
 
-from base import TIMEOUT_SECONDS, TOP, CheckFailed
+from base import SKIPPED, TIMEOUT_SECONDS, TOP, CheckFailed, ScriptParser, read
 
 TOOLS = {"mmdebstrap": "mmdebstrap", "unshare": "util-linux", "ip": "iproute2"}
 
@@ -36,7 +37,7 @@ def find_package(path):
 
     The release's package counts only if it has the version in VERSION. Raises `CannotRun` if there is no package.
     """
-    name = f"gadzilk_{(TOP / 'VERSION').read_text(encoding='ascii').strip()}_amd64.deb"
+    name = f"gadzilk_{read('VERSION').strip()}_amd64.deb"
     paths = [path] if path else [TOP / "dist" / name, TOP / "out" / name]
     found = next((it for it in paths if it.is_file()), None)
     if not found:
@@ -95,6 +96,32 @@ def run_in_debian(packages, args):
         return subprocess.run([*apart, sys.executable, sys.argv[0], "--inside", root, *args], check=False).returncode
     finally:
         remove_folder(folder)
+
+
+def run_package_test(name, description, packages, run_inside, check_first=lambda _: None):
+    """Parses the arguments of a script that tests the package in a Debian, runs it, and returns the status.
+
+    `name`: the path of the script, for messages. `description`: its docstring. `packages`: those that the Debian has.
+    `run_inside`: the test, a function of the folder of the Debian and of the path of the package. `check_first`: a
+    function of this path, which is called before the Debian is installed. The status is 77 if the test cannot run.
+    """
+    parser = ScriptParser(description)
+    parser.add_argument("package", nargs="?", type=pathlib.Path)
+    parser.add_argument("--inside", metavar="ROOT", help=argparse.SUPPRESS)
+    given = parser.parse_args()
+    try:
+        package = find_package(given.package)
+        if given.inside:
+            run_inside(given.inside, package)
+            return 0
+        check_first(package)
+        return run_in_debian(packages, [str(package)])
+    except (CheckFailed, subprocess.TimeoutExpired) as error:
+        print(f"{name}: {error}", file=sys.stderr)
+        return 1
+    except CannotRun as error:
+        print(f"{name}: nothing is tried: {error}", file=sys.stderr)
+        return SKIPPED
 
 
 class Debian:

@@ -7,10 +7,9 @@ import re
 import urllib.parse
 
 from base import CheckFailed
-from daemon import post
+from daemon import MOST_MESSAGES, post
 
 DEPTH = 127
-MESSAGES = 256
 LIMIT = 1 << 20
 # The most bytes of a query. The library that reads heads rejects request lines that are longer
 # than some 64 KiB, with status 414.
@@ -80,7 +79,7 @@ def messages_of(body):
     found = [read] if isinstance(read, dict) else read
     if depth(text) > DEPTH or not isinstance(found, list) or not all(isinstance(it, dict) for it in found):
         return None
-    if len(found) > MESSAGES or not all(isinstance(it.get("channel"), str) for it in found):
+    if len(found) > MOST_MESSAGES or not all(isinstance(it.get("channel"), str) for it in found):
         return None
     return found
 
@@ -91,7 +90,7 @@ def joined(bodies):
     Returns `None` if one document is not valid, or if there are too many messages.
     """
     found = [messages_of(body) for body in bodies]
-    if None in found or sum(len(it) for it in found) > MESSAGES:
+    if None in found or sum(len(it) for it in found) > MOST_MESSAGES:
         return None
     return [message for part in found for message in part]
 

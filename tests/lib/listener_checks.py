@@ -7,12 +7,11 @@ import resource
 import socket
 import time
 
-from base import TOP, CheckFailed, wait_until
-from daemon import HANDSHAKE, Connection, FlagDaemon, NonExpiringDaemon, expect_events, expect_status, expect_success, get, open_session, poll, post, send_connect, subscribe
+from base import CheckFailed, read, wait_until
+from daemon import AT_ONCE, HANDSHAKE, Connection, FlagDaemon, NonExpiringDaemon, SlowReader, expect_events, expect_status
+from daemon import expect_success, get, open_session, poll, post, send_connect, subscribe
 from metrics import ask_for, expect_values, scrape
 
-# How many sessions are opened or closed at a time.
-AT_ONCE = 200
 # Flags with limits and times, and the metrics with their values.
 LIMITS = ["--limit=3", "--bytes=6000", "--patterns=7", "--sessions=8", "--body=9000", "--shards=2", "--timeout=1500ms", "--interval=2s", "--max-interval=4294967295"]
 LIMITED = {
@@ -101,21 +100,18 @@ def check_processor_time(daemon, metrics):
     with Connection(daemon.address) as client:
         until = daemon.processor_seconds() + WORK
         while (used := daemon.processor_seconds()) < until:
-            for _ in range(AT_ONCE):
-                client.send(SMALL_WORK)
-            for _ in range(AT_ONCE):
-                client.response()
+            for _ in client.repeat(SMALL_WORK, AT_ONCE):
+                pass
     found = scrape(metrics)["process_cpu_seconds_total", ""]
     if not used <= found <= daemon.processor_seconds():
         raise CheckFailed(f"processor time after requests: not from {used} to {daemon.processor_seconds()}: {found}")
 
 
 def check_process(program):
-    with open(TOP / "VERSION", encoding="ascii") as text:
-        version = text.read().strip()
+    version = read("VERSION").strip()
     start = time.time()
     with FlagDaemon(program, "--metrics", "localhost:0", *LIMITS) as daemon:
-        metrics, used = daemon.logged_address("metrics listening address="), daemon.processor_seconds()
+        metrics, used = daemon.metrics_address(), daemon.processor_seconds()
         values = expect_values(metrics, {("bayeux_build_info", f'{{version="{version}"}}'): 1, **LIMITED})
         found = {name: value for (name, _), value in values.items() if name.startswith("process_")}
         if not used <= found["process_cpu_seconds_total"] <= daemon.processor_seconds():
@@ -124,7 +120,7 @@ def check_process(program):
         wait_until("the metrics of memory are near those of /proc", lambda: has_memory(daemon.process.pid, scrape(metrics)))
         expect_near("start", found["process_start_time_seconds"], start, START_CHANGE)
         # A thread for each processor serves connections. The others are the first, and those of ticks, metrics and standard input.
-        threads, least = len(os.listdir(f"/proc/{daemon.process.pid}/task")), len(os.sched_getaffinity(0)) + 4
+        threads, least = len(daemon.threads()), len(os.sched_getaffinity(0)) + 4
         if threads < least:
             raise CheckFailed(f"{threads} threads, and not {least}")
         # The metrics also count the connection that asks for them.
@@ -134,7 +130,7 @@ def check_process(program):
         check_processor_time(daemon, metrics)
     with FlagDaemon(program, "--metrics", "localhost:0") as daemon:
         unlimited = ("bayeux_limit", '{name="bytes"}')
-        if unlimited in scrape(daemon.logged_address("metrics listening address=")):
+        if unlimited in scrape(daemon.metrics_address()):
             raise CheckFailed("a limit of bytes though none was given")
 
 
@@ -194,12 +190,8 @@ def expect_lists(daemon, client, start):
 def open_many(connection, count):
     """Opens `count` sessions, and returns the members with their client ids."""
     connection.renew()
-    sessions = []
-    for at in range(0, count, AT_ONCE):
-        more = min(AT_ONCE, count - at)
-        connection.send(post(json.dumps([HANDSHAKE]).encode()) * more)
-        sessions += [{"clientId": expect_success(connection.response().items(), 1)[0]["clientId"]} for _ in range(more)]
-    return sessions
+    responses = connection.repeat(post(json.dumps([HANDSHAKE]).encode()), count)
+    return [{"clientId": expect_success(it.items(), 1)[0]["clientId"]} for it in responses]
 
 
 def close_all(connection, sessions):
@@ -226,11 +218,8 @@ def expect_no_wait_for_reader(metrics):
 
     `metrics`: the address of the metrics listener.
     """
-    with socket.socket() as stuck:
-        stuck.setsockopt(socket.IPPROTO_TCP, socket.TCP_MAXSEG, SMALL_SEGMENT)
-        stuck.setsockopt(socket.SOL_SOCKET, socket.SO_RCVBUF, SMALL_BUFFER)
-        stuck.connect(metrics)
-        stuck.sendall(get(b"", b"/sessions"))
+    with SlowReader(metrics, SMALL_BUFFER, SMALL_SEGMENT) as stuck:
+        stuck.send(get(b"", b"/sessions"))
         try:
             scrape(metrics)
         except CheckFailed as error:

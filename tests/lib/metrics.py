@@ -6,6 +6,12 @@ import time
 from base import CheckFailed
 from daemon import TIMEOUT_SECONDS, Connection, get
 
+# Metrics, by name and labels.
+TICKED, REFUSED_TICKS, UPTIME = ("bayeux_ticks_total", ""), ("bayeux_ticks_refused_total", ""), ("bayeux_uptime_seconds_total", "")
+OPEN, OPENED, SESSIONS = ("bayeux_connections", ""), ("bayeux_connections_total", ""), ("bayeux_sessions", "")
+REQUESTS_HELD, CONNECTS_HELD = ("bayeux_requests_held", ""), ("bayeux_connects_held", "")
+FILED, SWEPT = ("bayeux_answers_filed", ""), ("bayeux_answers_swept_total", "")
+SERVED = ("bayeux_responses_total", '{status="200"}')
 # The two kinds of lines of a page: a comment, and a value with its name and labels.
 COMMENT = re.compile(r"# (HELP|TYPE) ([a-z_]+) (?:counter|gauge|histogram|[A-Z][^\\]*\.)")
 SAMPLE = re.compile(r'([a-z_]+)(|\{[a-z]+="[^"\\]+"(?:,[a-z]+="[^"\\]+")*\}) ([0-9]+(?:\.[0-9]+)?)')
@@ -70,7 +76,16 @@ def differences(values, expected):
 def expect_values(address, expected):
     """Waits until the metrics have the values `expected`, and returns all values.
 
-    Raises `CheckFailed` after `TIMEOUT_SECONDS` seconds, or if the daemon ends before. The message has the values that differ.
+    Raises `CheckFailed` as `wait_for_metrics` does. The message has the values that differ.
+    """
+    return wait_for_metrics(address, lambda values: differences(values, expected))
+
+
+def wait_for_metrics(address, fault_of):
+    """Waits until the metrics are right, and returns all values.
+
+    `fault_of`: a function of the values that returns a text about what is wrong, or an empty text. Raises `CheckFailed`
+    with the text after `TIMEOUT_SECONDS` seconds, or if the daemon ends before.
     """
     end, wrong = time.monotonic() + TIMEOUT_SECONDS, ""
     while True:
@@ -78,7 +93,7 @@ def expect_values(address, expected):
             values = scrape(address)
         except (CheckFailed, OSError) as error:
             raise CheckFailed(f"{wrong}, and then {error}" if wrong else f"{error}") from error
-        wrong = differences(values, expected)
+        wrong = fault_of(values)
         if not wrong:
             return values
         if time.monotonic() > end:

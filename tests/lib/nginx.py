@@ -4,7 +4,7 @@ import getpass
 import pathlib
 import subprocess
 
-from base import TOP, CheckFailed, can_connect, end, expect_equal, free_port, wait_until
+from base import TOP, CheckFailed, can_connect, end, expect_equal, free_port, read, wait_until
 
 # The lines of the configuration that disable callback-polling.
 CALLBACK_POLLING_OFF = """            limit_except POST {
@@ -51,7 +51,7 @@ def configuration(upstream, secure, folder, changes):
     `upstream`: the port of the server. `secure`: the port of nginx. `folder`: for the files of nginx.
     Raises `CheckFailed` if a text that is to be replaced is missing.
     """
-    text = (TOP / "packaging/nginx/nginx.conf").read_text(encoding="utf-8")
+    text = read("packaging/nginx/nginx.conf")
     for old, new in {
         "user www-data;": f"user {getpass.getuser()};",
         "/run/nginx.pid": f"{folder}/nginx.pid",

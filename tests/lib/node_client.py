@@ -6,7 +6,7 @@ import shutil
 import subprocess
 import tempfile
 
-from base import TIMEOUT_SECONDS, TOP, CheckFailed, expect_equal, wait_until
+from base import TIMEOUT_SECONDS, TOP, CheckFailed, expect_equal, read, wait_until
 from daemon import HANDSHAKE
 from server import Server
 
@@ -98,7 +98,7 @@ def run_program(text, *args):
 
 def check_example(server):
     """Checks that the example for node of docs/CLIENT.md publishes its message, and ends its session."""
-    page = (TOP / "docs/CLIENT.md").read_text(encoding="utf-8")
+    page = read("docs/CLIENT.md")
     examples = [it for it in re.findall(r"^```js\n(.*?)^```$", page, re.MULTILINE | re.DOTALL) if "from 'gadzilk-client'" in it]
     expect_equal("examples for node in docs/CLIENT.md", len(examples), 1)
     address, own = "http://127.0.0.1:8087/cometd", f"http://127.0.0.1:{server.port}/cometd"

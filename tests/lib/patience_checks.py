@@ -4,19 +4,16 @@ The times are those of docs/PROTOCOL.md and of docs/ERRORS.md, "Statuses of HTTP
 """
 import contextlib
 import errno
-import os
 import re
-import shutil
-import socket
-import struct
-import subprocess
 import tempfile
 import time
 
-from base import TOP, CheckFailed, expect_equal, wait_until
-from daemon import Connection, ConnectionEnded, FlagDaemon, check_serves, expect_events, expect_status, expect_success
-from daemon import has_sanitizer, open_session, post, publish, send_connect, subscribe
-from metrics import expect_values, scrape
+from base import CheckFailed, expect_equal, retry, wait_until
+from daemon import Connection, ConnectionEnded, FlagDaemon, SlowReader, check_serves, expect_events, expect_status, expect_success
+from daemon import open_session, post, publish, publish_to, send_connect, subscribe
+from listener_checks import close_all
+from metrics import CONNECTS_HELD, OPEN, SESSIONS, TICKED, UPTIME, expect_values, scrape
+from system import Clock, environment
 
 HEAD = b"POST /cometd HTTP/1.1\r\nhost: h\r\ncontent-type: application/json\r\n"
 CHUNKED = HEAD + b"transfer-encoding: chunked\r\n\r\n"
@@ -39,12 +36,10 @@ CASES = {
 PATIENCE, WHOLE_BODY = 30, 300
 # A pause that is just short enough, the rest of the time, and the pause between the parts of a body.
 ALMOST, REST, STEP = PATIENCE - 0.5, 1.0, 20
-# Metrics.
-OPEN, TICKED, UPTIME = ("bayeux_connections", ""), ("bayeux_ticks_total", ""), ("bayeux_uptime_seconds_total", "")
-HELD, SESSIONS = ("bayeux_connects_held", ""), ("bayeux_sessions", "")
 # How often the states of the daemon's threads are read, and the pause between two looks, in seconds.
 LOOKS, PAUSE = 30, 0.01
-# How often a check is tried, and for how long it waits for the end of a connection, in seconds.
+# How often a check is tried, and for how long it waits for the end of a connection, in seconds. A thread of the daemon
+# may be stopped for a moment before it starts a timer, while the clock is set forward.
 TRIES, END = 3, 30
 # 40 days, in seconds, and the values of `--timeout` and `--max-interval`, which are 46 days. Together they have more milliseconds
 # than 32 bits can count.
@@ -60,46 +55,13 @@ ACCEPT_ERRORS = [
 ]
 
 
-def environment(program, folder, **variables):
-    """Returns the environment of `program` with the library of `system.c`, which it compiles in `folder`, and with `variables`."""
-    library = f"{folder}/system.so"
-    subprocess.run(["cc", "-O2", "-Wall", "-shared", "-fPIC", "-o", library, f"{TOP}/tests/lib/system.c"], check=True)
-    found = {**os.environ, "LD_PRELOAD": library, **variables}
-    if has_sanitizer(program):
-        found["ASAN_OPTIONS"] = f"{os.environ.get('ASAN_OPTIONS', '')}:verify_asan_link_order=0"
-    return found
-
-
-def needs_compiler(name, check):
-    """Returns `check`, or a check that only says that `name` is not tried if there is no C compiler."""
-    if shutil.which("cc"):
-        return check
-    return lambda _: print(f"tests/daemon/operation: {name}: not tried, since there is no C compiler")
-
-
-class Clock:
-    """The clock of a daemon, which moves only when it is set forward. `path`: the file that the daemon's library reads."""
-
-    def __init__(self, path):
-        self.path, self.seconds = path, 0.0
-        with open(path, "wb") as file:
-            file.write(struct.pack("<q", 0))
-
-    def add(self, seconds):
-        """Sets the clock forward by `seconds`."""
-        self.seconds += seconds
-        with open(self.path, "r+b") as file:
-            file.write(struct.pack("<q", round(self.seconds * 1000)))
-
-
 @contextlib.contextmanager
 def clocked_daemon(program):
-    """A daemon with metrics, and its clock."""
+    """A daemon with metrics, and its clock, which moves only when it is put forward."""
     with tempfile.TemporaryDirectory() as folder:
-        clock = Clock(f"{folder}/clock")
-        variables = environment(program, folder, CLOCK_FILE=clock.path)
-        with FlagDaemon(program, *LONG_TIMES, "--metrics", "127.0.0.1:0", env=variables) as daemon:
-            daemon.metrics = daemon.logged_address("metrics listening address=")
+        clock = Clock(folder, is_standing=True)
+        with FlagDaemon(program, *LONG_TIMES, "--metrics", "127.0.0.1:0", env=environment(folder, **clock.variables)) as daemon:
+            daemon.metrics = daemon.metrics_address()
             yield daemon, clock
 
 
@@ -120,16 +82,6 @@ def wait_for_reads(*connections):
         wait_until("the daemon has read what was sent", lambda it=it: unread_bytes(it) == 0)
 
 
-def has_running_thread(process):
-    """Returns `True` if a thread of a process runs, or waits for a processor."""
-    folder = f"/proc/{process}/task"
-    for it in os.listdir(folder):
-        with contextlib.suppress(FileNotFoundError), open(f"{folder}/{it}/stat", encoding="utf-8", errors="replace") as text:
-            if text.read().rpartition(")")[2].split()[0] == "R":
-                return True
-    return False
-
-
 def wait_until_idle(what, daemon):
     """Waits until the daemon runs rarely. Raises `CheckFailed` if it always runs.
 
@@ -139,25 +91,11 @@ def wait_until_idle(what, daemon):
     def is_idle():
         running = 0
         for _ in range(LOOKS):
-            running += has_running_thread(daemon.process.pid)
+            running += bool(daemon.running_threads())
             time.sleep(PAUSE)
         return running < LOOKS / 2
 
     wait_until(f"the daemon takes little processor time while it waits for {what}", is_idle)
-
-
-def retry(check):
-    """Calls `check` until it passes, at most `TRIES` times. Returns what was wrong the last time, as a list.
-
-    A thread of the daemon may be stopped for a moment before it starts a timer, while the clock is set forward.
-    """
-    for left in reversed(range(TRIES)):
-        try:
-            check()
-            return []
-        except (CheckFailed, OSError) as failed:
-            wrong = [f"{failed}"] if not left else []
-    return wrong
 
 
 def wait_for_timers(metrics):
@@ -199,27 +137,12 @@ def wait_for_end(name, connection, wanted):
     expect_equal(f"the responses to {name}", responses_in(connection.input), wanted)
 
 
-def slow_reader(address):
-    """Returns a connection over which the system takes little that its client does not read."""
-    connection = Connection(address)
-    connection.socket.close()
-    connection.socket = socket.socket()
-    connection.socket.settimeout(connection.timeout)
-    connection.socket.setsockopt(socket.SOL_SOCKET, socket.SO_RCVBUF, SMALL_BUFFER)
-    connection.socket.connect(address)
-    return connection
-
-
 def events_for(address, sessions):
     """Publishes large events to the sessions, more than the system buffers for a client. Returns the events."""
     with open("/proc/sys/net/ipv4/tcp_wmem", encoding="ascii") as text:
         count = int(text.read().split()[2]) // EVENT + 3
     events = [{"channel": "/much", "data": chr(ord("a") + number % 26) * EVENT} for number in range(count)]
-    with Connection(address) as connection:
-        for session in sessions:
-            subscribe(connection, "/much", session)
-        for event in events:
-            publish(connection, event["channel"], event["data"], sessions[0])
+    publish_to(address, sessions, events)
     return events
 
 
@@ -230,7 +153,7 @@ def ending(address, sessions):
         yield
     finally:
         with Connection(address) as connection:
-            expect_success(connection.ask([{"channel": "/meta/disconnect", **it} for it in sessions]), len(sessions))
+            close_all(connection, sessions)
 
 
 def check_readers(daemon, clock):
@@ -238,10 +161,10 @@ def check_readers(daemon, clock):
 
     One other connection has a held connect.
     """
-    expect_values(daemon.metrics, {HELD: 1, OPEN: 1})
+    expect_values(daemon.metrics, {CONNECTS_HELD: 1, OPEN: 1})
     with Connection(daemon.address) as connection:
         sessions = [open_session(connection) for _ in range(2)]
-    with slow_reader(daemon.address) as slow, slow_reader(daemon.address) as stuck, ending(daemon.address, sessions):
+    with SlowReader(daemon.address, SMALL_BUFFER) as slow, SlowReader(daemon.address, SMALL_BUFFER) as stuck, ending(daemon.address, sessions):
         events = events_for(daemon.address, sessions)
         for it in zip((slow, stuck), sessions):
             send_connect(*it)
@@ -266,7 +189,7 @@ def check_unfinished(daemon, clock):
 
     One other connection has a held connect.
     """
-    expect_values(daemon.metrics, {HELD: 1, OPEN: 1})
+    expect_values(daemon.metrics, {CONNECTS_HELD: 1, OPEN: 1})
     with contextlib.ExitStack() as stack:
         found = {name: stack.enter_context(Connection(daemon.address)) for name in CASES}
         for name, connection in found.items():
@@ -315,12 +238,12 @@ def check_long_times(daemon, clock, holder, session):
         # It sends nothing more.
         open_session(connection)
     send_connect(holder, session)
-    expect_values(daemon.metrics, {HELD: 1})
+    expect_values(daemon.metrics, {CONNECTS_HELD: 1})
     clock.add(LONG - REST)
     wait_for_timers(daemon.metrics)
-    expect_values(daemon.metrics, {HELD: 1, SESSIONS: 2, UPTIME: int(clock.seconds)})
+    expect_values(daemon.metrics, {CONNECTS_HELD: 1, SESSIONS: 2, UPTIME: int(clock.seconds)})
     clock.add(2 * REST)
-    expect_values(daemon.metrics, {HELD: 0, SESSIONS: 1})
+    expect_values(daemon.metrics, {CONNECTS_HELD: 0, SESSIONS: 1})
     expect_success(holder.response().items(), 1)
 
 
@@ -333,7 +256,10 @@ def check_patience(program):
         send_connect(holder, session)
         wrong = []
         for check in (check_unfinished, check_bodies, check_readers):
-            wrong += retry(lambda check=check: check(daemon, clock))
+            try:
+                retry(lambda check=check: check(daemon, clock), TRIES)
+            except (CheckFailed, OSError) as failed:
+                wrong.append(f"{failed}")
         try:
             check_long_times(daemon, clock, holder, session)
         except CheckFailed as failed:
@@ -346,6 +272,6 @@ def check_accepts(program):
     """Checks that the daemon accepts the next connection whatever the error of an accept."""
     errors = [getattr(errno, it) for it in ACCEPT_ERRORS]
     with tempfile.TemporaryDirectory() as folder:
-        variables = environment(program, folder, ACCEPT_ERRORS=",".join(map(str, errors)))
+        variables = environment(folder, ACCEPT_ERRORS=",".join(map(str, errors)))
         with FlagDaemon(program, env=variables) as daemon:
             check_serves(daemon.address, "/accepts")

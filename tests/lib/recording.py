@@ -22,14 +22,6 @@ class RecordingDaemon(FlagDaemon):
     def __init__(self, program, path, *flags, **streams):
         super().__init__(program, "--record", path, *flags, **streams)
 
-    def close(self):
-        """Closes the daemon's standard input.
-
-        Raises `CheckFailed` if the daemon does not then end with status 0.
-        """
-        self.process.stdin.close()
-        self.expect_end()
-
 
 def records_answers(program):
     """Returns `True` if `program` has the flag --record-answers."""

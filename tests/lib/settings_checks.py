@@ -9,7 +9,7 @@ import subprocess
 import tempfile
 import time
 
-from base import TOP, CheckFailed, expect_equal, free_port, wait_until
+from base import CheckFailed, expect_equal, free_port, read, section, wait_until
 from chacha import drawn
 from daemon import HANDSHAKE, SEED, TIMEOUT_SECONDS, Connection, Daemon, FlagDaemon, check_serves, expect_error, expect_success
 from daemon import open_session
@@ -21,10 +21,9 @@ def documented_flags():
 
     The values are its argument or "", its default, its greatest value or "", and its text in lower case.
     """
-    section = (TOP / "docs/OPERATING.md").read_text(encoding="utf-8").partition("\n## Flags\n")[2].partition("\n## ")[0]
     item = r"^- `--([a-z-]+)(?: ([A-Z]+))?` \((`[^`]+`|[^;:)]+)(?:[;:] ([^)]*))?\): (.*(?:\n  .*)*)"
     found = {}
-    for name, argument, default, more, text in re.findall(item, section, re.MULTILINE):
+    for name, argument, default, more, text in re.findall(item, section("docs/OPERATING.md", "Flags"), re.MULTILINE):
         plain = " ".join(re.sub(r"\[([^\]]*)\]\([^)]*\)", r"\1", text).replace("`", "").split())
         found[name] = (argument, default.strip("`"), more.rpartition("1 to ")[2] if "1 to " in more else "", plain.lower())
     return found
@@ -386,7 +385,7 @@ def check_faults(program):
 
 def check_help(program):
     """Checks the help, which has the flags of OPERATING with their arguments, defaults and ranges, and the version."""
-    version = (TOP / "VERSION").read_text(encoding="ascii").strip()
+    version = read("VERSION").strip()
     for flag in ("--version", "-V"):
         expect_equal(f"what {flag} prints", run_daemon(program, [flag]), (0, f"bayeuxd {version}\n", ""))
     status, text, errors = run_daemon(program, ["--help"])
@@ -441,11 +440,6 @@ def expect_first_id(daemon, what):
         raise CheckFailed(f"the log has the seed: {daemon.full_log()!r}")
 
 
-def count_threads(daemon):
-    """Returns the number of threads of a daemon."""
-    return len(os.listdir(f"/proc/{daemon.process.pid}/task"))
-
-
 def check_processors(program):
     """Checks that a daemon has a shard and a worker thread for each processor that it may use, and no more."""
     allowed = sorted(os.sched_getaffinity(0))
@@ -457,9 +451,9 @@ def check_processors(program):
                     raise CheckFailed(f"not {shards} shards with {flags} and {count} processors: {daemon.full_log()!r}")
                 # The others are the first, and those of ticks and standard input.
                 wanted = count + 3
-                wait_until(f"{wanted} threads", lambda daemon=daemon, wanted=wanted: count_threads(daemon) >= wanted)
+                wait_until(f"{wanted} threads", lambda daemon=daemon, wanted=wanted: len(daemon.threads()) >= wanted)
                 time.sleep(0.1)
-                expect_equal("the number of threads", count_threads(daemon), wanted)
+                expect_equal("the number of threads", len(daemon.threads()), wanted)
 
 
 def expect_fault(program, args, message):

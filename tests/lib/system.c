@@ -1,9 +1,12 @@
 /* Changes what the system tells a program into which this library is preloaded:
 
-   - The monotonic clock moves only as the first 8 bytes of the file that CLOCK_FILE names say: a number of milliseconds since the
-     start of the program. The number may grow at any time. A wait for events ends after at most WAIT milliseconds, so that the
-     program notices this.
-   - The first accepts fail, each with the next error of ACCEPT_ERRORS, which has numbers and commas. */
+   - The first 8 bytes of the file that CLOCK_FILE names are a number of milliseconds, which may grow at any time. All
+     clocks go on as usual, and are ahead by this number.
+   - If CLOCK_STANDS is set, the monotonic clock moves only when this number grows, and the other clocks are not changed.
+     A wait for events then ends after at most WAIT milliseconds, so that the program notices a new number.
+   - The first accepts fail, each with the next error of ACCEPT_ERRORS, which has numbers and commas.
+
+   It calls the system itself, because AddressSanitizer ends a program that calls `dlsym` here. */
 #define _GNU_SOURCE
 #include <errno.h>
 #include <fcntl.h>
@@ -20,7 +23,8 @@
 #define WAIT 10
 
 static struct timespec start;
-static _Atomic int64_t *passed;
+static _Atomic int64_t *ahead;
+static int stands;
 static _Atomic(char *) errors;
 
 __attribute__((constructor)) static void begin(void) {
@@ -28,23 +32,27 @@ __attribute__((constructor)) static void begin(void) {
     errors = getenv("ACCEPT_ERRORS");
     if (!path) return;
     int file = open(path, O_RDONLY | O_CLOEXEC);
-    void *found = mmap(NULL, sizeof *passed, PROT_READ, MAP_SHARED, file, 0);
+    void *found = mmap(NULL, sizeof *ahead, PROT_READ, MAP_SHARED, file, 0);
     close(file);
     if (found == MAP_FAILED) abort();
     syscall(SYS_clock_gettime, CLOCK_MONOTONIC, &start);
-    passed = found;
+    stands = getenv("CLOCK_STANDS") != NULL;
+    ahead = found;
 }
 
 int clock_gettime(clockid_t clock, struct timespec *now) {
-    if (!passed || clock != CLOCK_MONOTONIC) return (int)syscall(SYS_clock_gettime, clock, now);
-    int64_t more = *passed, nanoseconds = start.tv_nsec + more % 1000 * 1000000;
-    now->tv_sec = start.tv_sec + more / 1000 + nanoseconds / 1000000000;
+    int is_still = stands && clock == CLOCK_MONOTONIC;
+    if (is_still) *now = start;
+    else if (syscall(SYS_clock_gettime, clock, now) != 0) return -1;
+    if (!ahead || (stands && !is_still)) return 0;
+    int64_t more = *ahead, nanoseconds = now->tv_nsec + more % 1000 * 1000000;
+    now->tv_sec += more / 1000 + nanoseconds / 1000000000;
     now->tv_nsec = nanoseconds % 1000000000;
     return 0;
 }
 
 int epoll_wait(int queue, struct epoll_event *events, int count, int wait) {
-    if (passed && (wait > WAIT || wait < 0)) wait = WAIT;
+    if (stands && (wait > WAIT || wait < 0)) wait = WAIT;
     return (int)syscall(SYS_epoll_pwait, queue, events, count, wait, NULL, 8);
 }
 

@@ -1,0 +1,231 @@
+"""Checks of what a daemon does as time passes: ticks, answers that nobody takes, ages, and moments after fifty days."""
+import tempfile
+import threading
+import time
+
+from base import CheckFailed, wait_until
+from daemon import TIMEOUT_SECONDS, Connection, NonExpiringDaemon, expect_error, expect_events, expect_status
+from daemon import hold_connect, open_session, poll, post, publish, send_connect, subscribe
+from listener_checks import read_list
+from metrics import CONNECTS_HELD, FILED, OPEN, REQUESTS_HELD, SESSIONS, SWEPT, TICKED, UPTIME, expect_values, scrape
+from system import Clock, environment
+
+# The number of sessions and of shards, how often each session leaves an answer, and for how many ticks the number of
+# answers is checked.
+LIVE, TURNS, TICKS = 16, 3, 5
+# The number of ticks before the first answer. If there are too many answers, the daemon keeps each for fewer ticks than
+# this.
+BEFORE = 15
+# In how many ticks the daemon drops answers if there are too many (a second), and in how many it drops any answer (a
+# minute). Both have room for a machine that is slow to look.
+MOST_SWEEP_TICKS, MOST_KEPT_TICKS = 50, 700
+# How often and for how long a check that lasts pauses, in seconds. The daemon waits 30 seconds for a request and for
+# more of a body.
+PAUSES, LONG_PAUSE = 5, 11.0
+# For how long an answer that nobody takes is kept, the seconds of an uptime that is read, the number of seconds in
+# which ticks are counted, and the number of ticks in each second that must be exceeded once. A busy machine has that
+# rarely, so this is tried often.
+KEPT, LEAST_UPTIME, COUNTING, LEAST_TICKS = 60.0, 62.0, 1.0, 6.0
+# How far the clocks are put forward, in seconds: fifty days, which are more than 2^32 milliseconds. The number of ticks
+# then, and by how many seconds an age or an uptime may differ on a slow machine.
+AHEAD, TICKS_AHEAD, AGES = 50 * 86_400, 3, 3600
+
+
+def leave_answers(daemon, sessions):
+    """Leaves an answer that nobody takes for each of `sessions`.
+
+    Their connects are held, their connections close, and then an event answers the connects.
+    """
+    metrics = daemon.metrics
+    connections = [Connection(daemon.address) for _ in sessions]
+    for it in zip(connections, sessions):
+        send_connect(*it)
+    expect_values(metrics, {REQUESTS_HELD: len(sessions), CONNECTS_HELD: len(sessions)})
+    for connection in connections:
+        connection.socket.close()
+    expect_values(metrics, {OPEN: 0, REQUESTS_HELD: 0, CONNECTS_HELD: len(sessions)})
+    with Connection(daemon.address) as connection:
+        publish(connection, "/all", 1, sessions[0])
+    expect_values(metrics, {CONNECTS_HELD: 0})
+
+
+def pages(metrics, count):
+    """Yields pages of metrics until `count` more ticks have passed."""
+    first = last = scrape(metrics)
+    end = time.monotonic() + TIMEOUT_SECONDS
+    while last[TICKED] < first[TICKED] + count:
+        if time.monotonic() > end:
+            raise CheckFailed(f"there were {last[TICKED] - first[TICKED]} ticks in {TIMEOUT_SECONDS} seconds")
+        time.sleep(0.05)
+        last = scrape(metrics)
+        yield last
+
+
+def expect_filed(metrics, count):
+    """Waits until `count` answers are filed, for at most `MOST_SWEEP_TICKS` ticks.
+
+    Checks that they then stay for `TICKS` ticks. `metrics`: the address of the metrics listener.
+    """
+    first = scrape(metrics)[TICKED]
+    ticks = expect_values(metrics, {FILED: count})[TICKED] - first
+    if ticks > MOST_SWEEP_TICKS:
+        raise CheckFailed(f"more than {count} answers that nobody took are kept for {ticks} ticks")
+    for page in pages(metrics, TICKS):
+        if page[FILED] != count:
+            raise CheckFailed(f"{page[FILED]} of {count} answers that nobody took are kept")
+
+
+def check_sweep(program):
+    with NonExpiringDaemon(program, "--shards", str(LIVE), "--sessions", str(LIVE)) as daemon:
+        with Connection(daemon.address) as connection:
+            sessions = [open_session(connection) for _ in range(LIVE)]
+            for session in sessions:
+                subscribe(connection, "/all", session)
+        list(pages(daemon.metrics, BEFORE))
+        for _ in range(TURNS):
+            leave_answers(daemon, sessions)
+            expect_filed(daemon.metrics, LIVE)
+        expect_values(daemon.metrics, {SWEPT: (TURNS - 1) * LIVE})
+
+
+class Lasting(threading.Thread):
+    """The check `lasting`, in a thread. `finish` waits for its end."""
+
+    def __init__(self, program):
+        super().__init__(daemon=True)
+        self.program, self.wrong, self.ticks = program, None, 0
+
+    def run(self):
+        start = time.monotonic()
+        try:
+            with NonExpiringDaemon(self.program, "--shards", "1") as daemon:
+                listening = time.monotonic()
+                filed = self.file_answer(daemon)
+                with Connection(daemon.address) as idle, Connection(daemon.address) as slow:
+                    self.pause(daemon, idle, slow, filed)
+                self.check_ticks(daemon.metrics)
+                self.check_uptime(daemon.metrics, start, listening)
+                self.check_age(daemon.metrics, start, filed)
+                self.check_kept(daemon.metrics, filed)
+                self.check_dropped(daemon.metrics)
+        except Exception as error:  # pylint: disable=broad-exception-caught
+            self.wrong = error
+
+    def finish(self):
+        """Waits until the check has ended. Raises `CheckFailed` if it failed."""
+        self.join()
+        if self.wrong:
+            raise CheckFailed(f"{self.wrong}") from self.wrong
+
+    def file_answer(self, daemon):
+        """Leaves an answer that nobody takes. Returns a time before it was left, in seconds."""
+        with Connection(daemon.address) as connection:
+            session = open_session(connection)
+            subscribe(connection, "/all", session)
+        before = time.monotonic()
+        leave_answers(daemon, [session])
+        self.ticks = expect_values(daemon.metrics, {FILED: 1})[TICKED]
+        return before
+
+    def pause(self, daemon, idle, slow, filed):
+        """Checks that the connection `idle` is served after pauses, and a body that arrives in parts over `slow`.
+
+        The pauses together are longer than one may be. `filed`: as `check_kept` has it.
+        """
+        request = post(b"[%s]" % (b" " * PAUSES))
+        slow.send(request[: -PAUSES - 1])
+        for _ in range(PAUSES):
+            expect_status(idle, post(b"[]"), 200)
+            time.sleep(LONG_PAUSE)
+            slow.send(b" ")
+            self.check_kept(daemon.metrics, filed)
+        expect_status(idle, post(b"[]"), 200)
+        expect_status(slow, b"]", 200)
+
+    @staticmethod
+    def check_kept(metrics, filed):
+        """Raises `CheckFailed` if an answer that was left after the time `filed` has been dropped too early."""
+        value = scrape(metrics)[FILED]
+        if not value and time.monotonic() - filed < KEPT:
+            raise CheckFailed(f"an answer that nobody took was dropped within {time.monotonic() - filed:.1f} seconds")
+
+    def check_dropped(self, metrics):
+        """Checks that the answer that `file_answer` left is dropped within `MOST_KEPT_TICKS` ticks."""
+
+        def is_dropped():
+            values = scrape(metrics)
+            if values[FILED] and values[TICKED] - self.ticks > MOST_KEPT_TICKS:
+                raise CheckFailed(f"an answer that nobody took is kept for {values[TICKED] - self.ticks} ticks")
+            return not values[FILED]
+
+        wait_until("an answer that nobody took is dropped", is_dropped)
+
+    @staticmethod
+    def check_uptime(metrics, start, listening):
+        """Checks the uptime of a daemon that was started at the time `start`, and listened at `listening`."""
+        time.sleep(max(0.0, listening + LEAST_UPTIME - time.monotonic()))
+        least = int(time.monotonic() - listening)
+        value = scrape(metrics)[UPTIME]
+        if not least <= value <= time.monotonic() - start:
+            raise CheckFailed(f"an uptime of {value} seconds in place of {least} to {time.monotonic() - start:.1f}")
+
+    @staticmethod
+    def check_age(metrics, start, filed):
+        """Checks the age of the session that `file_answer` opened between the times `start` and `filed`."""
+        least = int(time.monotonic() - filed)
+        ages = [it["age_seconds"] for it in read_list(metrics, b"/sessions")]
+        if len(ages) != 1 or not least <= ages[0] <= time.monotonic() - start:
+            raise CheckFailed(f"ages of {ages} seconds in place of one of {least} to {time.monotonic() - start:.1f}")
+
+    @staticmethod
+    def check_ticks(metrics):
+        """Raises `CheckFailed` if there are more than ten ticks a second, or always far fewer."""
+
+        def has_ticks():
+            before = time.monotonic()
+            first = scrape(metrics)[TICKED]
+            time.sleep(COUNTING)
+            ticks, seconds = scrape(metrics)[TICKED] - first, time.monotonic() - before
+            if ticks > 10 * seconds + 1:
+                raise CheckFailed(f"{ticks} ticks in {seconds:.1f} seconds")
+            return ticks > LEAST_TICKS * seconds
+
+        wait_until(f"{LEAST_TICKS} ticks a second", has_ticks)
+
+
+def moments_of(record):
+    """Returns the moments of the lines of a record, in milliseconds."""
+    with open(record, "rb") as file:
+        return [int(it.partition(b" ")[0]) for it in file.read().splitlines()[1:]]
+
+
+def check_days(program):
+    with tempfile.TemporaryDirectory() as folder:
+        clock, record = Clock(folder), f"{folder}/record"
+        env = environment(folder, **clock.variables)
+        with NonExpiringDaemon(program, "--shards", "2", "--record", record, env=env) as daemon:
+            metrics = daemon.metrics
+            with Connection(daemon.address) as connection:
+                old = open_session(connection)
+            clock.add(AHEAD)
+            first = wait_until("a tick", lambda: scrape(metrics)[UPTIME] >= AHEAD and scrape(metrics)[TICKED])
+            wait_until("more ticks", lambda: scrape(metrics)[TICKED] >= first + TICKS_AHEAD)
+            with Connection(daemon.address) as connection:
+                expect_error(poll(connection, old), "402::Unknown client")
+                session = open_session(connection)
+                held = [hold_connect(daemon.address, "/days") for _ in range(4)]
+                expect_values(metrics, {CONNECTS_HELD: len(held)})
+                ticked = scrape(metrics)[TICKED]
+                wait_until("ticks meanwhile", lambda: scrape(metrics)[TICKED] >= ticked + TICKS_AHEAD)
+                expect_values(metrics, {CONNECTS_HELD: len(held), SESSIONS: len(held) + 1})
+                publish(connection, "/days", 1, session)
+                for it in held:
+                    expect_events(it.response().items(), [{"channel": "/days", "data": 1}])
+            ages, uptime = [it["age_seconds"] for it in read_list(metrics, b"/sessions")], scrape(metrics)[UPTIME]
+            daemon.close()
+        moments = moments_of(record)
+    if len(ages) != len(held) + 1 or max(ages) > AGES or not AHEAD <= uptime <= AHEAD + AGES:
+        raise CheckFailed(f"ages of {ages} seconds, and an uptime of {uptime} seconds, after {AHEAD} seconds and a few more")
+    early, late = [it for it in moments if it <= 1000 * AGES], [it for it in moments if 1000 * AHEAD <= it <= 1000 * (AHEAD + AGES)]
+    if not early or len(late) < 2 * TICKS_AHEAD or moments != early + late:
+        raise CheckFailed(f"the moments of a record after {AHEAD} seconds and a few more: {moments[:5]} .. {moments[-5:]}")
