@@ -132,13 +132,14 @@ class Place {
     this.open = new Set(); // the timers that have not ended
     this.limits = []; // milliseconds and an end of each time limit of a request
     this.beacons = [];
+    this.fetches = []; // the options of each request by fetch
     this.scripts = [];
     this.page = page;
     const globals = {
       URL, URLSearchParams, Blob, AbortController, queueMicrotask, console,
       setTimeout: (go, milliseconds) => this.setTimer(go, milliseconds),
       clearTimeout: (timer) => this.open.delete(timer) && clearTimeout(timer.id),
-      fetch: (url, options) => fetch(new URL(url, page ?? undefined), options),
+      fetch: (url, options) => this.fetches.push(options) && fetch(new URL(url, page ?? undefined), options),
       AbortSignal: { timeout: (milliseconds) => this.limit(milliseconds) },
       ...(page === null ? {} : this.pageGlobals(page)),
       ...extra,
@@ -219,12 +220,17 @@ class Origin {
   constructor(server) {
     this.server = server;
     this.channels = new Set();
-    this.locks = []; // the holder of the lock and those that wait for it, in order
+    this.locks = []; // the holder of each lock and those that wait for it, in order
     this.isQuiet = false; // whether messages are lost, as if the other window did not run
   }
 
   /** Opens a window with a client for `patterns`, and starts it. */
   open(...patterns) {
+    return this.openAt('/page.html', '/cometd', {}, ...patterns);
+  }
+
+  /** Opens the page at `path`, with a client that has `url`, `options` and `patterns`, and starts it. */
+  openAt(path, url, options, ...patterns) {
     const origin = this;
     class Channel {
       constructor(name) {
@@ -241,17 +247,17 @@ class Origin {
         origin.channels.delete(this);
       }
     }
-    const place = new Place(`${this.server.origin}/page.html`, { origin: this.server.origin, BroadcastChannel: Channel });
-    const request = (_, { signal }, begin) => this.request(place, signal, begin);
+    const place = new Place(`${this.server.origin}${path}`, { origin: this.server.origin, BroadcastChannel: Channel });
+    const request = (name, { signal }, begin) => this.request(place, name, signal, begin);
     place.context.navigator.locks = { request };
-    place.client = place.client('/cometd', {}, ...patterns);
+    place.client = place.client(url, options, ...patterns);
     place.channels = () => [...this.channels].filter((it) => it instanceof Channel);
     place.started = place.client.start();
     return place;
   }
 
-  async request(place, signal, begin) {
-    const lock = { place };
+  async request(place, name, signal, begin) {
+    const lock = { place, name };
     const turn = new Promise((go, fail) => {
       lock.go = go;
       signal.addEventListener('abort', () => fail(Object.assign(new Error('aborted'), { name: 'AbortError' })));
@@ -268,7 +274,7 @@ class Origin {
   }
 
   grant() {
-    this.locks[0]?.go();
+    new Set(this.locks.map(({ name }) => name)).forEach((name) => this.locks.find((it) => it.name === name).go());
   }
 
   crash(place) {
@@ -321,6 +327,10 @@ const SCENARIOS = {
     const held = ADVICE.timeout + NETWORK_TIMEOUT;
     const short = NETWORK_TIMEOUT;
     assert.deepEqual(place.limits.map(([it]) => it), [short, short, short, held, short, held, short]);
+    // The last request is sent even if the page is gone before it ends. None has an option that leaves out cookies.
+    const options = place.fetches.map((it) => Object.keys(it).sort().join(' '));
+    assert.deepEqual(options, [...Array(7).fill('body headers method signal'), 'body headers keepalive method']);
+    assert.equal(place.fetches.at(-1).keepalive, true);
     assert.deepEqual(client.log, ['connecting', 'connected', ['/a/x', 1], ['/b', 2], 'stopped']);
   },
 
@@ -812,6 +822,8 @@ const SCENARIOS = {
     place.dispatch('pagehide');
     await until('the session is ended', () => server.messages('/meta/disconnect').length === 1);
     assert.deepEqual([place.beacons, server.headers.at(-1)['x-token'], server.headers.at(-1)['content-type']], [[], 'abc', 'application/json']);
+    // The browser sends it even though the page is gone.
+    assert.equal(place.fetches.at(-1).keepalive, true);
   },
 
   async 'the network and the user return: at once, and with a short next pause'(server) {
@@ -879,6 +891,32 @@ const SCENARIOS = {
     one.stop();
     assert.deepEqual(JSON.parse(await windows[0].beacons[0][1].text()), [{ channel: '/meta/disconnect', clientId: 'session 1' }]);
     assert.equal(server.sessions, 1);
+  },
+
+  async 'windows share a session if they have the same address and connection type'(server) {
+    const origin = new Origin(server);
+    const headers = { 'X-Token': 'abc' };
+    // The page, the address, and the options of each window, and the number of its session (docs/CLIENT.md).
+    const rows = [
+      ['/a/page.html', 'cometd', {}, 1],
+      ['/a/other.html', 'cometd', {}, 1],
+      ['/b/page.html', 'cometd', {}, 2],
+      ['/b/page.html', '../a/cometd', {}, 1],
+      ['/page.html', new URL(`${server.origin}/a/cometd`), { name: 'Ben' }, 1],
+      ['/a/page.html', '/b/cometd', { connectionType: 'long-polling' }, 2],
+      ['/a/page.html', 'cometd', { connectionType: 'callback-polling' }, 3],
+      ['/b/page.html', '/a/cometd', 'callback-polling', 3],
+      ['/a/page.html', 'cometd?token=a', {}, 4],
+      ['/a/page.html', 'cometd', { headers }, 5],
+      ['/a/page.html', 'cometd', { headers }, 6],
+      ['/a/page.html', 'cometd', { headers, share: true }, 1],
+      ['/a/page.html', 'cometd', { share: false }, 7],
+    ];
+    for (const [path, url, options, session] of rows) {
+      const place = origin.openAt(path, url, options);
+      await place.started;
+      assert.equal(place.client.clientId, `session ${session}`, `${path} ${url} ${JSON.stringify(options)}`);
+    }
   },
 
   async 'a window takes over the session, and the open publishes of others'(server) {

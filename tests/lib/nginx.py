@@ -11,6 +11,10 @@ CALLBACK_POLLING_OFF = """            limit_except POST {
                 deny all;
             }
 """
+# The header fields of responses at /cometd, whatever their status. Those that differ each time are left out.
+NO_SNIFF = {"X-Content-Type-Options": "nosniff"}
+ANSWER = {"Cache-Control": "no-store", "Content-Disposition": 'attachment; filename="f.txt"', **NO_SNIFF}
+CHANGING = {"Date", "Content-Length", "Connection", "Last-Modified", "ETag"}
 
 
 def status_of(address, *args):

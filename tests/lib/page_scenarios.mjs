@@ -456,6 +456,22 @@ async function checkChat() {
   assert.deepEqual(own.at(-1)[1], { name: HOSTILE, joined: true }, 'who returns joins again');
 }
 
+// The list shows what the user sends, also to a user who reads further up. What others send does not move the list then.
+function checkScrolling() {
+  for (const [top, isOwn, wanted] of [[900, false, 1000], [900, true, 1000], [0, false, 0], [0, true, 1000]]) {
+    for (const data of [{ text: 'Hello' }, ...(isOwn ? [] : [{ joined: true }, { left: true }])]) {
+      const page = new Page('https://site.example/chat/', 'common/page.js', 'chat/chat.js');
+      page.element('name').value = 'Ann';
+      page.element('join').dispatchEvent(new Event('submit'));
+      const mark = isOwn ? page.run('OWN_MARK') : 'another';
+      const list = page.element('messages');
+      Object.assign(list, { scrollHeight: 1000, clientHeight: 100, scrollTop: top });
+      page.client.listeners.get('/chat/hall')({ name: 'Ann', mark, number: 1, ...data });
+      assert.deepEqual([list.children.length, list.scrollTop], [1, wanted], `${JSON.stringify(data)} at ${top}, own: ${isOwn}`);
+    }
+  }
+}
+
 // What a screen reader announces without being asked (WCAG 2, 4.1.3), and what a page may load.
 function checkFiles() {
   for (const name of PAGES) {
@@ -486,7 +502,7 @@ function checkFiles() {
   }
 }
 
-for (const check of [checkServers, checkStates, checkTexts, checkDashboard, checkAxis, checkMetrics, checkChat, checkTutorial, checkFailureExample, checkFiles]) {
+for (const check of [checkServers, checkStates, checkTexts, checkDashboard, checkAxis, checkMetrics, checkChat, checkScrolling, checkTutorial, checkFailureExample, checkFiles]) {
   try {
     await check();
   } catch (error) {
