@@ -37,11 +37,14 @@ CASES = {
 }
 # How long the daemon waits for a request, for more of a body, and for the reader of a response, and how long a body may take.
 PATIENCE, WHOLE_BODY = 30, 300
+# How long a request to the metrics listener may take, and how long the daemon serves open connections after the end of standard
+# input, in seconds.
+ASKING, LEAVE = 2.0, 1.0
 # A pause that is just short enough, the rest of the time, and the pause between the parts of a body.
 ALMOST, REST, STEP = PATIENCE - 0.5, 1.0, 20
 # Metrics.
 OPEN, TICKED, UPTIME = ("bayeux_connections", ""), ("bayeux_ticks_total", ""), ("bayeux_uptime_seconds_total", "")
-HELD, SESSIONS = ("bayeux_connects_held", ""), ("bayeux_sessions", "")
+HELD, SESSIONS, REFUSED_TICKS = ("bayeux_connects_held", ""), ("bayeux_sessions", ""), ("bayeux_ticks_refused_total", "")
 # How often the states of the daemon's threads are read, and the pause between two looks, in seconds.
 LOOKS, PAUSE = 30, 0.01
 # How often a check is tried, and for how long it waits for the end of a connection, in seconds.
@@ -324,15 +327,49 @@ def check_long_times(daemon, clock, holder, session):
     expect_success(holder.response().items(), 1)
 
 
+def check_metrics_listener(daemon, clock):
+    """Checks that a request to the metrics listener may take almost `ASKING` seconds, and no longer.
+
+    A read that waits ends after real seconds, so this may have to be tried again on a slow machine.
+    """
+    for pause, wanted in ((ASKING - 0.5, [200]), (ASKING + 0.1, [])):
+        with Connection(daemon.metrics) as connection:
+            with contextlib.suppress(ConnectionEnded):
+                connection.send(b"GET /healthz HTTP/1.1\r\n")
+                wait_for_reads(connection)
+                clock.add(pause)
+                for part in (b"host: h\r\n", b"\r\n"):
+                    connection.send(part)
+                    wait_for_reads(connection)
+            found = [it.status for it in connection.read_to_end()]
+        expect_equal(f"the statuses of a request to the metrics listener that takes {pause} seconds", found, wanted)
+
+
+def check_leaving(program):
+    """Checks that the daemon serves an open connection for a second after the end of standard input, and not for twice as long."""
+    with clocked_daemon(program) as (daemon, clock), Connection(daemon.address) as connection:
+        expect_status(connection, post(b"[]"), 200)
+        daemon.process.stdin.close()
+        wait_until("refused ticks", lambda: scrape(daemon.metrics)[REFUSED_TICKS] > 0)
+        clock.add(LEAVE - 0.1)
+        before = scrape(daemon.metrics)[REFUSED_TICKS]
+        wait_until("more refused ticks", lambda: scrape(daemon.metrics)[REFUSED_TICKS] > before + 1)
+        expect_status(connection, post(b"[]"), 503, "the server is shutting down")
+        # The second may have begun only after the clock was set forward.
+        clock.add(LEAVE + 0.05)
+        daemon.expect_end()
+
+
 def check_patience(program):
     """Checks for how long the daemon waits for its clients, and how long a hold and a session last."""
+    check_leaving(program)
     with clocked_daemon(program) as (daemon, clock), Connection(daemon.address) as holder:
         with Connection(daemon.address) as connection:
             session = open_session(connection)
             subscribe(connection, "/held", session)
         send_connect(holder, session)
         wrong = []
-        for check in (check_unfinished, check_bodies, check_readers):
+        for check in (check_unfinished, check_bodies, check_readers, check_metrics_listener):
             wrong += retry(lambda check=check: check(daemon, clock))
         try:
             check_long_times(daemon, clock, holder, session)
