@@ -5,10 +5,11 @@ import re
 import threading
 import time
 
-from base import CheckFailed, wait_until
+from base import CheckFailed, expect_equal, wait_until
 from daemon import MOST_MESSAGES, Connection, ConnectionEnded, FlagDaemon, expect_error, expect_status, expect_success
 from daemon import get, open_session, post, post_coded, send_connect, subscribe
 from metrics import CONNECTS_HELD, FILED, OPEN, OPENED, REQUESTS_HELD, SERVED, SESSIONS, TICKED, ask_for, expect_values, scrape
+from patience_checks import wait_for_reads
 
 # The pause between the bytes of a slow head, in seconds.
 SLOW_PAUSE = 1.5
@@ -21,8 +22,8 @@ CHANNEL = "/watched"
 # The metric of the time that requests took, and a time in which no machine processes `MOST_MESSAGES` publishes, in
 # seconds.
 SPENT, LEAST_SPENT = ("bayeux_processing_seconds_sum", ""), 150e-6
-# The bytes of a field in a long head for the metrics listener.
-LONG_FIELD = 2000
+# The bytes of a field in a long head for the metrics listener, such as the cookies of a browser.
+LONG_FIELD = 4000
 # Requests to the metrics listener, and their statuses.
 METRICS_REQUESTS = [
     (get(b"", b"/healthz"), 200),
@@ -42,8 +43,9 @@ METRICS_REQUESTS = [
     (b"GET /healthzx HTTP/1.1\r\n\r\n", 404),
     (b"\r\n\r\n", 405),
 ]
-# The parts of such a request.
+# The parts of such a request, between which the client pauses, and more parts, which are read one by one.
 PARTS = [b"GET /heal", b"thz HTTP/1.1\r\nhost: h\r\n", b"\r\n"]
+MORE_PARTS = [*(bytes([it]) for it in b"GET /healthz"), b" HTTP/1.1\r\n", b"\r\n"]
 # Metrics that are 0 if no client makes an error and memory does not run out.
 SILENT = ["bayeux_errors_total", "bayeux_requests_refused_total", "bayeux_responses_missing_total"]
 # Metrics while one of two clients has a held connect.
@@ -119,17 +121,17 @@ def ask_after_slow_client(metrics):
         raise CheckFailed(f"a client that asks slowly keeps the next one waiting for {ticks} ticks")
 
 
-def statuses_of_parts(metrics):
-    """Sends the parts of a request with pauses. Returns the statuses of the responses.
+def statuses_of_parts(metrics, parts, wait):
+    """Sends the parts of a request, and calls `wait` with the connection after each. Returns the statuses of the responses.
 
-    There is none if the pauses were longer than the two seconds in which a request must arrive, which is so only on a busy machine.
+    There is none if this took longer than the two seconds in which a request must arrive, which is so only on a busy machine.
     `metrics`: the address of the metrics listener.
     """
     with Connection(metrics) as connection:
         with contextlib.suppress(ConnectionEnded):
-            for part in PARTS:
+            for part in parts:
                 connection.send(part)
-                time.sleep(PAUSE)
+                wait(connection)
         return [it.status for it in connection.read_to_end()]
 
 
@@ -151,10 +153,12 @@ def watch_clients(metrics, first, second):
     before = expect_values(metrics, {**COUNTED, ("bayeux_events_total", ""): len(items) - 1})
     growing = (TICKED, ("bayeux_list_entries_total", ""))
     wait_until(f"{growing} grow", lambda: all(value > before[name] for name, value in scrape(metrics).items() if name in growing))
-    spent = scrape(metrics)[SPENT]
+    spent, begun = scrape(metrics)[SPENT], time.monotonic()
     expect_success(second.ask([{"channel": CHANNEL, "data": data, **session} for data in range(MOST_MESSAGES)]), MOST_MESSAGES)
-    if scrape(metrics)[SPENT] - spent < LEAST_SPENT:
-        raise CheckFailed(f"{MOST_MESSAGES} publishes took no time")
+    took = time.monotonic() - begun
+    spent = scrape(metrics)[SPENT] - spent
+    if not LEAST_SPENT <= spent <= took:
+        raise CheckFailed(f"{MOST_MESSAGES} publishes took {spent} seconds, and not {LEAST_SPENT} to {took}")
 
 
 def check_metrics(program):
@@ -163,9 +167,10 @@ def check_metrics(program):
         for request, status in METRICS_REQUESTS:
             if ask_for(metrics, request).status != status:
                 raise CheckFailed(f"not {status} for {request!r}")
-        statuses = wait_until("a request in parts gets a response", lambda: statuses_of_parts(metrics))
-        if statuses != [200]:
-            raise CheckFailed(f"not 200 for a request in parts: {statuses}")
+        for parts, wait in ((PARTS, lambda _: time.sleep(PAUSE)), (MORE_PARTS, wait_for_reads)):
+            what = f"a request in {len(parts)} parts"
+            statuses = wait_until(f"{what} gets a response", lambda parts=parts, wait=wait: statuses_of_parts(metrics, parts, wait))
+            expect_equal(f"the statuses of {what}", statuses, [200])
         page = ask_for(metrics, get(b"", b"/"))
         if page.fields[b"content-type"] != b"text/html; charset=utf-8" or not all(it in page.body for it in (b"<title>bayeuxd</title>", b"fetch('metrics'")):
             raise CheckFailed(f"not the status page: {page.fields} {page.body[:200]!r}")

@@ -5,8 +5,9 @@ import re
 import shutil
 import subprocess
 import tempfile
+import urllib.request
 
-from base import TIMEOUT_SECONDS, TOP, CheckFailed, expect_equal, read, wait_until
+from base import TIMEOUT_SECONDS, TOP, CheckFailed, expect_equal, free_port, read, wait_until
 from daemon import HANDSHAKE
 from server import Server
 
@@ -72,15 +73,30 @@ def try_node(program):
             server.stop()
 
 
-def try_scenarios(name):
-    """Runs one of `SCENARIOS`. Raises `CheckFailed` with its output if it fails."""
+def try_scenarios(name, *options):
+    """Runs one of `SCENARIOS`, or another script of node in this folder. Raises `CheckFailed` with its output if it fails."""
     if not shutil.which("node"):
         print(f"       left out: {name}, since there is no node", flush=True)
         return
-    args = ["node", TOP / "tests/lib" / name]
+    args = ["node", TOP / "tests/lib" / name, *options]
     result = subprocess.run(args, capture_output=True, text=True, timeout=SCENARIO_SECONDS, check=False)
     if result.returncode or result.stdout or result.stderr:
         raise CheckFailed(f"{name} ended with status {result.returncode}: {result.stdout}{result.stderr}")
+
+
+def try_status_page(program):
+    """Checks the status page of a bayeuxd without a browser: what it says of its server, its gaps, and the pointer."""
+    metrics = f"127.0.0.1:{free_port()}"
+    server = Server(program, "--metrics", metrics)
+    server.start()
+    try:
+        with tempfile.NamedTemporaryFile() as page:
+            with urllib.request.urlopen(f"http://{metrics}/", timeout=TIMEOUT_SECONDS) as response:
+                page.write(response.read())
+            page.flush()
+            try_scenarios("status_scenarios.mjs", page.name)
+    finally:
+        server.stop()
 
 
 def run_program(text, *args):

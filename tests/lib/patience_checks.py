@@ -12,7 +12,7 @@ from base import CheckFailed, expect_equal, retry, wait_until
 from daemon import Connection, ConnectionEnded, FlagDaemon, SlowReader, check_serves, expect_events, expect_status, expect_success
 from daemon import open_session, post, publish, publish_to, send_connect, subscribe
 from listener_checks import close_all
-from metrics import CONNECTS_HELD, OPEN, SESSIONS, TICKED, UPTIME, expect_values, scrape
+from metrics import CONNECTS_HELD, OPEN, REFUSED_TICKS, SESSIONS, TICKED, UPTIME, expect_values, scrape
 from system import Clock, environment
 
 HEAD = b"POST /cometd HTTP/1.1\r\nhost: h\r\ncontent-type: application/json\r\n"
@@ -34,6 +34,9 @@ CASES = {
 }
 # How long the daemon waits for a request, for more of a body, and for the reader of a response, and how long a body may take.
 PATIENCE, WHOLE_BODY = 30, 300
+# How long a request to the metrics listener may take, and how long the daemon serves open connections after the end of standard
+# input, in seconds.
+ASKING, LEAVE = 2.0, 1.0
 # A pause that is just short enough, the rest of the time, and the pause between the parts of a body.
 ALMOST, REST, STEP = PATIENCE - 0.5, 1.0, 20
 # How often the states of the daemon's threads are read, and the pause between two looks, in seconds.
@@ -247,15 +250,49 @@ def check_long_times(daemon, clock, holder, session):
     expect_success(holder.response().items(), 1)
 
 
+def check_metrics_listener(daemon, clock):
+    """Checks that a request to the metrics listener may take half of `ASKING` seconds, and no longer than `ASKING`.
+
+    A read that waits ends after real seconds, so this may have to be tried again on a slow machine.
+    """
+    for pause, wanted in ((ASKING / 2, [200]), (ASKING + 0.1, [])):
+        with Connection(daemon.metrics) as connection:
+            with contextlib.suppress(ConnectionEnded):
+                connection.send(b"GET /healthz HTTP/1.1\r\n")
+                wait_for_reads(connection)
+                clock.add(pause)
+                for part in (b"host: h\r\n", b"\r\n"):
+                    connection.send(part)
+                    wait_for_reads(connection)
+            found = [it.status for it in connection.read_to_end()]
+        expect_equal(f"the statuses of a request to the metrics listener that takes {pause} seconds", found, wanted)
+
+
+def check_leaving(program):
+    """Checks that the daemon serves an open connection for a second after the end of standard input, and not for twice as long."""
+    with clocked_daemon(program) as (daemon, clock), Connection(daemon.address) as connection:
+        expect_status(connection, post(b"[]"), 200)
+        daemon.process.stdin.close()
+        wait_until("refused ticks", lambda: scrape(daemon.metrics)[REFUSED_TICKS] > 0)
+        clock.add(LEAVE - 0.1)
+        before = scrape(daemon.metrics)[REFUSED_TICKS]
+        wait_until("more refused ticks", lambda: scrape(daemon.metrics)[REFUSED_TICKS] > before + 1)
+        expect_status(connection, post(b"[]"), 503, "the server is shutting down")
+        # The second may have begun only after the clock was set forward.
+        clock.add(LEAVE + 0.05)
+        daemon.expect_end()
+
+
 def check_patience(program):
     """Checks for how long the daemon waits for its clients, and how long a hold and a session last."""
+    check_leaving(program)
     with clocked_daemon(program) as (daemon, clock), Connection(daemon.address) as holder:
         with Connection(daemon.address) as connection:
             session = open_session(connection)
             subscribe(connection, "/held", session)
         send_connect(holder, session)
         wrong = []
-        for check in (check_unfinished, check_bodies, check_readers):
+        for check in (check_unfinished, check_bodies, check_readers, check_metrics_listener):
             try:
                 retry(lambda check=check: check(daemon, clock), TRIES)
             except (CheckFailed, OSError) as failed:

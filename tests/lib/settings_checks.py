@@ -203,6 +203,14 @@ WITH_HOSTS = ["unshare", "--user", "--map-root-user", "--mount", "sh", "-c", 'mo
 HOSTS = "127.0.0.1 two.test\n127.0.0.2 two.test\n"
 # Flags that can be repeated.
 REPEATED = ["readers-publish"]
+# A value of each flag with one, except those for files and `--connections`.
+USUAL_VALUES = {
+    **{"listen": "127.0.0.1:0", "readers": "127.0.0.1:0", "readers-publish": "/a", "metrics": "127.0.0.1:0", "shards": "2"},
+    **{"timeout": "30s", "interval": "0", "max-interval": "600s", "bytes": "1m", "sessions": "8", "patterns": "8", "limit": "8"},
+    **{"body": "64k", "log": "text", "log-level": "info"},
+}
+# Metrics, and how many ticks must pass after the end of standard input.
+TICKED, REFUSED_TICKS, MORE_TICKS = ("bayeux_ticks_total", ""), ("bayeux_ticks_refused_total", ""), 3
 # Flags with which no daemon serves, its exit status, and a part of what it prints on
 # standard error. It prints nothing on standard output.
 FLAGS = [
@@ -306,10 +314,11 @@ HELP_WORDS = {
     "log": "write the log as text",
     "log-level": "log only errors (error",
 }
-# The contents of a seed file: those that are right, and those that are not.
-RIGHT_SEEDS = [SEED, f"{SEED}\n", f"{SEED.upper()}\r\n", f"{SEED} \t\n\n"]
+# The contents of a seed file: those that are right, and those that are not. A longer one is too long, also if it never ends.
+RIGHT_SEEDS = [SEED, f"{SEED}\n", f"{SEED.upper()}\r\n", f"{SEED} \t\n\n", f"{SEED}{' ' * 900}\n"]
 WRONG_SEEDS = ["", "\n", SEED[:-1], f"{SEED}0", SEED * 2, f" {SEED}", f"\n{SEED}", f"{SEED}\n#", f"g{SEED[1:]}", f"0x{SEED}"]
 WRONG_SEEDS += [f"{SEED[:32]}\n{SEED[32:]}", f"{SEED[2:]}\n\n"]
+LONG_SEED = f"{SEED}{' ' * 4096}"
 
 
 def logged_settings(program, flags):
@@ -430,6 +439,21 @@ def check_seeds(program):
         expect_first_id(daemon, "the first client id with a seed in the arguments")
     for path in ("/nowhere/seed", "/"):
         expect_fault(program, [*ANYWHERE, "--seed-file", path], f"bayeuxd: cannot read the seed at {path}: ")
+    check_endless_seed(program)
+
+
+def check_endless_seed(program):
+    """Checks that a daemon whose seed file never ends says so, as it must with /dev/urandom."""
+    with tempfile.TemporaryDirectory() as folder:
+        path = f"{folder}/seed"
+        os.mkfifo(path)
+        # While this end is open, a reader waits for more.
+        writer = os.open(path, os.O_RDWR | os.O_NONBLOCK)
+        try:
+            os.write(writer, LONG_SEED.encode())
+            expect_fault(program, [*ANYWHERE, "--until-eof", "--seed-file", path], f"bayeuxd: cannot read the seed at {path}: ")
+        finally:
+            os.close(writer)
 
 
 def expect_first_id(daemon, what):
@@ -609,9 +633,35 @@ def check_second_address(program):
 class PlainDaemon(Daemon):
     """A daemon with exactly the arguments `flags`."""
 
-    def __init__(self, program, *flags):
+    def __init__(self, program, *flags, **streams):
         # pylint: disable=super-init-not-called
-        self.begin([program, *flags])
+        self.begin([program, *flags], **streams)
+
+
+def expect_session(address):
+    """Checks that a client can open a session at `address`."""
+    with Connection(address) as client:
+        open_session(client)
+
+
+def check_input(program):
+    """Checks that the end of standard input ends no daemon without `--until-eof`, whatever its other flags are."""
+    with tempfile.TemporaryDirectory() as folder:
+        with open(f"{folder}/seed", "w", encoding="ascii") as file:
+            file.write(SEED)
+        values = {**USUAL_VALUES, "record": f"{folder}/record", "seed-file": f"{folder}/seed"}
+        expect_equal("flags", sorted([*values, *SWITCHES, "connections"]), sorted(DOCUMENTED))
+        given = [*(f"--{name}={value}" for name, value in values.items()), *(f"--{it}" for it in SWITCHES if it != "until-eof")]
+        for flags in ([*ANYWHERE, "--metrics", "127.0.0.1:0"], given):
+            with PlainDaemon(program, *flags, stdin=subprocess.DEVNULL) as daemon:
+                metrics = daemon.logged_address("metrics listening address=")
+                wait_until("ticks after the end of standard input", lambda metrics=metrics: scrape(metrics)[TICKED] > MORE_TICKS)
+                expect_session(daemon.address)
+                expect_equal("refused ticks", scrape(metrics)[REFUSED_TICKS], 0)
+    with PlainDaemon(program, *GOOD_ARGUMENTS[:-1], "0", stdin=subprocess.DEVNULL) as daemon:
+        for _ in range(2):
+            expect_session(daemon.address)
+            time.sleep(0.1)
 
 
 def check_ipv6(program):

@@ -17,8 +17,9 @@ LIVE, TURNS, TICKS = 16, 3, 5
 # this.
 BEFORE = 15
 # In how many ticks the daemon drops answers if there are too many (a second), and in how many it drops any answer (a
-# minute). Both have room for a machine that is slow to look.
-MOST_SWEEP_TICKS, MOST_KEPT_TICKS = 50, 700
+# minute). Both have room for a machine that is slow to look. How many ticks old the dropped answers were at most in one
+# of `SWEEP_TRIES` tries.
+MOST_SWEEP_TICKS, MOST_KEPT_TICKS, FEW_SWEEP_TICKS, SWEEP_TRIES = 50, 700, 35, 15
 # How often and for how long a check that lasts pauses, in seconds. The daemon waits 30 seconds for a request and for
 # more of a body.
 PAUSES, LONG_PAUSE = 5, 11.0
@@ -64,15 +65,17 @@ def pages(metrics, count):
 def expect_filed(metrics, count):
     """Waits until `count` answers are filed, for at most `MOST_SWEEP_TICKS` ticks.
 
-    Checks that they then stay for `TICKS` ticks. `metrics`: the address of the metrics listener.
+    Checks that they then stay for `TICKS` ticks. Returns the number of ticks up to the time at which they were filed.
+    `metrics`: the address of the metrics listener.
     """
     first = scrape(metrics)[TICKED]
-    ticks = expect_values(metrics, {FILED: count})[TICKED] - first
-    if ticks > MOST_SWEEP_TICKS:
-        raise CheckFailed(f"more than {count} answers that nobody took are kept for {ticks} ticks")
+    last = expect_values(metrics, {FILED: count})[TICKED]
+    if last - first > MOST_SWEEP_TICKS:
+        raise CheckFailed(f"more than {count} answers that nobody took are kept for {last - first} ticks")
     for page in pages(metrics, TICKS):
         if page[FILED] != count:
             raise CheckFailed(f"{page[FILED]} of {count} answers that nobody took are kept")
+    return last
 
 
 def check_sweep(program):
@@ -82,10 +85,16 @@ def check_sweep(program):
             for session in sessions:
                 subscribe(connection, "/all", session)
         list(pages(daemon.metrics, BEFORE))
-        for _ in range(TURNS):
+        # The ticks before answers were left, and by how much older they were at most when they were dropped for later ones.
+        before, ages = [], []
+        while len(before) < TURNS or min(ages) > FEW_SWEEP_TICKS:
+            if len(before) == SWEEP_TRIES:
+                raise CheckFailed(f"too many answers that nobody took were dropped only after {ages} ticks")
+            before.append(scrape(daemon.metrics)[TICKED])
             leave_answers(daemon, sessions)
-            expect_filed(daemon.metrics, LIVE)
-        expect_values(daemon.metrics, {SWEPT: (TURNS - 1) * LIVE})
+            dropped = expect_filed(daemon.metrics, LIVE)
+            ages += [dropped - it for it in before[-2:-1]]
+        expect_values(daemon.metrics, {SWEPT: (len(before) - 1) * LIVE})
 
 
 class Lasting(threading.Thread):
