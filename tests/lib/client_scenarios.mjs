@@ -38,6 +38,7 @@ class Server {
     this.headers = []; // the header fields of each request
     this.answers = []; // pairs of a channel and the answer to the next message on it
     this.sessions = 0;
+    this.hasBatches = true; // whether it numbers its batches of events
     this.begin();
     this.server = http.createServer((request, response) => this.receive(request, response));
   }
@@ -94,14 +95,14 @@ class Server {
       this.begin();
       const clientId = `session ${++this.sessions}`;
       const supportedConnectionTypes = ['long-polling', 'callback-polling'];
-      return { channel, version: '1.0', supportedConnectionTypes, clientId, successful: true, advice: ADVICE, ext: { ack: true } };
+      return { channel, version: '1.0', supportedConnectionTypes, clientId, successful: true, advice: ADVICE, ...this.ext(true) };
     }
     if (channel === '/meta/disconnect') this.answerHeld([], { ...ADVICE, reconnect: 'none' });
     return { channel, subscription, successful: true };
   }
 
   connect(message, send) {
-    if (message.ext?.ack >= this.batch) this.sent = [];
+    if (!(message.ext?.ack < this.batch)) this.sent = [];
     this.held = send;
     if (this.sent.length > 0) return this.answerHeld(this.sent);
     if (this.waiting.length > 0) return this.emit();
@@ -111,7 +112,12 @@ class Server {
   answerHeld(events, advice = ADVICE) {
     const { held } = this;
     this.held = null;
-    held?.([...events, { channel: '/meta/connect', successful: true, advice, ext: { ack: this.batch } }]);
+    held?.([...events, { channel: '/meta/connect', successful: true, advice, ...this.ext(this.batch) }]);
+  }
+
+  /** Returns the member `ext` of a reply, or nothing if this server numbers no batches. */
+  ext(ack) {
+    return this.hasBatches ? { ext: { ack } } : {};
   }
 
   /** Sends events, which are pairs of a channel and data, as the next batch. */
@@ -222,6 +228,7 @@ class Origin {
     this.channels = new Set();
     this.locks = []; // the holder of each lock and those that wait for it, in order
     this.isQuiet = false; // whether messages are lost, as if the other window did not run
+    this.denial = null; // the error with which the browser denies each lock, if it does
   }
 
   /** Opens a window with a client for `patterns`, and starts it. */
@@ -257,6 +264,7 @@ class Origin {
   }
 
   async request(place, name, signal, begin) {
+    if (this.denial) throw this.denial;
     const lock = { place, name };
     const turn = new Promise((go, fail) => {
       lock.go = go;
@@ -939,12 +947,14 @@ const SCENARIOS = {
       await until('the window knows', () => three.windows.taken.size === 1);
       await until('a connect is held', () => server.held);
       const before = server.requests.length;
+      // A publish of the window that takes over waits too.
+      outcomes.push(outcomeOf(two.publish('/own', 3)));
       if (isCrash) origin.crash(windows[0]);
       else one.stop();
-      assert.deepEqual(await Promise.all(outcomes), [['no answer in time', true, undefined], 'done']);
+      assert.deepEqual(await Promise.all(outcomes), [['no answer in time', true, undefined], 'done', 'done']);
       await until('the next window has the session', () => two.windows.isLeading && server.requests.length > before);
       await until('it continues after the last batch', () => server.messages('/meta/connect').at(-1).ext.ack === 2);
-      assert.deepEqual([server.messages('/sent').length, server.messages('/waits').length], [1, 1]);
+      assert.deepEqual(['/sent', '/waits', '/own'].map((it) => server.messages(it).length), [1, 1, 1]);
       server.emit(['/a', 3]);
       await until('all get the next event', () => [two, three].every(({ log }) => log.at(-1)?.[1] === 3));
       for (const it of [two, three]) assert.deepEqual(it.log.filter(Array.isArray).map(([, data]) => data), [1, 2, 3]);
@@ -957,6 +967,70 @@ const SCENARIOS = {
       three.stop();
       two.stop();
       assert.equal(server.messages('/meta/handshake').length, 1);
+    }
+  },
+
+  async 'windows of a session without acknowledgement get each event'(server) {
+    server.hasBatches = false;
+    const origin = new Origin(server);
+    const windows = [origin.open('/a'), origin.open('/a')];
+    await Promise.all(windows.map(({ started }) => started));
+    const events = [1, 2, 3].map((number) => ['/a', number]);
+    for (const event of events) {
+      await until('a connect is held', () => server.held);
+      server.emit(event);
+    }
+    for (const { client } of windows) {
+      await until('the events come', () => client.log.length === 2 + events.length);
+      assert.deepEqual(client.log.slice(2), events);
+    }
+    assert.equal(server.sessions, 1);
+    windows.reverse().forEach(({ client }) => client.stop());
+  },
+
+  async 'a pattern that the server rejects for a window is asked for once, and the others get no error'(server) {
+    const origin = new Origin(server);
+    const windows = [origin.open('/a'), origin.open('/a')];
+    await Promise.all(windows.map(({ started }) => started));
+    const [one, two] = windows.map(({ client }) => client);
+    server.next('/meta/subscribe', rejection('/meta/subscribe', '400::Invalid pattern'));
+    assert.deepEqual(await outcomeOf(two.subscribe('/a/**/b', two.listener)), ['/a/**/b: 400::Invalid pattern', false, undefined]);
+    for (const [client, pattern] of [[one, '/c'], [two, '/d']]) {
+      assert.equal(await outcomeOf(client.subscribe(pattern, client.listener)), 'done');
+    }
+    assert.deepEqual(server.messages('/meta/subscribe').map(({ subscription }) => subscription), ['/a', '/a/**/b', '/c', '/d']);
+    assert.deepEqual([one.log, two.log], Array(2).fill(['connecting', 'connected']));
+    two.stop();
+    one.stop();
+  },
+
+  async 'a browser that denies locks: the window has its own session'(server) {
+    const origin = new Origin(server);
+    origin.denial = new DOMException('denied', 'SecurityError');
+    const { client, started, beacons } = origin.open('/a');
+    await until('it is connected', () => client.state === 'connected');
+    await started;
+    await until('a connect is held', () => server.held);
+    server.emit(['/a', 1]);
+    await until('the event comes', () => client.log.length === 3);
+    assert.deepEqual(client.log, ['connecting', 'connected', ['/a', 1]]);
+    client.stop();
+    assert.equal(beacons.length, 1);
+  },
+
+  async 'which windows share a session'() {
+    // docs/CLIENT.md, "Windows that share a session".
+    const both = { locks: {}, BroadcastChannel: class {} };
+    for (const [what, page, { locks, ...extra }, isShared] of [
+      ['a page over HTTPS', 'https://a.example/page.html', both, true],
+      ['a page on localhost', 'http://localhost:8000/page.html', both, true],
+      ['a page from disk', 'file:///home/page.html', both, false],
+      ['a page over HTTP from another machine', 'http://a.example/page.html', { BroadcastChannel: both.BroadcastChannel }, false],
+      ['a browser without BroadcastChannel', 'https://a.example/page.html', { locks: both.locks }, false],
+    ]) {
+      const place = new Place(page, { origin: new URL(page).origin, ...extra });
+      if (locks) place.context.navigator.locks = locks;
+      assert.equal(place.client('http://127.0.0.1/cometd').isShared, isShared, what);
     }
   },
 

@@ -138,8 +138,8 @@ class Site(http.server.ThreadingHTTPServer):
         self.relay = relay
         self.status = 200
         self.documents = {}
-        # The header fields and the messages of each POST, and the connections with a POST that has
-        # no response yet.
+        # The header fields and the messages of each POST, and a mark of each POST that has no response
+        # yet. A connection can have several POSTs, one after another.
         self.received, self.waiting = [], set()
         self.address = f"http://127.0.0.1:{self.server_address[1]}"
         threading.Thread(target=self.serve_forever, daemon=True).start()
@@ -173,11 +173,12 @@ class SiteHandler(http.server.BaseHTTPRequestHandler):
         body = self.rfile.read(int(self.headers["Content-Length"]))
         site, messages = self.server, json.loads(body)
         site.received.append((self.headers, messages))
-        site.waiting.add(self)
+        mark = object()
+        site.waiting.add(mark)
         try:
             status, reply = self.ask(body) if site.status == 200 else (site.status, b"")
         finally:
-            site.waiting.discard(self)
+            site.waiting.discard(mark)
         with contextlib.suppress(OSError):
             self.respond(status, reply, "application/json")
 

@@ -191,7 +191,37 @@ async function checkPointer() {
   assert.deepEqual(shown(), ['2', 'now']);
 }
 
-for (const check of [checkStates, checkGaps, checkPointer]) {
+// Each row of a key has the colour of its curve, also if the key leaves out series, or has those with the greatest peaks. While the
+// server does not answer, no row has a value.
+async function checkKeys() {
+  const page = new Page();
+  const refused = (reason, value) => `bayeux_requests_refused_total{status="400",reason="${reason}"} ${value}\n`;
+  const lags = Array.from({ length: 14 }, (_, shard) => `bayeux_shard_lag_entries{shard="${shard}"} ${shard}\n`).join('');
+  const text = (count) => `${metrics(1)}${refused('quiet', 0)}${refused('first', count)}${refused('second', 2 * count)}${lags}`;
+  await page.answer(text(0));
+  await page.next(text(30));
+  const items = (title) => page.chart(title).querySelector('.key').children;
+  const rows = (title) => items(title).map(({ children: [mark, label] }) => [mark.style.background, label]);
+  const curves = (title) => page.chart(title).querySelector('g').children.map(({ style }) => style.stroke);
+  const shards = Array.from({ length: 12 }, (_, at) => 13 - at);
+  const wanted = {
+    'Refusals': [[1, '400 first'], [2, '400 second']],
+    'Shard lag': shards.map((shard) => [shard, `shard ${shard}`]),
+  };
+  const values = { 'Refusals': [10, 20], 'Shard lag': shards };
+  const seconds = page.timer.milliseconds / 1000;
+  for (const isRead of [true, false]) {
+    if (!isRead) await page.next(null);
+    for (const [title, series] of Object.entries(wanted)) {
+      const colours = curves(title);
+      assert.equal(new Set(colours).size, colours.length, `colours of ${title}`);
+      const value = (at) => (isRead ? values[title][at] * (title === 'Refusals' ? 3 / seconds : 1) : '–');
+      assert.deepEqual(rows(title), series.map(([index, name], at) => [colours[index], `${name}: ${value(at)}`]));
+    }
+  }
+}
+
+for (const check of [checkStates, checkGaps, checkPointer, checkKeys]) {
   try {
     await check();
   } catch (error) {
