@@ -30,9 +30,12 @@ class Client:
         request = urllib.request.Request(self.url, json.dumps([message]).encode(), {"Content-Type": "application/json"})
         try:
             with urllib.request.urlopen(request, timeout=hold + 10) as response:
-                *events, reply = json.load(response)
+                items = json.load(response)
+            if not (isinstance(items, list) and items and all(isinstance(it, dict) for it in items)):
+                raise ValueError("the response is not a list of messages")
         except (ValueError, http.client.HTTPException) as failure:
             raise OSError(failure) from failure
+        *events, reply = items
         self.advice.update(reply.get("advice", {}))
         if not reply["successful"]:
             if reply.get("advice", {}).get("reconnect") == "handshake":
