@@ -151,8 +151,8 @@ async function askByScript(url, messages, timeout) {
     window[name] = (items) => finish(resolve, items);
     script.onerror = () => finish(reject, new Error('the server cannot be reached, or refused the request'));
     const address = addressOf(url);
-    const given = address.search && `${address.search}&`;
-    address.search = `${given}jsonp=${name}&message=${encodeURIComponent(JSON.stringify(messages))}`;
+    const query = `jsonp=${name}&message=${encodeURIComponent(JSON.stringify(messages))}`;
+    address.search = address.search ? `${address.search}&${query}` : query;
     script.src = address;
     document.head.append(script);
   });
@@ -569,6 +569,7 @@ class BayeuxClient {
     });
   }
 
+  // Sets whether publishing is allowed, and tells the other windows of a change.
   setMayPublish(mayPublish) {
     if (mayPublish === this.mayPublish) return;
     this.mayPublish = mayPublish;
