@@ -569,7 +569,7 @@ class BayeuxClient {
     });
   }
 
-  // Sets whether publishing is allowed, and tells the other windows of a change.
+  // Sets whether publishing is allowed. Sends a change to the other windows.
   setMayPublish(mayPublish) {
     if (mayPublish === this.mayPublish) return;
     this.mayPublish = mayPublish;

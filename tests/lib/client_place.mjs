@@ -1,0 +1,320 @@
+// A server that follows a script, places in which the client of examples/client runs, and windows of one origin, for scenarios in
+// node. No scenario waits for a time: pauses and time limits are recorded, and end when the scenario says so.
+import { readFileSync } from 'node:fs';
+import http from 'node:http';
+import vm from 'node:vm';
+
+export const FOLDER = new URL('../../examples/client/', import.meta.url);
+export const SOURCE = readFileSync(new URL('bayeux.js', FOLDER), 'utf8');
+// Milliseconds: how long a scenario waits for an event, the server's advice, and what the client adds
+// to the hold of a connect (docs/PROTOCOL.md, "No answer").
+export const PATIENCE = 30000;
+export const ADVICE = { reconnect: 'retry', interval: 0, timeout: 30000 };
+export const NETWORK_TIMEOUT = 10000;
+// The longest pause after a failure (docs/CLIENT.md), and an upper limit for the first one.
+export const LONGEST_PAUSE = 10000;
+export const FIRST_PAUSE = 1000;
+
+/** Waits until `condition()` returns a true value, and returns it. */
+export async function until(what, condition) {
+  const deadline = Date.now() + PATIENCE;
+  for (;;) {
+    const found = condition();
+    if (found) return found;
+    if (Date.now() > deadline) throw new Error(`not in time: ${what}`);
+    await new Promise((go) => setTimeout(go, 2));
+  }
+}
+
+/** A Bayeux server with one session at a time. It records each request, and holds connects. */
+export class Server {
+  constructor() {
+    this.requests = []; // the method, path, content type and messages of each request
+    this.headers = []; // the header fields of each request
+    this.answers = []; // pairs of a channel and the answer to the next message on it
+    this.sessions = 0;
+    this.hasBatches = true; // whether it numbers its batches of events
+    this.begin();
+    this.server = http.createServer((request, response) => this.receive(request, response));
+  }
+
+  async listen() {
+    await new Promise((go) => this.server.listen(0, '127.0.0.1', go));
+    this.origin = `http://127.0.0.1:${this.server.address().port}`;
+    this.address = `${this.origin}/cometd`;
+    return this;
+  }
+
+  close() {
+    this.server.closeAllConnections();
+    this.server.close();
+  }
+
+  begin() {
+    Object.assign(this, { batch: 0, sent: [], waiting: [], held: null });
+  }
+
+  /** Answers the next message on `channel` with `answer`: a reply, or a function of the message and the response. */
+  next(channel, answer) {
+    this.answers.push([channel, answer]);
+  }
+
+  /** Returns all messages that arrived on `channel`. */
+  messages(channel) {
+    return this.requests.flatMap(([, , , messages]) => messages).filter((it) => it.channel === channel);
+  }
+
+  async receive(request, response) {
+    let body = '';
+    for await (const part of request.setEncoding('utf8')) body += part;
+    const { pathname, searchParams } = new URL(request.url, this.origin);
+    const callback = searchParams.get('jsonp');
+    const messages = JSON.parse(callback ? searchParams.get('message') : body);
+    this.requests.push([request.method, pathname, request.headers['content-type'], messages]);
+    this.headers.push(request.headers);
+    const send = (items) => response.end(callback ? `${callback}(${JSON.stringify(items)})` : JSON.stringify(items));
+    const items = [];
+    for (const message of messages) {
+      const at = this.answers.findIndex(([channel]) => channel === message.channel);
+      const [, answer] = at < 0 ? [] : this.answers.splice(at, 1)[0];
+      if (typeof answer === 'function') return void answer(message, response, send);
+      if (answer) items.push(answer);
+      else if (message.channel !== '/meta/connect') items.push(this.reply(message));
+      else return this.connect(message, send);
+    }
+    return send(items);
+  }
+
+  reply({ channel, subscription }) {
+    if (channel === '/meta/handshake') {
+      this.begin();
+      const clientId = `session ${++this.sessions}`;
+      const supportedConnectionTypes = ['long-polling', 'callback-polling'];
+      return { channel, version: '1.0', supportedConnectionTypes, clientId, successful: true, advice: ADVICE, ...this.ext(true) };
+    }
+    if (channel === '/meta/disconnect') this.answerHeld([], { ...ADVICE, reconnect: 'none' });
+    return { channel, subscription, successful: true };
+  }
+
+  connect(message, send) {
+    if (!(message.ext?.ack < this.batch)) this.sent = [];
+    this.held = send;
+    if (this.sent.length > 0) return this.answerHeld(this.sent);
+    if (this.waiting.length > 0) return this.emit();
+    return message.advice?.timeout === 0 && this.answerHeld([]);
+  }
+
+  answerHeld(events, advice = ADVICE) {
+    const { held } = this;
+    this.held = null;
+    held?.([...events, { channel: '/meta/connect', successful: true, advice, ...this.ext(this.batch) }]);
+  }
+
+  /** Returns the member `ext` of a reply, or nothing if this server numbers no batches. */
+  ext(ack) {
+    return this.hasBatches ? { ext: { ack } } : {};
+  }
+
+  /** Sends events, which are pairs of a channel and data, as the next batch. */
+  emit(...events) {
+    this.waiting.push(...events.map(([channel, data]) => ({ channel, data })));
+    if (this.held === null) return;
+    this.batch++;
+    this.sent = this.waiting.splice(0);
+    this.answerHeld(this.sent);
+  }
+}
+
+/** A page or a program with its own timers. `page`: its address, or `null` for a program. */
+export class Place {
+  constructor(page = null, extra = {}) {
+    this.pauses = []; // milliseconds of each timer that ends at once: the pauses of the client
+    this.endless = Infinity; // the number of the first pause that does not end by itself
+    this.open = new Set(); // the timers that have not ended
+    this.limits = []; // milliseconds and an end of each time limit of a request
+    this.beacons = [];
+    this.fetches = []; // the options of each request by fetch
+    this.scripts = [];
+    this.page = page;
+    const globals = {
+      URL, URLSearchParams, Blob, AbortController, queueMicrotask, console,
+      setTimeout: (go, milliseconds) => this.setTimer(go, milliseconds),
+      clearTimeout: (timer) => this.open.delete(timer) && clearTimeout(timer.id),
+      fetch: (url, options) => this.fetches.push(options) && fetch(new URL(url, page ?? undefined), options),
+      AbortSignal: { timeout: (milliseconds) => this.limit(milliseconds) },
+      ...(page === null ? {} : this.pageGlobals(page)),
+      ...extra,
+    };
+    this.context = vm.createContext(globals);
+    vm.runInContext(SOURCE, this.context);
+    this.random(0.999);
+  }
+
+  run(script) {
+    return vm.runInContext(script, this.context);
+  }
+
+  random(value) {
+    this.run(`Math.random = () => ${value}`);
+  }
+
+  // Timers as long as the time limit of a request do not end.
+  setTimer(go, milliseconds = 0) {
+    const timer = { id: null };
+    const end = () => this.open.delete(timer) && go();
+    this.open.add(timer);
+    if (milliseconds >= NETWORK_TIMEOUT) this.limits.push([milliseconds, end]);
+    else {
+      this.pauses.push(milliseconds);
+      if (this.pauses.length < this.endless) timer.id = setTimeout(end, 0);
+    }
+    return timer;
+  }
+
+  limit(milliseconds) {
+    const controller = new AbortController();
+    this.limits.push([milliseconds, () => controller.abort(new DOMException('too late', 'TimeoutError'))]);
+    return controller.signal;
+  }
+
+  pageGlobals(address) {
+    const location = new URL(address);
+    const document = Object.assign(new EventTarget(), { readyState: 'complete', hidden: false });
+    document.createElement = () => ({ remove() { this.isRemoved = true; } });
+    document.head = { append: (script) => this.load(script) };
+    const navigator = { sendBeacon: (url, body) => this.beacons.push([url, body]) };
+    this.window = new EventTarget();
+    this.document = document;
+    return { window: this.window, document, navigator, location: { href: location.href, origin: location.origin } };
+  }
+
+  async load(script) {
+    this.scripts.push(script);
+    try {
+      const response = await fetch(new URL(script.src, this.page));
+      const [, name, items] = (await response.text()).match(/^(\w+)\((.*)\)$/s);
+      this.window[name](JSON.parse(items));
+    } catch {
+      script.onerror();
+    }
+  }
+
+  /** Sends an event to the window, or to the document. */
+  dispatch(kind, members = {}, target = this.window) {
+    target.dispatchEvent(Object.assign(new Event(kind), members));
+  }
+
+  /** Returns a client that records its states, gaps and events in `log`. */
+  client(url, options, ...patterns) {
+    const client = new (this.run('BayeuxClient'))(url, options);
+    client.log = [];
+    client.onstate = (state, why) => client.log.push(why ? `${state} ${why}` : state);
+    client.ongap = () => client.log.push('gap');
+    client.listener = (data, channel) => client.log.push([channel, data]);
+    patterns.forEach((pattern) => client.subscribe(pattern, client.listener));
+    return client;
+  }
+}
+
+/** What windows of one origin share: locks, and channels. A window that crashes sends nothing and gives its locks back. */
+export class Origin {
+  constructor(server) {
+    this.server = server;
+    this.channels = new Set();
+    this.locks = []; // the holder of each lock and those that wait for it, in order
+    this.isQuiet = false; // whether messages are lost, as if the other window did not run
+    this.denial = null; // the error with which the browser denies each lock, if it does
+  }
+
+  /** Opens a window with a client for `patterns`, and starts it. */
+  open(...patterns) {
+    return this.openAt('/page.html', '/cometd', {}, ...patterns);
+  }
+
+  /** Opens the page at `path`, with a client that has `url`, `options` and `patterns`, and starts it. */
+  openAt(path, url, options, ...patterns) {
+    const origin = this;
+    class Channel {
+      constructor(name) {
+        this.name = name;
+        origin.channels.add(this);
+      }
+
+      postMessage(data) {
+        const others = [...origin.channels].filter((it) => it !== this && it.name === this.name);
+        if (!origin.isQuiet) setImmediate(() => others.forEach((it) => origin.channels.has(it) && it.onmessage({ data })));
+      }
+
+      close() {
+        origin.channels.delete(this);
+      }
+    }
+    const place = new Place(`${this.server.origin}${path}`, { origin: this.server.origin, BroadcastChannel: Channel });
+    const request = (name, { signal }, begin) => this.request(place, name, signal, begin);
+    place.context.navigator.locks = { request };
+    place.client = place.client(url, options, ...patterns);
+    place.channels = () => [...this.channels].filter((it) => it instanceof Channel);
+    place.started = place.client.start();
+    return place;
+  }
+
+  async request(place, name, signal, begin) {
+    if (this.denial) throw this.denial;
+    const lock = { place, name };
+    const turn = new Promise((go, fail) => {
+      lock.go = go;
+      signal.addEventListener('abort', () => fail(Object.assign(new Error('aborted'), { name: 'AbortError' })));
+    });
+    this.locks.push(lock);
+    this.grant();
+    try {
+      await turn;
+      await begin();
+    } finally {
+      this.locks = this.locks.filter((it) => it !== lock);
+      this.grant();
+    }
+  }
+
+  grant() {
+    new Set(this.locks.map(({ name }) => name)).forEach((name) => this.locks.find((it) => it.name === name).go());
+  }
+
+  crash(place) {
+    place.channels().forEach((it) => it.close());
+    place.run('globalThis').fetch = () => new Promise(() => {});
+    place.client.starts++;
+    this.locks = this.locks.filter((it) => it.place !== place);
+    this.grant();
+  }
+}
+
+/** Returns what a promise does: 'done', or the message, `mayHaveArrived` and `status` of its failure. */
+export function outcomeOf(promise) {
+  return promise.then(() => 'done', ({ message, mayHaveArrived, status }) => [message, mayHaveArrived, status]);
+}
+
+export const handshake = (ext = { ack: true }) => ({ channel: '/meta/handshake', version: '1.0', supportedConnectionTypes: ['long-polling'], ext });
+export const connect = (session, ack, more = {}) =>
+  ({ channel: '/meta/connect', connectionType: 'long-polling', ext: { ack }, clientId: `session ${session}`, ...more });
+export const NOT_HELD = { advice: { timeout: 0 } };
+export const rejection = (channel, error, advice) => ({ channel, successful: false, error, ...(advice ? { advice } : {}) });
+export const unknown = (channel) => rejection(channel, '402::Unknown client', { interval: 0, reconnect: 'handshake' });
+export const subscribe = (subscription, session = 1) => ({ channel: '/meta/subscribe', subscription, clientId: `session ${session}` });
+export const unsubscribe = (subscription) => ({ ...subscribe(subscription), channel: '/meta/unsubscribe' });
+
+/** Runs scenarios, each with a new server, and ends the process. Prints the first one that fails, and why. The status is then 1. */
+export async function run(scenarios) {
+  for (const [name, scenario] of Object.entries(scenarios)) {
+    const server = await new Server().listen();
+    const tooLate = new Promise((_, reject) => setTimeout(() => reject(new Error('it does not end')), 2 * PATIENCE).unref());
+    try {
+      await Promise.race([scenario(server), tooLate]);
+    } catch (error) {
+      console.log(`${name}: ${error.message}`);
+      process.exit(1);
+    }
+    server.close();
+  }
+  process.exit(0);
+}
