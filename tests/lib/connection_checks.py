@@ -65,7 +65,7 @@ def check_idle(program):
             connection.send(sent)
             wait_for_reads(connection)
         wait_until_idle("requests that do not continue", daemon)
-        # A request behind the held connect, and the beginning of another one.
+        # A request after the held connect, and the beginning of another one.
         held.send(post(b"[]") + post(b"[]")[:-1])
         wait_until_idle("an event, while the next request has arrived", daemon)
         check_idle_without_files(daemon, clock)
@@ -88,7 +88,7 @@ def check_idle_without_files(daemon, clock):
 
 
 def check_crowd(program):
-    """Checks that the daemon serves many clients whose connections it finds at once, because it had no processor for a while."""
+    """Checks that the daemon serves many clients that connect while it has no processor."""
     with NonExpiringDaemon(program) as daemon, contextlib.ExitStack() as stack:
         os.kill(daemon.process.pid, signal.SIGSTOP)
         try:
@@ -110,7 +110,7 @@ def check_crowd(program):
 
 
 def check_connections(program, count):
-    """Checks that the daemon serves its clients after `count` connections, most of which have no request."""
+    """Checks that the daemon serves its clients after `count` connections. Most of these have no request."""
     with NonExpiringDaemon(program) as daemon:
         for number in range(1, count + 1):
             with socket.socket() as it:

@@ -58,7 +58,7 @@ def documented_lines():
 
 
 def expect_documented(log):
-    """Raises `CheckFailed` if `log`, in text without times, has a line whose level and event are not as documented."""
+    """Raises `CheckFailed` if `log`, in text without times, has a line with an undocumented level or event."""
     lines = documented_lines()
     for level, event in re.findall(r"^\[(\w+) +bayeuxd\] ([^=\n]*?)(?= \w+=|$)", log.decode(), re.MULTILINE):
         if (level, event) not in lines and (level, f"{event.split()[0]} ..") not in lines:
@@ -66,7 +66,7 @@ def expect_documented(log):
 
 
 def cases_of(session):
-    """Yields cases: lists of requests that are sent over a connection each, the first ones of which are held.
+    """Yields cases: lists of requests, each sent over its own connection. The requests before the last one are held.
 
     `session`: the member of a session with its client id.
     """

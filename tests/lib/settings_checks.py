@@ -443,7 +443,7 @@ def check_seeds(program):
 
 
 def check_endless_seed(program):
-    """Checks that a daemon whose seed file never ends says so, as it must with /dev/urandom."""
+    """Checks the message about a seed file that never ends, such as /dev/urandom."""
     with tempfile.TemporaryDirectory() as folder:
         path = f"{folder}/seed"
         os.mkfifo(path)
