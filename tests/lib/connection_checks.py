@@ -12,7 +12,7 @@ from base import CheckFailed, expect_equal, wait_until
 from daemon import Connection, FlagDaemon, NonExpiringDaemon, SlowReader, check_serves, expect_events, expect_status, get, hold_connect
 from daemon import open_session, post, publish, publish_to, send_connect, with_sanitizer_options
 from metrics import CONNECTS_HELD, OPEN, OPENED, SERVED, expect_values, read_page, scrape
-from patience_checks import CASES, LOOKS, PAUSE, SMALL_BUFFER, clocked_daemon, wait_for_reads, wait_until_idle
+from patience_checks import CASES, DAYS, LOOKS, PAUSE, SMALL_BUFFER, clocked_daemon, wait_for_reads, wait_until_idle
 
 # The connections that arrive at once: more than the daemon spawns tasks for before it yields to other tasks.
 CROWD = 400
@@ -21,6 +21,9 @@ WITHOUT_REQUEST = 100
 # The clients that read no response, the events of each response, the bytes of an event, and how much memory may grow then, in
 # units of 1,024 bytes. The table in docs/OPERATING.md allows 600,000 bytes for the pieces of a response. Its events are shared.
 UNREAD, EVENTS, EVENT, MOST_GROWTH = 16, 40, 200_000, 100 << 10
+# The bytes of a body that is refused, how often it is sent, once and again, and how much memory may grow the second time, in
+# units of 1,024 bytes. It would grow by 10 MB if the daemon kept such bodies.
+LARGE, ROUNDS, MOST_KEPT = 1_000_000, 10, 6 << 10
 # The daemon's limit of descriptors, the number of connections, and how soon a client must be served once descriptors
 # are free, in seconds.
 FILES, COMING, MAX_WAIT = 40, 60, 15.0
@@ -77,7 +80,8 @@ def check_idle(program):
 
 
 def check_idle_without_files(daemon, clock):
-    """Checks the same while the daemon has no free file descriptor for a connection."""
+    """Checks the same while the daemon has no free file descriptor for a connection, long after its last failed accept."""
+    clock.add(DAYS)
     with contextlib.ExitStack() as stack:
         with daemon.without_descriptors():
             first, second = (stack.enter_context(Connection(daemon.address)) for _ in range(2))
@@ -136,6 +140,18 @@ def check_unread(program):
         expect_events(connections[-1].response().items(), events)
     if growth > MOST_GROWTH:
         raise CheckFailed(f"memory grew by {growth} KiB for {UNREAD} responses with the same {EVENTS} events of {EVENT} bytes")
+
+
+def check_kept(program):
+    """Checks that the daemon frees the bodies of requests that it refuses."""
+    kilobytes = []
+    with NonExpiringDaemon(program, env=with_sanitizer_options("quarantine_size_mb=1")) as daemon, Connection(daemon.address) as connection:
+        for _ in range(2):
+            for _ in range(ROUNDS):
+                expect_status(connection, post(b" " * LARGE), 400)
+            kilobytes.append(daemon.kilobytes())
+    if kilobytes[1] - kilobytes[0] > MOST_KEPT:
+        raise CheckFailed(f"memory grew from {kilobytes[0]} to {kilobytes[1]} KiB for {ROUNDS} refused bodies of {LARGE} bytes")
 
 
 def check_files(program):

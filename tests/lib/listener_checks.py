@@ -45,8 +45,8 @@ CHANNELS = [{"pattern": "/chat/*", "subscriptions": 2}, {"pattern": QUOTED, "sub
 # pattern, and the number of sessions with as many long patterns that the list can have.
 MOST_LISTED, PATTERNS, LONG, LONG_LISTED = 1000, 1024, 250, 5
 TRUNCATED = {"truncated": True}
-# How long a list is at least that is cut because of its length, in bytes.
-LEAST_CUT = 1_000_000
+# How long a list is that is cut because of its length, in bytes: about a megabyte.
+CUT_BYTES = range(1_000_000, 1_100_000)
 # The segments and the buffer of a connection over which the system takes little that its peer does not read, in bytes.
 SMALL_SEGMENT, SMALL_BUFFER = 536, 4096
 
@@ -244,6 +244,6 @@ def check_lists(program):
         found = read_list(daemon.metrics, b"/channels")
         if found[-1] != TRUNCATED or [it["pattern"] for it in found[:PATTERNS]] != [f"/0/{at:04}/{'x' * (LONG - 8)}" for at in range(PATTERNS)]:
             raise CheckFailed(f"not the first patterns, and that there are more: {len(found)} {found[:2]} {found[-1]}")
-        if (length := sum(len(json.dumps(it, separators=(",", ":"))) + 1 for it in found[:-1])) < LEAST_CUT:
-            raise CheckFailed(f"the list of channels is cut after {length} bytes, and so before a megabyte")
+        if (length := sum(len(json.dumps(it, separators=(",", ":"))) + 1 for it in found[:-1])) not in CUT_BYTES:
+            raise CheckFailed(f"the list of channels is cut after {length} bytes, and not after a megabyte")
         expect_no_wait_for_reader(daemon.metrics)

@@ -60,10 +60,10 @@ ACCEPT_ERRORS = [
 
 @contextlib.contextmanager
 def clocked_daemon(program):
-    """A daemon with metrics, and its clock, which moves only when it is put forward."""
+    """A daemon with two listeners and metrics, and its clock, which moves only when it is put forward."""
     with tempfile.TemporaryDirectory() as folder:
         clock = Clock(folder, is_standing=True)
-        with FlagDaemon(program, *LONG_TIMES, "--metrics", "127.0.0.1:0", env=environment(folder, **clock.variables)) as daemon:
+        with FlagDaemon(program, *LONG_TIMES, "--readers", "127.0.0.1:0", "--metrics", "127.0.0.1:0", env=environment(folder, **clock.variables)) as daemon:
             daemon.metrics = daemon.metrics_address()
             yield daemon, clock
 
@@ -188,16 +188,17 @@ def check_readers(daemon, clock):
 
 
 def check_unfinished(daemon, clock):
-    """Checks that the daemon waits for clients for `PATIENCE` and no longer, and ends their connections then.
+    """Checks that each listener waits for clients for `PATIENCE` and no longer, and ends their connections then.
 
     One other connection has a held connect.
     """
     expect_values(daemon.metrics, {CONNECTS_HELD: 1, OPEN: 1})
     with contextlib.ExitStack() as stack:
-        found = {name: stack.enter_context(Connection(daemon.address)) for name in CASES}
-        for name, connection in found.items():
+        listeners = {"main": daemon.address, "read-only": daemon.readers_address()}
+        found = {(name, it): stack.enter_context(Connection(listeners[it])) for name in CASES for it in listeners}
+        for (name, _), connection in found.items():
             connection.send(CASES[name][0])
-        expect_values(daemon.metrics, {OPEN: 1 + len(CASES)})
+        expect_values(daemon.metrics, {OPEN: 1 + len(found)})
         wait_for_reads(*found.values())
         wait_until_idle("the rest of requests", daemon)
         clock.add(ALMOST)
@@ -205,8 +206,8 @@ def check_unfinished(daemon, clock):
         ended = [name for name, it in found.items() if received(it)]
         expect_equal(f"the connections that end within {ALMOST} seconds", ended, [])
         clock.add(REST)
-        for name, connection in found.items():
-            wait_for_end(name, connection, CASES[name][1])
+        for (name, listener), connection in found.items():
+            wait_for_end(f"{name} at the {listener} listener", connection, CASES[name][1])
 
 
 def check_bodies(daemon, clock):

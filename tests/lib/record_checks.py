@@ -1,15 +1,18 @@
 """Checks of the record of a daemon: when it is written, what its end has, and what a daemon without room for it keeps."""
+import hashlib
+import json
 import os
 import tempfile
 import time
 
 from base import CheckFailed, limit_file_size, wait_until
 from count_checks import expect_documented
-from daemon import MOST_MESSAGES, TIMEOUT_SECONDS, Connection, FlagDaemon, expect_success, post, publish, with_sanitizer_options
+from daemon import CONNECT, MOST_MESSAGES, TIMEOUT_SECONDS, Connection, FlagDaemon, expect_status, expect_success, open_session, post
+from daemon import publish, subscribe, with_sanitizer_options
 
 # For how long a record is watched, in seconds, and how often it must grow. It is written ten times a
-# second.
-LOOKING, GROWTHS = 1.5, 5
+# second. If it were written five times a second, it would grow eight times.
+LOOKING, GROWTHS = 1.5, 9
 # How many daemons end directly after a publish. If the record lacked its last tenth of a second, half of
 # them would lose it.
 ENDS = 12
@@ -38,15 +41,17 @@ def count_growths(path):
 def check_burst(program):
     with tempfile.TemporaryDirectory() as folder:
         record = f"{folder}/record"
-        with FlagDaemon(program, "--anonymous", "--record", record) as daemon:
+        with FlagDaemon(program, "--anonymous", "--record", record, "--record-answers") as daemon:
             wait_until("the record grows several times a second", lambda: count_growths(record) >= GROWTHS)
             connections = [Connection(daemon.address) for _ in range(4)]
             for connection in connections:
                 connection.send(post(LARGEST))
             for connection in connections:
                 expect_success(connection.response().items(), 1)
+            session = open_session(connections[0])
+            subscribe(connections[0], "/*", session)
             many = [{"channel": "/many", "data": number} for number in range(MOST_MESSAGES)]
-            expect_success(connections[0].ask(many), MOST_MESSAGES)
+            answers = [expect_status(connections[0], post(json.dumps(it).encode()), 200) for it in (many, [{**CONNECT, **session}])]
             publish(connections[0], "/last", 1, {})
             daemon.process.stdin.close()
             daemon.process.wait(TIMEOUT_SECONDS)
@@ -54,6 +59,9 @@ def check_burst(program):
         with open(record, "rb") as file:
             text = file.read()
     found = [text.count(it) for it in (LARGEST, b'"/many"', b'"/last"')]
+    digests = [text.count(b" %s\n" % hashlib.sha256(it).hexdigest().encode()) for it in answers]
+    if digests != [1, 1] or len(json.loads(answers[1])) != MOST_MESSAGES + 1:
+        raise CheckFailed(f"the record has {digests} digests of {MOST_MESSAGES} replies, and of as many events and a reply: {answers[1][-200:]!r}")
     if found != [4, MOST_MESSAGES, 1]:
         raise CheckFailed(f"the record has {found} of 4 large messages, {MOST_MESSAGES} of one request, and the last: {log!r}")
 
