@@ -616,7 +616,8 @@ class BayeuxClient {
       if (refused < 0) continue;
       const pattern = some[refused].subscription;
       const text = `${pattern}: ${replies[refused].error}`;
-      if (this.clientId === null) throw failureOf(text, false);
+      const isGone = this.clientId === null || replies[refused].advice?.reconnect === 'handshake';
+      if (isGone) throw failureOf(text, false);
       // An invalid pattern stays invalid, so its listeners are removed. (If the session is gone,
       // the patterns are kept for the next one.)
       this.listeners.delete(pattern);
@@ -637,6 +638,7 @@ class BayeuxClient {
         // A publish can find meanwhile that the session is gone.
         if (this.clientId === null) throw failureOf('402::Unknown client', false);
         this.recordSession(this.clientId);
+        if (isOver()) return;
         await this.connect();
         if (isOver()) return;
         this.setState('connected');
@@ -651,6 +653,7 @@ class BayeuxClient {
           return;
         }
         this.setState('interrupted', failure.message);
+        if (isOver()) return;
         const longest = Math.min(LONGEST_PAUSE, FIRST_PAUSE * 2 ** this.failures++);
         // A random length, so that not all clients return at once when a server restarts.
         await this.waitToRetry(longest * (0.5 + Math.random() / 2));
@@ -752,7 +755,7 @@ class BayeuxClient {
   mirror({ state, why, knownId, session, subscribed, events }) {
     const isNew = session.clientId !== this.clientId || !session.hasBatches || session.lastBatch > this.lastBatch;
     this.recordSession(knownId);
-    Object.assign(this, session);
+    Object.assign(this, session, isNew ? {} : { lastBatch: this.lastBatch });
     this.subscribed = new Set(subscribed);
     if (isNew) events.forEach((event) => this.deliver(event));
     this.setState(state, why);
