@@ -16,32 +16,6 @@ client.subscribeLogged = (pattern) => client.subscribe(pattern, (data) => client
 client.publishLogged = (channel, data) => client.publish(channel, data).then(() => client.log.push('published'),
   ({ message, mayHaveArrived }) => client.log.push([message, mayHaveArrived]));
 """
-
-
-# Calls with a wrong argument, and what the TypeError says. `it` is a client that is stopped.
-WRONG_CALLS = {
-    "new BayeuxClient()": "url: expected an http: or https: address, got undefined",
-    "new BayeuxClient('')": 'url: expected an http: or https: address, got ""',
-    "new BayeuxClient('ws://127.0.0.1/cometd')": 'url: expected an http: or https: address, got "ws://127.0.0.1/cometd"',
-    "new BayeuxClient('/cometd', null)": "options: expected an object or a connection type, got null",
-    "new BayeuxClient('/cometd', 'websocket')": 'options.connectionType: expected "long-polling" or "callback-polling", got "websocket"',
-    "new BayeuxClient('/cometd', { headers: new Headers() })": "options.headers: expected an object with a string for each header field, got an object",
-    "new BayeuxClient('/cometd', { headers: { 'X-A': 1 } })": "options.headers: expected an object with a string for each header field, got an object",
-    "new BayeuxClient('/cometd', { header: {} })": "options.header: unknown, expected connectionType, headers, share or name",
-    "new BayeuxClient('/cometd', { share: 'no' })": 'options.share: expected true or false, got "no"',
-    "new BayeuxClient('/cometd', { name: 5 })": "options.name: expected a string, got 5",
-    "it.subscribe('/a')": "listener: expected a function, got undefined",
-    "it.subscribe('a', () => {})": 'pattern: expected a string that begins with "/", got "a"',
-    "it.subscribe(['/a'], () => {})": 'pattern: expected a string that begins with "/", got an array',
-    "it.publish(5, 1)": 'channel: expected a string that begins with "/", got 5',
-    "it.publish('/a')": "data: expected a value that JSON can express, got undefined",
-    "it.publish('/a', () => {})": "data: expected a value that JSON can express, got a function",
-    "it.publish('/a', 5n)": "data: expected a value that JSON can express, got 5",
-    "it.stop('Bye')": 'last: expected an array of messages, got "Bye"',
-    "it.stop([{ channel: '/a' }])": "data: expected a value that JSON can express, got undefined",
-}
-# Returns the error of such a call.
-ERROR_OF = "const it = new BayeuxClient('/cometd'); try { %s; return 'no error'; } catch (error) { return [error.name, error.message]; }"
 # Starts a client twice, and records what its promises do.
 START = """
 const it = new BayeuxClient('/cometd', { share: false });
@@ -180,16 +154,6 @@ def try_client(fixture):
         raise CheckFailed("a request had no header of the page's own")
     if any(it["ext"] != {"ack": True, "name": "Ben"} for it in fixture.site.messages("/meta/handshake")):
         raise CheckFailed("a handshake had not the name that the page gave the session")
-    page.close()
-
-
-def try_arguments(fixture):
-    """Checks that wrong arguments throw at once. The error names the argument, and what was expected and given."""
-    page = Window(fixture.browser, fixture.site.address)
-    for call, message in WRONG_CALLS.items():
-        error = page.run(ERROR_OF % call)
-        if error != ["TypeError", message]:
-            raise CheckFailed(f"{call}: {error}, and not {message}")
     page.close()
 
 

@@ -1,5 +1,6 @@
 // A server that follows a script, places in which the client of examples/client runs, and windows of one origin, for scenarios in
 // node. No scenario waits for a time: pauses and time limits are recorded, and end when the scenario says so.
+import assert from 'node:assert/strict';
 import { readFileSync } from 'node:fs';
 import http from 'node:http';
 import vm from 'node:vm';
@@ -125,9 +126,13 @@ export class Server {
   }
 }
 
+// The places of the scenario that runs.
+const places = [];
+
 /** A page or a program with its own timers. `page`: its address, or `null` for a program. */
 export class Place {
   constructor(page = null, extra = {}) {
+    this.isOver = false; // whether the scenario has ended, and with it all timers and requests
     this.pauses = []; // milliseconds of each timer that ends at once: the pauses of the client
     this.endless = Infinity; // the number of the first pause that does not end by itself
     this.open = new Set(); // the timers that have not ended
@@ -140,14 +145,15 @@ export class Place {
       URL, URLSearchParams, Blob, AbortController, queueMicrotask, console,
       setTimeout: (go, milliseconds) => this.setTimer(go, milliseconds),
       clearTimeout: (timer) => this.open.delete(timer) && clearTimeout(timer.id),
-      fetch: (url, options) => this.fetches.push(options) && fetch(new URL(url, page ?? undefined), options),
+      fetch: (url, options) => this.send(url, options),
       AbortSignal: { timeout: (milliseconds) => this.limit(milliseconds) },
       ...(page === null ? {} : this.pageGlobals(page)),
       ...extra,
     };
     this.context = vm.createContext(globals);
     vm.runInContext(SOURCE, this.context);
-    this.random(0.999);
+    // Windows that are opened in the same millisecond differ too.
+    this.random(0.999 - places.push(this) * 1e-6);
   }
 
   run(script) {
@@ -161,7 +167,7 @@ export class Place {
   // Timers as long as the time limit of a request do not end.
   setTimer(go, milliseconds = 0) {
     const timer = { id: null };
-    const end = () => this.open.delete(timer) && go();
+    const end = () => this.open.delete(timer) && !this.isOver && go();
     this.open.add(timer);
     if (milliseconds >= NETWORK_TIMEOUT) this.limits.push([milliseconds, end]);
     else {
@@ -169,6 +175,11 @@ export class Place {
       if (this.pauses.length < this.endless) timer.id = setTimeout(end, 0);
     }
     return timer;
+  }
+
+  send(url, options) {
+    this.fetches.push(options);
+    return this.isOver ? new Promise(() => {}) : fetch(new URL(url, this.page ?? undefined), options);
   }
 
   limit(milliseconds) {
@@ -208,8 +219,11 @@ export class Place {
   client(url, options, ...patterns) {
     const client = new (this.run('BayeuxClient'))(url, options);
     client.log = [];
-    client.onstate = (state, why) => client.log.push(why ? `${state} ${why}` : state);
-    client.ongap = () => client.log.push('gap');
+    client.onstate = (state, why) => {
+      assert.equal(state, client.state);
+      client.log.push(why ? `${state} ${why}` : state);
+    };
+    client.ongap = (since) => client.log.push(client.hasMoments ? ['gap', since.getTime()] : 'gap');
     client.listener = (data, channel) => client.log.push([channel, data]);
     patterns.forEach((pattern) => client.subscribe(pattern, client.listener));
     return client;
@@ -223,6 +237,8 @@ export class Origin {
     this.channels = new Set();
     this.locks = []; // the holder of each lock and those that wait for it, in order
     this.isQuiet = false; // whether messages are lost, as if the other window did not run
+    this.deaf = new Set(); // the windows that get no messages
+    this.now = Date.now(); // the clock of all windows
     this.denial = null; // the error with which the browser denies each lock, if it does
   }
 
@@ -236,22 +252,25 @@ export class Origin {
     const origin = this;
     class Channel {
       constructor(name) {
-        this.name = name;
+        Object.assign(this, { name, place });
         origin.channels.add(this);
       }
 
       postMessage(data) {
-        const others = [...origin.channels].filter((it) => it !== this && it.name === this.name);
+        if (this.isClosed) throw new DOMException('the channel is closed', 'InvalidStateError');
+        const others = [...origin.channels].filter((it) => it !== this && it.name === this.name && !origin.deaf.has(it.place));
         if (!origin.isQuiet) setImmediate(() => others.forEach((it) => origin.channels.has(it) && it.onmessage({ data })));
       }
 
       close() {
+        this.isClosed = true;
         origin.channels.delete(this);
       }
     }
     const place = new Place(`${this.server.origin}${path}`, { origin: this.server.origin, BroadcastChannel: Channel });
     const request = (name, { signal }, begin) => this.request(place, name, signal, begin);
     place.context.navigator.locks = { request };
+    place.run('Date').now = () => this.now;
     place.client = place.client(url, options, ...patterns);
     place.channels = () => [...this.channels].filter((it) => it instanceof Channel);
     place.started = place.client.start();
@@ -281,7 +300,7 @@ export class Origin {
   }
 
   crash(place) {
-    place.channels().forEach((it) => it.close());
+    place.channels().forEach((it) => this.channels.delete(it));
     place.run('globalThis').fetch = () => new Promise(() => {});
     place.client.starts++;
     this.locks = this.locks.filter((it) => it.place !== place);
@@ -315,6 +334,7 @@ export async function run(scenarios) {
       process.exit(1);
     }
     server.close();
+    places.splice(0).forEach((it) => (it.isOver = true));
   }
   process.exit(0);
 }

@@ -4,8 +4,14 @@
 //
 // Prints the first scenario that fails, and why. The status is then 1.
 import assert from 'node:assert/strict';
-import { existsSync, readFileSync } from 'node:fs';
-import { ADVICE, connect, FIRST_PAUSE, FOLDER, handshake, LONGEST_PAUSE, NETWORK_TIMEOUT, NOT_HELD, outcomeOf, Place, rejection, run, subscribe, unknown, unsubscribe, until } from './client_place.mjs';
+import { ADVICE, connect, FIRST_PAUSE, handshake, LONGEST_PAUSE, NETWORK_TIMEOUT, NOT_HELD, outcomeOf, Place, rejection, run, subscribe, unknown, unsubscribe, until } from './client_place.mjs';
+
+/** Returns what arrived since `before` requests: the channels and patterns of each, without connects of a session that is connected. */
+function sentSince(server, before) {
+  const isOther = ({ channel, advice, clientId }) => channel !== '/meta/connect' || advice || !clientId;
+  const requests = server.requests.slice(before).map(([, , , messages]) => messages.filter(isOther));
+  return requests.map((messages) => messages.map(({ channel, subscription }) => [channel.replace('/meta/', ''), subscription].join(' ').trim()).join(', ')).filter(Boolean);
+}
 
 const SCENARIOS = {
   async 'each request of a session as a whole'(server) {
@@ -17,7 +23,7 @@ const SCENARIOS = {
     server.emit(['/a/x', 1], ['/b', 2]);
     await until('it is acknowledged', () => server.messages('/meta/connect').length === 3);
     await client.unsubscribe('/b');
-    client.stop([{ channel: '/a/x', data: 'Bye' }]);
+    client.stop([{ channel: '/a/x', data: 'Bye' }, { channel: '/b', data: null }]);
     await until('the last request has come', () => server.messages('/meta/disconnect').length === 1);
     const id = { clientId: 'session 1' };
     const requests = [
@@ -28,7 +34,7 @@ const SCENARIOS = {
       [{ channel: '/b', data: { text: 'ü & "x"' }, ...id }],
       [connect(1, 1)],
       [unsubscribe('/b')],
-      [{ channel: '/a/x', data: 'Bye', ...id }, { channel: '/meta/disconnect', ...id }],
+      [{ channel: '/a/x', data: 'Bye', ...id }, { channel: '/b', data: null, ...id }, { channel: '/meta/disconnect', ...id }],
     ].map((messages) => ['POST', '/cometd', 'application/json', messages]);
     assert.deepEqual(server.requests, requests);
     const held = ADVICE.timeout + NETWORK_TIMEOUT;
@@ -43,7 +49,7 @@ const SCENARIOS = {
 
   async 'a session that is lost: a new one, its patterns, and its first batch'(server) {
     const place = new Place();
-    const client = place.client(server.address, {}, '/a', '/b/**');
+    const client = place.client(server.address, { name: 'Ben' }, '/a', '/b/**');
     await client.start();
     for (let number = 1; number <= 3; number++) {
       await until('a connect is held', () => server.held);
@@ -57,13 +63,55 @@ const SCENARIOS = {
     server.begin();
     held([unknown('/meta/connect')]);
     await until('a connect is held', () => server.held);
-    const expected = [[handshake()], [subscribe('/a', 2), subscribe('/b/**', 2)], [connect(2, 0, NOT_HELD)], [connect(2, 0)]];
+    const expected = [[handshake({ ack: true, name: 'Ben' })], [subscribe('/a', 2), subscribe('/b/**', 2)], [connect(2, 0, NOT_HELD)], [connect(2, 0)]];
     assert.deepEqual(server.requests.slice(before).map(([, , , messages]) => messages), expected);
     assert.equal(place.limits.at(-1)[0], ADVICE.timeout + NETWORK_TIMEOUT, 'the hold that an advice omits');
     server.emit(['/a', 4], ['/b/c/d', 5]);
     await until('the events come', () => client.log.length === 10);
     const events = [1, 2, 3].map((number) => ['/a', number]);
     assert.deepEqual(client.log, ['connecting', 'connected', ...events, 'interrupted 402::Unknown client', 'gap', 'connected', ['/a', 4], ['/b/c/d', 5]]);
+    client.stop();
+  },
+
+  async 'the moment of a gap: the last request that brought events, or the subscription'(server) {
+    const place = new Place();
+    const client = place.client(server.address, {}, '/a');
+    client.hasMoments = true;
+    let now = 1000;
+    place.run('Date').now = () => now;
+    const gaps = () => client.log.filter(([kind]) => kind === 'gap').map(([, since]) => since);
+    const lose = async (moment) => {
+      now = moment;
+      const [{ held }, count] = [server, gaps().length];
+      server.begin();
+      held([unknown('/meta/connect')]);
+      await until('there is a new session', () => gaps().length > count && server.held);
+    };
+    await client.start();
+    await until('a connect is held', () => server.held);
+    await lose(2000);
+    now = 3000;
+    server.next('/x', (_, __, send) => {
+      now = 3500;
+      send([{ channel: '/a', data: 'rides' }, { channel: '/x', successful: true }]);
+    });
+    await client.publish('/x', 1);
+    await client.publish('/x', 2);
+    await lose(4000);
+    const next = async (moment, answer) => {
+      const { length } = server.requests;
+      now = moment;
+      answer();
+      await until('a connect is held', () => server.held && server.requests.length > length);
+    };
+    await next(5000, () => server.answerHeld([]));
+    await next(6000, () => server.emit(['/a', 1]));
+    await next(7000, () => server.answerHeld([]));
+    await lose(8000);
+    client.stop();
+    now = 9000;
+    await client.start();
+    assert.deepEqual(gaps(), [1000, 3000, 5000, 8000]);
     client.stop();
   },
 
@@ -97,14 +145,86 @@ const SCENARIOS = {
     server.next('/meta/handshake', { channel: '/meta/handshake', clientId: 'session 1', successful: true, advice: { ...ADVICE, interval: 2000 } });
     server.next('/meta/connect', { channel: '/meta/connect', successful: true });
     server.next('/meta/connect', { channel: '/meta/connect', successful: true, advice: { reconnect: 'retry' } });
+    server.next('/meta/connect', { channel: '/meta/connect', successful: true, advice: { interval: 0, timeout: 60000 } });
     await client.start();
     await until('a connect is held', () => server.held);
-    assert.deepEqual(server.messages('/meta/connect').map(({ ext }) => ext), [undefined, undefined, undefined]);
+    assert.deepEqual(server.messages('/meta/connect').map(({ ext }) => ext), Array(4).fill(undefined));
     assert.deepEqual(place.pauses, [2000, 2000]);
+    const held = [0, ADVICE.timeout, ADVICE.timeout, 60000];
+    assert.deepEqual(place.limits.slice(2).map(([it]) => it), held.map((it) => it + NETWORK_TIMEOUT));
+    // A later session has acknowledgement, and the next one has not.
+    for (const [hasBatches, ext] of [[true, { ack: 0 }], [false, undefined]]) {
+      Object.assign(server, { hasBatches });
+      const lose = server.held;
+      server.begin();
+      lose([unknown('/meta/connect')]);
+      await until('a connect is held', () => server.held);
+      assert.deepEqual(server.messages('/meta/connect').at(-1).ext, ext);
+    }
     client.stop();
   },
 
+  async 'answers that are unusual'(server) {
+    const answer = (...items) => (_, __, send) => send(items);
+    const ride = { channel: '/a', data: 'rides', id: '7' };
+    const done = (channel) => ({ channel, successful: true });
+    const again = (...patterns) => ['handshake', patterns.map((it) => `subscribe ${it}`).join(', '), 'connect'];
+    const lost = ['interrupted 402::Unknown client', 'gap', 'connected'];
+    const endSession = () => {
+      const { held } = server;
+      server.begin();
+      return () => held([unknown('/meta/connect')]);
+    };
+    // The session is gone. The first function lets the connect know this before the request on `channel`, the second one after it.
+    const before = (channel) => async (_, __, send) => {
+      endSession()();
+      const { sessions } = server;
+      await until('there is a new session', () => server.sessions > sessions && server.messages('/meta/handshake').length === server.sessions);
+      setTimeout(() => send([unknown(channel)]), 20);
+    };
+    const after = (channel) => (_, __, send) => {
+      setTimeout(endSession(), 20);
+      send([unknown(channel)]);
+    };
+    // The client asks for its connect again while the server answers.
+    const between = (channel) => (_, __, send) => {
+      server.answerHeld([]);
+      setTimeout(() => {
+        server.begin();
+        send([unknown(channel)]);
+      }, 20);
+    };
+    const gone = (text) => [`${text}402::Unknown client`, false, undefined];
+    const subscribeD = (it) => it.subscribe('/d', it.listener);
+    // What the server answers to the next message on a channel, what the client does, its outcome, what it sends, and what it reports.
+    const rows = [
+      ['/x', answer(ride, done('/x')), (it) => it.publish('/x', 1), 'done', ['/x'], [['/a', 'rides']]],
+      ['/meta/subscribe', answer(ride, done('/meta/subscribe')), subscribeD, 'done', ['subscribe /d'], [['/a', 'rides']]],
+      ['/meta/subscribe', before('/meta/subscribe'), subscribeD, gone('/d: '), ['subscribe /d', ...again('/a', '/c', '/d')], lost],
+      ['/meta/subscribe', after('/meta/subscribe'), subscribeD, gone('/d: '), ['subscribe /d', ...again('/a', '/c', '/d')], lost],
+      ['/meta/unsubscribe', answer(rejection('', '404::Unknown meta channel')), (it) => it.unsubscribe('/c'), ['/c: 404::Unknown meta channel', false, undefined], ['unsubscribe /c'], []],
+      ['/x', before('/x'), (it) => it.publish('/x', 1), gone(''), ['/x', ...again('/a', '/c')], lost],
+      ['/x', after('/x'), (it) => it.publish('/x', 1), gone(''), ['/x', ...again('/a', '/c')], lost],
+      ['/x', between('/x'), (it) => it.publish('/x', 1), gone(''), ['/x', ...again('/a', '/c')], lost],
+    ];
+    for (const [channel, reply, act, outcome, sent, log] of rows) {
+      const client = new Place().client(server.address, {}, '/a', '/c');
+      await client.start();
+      await until('a connect is held', () => server.held);
+      const begin = server.requests.length;
+      client.log.splice(0);
+      server.next(channel, reply);
+      assert.deepEqual(await outcomeOf(act(client)), outcome, `${sent}`);
+      await until(`it is connected again: ${sent}`, () => client.log.length >= log.length && client.state === 'connected' && server.held);
+      server.emit(['/a', 'end']);
+      await until(`the last event comes: ${sent}`, () => client.log.at(-1)?.[1] === 'end');
+      assert.deepEqual([sentSince(server, begin), client.log], [sent, [...log, ['/a', 'end']]]);
+      client.stop();
+    }
+  },
+
   async 'the pauses after failures'(server) {
+    const lengths = [];
     for (const random of [0.999, 0]) {
       const place = new Place();
       place.random(random);
@@ -130,7 +250,18 @@ const SCENARIOS = {
       const failures = ['408::Superseded connect', ...Array(8).fill('HTTP status 503'), '402::Unknown client'];
       assert.deepEqual(client.log.slice(2, -2), failures.map((it) => `interrupted ${it}`));
       client.stop();
+      // A server that takes no session gives the same advice, but it wants the client to wait.
+      const [rejected, error] = [new Place(), '503::Too many sessions'];
+      rejected.random(random);
+      const late = rejected.client(server.address);
+      for (let count = 0; count < 40; count++) server.next('/meta/handshake', { ...unknown('/meta/handshake'), error });
+      await late.start();
+      assert.deepEqual(late.log, ['connecting', ...Array(40).fill(`interrupted ${error}`), 'connected']);
+      assert.deepEqual(rejected.pauses, [...pauses.slice(0, 7), ...Array(33).fill(pauses[7])]);
+      late.stop();
+      lengths.push(pauses);
     }
+    assert.ok(lengths[0].every((it, at) => it > 1.5 * lengths[1][at]), `they hardly differ: ${lengths.join(' and ')}`);
   },
 
   async 'what the failure of a publish says'(server) {
@@ -149,6 +280,10 @@ const SCENARIOS = {
       found[status] = await outcomeOf(client.publish('/a', 0));
     }
     assert.deepEqual(found, expected);
+    for (const status of [403, 403, 404]) {
+      server.next('/a', (_, response) => response.writeHead(status).end());
+      assert.deepEqual(await outcomeOf(client.publish('/a', 0)), expected[status], 'the second time');
+    }
     server.next('/a', rejection('/a', '400::Invalid channel'));
     assert.deepEqual(await outcomeOf(client.publish('/a', 0)), ['400::Invalid channel', false, undefined]);
     const ends = [
@@ -180,6 +315,44 @@ const SCENARIOS = {
     assert.deepEqual(await outcomeOf(client.publish('/a', 0)), ['not connected', false, undefined]);
   },
 
+  async 'a client is connected after a connect, and after a publish only if that had no answer'(server) {
+    const place = new Place();
+    const client = place.client(server.address, {}, '/a');
+    const trace = [];
+    client.onstate = (state, why) => trace.push([state, why, server.messages('/meta/handshake').length, server.messages('/meta/connect').length]);
+    client.ongap = () => trace.push(['gap', server.messages('/meta/subscribe').length]);
+    const silence = async (channel) => {
+      const before = server.messages(channel).length;
+      server.next(channel, () => {});
+      await until('a request has come', () => server.messages(channel).length > before);
+      return () => place.limits.at(-1)[1]();
+    };
+    const first = silence('/meta/handshake');
+    client.start();
+    (await first)();
+    await until('it is connected', () => client.state === 'connected' && server.held);
+    // A new session whose handshake gets no answer, and one whose connect fails while a publish succeeds.
+    const { held } = server;
+    server.begin();
+    const second = silence('/meta/handshake');
+    held([unknown('/meta/connect')]);
+    (await second)();
+    await until('it is connected', () => client.state === 'connected' && server.held);
+    place.pauses.splice(0);
+    place.endless = 1;
+    server.next('/meta/connect', (_, response) => response.writeHead(503).end());
+    server.answerHeld([]);
+    await until('it pauses', () => place.pauses.length === 1);
+    await client.publish('/a', 1);
+    const lost = 'no answer in time';
+    assert.deepEqual(trace, [
+      ['connecting', '', 0, 0], ['interrupted', lost, 1, 0], ['connected', '', 2, 1],
+      ['interrupted', '402::Unknown client', 2, 2], ['interrupted', lost, 3, 2], ['gap', 2], ['connected', '', 4, 3],
+      ['interrupted', 'HTTP status 503', 4, 5],
+    ]);
+    client.stop();
+  },
+
   async 'a publish that finds that the session is gone'(server) {
     const place = new Place();
     const client = place.client(server.address, {}, '/a');
@@ -202,6 +375,9 @@ const SCENARIOS = {
       assert.equal((await outcomeOf(client.start()))[0], '400::Unsupported version');
       assert.deepEqual(client.log, ['connecting', 'stopped 400::Unsupported version']);
       assert.deepEqual([place.pauses, client.clientId], [[], null]);
+      await client.start();
+      assert.deepEqual(client.log.slice(2).filter((it) => it !== 'gap'), ['connecting', 'connected']);
+      client.stop();
     }
   },
 
@@ -216,11 +392,19 @@ const SCENARIOS = {
     client.subscribe('/a/c', client.listener);
     await client.start();
     await until('a connect is held', () => server.held);
-    const values = [null, false, true, 0, -0.5, 1e300, '', 'ü\u2028</script>', [], [null], {}, { a: { b: [1] } }];
+    const values = [null, false, true, 0, -0.5, 1e300, 1e-300, 0.1 + 0.2, 2 ** 53, '', 'ü\u2028</script>', [], [null], {}, { a: { b: [1] } }];
     server.emit(...values.map((value) => ['/a/b', value]));
     await until('the events come', () => client.log.length === 2 + 4 * values.length);
     assert.deepEqual(client.log.slice(2), values.flatMap((value) => Array(4).fill(['/a/b', value])));
+    await Promise.all(values.map((value) => client.publish('/x', value)));
+    assert.deepEqual(server.messages('/x').map(({ data }) => data), values);
     client.log.splice(0);
+    await until('a connect is held', () => server.held);
+    // As many events as an answer can have (docs/PROTOCOL.md, "Connect").
+    const many = Array.from({ length: 256 }, (_, number) => ['/b', number]);
+    server.emit(...many);
+    await until('the last event comes', () => client.log.length === many.length);
+    assert.deepEqual(client.log.splice(0), many);
     await until('a connect is held', () => server.held);
     server.emit(['/a/c', 1], ['/b', 2]);
     await until('the last event comes', () => client.log.length === 4);
@@ -267,10 +451,12 @@ const SCENARIOS = {
     const client = place.client(server.address, {}, '/a');
     // Two functions with the same name and text.
     const [other, third] = ['other', 'third'].map((it) => () => client.log.push(it));
-    for (const it of [other, third]) client.subscribe('/a', it);
+    for (const it of [other, third, client.listener]) client.subscribe('/a', it);
     await client.start();
     await until('a connect is held', () => server.held);
     await client.unsubscribe('/nothing');
+    await client.unsubscribe('/nothing', client.listener);
+    await client.unsubscribe('/a', () => {});
     await client.unsubscribe('/a', client.listener);
     await client.unsubscribe('/a', third);
     server.emit(['/a', 1]);
@@ -301,6 +487,18 @@ const SCENARIOS = {
     assert.deepEqual(await outcomeOf(client.subscribe('/meta/x', client.listener)), ['/meta/x: 403::Subscription denied', false, undefined]);
     assert.equal(await outcomeOf(client.subscribe('/d', client.listener)), 'done');
     assert.deepEqual(server.messages('/meta/subscribe').slice(2), [subscribe('/meta/x'), subscribe('/d')]);
+    // An event comes between the replies, and two of four patterns are rejected.
+    const other = place.client(server.address, {}, '/p', '/q', '/r', '/s');
+    const reply = (subscription, error) => ({ channel: '/meta/subscribe', subscription, successful: !error, error });
+    const denied = reply('/r', '403::Subscription denied');
+    server.next('/meta/subscribe', (_, __, send) => send([reply('/p', '400::Invalid pattern'), { channel: '/q', data: 1 }, reply('/q'), denied, reply('/s')]));
+    server.next('/meta/subscribe', denied);
+    const before = server.requests.length;
+    await other.start();
+    assert.deepEqual(other.log, ['connecting', ['/q', 1], 'interrupted /p: 400::Invalid pattern', 'interrupted /r: 403::Subscription denied', 'connected']);
+    assert.deepEqual(sentSince(server, before), ['handshake', 'subscribe /p, subscribe /q, subscribe /r, subscribe /s', 'subscribe /r', 'connect']);
+    assert.deepEqual([[...client.listeners.keys()], [...other.listeners.keys()]], [['/c', '/d'], ['/q', '/s']]);
+    other.stop();
     client.stop();
   },
 
@@ -328,72 +526,12 @@ const SCENARIOS = {
       assert.deepEqual(await Promise.all(outcomes), ['done', half === 0 ? ['400::Invalid channel', false, undefined] : 'done']);
       assert.deepEqual(sent(), steps.slice(0, 2 * half + 2));
     }
+    const numbers = Array.from({ length: 100 }, (_, number) => number);
+    for (let count = 0; count < 3; count++) server.next('/many', rejection('/many', '400::Missing data'));
+    const outcomes = await Promise.all(numbers.map((number) => outcomeOf(client.publish('/many', number))));
+    assert.deepEqual(server.requests.slice(-100).map(([, , , messages]) => messages.map(({ data }) => data)), numbers.map((number) => [number]));
+    assert.deepEqual(outcomes, numbers.map((number) => (number < 3 ? ['400::Missing data', false, undefined] : 'done')));
     client.stop();
-  },
-
-  async 'stop and start again, with the same listeners'(server) {
-    const place = new Place();
-    const client = place.client(server.address, {}, '/a');
-    for (let number = 1; number <= 3; number++) {
-      const started = client.start();
-      assert.equal(client.start(), started);
-      await started;
-      await until('a connect is held', () => server.held);
-      server.emit(['/a', number]);
-      await until('the event comes', () => client.log.at(-1)[1] === number);
-      await until('a connect is held', () => server.held);
-      client.stop();
-      assert.deepEqual([client.state, client.clientId, client.log.at(-1)], ['stopped', null, 'stopped']);
-      await until('the session is ended', () => server.messages('/meta/disconnect').length === number);
-    }
-    assert.deepEqual(server.messages('/meta/disconnect').map(({ clientId }) => clientId), ['session 1', 'session 2', 'session 3']);
-    assert.equal(server.sessions, 3);
-  },
-
-  async 'stop in a handshake, in a pause, and before a response'(server) {
-    const place = new Place();
-    const client = place.client(server.address, {}, '/a');
-    let go = null;
-    server.next('/meta/handshake', (message, _, send) => (go = () => send([server.reply(message)])));
-    const started = outcomeOf(client.start());
-    await until('the handshake has come', () => go);
-    client.stop();
-    assert.deepEqual(await started, ['stopped', undefined, undefined]);
-    go();
-    await new Promise((next) => setTimeout(next, 20));
-    assert.deepEqual([client.clientId, client.state, server.requests.length], [null, 'stopped', 1]);
-
-    place.endless = 1;
-    server.next('/meta/handshake', (_, response) => response.writeHead(503).end());
-    client.start();
-    await until('it pauses', () => place.pauses.length === 1);
-    client.stop();
-    assert.equal(place.open.size, 0, 'timers that keep a program running');
-    assert.equal(server.requests.length, 2);
-
-    await client.start();
-    await until('a connect is held', () => server.held);
-    const { held } = server;
-    client.log.splice(0);
-    client.stop();
-    held([{ channel: '/a', data: 'late' }, { channel: '/meta/connect', successful: true, ext: { ack: 1 } }]);
-    await until('the session is ended', () => server.messages('/meta/disconnect').length === 1);
-    await new Promise((next) => setTimeout(next, 20));
-    assert.deepEqual([client.log, client.state], [['stopped'], 'stopped']);
-  },
-
-  async 'the last messages after a publish was forbidden, and was allowed again'(server) {
-    const place = new Place();
-    const client = place.client(server.address, {}, '/a');
-    for (const [number, isAllowed] of [false, true].entries()) {
-      await client.start();
-      server.next('/a', (_, response) => response.writeHead(403).end());
-      assert.equal((await outcomeOf(client.publish('/a', 0)))[2], 403);
-      if (isAllowed) await client.publish('/a', 0);
-      client.stop([{ channel: '/a', data: 'last' }]);
-      await until('the session is ended', () => server.messages('/meta/disconnect').length === number + 1);
-      assert.deepEqual(server.requests.at(-1)[3].map(({ channel }) => channel), [...(isAllowed ? ['/a'] : []), '/meta/disconnect']);
-    }
   },
 
   async 'header fields, which may change'(server) {
@@ -421,30 +559,6 @@ const SCENARIOS = {
     client.stop();
   },
 
-  async 'addresses, and the transport for each'(server) {
-    const program = new Place();
-    assert.equal(program.client(new URL(server.address)).url, server.address);
-    assert.equal(program.client(server.address, 'long-polling').connectionType, 'long-polling');
-    const page = new Place('https://a.example/x/y.html');
-    const types = {
-      '/cometd': 'long-polling',
-      'cometd': 'long-polling',
-      '//a.example/cometd': 'long-polling',
-      'https://a.example/cometd': 'long-polling',
-      'https://a.example:443/cometd': 'long-polling',
-      'http://a.example/cometd': 'callback-polling',
-      'https://a.example:8443/cometd': 'callback-polling',
-      'https://b.a.example/cometd': 'callback-polling',
-    };
-    for (const [url, type] of Object.entries(types)) {
-      assert.equal(page.client(url).connectionType, type, url);
-      for (const chosen of ['long-polling', 'callback-polling']) {
-        assert.equal(page.client(url, chosen).connectionType, chosen, url);
-        assert.equal(page.client(url, { connectionType: chosen }).connectionType, chosen, url);
-      }
-    }
-  },
-
   async 'callback-polling: addresses of scripts, and what is left of them'(server) {
     const place = new Place('http://page.example/', {});
     place.document.readyState = 'interactive';
@@ -468,180 +582,39 @@ const SCENARIOS = {
     assert.deepEqual(server.messages('/meta/handshake')[0].supportedConnectionTypes, ['callback-polling']);
     assert.deepEqual([...new Set(server.requests.map(([method, path]) => `${method} ${path}`))], ['GET /cometd']);
     const names = place.scripts.map(({ src }) => new URL(src).searchParams.get('jsonp'));
-    assert.equal(new Set(names).size, names.length);
     assert.deepEqual(place.scripts.map((it) => it.isRemoved === true), [...Array(names.length - 1).fill(true), false]);
     assert.deepEqual(Object.keys(place.window).filter((it) => names.includes(it)), [names.at(-1)]);
     const open = place.open.size;
     server.next('/a', (_, response) => response.writeHead(403).end());
     assert.deepEqual(await outcomeOf(client.publish('/a', 0)), ['the server cannot be reached, or refused the request', true, undefined]);
     assert.equal(place.open.size, open, 'timers of requests that have ended');
+    // A script that comes too late, and one that never comes. The names are in use until then.
+    const inUse = () => Object.keys(place.window).filter((it) => it.startsWith('bayeux_callback')).length;
+    let go = null;
+    server.next('/a', (_, __, send) => (go = () => send([{ channel: '/a', successful: true }])));
+    const late = outcomeOf(client.publish('/a', 0));
+    await until('the publish has come', () => go);
+    const limit = place.limits.at(-1);
+    limit[1]();
+    assert.deepEqual([await late, limit[0], place.scripts.at(-1).isRemoved, inUse()], [['no answer in time', true, undefined], NETWORK_TIMEOUT, true, 2]);
+    go();
+    await until('the late script has ended', () => inUse() === 1);
+    assert.equal(client.log.at(-1), 'interrupted no answer in time');
+    await client.publish('/a', 0);
+    assert.equal(client.log.at(-1), 'connected');
     client.stop([{ channel: '/a', data: 'Bye' }]);
     const id = { clientId: 'session 1' };
     // Another origin takes only plain text.
     assert.deepEqual(place.beacons, [[server.address, JSON.stringify([{ channel: '/a', data: 'Bye', ...id }, { channel: '/meta/disconnect', ...id }])]]);
-    // An address may have a query.
-    const other = place.client(`${server.address}?token=a%20b`, {});
+    // An address may have a query. The line of a request has at most 64 KiB, also with the longest patterns (docs/PROTOCOL.md).
+    const long = Array.from({ length: 100 }, (_, number) => `/${number}`.padEnd(4, 'x') + 'é'.repeat(126));
+    const other = place.client(`${server.address}?token=a%20b`, {}, ...long);
     await other.start();
     assert.deepEqual([other.state, new URL(place.scripts.at(-1).src).searchParams.get('token')], ['connected', 'a b']);
+    assert.deepEqual([...other.subscribed], long);
+    assert.equal(new Set(place.scripts.map(({ src }) => new URL(src).searchParams.get('jsonp'))).size, place.scripts.length);
+    assert.ok(place.scripts.every(({ src }) => String(src).length < 64 * 1024 - 100), 'the URL of a script is too long');
     other.stop();
-  },
-
-  async 'a page that is left, and one to which the user returns'(server) {
-    const place = new Place(`${server.origin}/page.html`);
-    const client = place.client('/cometd', { share: false }, '/a');
-    const stopped = place.client('/cometd', { share: false });
-    client.onleave = () => [{ channel: '/a', data: 'left' }];
-    stopped.start();
-    stopped.stop();
-    await client.start();
-    place.dispatch('pageshow', { persisted: false });
-    assert.equal(client.state, 'connected');
-    place.dispatch('pagehide');
-    assert.deepEqual([client.state, client.clientId, place.beacons.length], ['stopped', null, 1]);
-    const [[url, blob]] = place.beacons;
-    const id = { clientId: 'session 2' };
-    assert.deepEqual([url, blob.type], ['/cometd', 'application/json']);
-    assert.deepEqual(JSON.parse(await blob.text()), [{ channel: '/a', data: 'left', ...id }, { channel: '/meta/disconnect', ...id }]);
-    place.dispatch('pageshow', { persisted: true });
-    await until('it is connected again', () => client.state === 'connected');
-    assert.deepEqual([server.sessions, stopped.state], [3, 'stopped']);
-    client.onleave = () => {
-      throw new Error('onleave throws');
-    };
-    let message = '';
-    process.once('uncaughtException', (error) => (message = error.message));
-    place.dispatch('pagehide');
-    await until('the error is shown', () => message === 'onleave throws');
-    assert.deepEqual([client.state, client.clientId], ['stopped', null]);
-    place.dispatch('pageshow', { persisted: true });
-    await until('it is connected again', () => client.state === 'connected');
-    client.onleave = () => undefined;
-    client.stop();
-    place.dispatch('pageshow', { persisted: true });
-    place.dispatch('pagehide');
-    assert.deepEqual([client.state, client.clientId, server.sessions], ['stopped', null, 4]);
-  },
-
-  async 'a page with header fields, which is left'(server) {
-    const place = new Place(`${server.origin}/page.html`);
-    const client = place.client('/cometd', { headers: { 'X-Token': 'abc' } });
-    await client.start();
-    place.dispatch('pagehide');
-    await until('the session is ended', () => server.messages('/meta/disconnect').length === 1);
-    assert.deepEqual([place.beacons, server.headers.at(-1)['x-token'], server.headers.at(-1)['content-type']], [[], 'abc', 'application/json']);
-    // The browser sends it even though the page is gone.
-    assert.equal(place.fetches.at(-1).keepalive, true);
-  },
-
-  async 'the network and the user return: at once, and with a short next pause'(server) {
-    const place = new Place(`${server.origin}/page.html`);
-    const client = place.client('/cometd', { share: false });
-    const returns = [
-      () => place.dispatch('online'),
-      () => place.dispatch('visibilitychange', {}, place.document),
-    ];
-    await client.start();
-    for (const comeBack of returns) {
-      await until('a connect is held', () => server.held);
-      const fail = (_, response) => response.writeHead(502).end();
-      for (let count = 0; count < 8; count++) server.next('/meta/connect', fail);
-      place.pauses.splice(0);
-      place.endless = 7;
-      server.answerHeld([]);
-      await until('it pauses', () => place.pauses.length === 7);
-      place.document.hidden = true;
-      place.dispatch('visibilitychange', {}, place.document);
-      await new Promise((next) => setTimeout(next, 20));
-      assert.equal(server.answers.length, 1, 'a page that is hidden does not retry');
-      place.document.hidden = false;
-      comeBack();
-      await until('it pauses again', () => place.pauses.length === 8);
-      assert.ok(place.pauses[7] <= FIRST_PAUSE, `after the return, a pause of ${place.pauses[7]}`);
-      place.endless = Infinity;
-      comeBack();
-    }
-    await until('a connect is held', () => server.held);
-    client.stop();
-  },
-
-  async 'which channels each pattern matches'() {
-    const { isMatch } = new Place().run('({ isMatch })');
-    const segments = ['a', 'A', 'ab', 'b', 'é', 'e\u0301', '\u00a0', '.', '$&', '[a]', '1', '\u{1f600}'];
-    const few = ['a', 'A', 'b'];
-    const channels = [
-      ...segments.map((one) => [one]),
-      ...segments.flatMap((one) => segments.map((two) => [one, two])),
-      ...few.flatMap((one) => segments.flatMap((two) => few.map((three) => [one, two, three]))),
-      Array(32).fill('a'),
-    ];
-    const patterns = [...channels, ...['*', '**'].flatMap((star) => [[star], ...channels.filter((it) => it.length < 32).map((it) => [...it, star])])];
-    // docs/PROTOCOL.md, "Channels and patterns".
-    const expected = (pattern, channel) => {
-      const before = pattern.slice(0, -1);
-      const isBelow = channel.length > before.length && before.every((it, at) => it === channel[at]);
-      if (pattern.at(-1) === '**') return isBelow;
-      if (pattern.at(-1) === '*') return isBelow && channel.length === pattern.length;
-      return isBelow && channel.length === pattern.length && channel.at(-1) === pattern.at(-1);
-    };
-    const wrong = [];
-    for (const pattern of patterns) {
-      for (const channel of channels) {
-        const [one, other] = [pattern, channel].map((it) => `/${it.join('/')}`);
-        if (isMatch(one, other) !== expected(pattern, channel)) wrong.push([one, other]);
-      }
-    }
-    assert.deepEqual(wrong.slice(0, 5), []);
-  },
-
-  async 'the types describe the client, and the package has its files'() {
-    const read = (name) => readFileSync(new URL(name, FOLDER), 'utf8');
-    const types = read('bayeux.d.ts').replace(/\/\*\*.*?\*\//gs, '');
-    const body = (head) => types.match(new RegExp(`^${head} \\{\n(.*?)^\\}`, 'ms'))[1].trim().split(/\n\s*/);
-    // Each option and its type, as docs/CLIENT.md describes them. All are optional.
-    assert.deepEqual(body('interface BayeuxOptions'), [
-      'connectionType?: BayeuxConnectionType;',
-      'headers?: Record<string, string>;',
-      'share?: boolean;',
-      'name?: string;',
-    ]);
-    assert.deepEqual(body('interface BayeuxMessage'), ['channel: string;', 'data: unknown;']);
-    assert.deepEqual(body('interface BayeuxFailure extends Error'), ['mayHaveArrived: boolean;', 'status?: number;']);
-    assert.deepEqual(body('declare class BayeuxClient').sort(), [
-      'constructor(url: string | URL, options?: BayeuxOptions | BayeuxConnectionType);',
-      'headers: Record<string, string>;',
-      'onleave: () => BayeuxMessage[] | void;',
-      'ongap: (since: Date) => void;',
-      'onstate: (state: BayeuxState, why: string) => void;',
-      'publish(channel: string, data: unknown): Promise<void>;',
-      'readonly clientId: string | null;',
-      'readonly connectionType: BayeuxConnectionType;',
-      'readonly state: BayeuxState;',
-      'readonly url: string;',
-      'start(): Promise<void>;',
-      'stop(last?: BayeuxMessage[]): void;',
-      'subscribe<T = any>(pattern: string, listener: BayeuxListener<T>): Promise<void>;',
-      'unsubscribe(pattern: string, listener?: BayeuxListener): Promise<void>;',
-    ].sort());
-    assert.match(types, /^type BayeuxState = 'connecting' \| 'connected' \| 'interrupted' \| 'stopped';$/m);
-    assert.match(types, /^type BayeuxConnectionType = 'long-polling' \| 'callback-polling';$/m);
-    assert.match(types, /^type BayeuxListener<T = any> = \(data: T, channel: string\) => void;$/m);
-    const exported = read('bayeux-module.d.ts');
-    const names = [
-      'Client as BayeuxClient, Client as default',
-      'type Failure = BayeuxFailure',
-      'type Listener<T = any> = BayeuxListener<T>',
-      'type Message = BayeuxMessage',
-      'type Options = BayeuxOptions',
-      'type State = BayeuxState',
-    ];
-    for (const it of names) assert.ok(exported.includes(it), `bayeux-module.d.ts has no ${it}`);
-    const client = new Place().client('http://127.0.0.1/cometd');
-    const members = 'url connectionType state clientId headers onstate ongap onleave start stop subscribe unsubscribe publish';
-    for (const it of members.split(' ')) assert.ok(it in client, `the client has no ${it}`);
-    const { exports, types: main, engines, type } = JSON.parse(read('package.json'));
-    assert.deepEqual([exports['.'].types, main, engines.node, type], ['./bayeux-module.d.ts', './bayeux-module.d.ts', '>=18', 'module']);
-    const files = Object.values(exports).flatMap((it) => Object.values(it));
-    assert.deepEqual(files.filter((it) => !existsSync(new URL(it, FOLDER))), []);
   },
 };
 

@@ -53,7 +53,7 @@ EXPECTED = {
     "states": ["connecting", "connected", "stopped"],
 }
 # The scripts that test the client and the pages in node, without a server of ours and without a browser.
-SCENARIOS = ("client_scenarios.mjs", "window_scenarios.mjs", "page_scenarios.mjs")
+SCENARIOS = ("argument_scenarios.mjs", "client_scenarios.mjs", "leave_scenarios.mjs", "window_scenarios.mjs", "page_scenarios.mjs")
 # The longest time of such a script, in seconds.
 SCENARIO_SECONDS = 300
 

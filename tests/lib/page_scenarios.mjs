@@ -109,6 +109,12 @@ class Page {
     const ResizeObserver = class { observe() {} };
     const setInterval = (go, milliseconds) => this.ticks.push([go, milliseconds]);
     this.context = vm.createContext({ URL, URLSearchParams, Date: PageDate, document, location, BayeuxClient, NO_ANSWER, ResizeObserver, setInterval });
+    // The browser has another language than the page.
+    this.run(`{
+      const { toLocaleString } = Number.prototype;
+      Number.prototype.toLocaleString = function (locale = 'de', options) { return toLocaleString.call(this, locale, options); };
+    }`);
+    this.element('error').hidden = true;
     for (const it of scripts) vm.runInContext(read(it), this.context);
   }
 
@@ -134,8 +140,9 @@ class Page {
 
   /** Returns the text of the page's state, and its error or ''. */
   state() {
-    const error = this.element('error');
-    return [this.element('state').textContent, error.hidden ? '' : error.textContent];
+    const { hidden, textContent } = this.element('error');
+    assert.equal(hidden, textContent === '');
+    return [this.element('state').textContent, textContent];
   }
 }
 
@@ -148,36 +155,51 @@ function checkServers() {
     ['file:///examples/dashboard/index.html', 'http://127.0.0.1:8087/cometd'],
     [`${SITE}?server=https://other.example/cometd`, 'https://other.example/cometd'],
     [`${SITE}?seconds=20&server=/other`, '/other'],
+    [`${SITE}?server=`, '/cometd'],
+    [`${SITE}?server=other`, 'other'],
+    [`${SITE}?server=HTTPS://other.example/cometd`, 'HTTPS://other.example/cometd'],
     ['file:///index.html?server=http://127.0.0.1:1/cometd', 'http://127.0.0.1:1/cometd'],
   ]) {
     const page = new Page(address, 'common/page.js', 'dashboard/dashboard.js');
     assert.deepEqual([page.client.url, page.client.isStarted, page.state()], [server, true, ['', '']], address);
   }
-  for (const wrong of ['ftp://127.0.0.1/', 'javascript:alert(1)', HOSTILE]) {
-    const page = new Page(`file:///index.html?server=${encodeURIComponent(wrong)}`, 'common/page.js', 'dashboard/dashboard.js');
-    assert.equal(page.client.isStarted, false);
-    assert.ok(page.state()[1].startsWith(`“${wrong}” is not a server address.`), page.state()[1]);
+  // From disk, an address is absolute. The real client would throw an error for these.
+  for (const [address, wrong, server] of [
+    ...['ftp://127.0.0.1/', 'javascript:alert(1)', 'xhttp://127.0.0.1/', '/cometd', HOSTILE].map((it) => ['file:///index.html', it, 'http://127.0.0.1:8087/cometd']),
+    ...['ftp://127.0.0.1/', 'https://'].map((it) => [SITE, it, '/cometd']),
+  ]) {
+    const page = new Page(`${address}?server=${encodeURIComponent(wrong)}`, 'common/page.js', 'dashboard/dashboard.js');
+    const text = `“${wrong}” is not a server address. Add one to this page’s address, such as ?server=http://127.0.0.1:8087/cometd.`;
+    assert.deepEqual([page.client.url, page.client.isStarted, page.state()], [server, false, ['', text]]);
   }
 }
 
 // docs/ERRORS.md: a page that never connected shows what is wrong. So does every page after HTTP
 // status 401, 403, 429, or `no answer in time`.
 function checkStates() {
+  const hostile = `/${HOSTILE}`;
+  const other = 'add another server to this page’s address, such as ?server=http://HOST:PORT/cometd.';
+  const wrongPath = `is not a Bayeux address. Check the path, such as /cometd, or ${other}`;
+  const unreached = ['no server', `No Bayeux server answers this page at ${hostile}. Start bayeuxd there, or ${other}`];
+  const statuses = {
+    401: ['rejected', 'requires a login. Log in, then reload this page.'],
+    403: ['rejected', 'rejects this page. Log in, or open it from the server’s own site.'],
+    404: ['rejected', wrongPath],
+    429: ['rejected', 'allows no more requests at the moment. This page tries again.'],
+    500: ['rejected', wrongPath],
+    502: ['no server', 'is a proxy, and the server behind it is not running. Start bayeuxd, or wait.'],
+    503: ['rejected', 'is overloaded. This page tries again.'],
+    504: ['no answer', 'is a proxy, and got no answer from the server behind it. Restart bayeuxd, or wait.'],
+  };
   const reasons = {
-    'HTTP status 401': ['rejected', 'requires a login'],
-    'HTTP status 403': ['rejected', 'rejects this page'],
-    'HTTP status 404': ['rejected', 'is not a Bayeux address'],
-    'HTTP status 429': ['rejected', 'allows no more requests'],
-    'HTTP status 502': ['no server', 'Start bayeuxd'],
-    'HTTP status 503': ['rejected', 'is overloaded'],
-    'HTTP status 504': ['no answer', 'got no answer'],
-    [NO_ANSWER]: ['no answer', 'No answer from'],
-    '503::Too many sessions': ['rejected', 'rejects this page: 503::Too many sessions'],
-    'the server cannot be reached, or refused the request': ['no server', 'No Bayeux server answers'],
-    'fetch failed': ['no server', 'No Bayeux server answers'],
+    ...Object.fromEntries(Object.entries(statuses).map(([status, [state, text]]) => [`HTTP status ${status}`, [state, `${hostile} answers with status ${status}: it ${text}`]])),
+    [NO_ANSWER]: ['no answer', `No answer from ${hostile} for ten seconds. The network or the server is slow, or too many windows are open: a browser has six connections to a server, and each window can take one.`],
+    '503::Too many sessions': ['rejected', `The server at ${hostile} rejects this page: 503::Too many sessions. This page tries again.`],
+    'the server cannot be reached, or refused the request': unreached,
+    'fetch failed': unreached,
+    'Unexpected token < in 503:: HTTP status 404': unreached,
   };
   const lasting = ['HTTP status 401', 'HTTP status 403', 'HTTP status 429', NO_ANSWER];
-  const hostile = `/${HOSTILE}`;
   for (const [why, [state, text]] of Object.entries(reasons)) {
     for (const wasConnected of [false, true]) {
       const page = new Page(`${SITE}?server=${encodeURIComponent(hostile)}`, 'common/page.js', 'dashboard/dashboard.js');
@@ -190,28 +212,31 @@ function checkStates() {
       }
       onstate('interrupted', why);
       const isShown = !wasConnected || lasting.includes(why);
-      const [shown, error] = page.state();
-      assert.equal(shown, isShown ? `${state}, trying again …` : 'connection lost, trying again …', why);
-      assert.equal(error.includes(text), isShown, `${why}: ${error}`);
-      assert.equal(error.includes(hostile), isShown, `${why}: ${error}`);
+      assert.deepEqual(page.state(), isShown ? [`${state}, trying again …`, text] : ['connection lost, trying again …', '']);
       assert.deepEqual([page.element('state').className, page.element('state').title], ['interrupted', why]);
+      onstate('connecting', '');
+      assert.deepEqual(page.state(), ['connecting …', isShown ? text : '']);
       onstate('connected', '');
       assert.deepEqual(page.state(), ['connected', '']);
-      onstate('stopped', '');
-      assert.deepEqual(page.state(), ['not connected', '']);
+      onstate('stopped', why);
+      assert.deepEqual([...page.state(), page.element('state').className, page.element('state').title], ['not connected', '', 'stopped', why]);
+      onstate('interrupted', 'fetch failed');
+      assert.deepEqual(page.state(), ['connection lost, trying again …', '']);
     }
   }
 }
 
 function checkTexts() {
   const { formatAge, formatNumber, publishErrorText } = new Page(SITE, 'common/page.js').run('({ formatAge, formatNumber, publishErrorText })');
-  const ages = { 0: '0 s ago', 3000: '3 s ago', 59400: '59 s ago', 119000: '119 s ago', 120000: '2 min ago', 600000: '10 min ago', 7200000: '120 min ago' };
+  const ages = { 0: '0 s ago', 499: '0 s ago', 500: '1 s ago', 59499: '59 s ago', 119499: '119 s ago', 119500: '2 min ago', 149499: '2 min ago', 149500: '3 min ago', 7200000: '120 min ago' };
   for (const [age, text] of Object.entries(ages)) assert.equal(formatAge(Number(age)), text);
-  const numbers = [[0, '0'], [-0.126, '-0.13'], [1.004, '1'], [9.99, '9.99'], [12.34, '12.3'], [-1234567.89, '-1,234,567.9'], [1e6, '1,000,000']];
+  const numbers = [[0, '0'], [-0.126, '-0.13'], [1.004, '1'], [9.99, '9.99'], [-9.994, '-9.99'], [10, '10'], [10.06, '10.1'], [-12.34, '-12.3'], [-1234567.89, '-1,234,567.9'], [1e6, '1,000,000']];
   for (const [number, text] of numbers) assert.equal(formatNumber(number), text);
   assert.equal(publishErrorText({ message: 'x', mayHaveArrived: true }), 'No answer: it may have been sent.');
   assert.equal(publishErrorText({ message: '402::Unknown client', mayHaveArrived: false }), 'Not sent: 402::Unknown client');
-  assert.match(publishErrorText({ message: 'x', mayHaveArrived: false, status: 403 }), /^Not sent: pages may only read here/);
+  const forbidden = 'Not sent: pages may only read here, or the server rejects this one. Sending it again does not help.';
+  for (const mayHaveArrived of [false, true]) assert.equal(publishErrorText({ message: 'x', mayHaveArrived, status: 403 }), forbidden);
+  assert.equal(publishErrorText({ message: 'HTTP status 404', mayHaveArrived: false, status: 404 }), 'Not sent: HTTP status 404');
 }
 
 /** Returns the points of the curve of a card: lists of pairs, one for each piece. */
