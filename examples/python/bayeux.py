@@ -31,8 +31,8 @@ class Client:
         try:
             with urllib.request.urlopen(request, timeout=hold + 10) as response:
                 items = json.load(response)
-            if not (isinstance(items, list) and items and all(isinstance(it, dict) for it in items)):
-                raise ValueError("the response is not a list of messages")
+            if not (isinstance(items, list) and items and all(isinstance(it, dict) for it in items) and "successful" in items[-1]):
+                raise ValueError("the response is not a list of messages that ends with a reply")
         except (ValueError, http.client.HTTPException) as failure:
             raise OSError(failure) from failure
         *events, reply = items
@@ -40,7 +40,7 @@ class Client:
         if not reply["successful"]:
             if reply.get("advice", {}).get("reconnect") == "handshake":
                 self.id = None  # The session is gone.
-            raise Refused(reply["error"])
+            raise Refused(reply.get("error", "the server gave no reason"))
         return events, reply
 
     def handshake(self):
@@ -89,7 +89,7 @@ class Client:
                 # Acknowledges what arrived. The server sends the events of a lost response again.
                 hold, ack = self.advice.get("timeout", 0) / 1000, {"ack": self.batch}
                 events, reply = self.ask("/meta/connect", hold, connectionType="long-polling", ext=ack)
-                self.batch, pause = reply["ext"]["ack"], 0.25
+                self.batch, pause = reply.get("ext", {}).get("ack", 0), 0.25
                 yield from ((it["channel"], it["data"]) for it in events)
                 time.sleep(self.advice.get("interval", 0) / 1000)
             except (OSError, Refused) as failure:
