@@ -5,14 +5,18 @@
    - If CLOCK_STANDS is set, the monotonic clock moves only when this number grows, and the other clocks are not changed.
      A wait for events then ends after at most WAIT milliseconds, so that the program notices a new number.
    - The first accepts fail, each with the next error of ACCEPT_ERRORS, which has numbers and commas.
+   - If PROCESSORS is set, the program may use this number of processors.
+   - If FAILING_CALL is connect, recv or send, each such call fails with the error CALL_ERROR, a number.
 
    It calls the system itself, because AddressSanitizer ends a program that calls `dlsym` here. */
 #define _GNU_SOURCE
 #include <errno.h>
 #include <fcntl.h>
+#include <sched.h>
 #include <stdatomic.h>
 #include <stdint.h>
 #include <stdlib.h>
+#include <string.h>
 #include <sys/epoll.h>
 #include <sys/mman.h>
 #include <sys/socket.h>
@@ -65,4 +69,38 @@ int accept4(int listener, struct sockaddr *address, socklen_t *size, int flags) 
         return -1;
     }
     return (int)syscall(SYS_accept4, listener, address, size, flags);
+}
+
+int sched_getaffinity(pid_t process, size_t size, cpu_set_t *processors) {
+    const char *count = getenv("PROCESSORS");
+    memset(processors, 0, size);
+    if (!count) return syscall(SYS_sched_getaffinity, process, size, processors) < 0 ? -1 : 0;
+    for (int it = 0; it < atoi(count); it++) CPU_SET_S(it, size, processors);
+    return 0;
+}
+
+extern long __sysconf(int);
+
+long sysconf(int name) {
+    const char *count = getenv("PROCESSORS");
+    return count && name == _SC_NPROCESSORS_ONLN ? atol(count) : __sysconf(name);
+}
+
+static int fails(const char *call) {
+    const char *failing = getenv("FAILING_CALL");
+    if (!failing || strcmp(failing, call) != 0) return 0;
+    errno = atoi(getenv("CALL_ERROR"));
+    return 1;
+}
+
+int connect(int socket, const struct sockaddr *address, socklen_t size) {
+    return fails("connect") ? -1 : (int)syscall(SYS_connect, socket, address, size);
+}
+
+ssize_t recv(int socket, void *data, size_t size, int flags) {
+    return fails("recv") ? -1 : (ssize_t)syscall(SYS_recvfrom, socket, data, size, flags, NULL, NULL);
+}
+
+ssize_t send(int socket, const void *data, size_t size, int flags) {
+    return fails("send") ? -1 : (ssize_t)syscall(SYS_sendto, socket, data, size, flags, NULL, 0);
 }

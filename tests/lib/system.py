@@ -1,4 +1,4 @@
-"""Programs to which a preloaded library shows other clocks, or errors of accepts. It is compiled for each of them."""
+"""Programs to which a preloaded library shows other clocks, errors of calls, or another number of processors. It is compiled for each of them."""
 import struct
 
 from base import compile_library, has_compiler
@@ -29,7 +29,7 @@ class Clock:
 def environment(folder, **variables):
     """Returns an environment with the library of `system.c`, which it compiles in `folder`, and with `variables`.
 
-    These are those of a `Clock`, or ACCEPT_ERRORS.
+    These are those of a `Clock`, or others that `system.c` describes.
     """
     # AddressSanitizer otherwise wants to be the first of the program's libraries.
     found = with_sanitizer_options("verify_asan_link_order=0")
