@@ -14,6 +14,8 @@ CALLBACK_POLLING_OFF = """            limit_except POST {
 # The header fields of responses at /cometd, whatever their status. Those that differ each time are left out.
 NO_SNIFF = {"X-Content-Type-Options": "nosniff"}
 ANSWER = {"Cache-Control": "no-store", "Content-Disposition": 'attachment; filename="f.txt"', **NO_SNIFF}
+# The form of each line of nginx's log, which has no query.
+LOG_LINE = r'127\.0\.0\.1 \[\d\d/\w{3}/\d{4}(:\d\d){3} [+-]\d{4}\] "[A-Z]+ /[^ ?"]*" \d{3} \d+ (-|\d{3}) (-|\d+\.\d{3})'
 CHANGING = {"Date", "Content-Length", "Connection", "Last-Modified", "ETag"}
 
 

@@ -10,6 +10,7 @@ import urllib.request
 from base import TIMEOUT_SECONDS, TOP, CheckFailed, expect_equal, free_port, read, wait_until
 from daemon import HANDSHAKE
 from server import Server
+from status_page import FACTS, RESULTS, SHOWN, plotted
 
 # A program that uses the client, and prints what it got.
 PROGRAM = """
@@ -85,7 +86,7 @@ def try_scenarios(name, *options):
 
 
 def try_status_page(program):
-    """Checks the status page of a bayeuxd without a browser: what it says of its server, its gaps, and the pointer."""
+    """Checks the status page of a bayeuxd without a browser: what it says of its server, its gaps, its charts, and the pointer."""
     metrics = f"127.0.0.1:{free_port()}"
     server = Server(program, "--metrics", metrics)
     server.start()
@@ -94,7 +95,7 @@ def try_status_page(program):
             with urllib.request.urlopen(f"http://{metrics}/", timeout=TIMEOUT_SECONDS) as response:
                 page.write(response.read())
             page.flush()
-            try_scenarios("status_scenarios.mjs", page.name)
+            try_scenarios("status_scenarios.mjs", page.name, json.dumps([*plotted(), SHOWN, FACTS, RESULTS]))
     finally:
         server.stop()
 

@@ -15,13 +15,13 @@ const HOSTILE = '<img src=x onerror="alert(1)">&amp;';
 const NO_ANSWER = 'no answer in time';
 const read = (name) => readFileSync(new URL(name, FOLDER), 'utf8');
 
-/** An element that keeps its attributes, text and children. `querySelector` returns one element for each selector. */
+/** An element that keeps its attributes, text and children. `html`: the text within which `querySelector` finds parts. */
 class Element extends EventTarget {
-  constructor() {
+  constructor(tag = '', html = '') {
     super();
-    Object.assign(this, { textContent: '', className: '', value: '', title: '', hidden: false });
+    Object.assign(this, { tag, html, textContent: '', className: '', value: '', title: '', hidden: false });
     Object.assign(this, { clientWidth: 600, clientHeight: 100, scrollHeight: 0, scrollTop: 0 });
-    Object.assign(this, { attributes: {}, children: [], parts: new Map() });
+    Object.assign(this, { attributes: {}, children: [], parts: new Map(), calls: [] });
     this.style = { setProperty: (name, value) => (this.attributes[name] = value) };
     this.classes = new Set();
     this.classList = { toggle: (name, isOn) => this.classes[isOn ? 'add' : 'delete'](name) };
@@ -35,11 +35,13 @@ class Element extends EventTarget {
     return this.children.at(-1);
   }
 
-  cloneNode() {
-    return new Element();
+  cloneNode(isDeep) {
+    return new Element(this.tag, isDeep ? this.html : '');
   }
 
   querySelector(selector) {
+    const [, dot, name] = selector.match(/^(\.?)(\w+)$/);
+    if (!this.html.match(dot ? `class="([\\w ]* )?${name}[ "]` : `<${name}[ >]`)) return null;
     if (!this.parts.has(selector)) this.parts.set(selector, new Element());
     return this.parts.get(selector);
   }
@@ -56,27 +58,47 @@ class Element extends EventTarget {
     this.children = items;
   }
 
-  focus() {}
+  focus() {
+    this.calls.push('focus');
+  }
 
-  reportValidity() {}
+  reportValidity() {
+    this.calls.push('reportValidity');
+  }
+
+  /** Returns the kind, the class, the text and the children, such as `li.own(p"Hello")`. */
+  outline() {
+    const children = this.children.map((it) => it.outline()).join(' ');
+    return `${this.tag}${this.className && '.'}${this.className}${this.textContent && JSON.stringify(this.textContent)}${children && `(${children})`}`;
+  }
 }
 for (const name of ['innerHTML', 'outerHTML', 'srcdoc']) {
   Object.defineProperty(Element.prototype, name, { set: () => { throw new Error(`sets ${name}`); } });
 }
 for (const name of ['insertAdjacentHTML', 'setHTMLUnsafe']) Element.prototype[name] = () => { throw new Error(`calls ${name}`); };
 
-/** A page whose clock stands still. Its client sends nothing: `publishes` has what it would send. */
+/**
+ * A page with the elements and the scripts of the file `name`, or without a name with any element. Its clock stands still. Its
+ * client sends nothing: `publishes` has what it would send.
+ */
 class Page {
-  constructor(address, ...scripts) {
+  constructor(address, name = '') {
+    this.html = name && read(name);
     this.elements = new Map();
     this.now = Date.UTC(2026, 0, 2, 12);
     this.ticks = [];
     this.publishes = [];
+    this.sizes = [];
     const page = this;
+    for (const [whole, tag, id, text] of this.html.matchAll(/<(\w+)[^>]*\bid="(\w+)"[^>]*>([^<]*)/g)) {
+      const { 1: inner = '' } = this.html.match(`<template id="${id}">([^]*?)</template>`) ?? [];
+      const { 1: className = '' } = whole.match(/ class="([^"]*)"/) ?? [];
+      this.elements.set(id, Object.assign(new Element(tag, inner), { textContent: text.trim(), className, hidden: / hidden>/.test(whole) }));
+    }
     const { location, document } = { location: new URL(address), document: new EventTarget() };
     document.getElementById = (id) => this.element(id);
-    document.createElement = () => new Element();
-    document.createElementNS = () => new Element();
+    document.createElement = (tag) => new Element(tag);
+    document.createElementNS = (space, tag) => new Element(`${space.split('/').at(-1)}:${tag}`);
     class PageDate extends Date {
       constructor(...args) {
         super(...(args.length ? args : [page.now]));
@@ -103,10 +125,19 @@ class Page {
 
       publish(channel, data) {
         page.publishes.push([channel, JSON.parse(JSON.stringify(data))]);
+        if (page.isSlow) return new Promise((resolve, reject) => (page.publish = { resolve, reject }));
         return page.failure ? Promise.reject(page.failure) : Promise.resolve();
       }
     }
-    const ResizeObserver = class { observe() {} };
+    const ResizeObserver = class {
+      constructor(change) {
+        page.resize = change;
+      }
+
+      observe(it) {
+        page.sizes.push(it);
+      }
+    };
     const setInterval = (go, milliseconds) => this.ticks.push([go, milliseconds]);
     this.context = vm.createContext({ URL, URLSearchParams, Date: PageDate, document, location, BayeuxClient, NO_ANSWER, ResizeObserver, setInterval });
     // The browser has another language than the page.
@@ -114,7 +145,8 @@ class Page {
       const { toLocaleString } = Number.prototype;
       Number.prototype.toLocaleString = function (locale = 'de', options) { return toLocaleString.call(this, locale, options); };
     }`);
-    this.element('error').hidden = true;
+    const scripts = [...this.html.matchAll(/<script src="([^"]+)"><\/script>/g)].map(([, path]) => new URL(path, `file:///${name}`).pathname.slice(1));
+    assert.equal(scripts.shift(), name ? 'client/bayeux.js' : undefined);
     for (const it of scripts) vm.runInContext(read(it), this.context);
   }
 
@@ -123,8 +155,8 @@ class Page {
   }
 
   element(id) {
-    if (!this.elements.has(id)) this.elements.set(id, new Element());
-    return this.elements.get(id);
+    if (!this.elements.has(id) && !this.html) this.elements.set(id, new Element());
+    return this.elements.get(id) ?? null;
   }
 
   /** Lets `seconds` pass, and what the page does each second. */
@@ -160,15 +192,15 @@ function checkServers() {
     [`${SITE}?server=HTTPS://other.example/cometd`, 'HTTPS://other.example/cometd'],
     ['file:///index.html?server=http://127.0.0.1:1/cometd', 'http://127.0.0.1:1/cometd'],
   ]) {
-    const page = new Page(address, 'common/page.js', 'dashboard/dashboard.js');
-    assert.deepEqual([page.client.url, page.client.isStarted, page.state()], [server, true, ['', '']], address);
+    const page = new Page(address, 'dashboard/index.html');
+    assert.deepEqual([page.client.url, page.client.isStarted, page.state()], [server, true, ['not connected', '']], address);
   }
   // From disk, an address is absolute. The real client would throw an error for these.
   for (const [address, wrong, server] of [
     ...['ftp://127.0.0.1/', 'javascript:alert(1)', 'xhttp://127.0.0.1/', '/cometd', HOSTILE].map((it) => ['file:///index.html', it, 'http://127.0.0.1:8087/cometd']),
     ...['ftp://127.0.0.1/', 'https://'].map((it) => [SITE, it, '/cometd']),
   ]) {
-    const page = new Page(`${address}?server=${encodeURIComponent(wrong)}`, 'common/page.js', 'dashboard/dashboard.js');
+    const page = new Page(`${address}?server=${encodeURIComponent(wrong)}`, 'dashboard/index.html');
     const text = `“${wrong}” is not a server address. Add one to this page’s address, such as ?server=http://127.0.0.1:8087/cometd.`;
     assert.deepEqual([page.client.url, page.client.isStarted, page.state()], [server, false, ['', text]]);
   }
@@ -202,7 +234,7 @@ function checkStates() {
   const lasting = ['HTTP status 401', 'HTTP status 403', 'HTTP status 429', NO_ANSWER];
   for (const [why, [state, text]] of Object.entries(reasons)) {
     for (const wasConnected of [false, true]) {
-      const page = new Page(`${SITE}?server=${encodeURIComponent(hostile)}`, 'common/page.js', 'dashboard/dashboard.js');
+      const page = new Page(`${SITE}?server=${encodeURIComponent(hostile)}`, 'dashboard/index.html');
       const { onstate } = page.client;
       onstate('connecting', '');
       assert.deepEqual(page.state(), ['connecting …', '']);
@@ -227,7 +259,7 @@ function checkStates() {
 }
 
 function checkTexts() {
-  const { formatAge, formatNumber, publishErrorText } = new Page(SITE, 'common/page.js').run('({ formatAge, formatNumber, publishErrorText })');
+  const { formatAge, formatNumber, publishErrorText } = new Page(SITE, 'chat/index.html').run('({ formatAge, formatNumber, publishErrorText })');
   const ages = { 0: '0 s ago', 499: '0 s ago', 500: '1 s ago', 59499: '59 s ago', 119499: '119 s ago', 119500: '2 min ago', 149499: '2 min ago', 149500: '3 min ago', 7200000: '120 min ago' };
   for (const [age, text] of Object.entries(ages)) assert.equal(formatAge(Number(age)), text);
   const numbers = [[0, '0'], [-0.126, '-0.13'], [1.004, '1'], [9.99, '9.99'], [-9.994, '-9.99'], [10, '10'], [10.06, '10.1'], [-12.34, '-12.3'], [-1234567.89, '-1,234,567.9'], [1e6, '1,000,000']];
@@ -245,8 +277,47 @@ function curveOf(root, part = '.curve') {
   return path.split('M').slice(1).map((it) => it.replace(/h0|Z/g, '').split('L').map((point) => point.split(',').map(Number)));
 }
 
+/** Returns all that a card shows, except its grid. */
+function cardOf(root) {
+  const part = (selector) => root.querySelector(selector);
+  const texts = ['h2', '.value', '.age', '.min', '.average', '.max', '.start'].map((it) => part(it).textContent);
+  const { attributes: newest } = part('.newest');
+  const picture = [part('svg').attributes.viewBox, part('.end').attributes.x, newest.visibility, newest.cx, newest.cy, part('.curve').attributes.d, part('.area').attributes.d];
+  return [texts.join(), part('svg').attributes['aria-label'], root.classes.has('old'), picture.join(' ')];
+}
+
+// All that a card shows of 10 at once and 20 after ten seconds, in a chart of 20 seconds: from x = 50 to 8 before the right edge, and
+// from y = 144 for 0 to y = 10 for the end of the axis. The last number before the chart stays, so that the curve begins at its edge.
+function checkCard() {
+  for (const [width, right, middle, quarter] of [[600, 592, '321.0', '185.5'], [900, 892, '471.0', '260.5'], [150, 192, '121.0', '85.5']]) {
+    const page = new Page(`${SITE}?seconds=20`, 'dashboard/index.html');
+    const listener = page.client.listeners.get('/dashboard/*');
+    listener(10, '/dashboard/a/x-y-z');
+    const [root] = page.element('cards').children;
+    root.querySelector('svg').clientWidth = width;
+    page.wait(0);
+    const size = `0 0 ${Math.max(width, 200)} 166 ${right}`;
+    const edge = `${right}.0`;
+    for (const [seconds, value, texts, label, picture] of [
+      [0, 10, '10,,10,10,10', '10 now', `visible ${right} 10 M${edge},10.0L${edge},10.0 M${edge},144L${edge},10.0L${edge},10.0L${edge},144Z`],
+      [10, 20, '20,,10,13.3,20', '20 now', `visible ${right} 10 M${middle},77.0L${middle},77.0L${edge},10.0 M${middle},144L${middle},77.0L${middle},77.0L${edge},10.0L${edge},144Z`],
+    ]) {
+      page.wait(seconds);
+      listener(value, '/dashboard/a/x-y-z');
+      assert.deepEqual(cardOf(root), [`x y z,${texts},20 s ago`, `x y z: ${label}, and the last 20 seconds`, false, `${size} ${picture}`]);
+    }
+    for (const [seconds, texts, label, isOld, picture] of [
+      [15, '20,,10,15,20', '20 now', false, `visible ${quarter} 10 M50.0,77.0L${quarter},10.0 M50.0,144L50.0,77.0L${quarter},10.0L${quarter},144Z`],
+      [5, '20,20 s ago,20,20,20', '20 20 s ago', true, 'hidden 50 10  '],
+    ]) {
+      page.wait(seconds);
+      assert.deepEqual(cardOf(root), [`x y z,${texts},20 s ago`, `x y z: ${label}, and the last 20 seconds`, isOld, `${size} ${picture}`]);
+    }
+  }
+}
+
 function checkDashboard() {
-  const page = new Page(`${SITE}?seconds=60`, 'common/page.js', 'dashboard/dashboard.js');
+  const page = new Page(`${SITE}?seconds=60`, 'dashboard/index.html');
   const [[pattern, listener]] = page.client.listeners;
   assert.equal(pattern, '/dashboard/*');
   const cards = () => page.element('cards').children;
@@ -299,7 +370,7 @@ function checkDashboard() {
   assert.deepEqual([text(root, '.age'), root.querySelector('.newest').attributes.visibility, root.querySelector('.curve').attributes.d], ['2 min ago', 'hidden', '']);
 
   // A number each 15 seconds is not old after 40, and its curve has no gap.
-  const slow = new Page(SITE, 'common/page.js', 'dashboard/dashboard.js');
+  const slow = new Page(SITE, 'dashboard/index.html');
   const publish = slow.client.listeners.get('/dashboard/*');
   for (let number = -4; number < 4; number++) {
     publish(number, '/dashboard/slow');
@@ -310,12 +381,21 @@ function checkDashboard() {
   assert.deepEqual([curveOf(card).length, card.classes.has('old'), text(card, '.start')], [1, false, '60 s ago']);
   slow.wait(6);
   assert.equal(text(card, '.age'), '46 s ago');
+  // Of two, ten and four seconds, four are usual.
+  for (const pause of [2, 10, 4, 12]) {
+    publish(1, '/dashboard/uneven');
+    slow.wait(pause);
+  }
+  const isOld = () => slow.element('cards').children[1].classes.has('old');
+  assert.equal(isOld(), false);
+  slow.wait(1);
+  assert.equal(isOld(), true);
 }
 
 // The axis encloses all values and 0, and begins at 0 if none is negative. It has five lines, and the curve is within it.
 function checkAxis() {
   for (const values of [[0], [0, 0.004], [-5, 100], [-100, 5], [-3, -2, -1], [99.9, 100.1], [-7, 7], [1e9, 1], [-0.001, 2.5], [-1, 199]]) {
-    const page = new Page(SITE, 'common/page.js', 'dashboard/dashboard.js');
+    const page = new Page(SITE, 'dashboard/index.html');
     for (const value of values) {
       page.client.listeners.get('/dashboard/*')(value, '/dashboard/x');
       page.wait(1);
@@ -338,45 +418,63 @@ function checkAxis() {
 }
 
 function checkMetrics() {
-  const page = new Page(SITE, 'common/page.js', 'dashboard/metrics.js');
+  const page = new Page(SITE, 'dashboard/metrics.html');
   const listener = page.client.listeners.get('/metrics/all');
-  for (const data of [null, 5, 'text', {}, { metrics: null }]) listener(data, '/metrics/all');
-  assert.equal(page.element('metrics').children.length, 0);
+  const age = () => [page.element('age').hidden, page.element('age').textContent, page.element('metrics').classes.has('old')];
+  for (const data of [null, 5, 'text', {}, ...[null, 5, 'text'].map((metrics) => ({ metrics }))]) listener(data, '/metrics/all');
+  page.wait(10);
+  assert.deepEqual([page.element('metrics').children.length, page.element('empty').hidden, ...age(), page.client.isStarted], [0, false, true, 'Received 0 s ago.', false, true]);
   const publish = (metrics, help) => listener({ metrics, help }, '/metrics/all');
-  const named = `bayeux_x_total{kind="${HOSTILE.replaceAll('"', "'")}",other="b"}`;
+  const quoted = HOSTILE.replaceAll('"', "'");
+  const named = `bayeux_x_total{kind="${quoted}",other="{b}"}`;
   const metrics = {
     bayeux_sessions: 3,
     [named]: 10,
     'bayeux_x_total{kind="c"}': 0,
+    'bayeux_lag_bucket{le="1"}': 4,
     bayeux_lag_sum: 2,
+    bayeux_lag_count: 7,
     bayeux_zero: 0,
+    bayeux_text: '3',
     bayeux_uptime_seconds_total: 1,
     'bayeux_y{a="1"}': 0,
     'bayeux_y{a="2"}': 0,
+    bayeux_a_total_count_b: 5,
+    bayeux_own_sum: 6,
   };
-  const help = { bayeux_sessions: HOSTILE, bayeux_lag: 'The lag.' };
+  const help = { bayeux_sessions: HOSTILE, bayeux_lag: 'The lag.', bayeux_own: 'Another.', bayeux_own_sum: 'Its own.', bayeux_a_total_b: 'Another.' };
   publish(metrics, help);
   const shown = () => page.element('metrics').children.map((root) =>
-    [...['h2', 'code', '.meaning'].map((it) => root.querySelector(it).textContent), root.querySelector('dl').children.map((it) => it.textContent)]);
-  const label = `${HOSTILE.replaceAll('"', "'")},b`;
+    [...['h2', 'code', '.meaning'].map((it) => root.querySelector(it).textContent), root.querySelector('dl').outline()]);
+  const line = (label, value, change = '') => `(${['dt', 'dd', 'dd.change'].map((it, at) => it + ([label, value, change][at] && JSON.stringify([label, value, change][at]))).join(' ')})`;
   const expected = (sessions, x) => [
-    ['sessions', 'bayeux_sessions', HOSTILE, ['', '3', sessions]],
-    ['x (total)', 'bayeux_x_total', '', [label, x[0], x[1]]],
-    ['lag sum', 'bayeux_lag_sum', 'The lag.', ['', '2', '']],
-    ['zero', 'bayeux_zero', '', ['', '0', '']],
-    ['uptime seconds (total)', 'bayeux_uptime_seconds_total', '', ['', x[2], '']],
-    ['y', 'bayeux_y', '', ['each', '0', '']],
+    ['sessions', 'bayeux_sessions', HOSTILE, line('', '3', sessions)],
+    ['x (total)', 'bayeux_x_total', '', line(`${quoted},{b}`, x[0], x[1])],
+    ['lag bucket', 'bayeux_lag_bucket', 'The lag.', line('1', '4')],
+    ['lag sum', 'bayeux_lag_sum', 'The lag.', line('', '2')],
+    ['lag count', 'bayeux_lag_count', 'The lag.', line('', '7')],
+    ['zero', 'bayeux_zero', '', line('', '0')],
+    ['uptime seconds (total)', 'bayeux_uptime_seconds_total', '', line('', x[2])],
+    ['y', 'bayeux_y', '', line('each', '0')],
+    ['a total count b', 'bayeux_a_total_count_b', '', line('', '5')],
+    ['own sum', 'bayeux_own_sum', 'Its own.', line('', '6')],
   ];
   assert.deepEqual(shown(), expected('', ['10', '', '1']));
-  page.wait(2);
-  publish({ ...metrics, bayeux_sessions: 3, [named]: 25, bayeux_uptime_seconds_total: 3 }, help);
-  assert.deepEqual(shown(), expected('', ['25', '+7.5/s', '3']));
+  page.wait(3);
+  // Those of the same moment have no change.
+  for (const change of ['+0.33/s', '']) {
+    publish({ ...metrics, [named]: 11, bayeux_uptime_seconds_total: 4 }, help);
+    assert.deepEqual(shown(), expected('', ['11', change, '4']));
+  }
   page.wait(4);
-  publish({ ...metrics, [named]: 15, bayeux_uptime_seconds_total: 7 }, 'no help');
-  assert.deepEqual(shown()[1], ['x (total)', 'bayeux_x_total', '', [label, '15', '−2.5/s']]);
-  assert.deepEqual([page.element('age').hidden, page.element('metrics').classes.has('old')], [true, false]);
-  page.wait(6);
-  assert.deepEqual([page.element('age').hidden, page.element('age').textContent, page.element('metrics').classes.has('old')], [false, 'Received 6 s ago.', true]);
+  publish({ ...metrics, [named]: 1, bayeux_uptime_seconds_total: 8 }, null);
+  assert.deepEqual(shown()[1], ['x (total)', 'bayeux_x_total', '', line(`${quoted},{b}`, '1', '−2.5/s')]);
+  page.wait(5);
+  assert.deepEqual([...age(), page.element('empty').hidden], [true, 'Received 5 s ago.', false, true]);
+  page.wait(1);
+  assert.deepEqual(age(), [false, 'Received 6 s ago.', true]);
+  publish(metrics, 'no help');
+  assert.deepEqual(age(), [true, 'Received 0 s ago.', false]);
 }
 
 /** Returns the code in `language` of a page of docs that has `text`. */
@@ -421,39 +519,66 @@ async function checkFailureExample() {
   }
 }
 
+const SUBMIT = { cancelable: true };
+const nextTurn = () => new Promise((go) => setTimeout(go));
+const timeOf = (milliseconds) => new Date(milliseconds).toLocaleTimeString([], { hour: '2-digit', minute: '2-digit' });
+
+/** Returns a chat in which the user `name` has joined. */
+function join(name) {
+  const page = new Page('https://site.example/chat/', 'chat/index.html');
+  page.element('name').value = name;
+  submit(page, 'join');
+  return page;
+}
+
+/** Sends a form as the browser does, which must not load the page again. */
+function submit(page, form) {
+  const event = new Event('submit', SUBMIT);
+  page.element(form).dispatchEvent(event);
+  assert.ok(event.defaultPrevented, `the form ${form} loads the page again`);
+}
+
+/** Returns what is shown of a chat, the text in its field, its problem, and its list. */
+function chatOf(page) {
+  const parts = ['join', 'messages', 'write', 'problem'].filter((it) => !page.element(it).hidden).join(' ');
+  return [parts, page.element('text').value, page.element('problem').textContent, page.element('messages').children.map((it) => it.outline())];
+}
+
+function checkJoining() {
+  for (const blank of ['', '   ']) {
+    const page = join(blank);
+    const { calls, value } = page.element('name');
+    assert.deepEqual([chatOf(page), calls, value, page.client.isStarted, page.client.listeners.size], [['join', '', '', []], ['reportValidity'], '', false, 0]);
+  }
+  const page = join(` ${HOSTILE} `);
+  const { client, publishes } = page;
+  assert.deepEqual([chatOf(page), page.element('text').calls], [['messages write', '', '', []], ['focus']]);
+  assert.deepEqual([client.isStarted, [...client.listeners.keys()], page.state(), publishes], [true, ['/chat/hall'], ['not connected', ''], []]);
+  // One joins once, and again after one has left, for example to another page.
+  const joins = ['/chat/hall', { name: HOSTILE, joined: true }];
+  for (const state of ['connecting', 'connected', 'interrupted', 'connected']) client.onstate(state, 'fetch failed');
+  assert.deepEqual([publishes, page.state()], [[joins], ['connected', '']]);
+  assert.equal(JSON.stringify(client.onleave()), JSON.stringify([{ channel: '/chat/hall', data: { name: HOSTILE, left: true } }]));
+  for (const state of ['stopped', 'connecting', 'connected', 'connected']) client.onstate(state, '');
+  assert.deepEqual(publishes, [joins, joins]);
+}
+
 async function checkChat() {
-  const open = (name) => {
-    const page = new Page('https://site.example/chat/', 'common/page.js', 'chat/chat.js');
-    page.element('name').value = name;
-    page.element('join').dispatchEvent(new Event('submit'));
-    return page;
-  };
-  const page = open(` ${HOSTILE} `);
-  const own = page.publishes;
-  assert.deepEqual([page.client.isStarted, page.element('join').hidden, [...page.client.listeners.keys()]], [true, true, ['/chat/hall']]);
-  page.client.onstate('connected', '');
-  page.client.onstate('interrupted', 'fetch failed');
-  page.client.onstate('connected', '');
-  assert.deepEqual(own, [['/chat/hall', { name: HOSTILE, joined: true }]], 'one joins once');
+  const page = join('Ann');
   const listener = page.client.listeners.get('/chat/hall');
-  const items = page.element('messages').children;
-  const hues = new Set();
-  const others = [null, 5, 'text', [], {}, { name: 5, text: 'x' }, { text: 'x' }, { name: 'Ann' }, { name: 'Ann', text: 5 }];
-  for (const data of [...others, { name: 'Ann', joined: 'yes' }]) listener(data);
-  assert.equal(page.element('messages').children.length, items.length, 'what has another form is not shown');
-  listener({ name: HOSTILE, joined: true });
-  listener({ name: HOSTILE, left: true });
-  listener({ name: HOSTILE, text: HOSTILE });
-  const [joined, left, message] = page.element('messages').children;
-  assert.deepEqual([joined, left].map((it) => [it.className, it.textContent]), [['notice', `${HOSTILE} joined`], ['notice', `${HOSTILE} left`]]);
-  const at = new Date(page.now).toLocaleTimeString([], { hour: '2-digit', minute: '2-digit' });
-  assert.deepEqual([message.className, ...message.children.map((it) => it.textContent)], ['other', HOSTILE, HOSTILE, at]);
+  const others = [null, undefined, 5, 'text', [], {}, { name: 5, text: 'x' }, { text: 'x' }, { name: 'Ann' }, { name: 'Ann', text: 5 }];
+  for (const data of [...others, ...['joined', 'left'].map((it) => ({ name: 'Ann', [it]: 'yes' }))]) listener(data);
+  assert.deepEqual(chatOf(page)[3], [], 'what has another form is not shown');
+  for (const data of [{ joined: true }, { left: true }, { text: HOSTILE }]) listener({ name: HOSTILE, ...data });
   page.client.ongap(new Date(page.now - 3600000));
-  const since = new Date(page.now - 3600000).toLocaleTimeString([], { hour: '2-digit', minute: '2-digit' });
-  assert.equal(page.element('messages').lastChild.textContent, `Messages since ${since} may be missing`);
-  // A name has the same colour in each window, and not all names have the same.
-  for (const name of ['Ann', 'Ben', 'Cleo', 'Ümit \u{1f600}', '']) {
-    const found = [page, open('Dan')].map((it) => {
+  const notices = [`${HOSTILE} joined`, `${HOSTILE} left`, `Messages since ${timeOf(page.now - 3600000)} may be missing`].map((it) => `li.notice${JSON.stringify(it)}`);
+  const quoted = JSON.stringify(HOSTILE);
+  notices.splice(2, 0, `li.other(b${quoted} p${quoted} time"${timeOf(page.now)}")`);
+  assert.deepEqual(chatOf(page), ['messages write', '', '', notices]);
+  // A name has the same colour in each window, and others have other colours, also those of the same letters.
+  const hues = new Set();
+  for (const name of ['Ann', 'Cleo', 'Oelc', 'Ken', 'Ümit \u{1f600}']) {
+    const found = [page, join('Dan')].map((it) => {
       it.client.listeners.get('/chat/hall')({ name, text: 'x' });
       return it.element('messages').lastChild.attributes['--hue'];
     });
@@ -461,38 +586,111 @@ async function checkChat() {
     assert.ok(found[0] >= 0 && found[0] < 360);
     hues.add(found[0]);
   }
-  assert.ok(hues.size > 3, `the colours are ${[...hues]}`);
-  // A message of this window has its mark. Only the event shows it.
-  page.element('text').value = ' Hello ';
-  page.element('write').dispatchEvent(new Event('submit'));
-  await new Promise((go) => setTimeout(go));
-  const [channel, sent] = own.at(-1);
-  assert.deepEqual([channel, sent.name, sent.text, page.element('text').value], ['/chat/hall', HOSTILE, ' Hello ', '']);
-  listener(sent);
-  assert.deepEqual([page.element('messages').lastChild.className, page.element('messages').lastChild.children[1].textContent], ['own', ' Hello ']);
-  for (const blank of ['', '  ']) {
-    page.element('text').value = blank;
-    page.element('write').dispatchEvent(new Event('submit'));
+  assert.equal(hues.size, 5, `the colours are ${[...hues]}`);
+}
+
+// docs/CLIENT.md, "Where a publish fails", and examples/README.md: a message that may not have been sent returns to the field, and
+// leaves it if it arrives later.
+async function checkSending() {
+  const page = join('Ann');
+  const listener = page.client.listeners.get('/chat/hall');
+  const field = page.element('text');
+  const sent = () => page.publishes.map(([, { text }]) => text);
+  const shown = () => [page.element('problem').hidden ? '' : page.element('problem').textContent, field.value];
+  const write = (text) => {
+    field.value = text;
+    submit(page, 'write');
+  };
+  const end = async (failure) => {
+    if (failure) page.publish.reject(failure);
+    else page.publish.resolve();
+    await nextTurn();
+  };
+  const [lost, refused] = [{ message: 'no answer in time', mayHaveArrived: true }, { message: '402::Unknown client', mayHaveArrived: false }];
+  const [unsure, failed] = ['No answer: it may have been sent.', 'Not sent: 402::Unknown client'];
+  page.isSlow = true;
+  for (const text of ['', '  ', ' Once', 'Twice', 'Third', 'Fourth']) write(text);
+  assert.deepEqual([sent(), shown()], [[' Once'], ['', '']], 'one message at a time, and none that is blank');
+  field.value = ' Once more ';
+  // It may arrive before its response, and what was typed meanwhile stays.
+  listener(page.publishes[0][1]);
+  await end();
+  assert.deepEqual([sent(), shown()], [[' Once', 'Twice'], ['', ' Once more ']]);
+  await end(lost);
+  assert.deepEqual([sent(), shown()], [[' Once', 'Twice'], [unsure, 'Twice Third Fourth  Once more ']]);
+  // Only the message itself takes its text out of the field, not one before it or of another window.
+  const [, [channel, late]] = page.publishes;
+  for (const other of [page.publishes[0][1], { ...late, mark: 'another' }, { ...late, number: late.number + 1 }]) listener(other);
+  assert.deepEqual(shown(), [unsure, 'Twice Third Fourth  Once more ']);
+  listener(late);
+  assert.deepEqual(shown(), ['', 'Third Fourth  Once more ']);
+  assert.deepEqual([channel, Object.keys(late), late.name, chatOf(page)[3].map((it) => it.split('(')[0])], ['/chat/hall', ['name', 'text', 'mark', 'number'], 'Ann', ['li.own', 'li.own', 'li.other', 'li.own', 'li.own']]);
+  // A message that arrives before its failure does not return.
+  write('Fifth');
+  listener(page.publishes[2][1]);
+  await end(lost);
+  assert.deepEqual([sent().slice(2), shown()], [['Fifth'], ['', '']]);
+  // The text stays if the user has changed it.
+  write('Sixth');
+  await end(refused);
+  assert.deepEqual(shown(), [failed, 'Sixth']);
+  field.value = 'Not the Sixth';
+  listener(page.publishes[3][1]);
+  assert.deepEqual(shown(), ['', 'Not the Sixth']);
+  // The problem ends once the page is connected, or once the user sends again.
+  for (const finish of [() => page.client.onstate('connected', ''), () => submit(page, 'write')]) {
+    write('Seventh');
+    await end(refused);
+    page.client.onstate('interrupted', 'fetch failed');
+    assert.deepEqual(shown(), [failed, 'Seventh']);
+    finish();
+    assert.equal(shown()[0], '');
+    await end();
   }
-  await new Promise((go) => setTimeout(go));
-  assert.equal(own.at(-1)[1], sent, 'a blank message is not sent');
-  assert.equal(JSON.stringify(page.client.onleave()), JSON.stringify([{ channel: '/chat/hall', data: { name: HOSTILE, left: true } }]));
-  page.client.onstate('connected', '');
-  assert.deepEqual(own.at(-1)[1], { name: HOSTILE, joined: true }, 'who returns joins again');
+  assert.deepEqual(sent().slice(3), ['Sixth', 'Seventh', undefined, 'Seventh', 'Seventh']);
+  assert.deepEqual([new Set(page.publishes.map(([, { mark }]) => mark)).size, join('Ann').run('OWN_MARK') === late.mark], [2, false]);
+}
+
+// At a listener for readers, the page says so at once. Other failures of the first publish show in the state.
+async function checkReaders() {
+  for (const [failure, text] of [[{ message: 'x', mayHaveArrived: false, status: 403 }, 'Not sent: pages may only read here, or the server rejects this one. Sending it again does not help.'], [{ message: 'x', mayHaveArrived: true }, '']]) {
+    const page = join('Ann');
+    page.failure = failure;
+    page.client.onstate('connected', '');
+    await nextTurn();
+    assert.deepEqual(chatOf(page), [text ? 'messages write problem' : 'messages write', '', text, []]);
+  }
 }
 
 // The list shows what the user sends, also to a user who reads further up. What others send does not move the list then.
 function checkScrolling() {
-  for (const [top, isOwn, wanted] of [[900, false, 1000], [900, true, 1000], [0, false, 0], [0, true, 1000]]) {
+  for (const [top, isOwn, wanted] of [[900, false, 1000], [900, true, 1000], [861, false, 1000], [859, false, 859], [0, false, 0], [0, true, 1000]]) {
     for (const data of [{ text: 'Hello' }, ...(isOwn ? [] : [{ joined: true }, { left: true }])]) {
-      const page = new Page('https://site.example/chat/', 'common/page.js', 'chat/chat.js');
-      page.element('name').value = 'Ann';
-      page.element('join').dispatchEvent(new Event('submit'));
+      const page = join('Ann');
       const mark = isOwn ? page.run('OWN_MARK') : 'another';
       const list = page.element('messages');
       Object.assign(list, { scrollHeight: 1000, clientHeight: 100, scrollTop: top });
       page.client.listeners.get('/chat/hall')({ name: 'Ann', mark, number: 1, ...data });
       assert.deepEqual([list.children.length, list.scrollTop], [1, wanted], `${JSON.stringify(data)} at ${top}, own: ${isOwn}`);
+    }
+  }
+  // A new size keeps the end in view, unless the user has scrolled up. A scroll event that comes with a new size is not the user's.
+  for (const size of ['clientWidth', 'clientHeight']) {
+    const page = join('Ann');
+    const list = page.element('messages');
+    const scroll = (top) => {
+      list.scrollTop = top;
+      list.dispatchEvent(new Event('scroll'));
+    };
+    assert.deepEqual(page.sizes, [list]);
+    for (const [before, meanwhile, wanted] of [[null, 0, 2000], [0, 900, 900], [2000, 0, 2000], [1500, 1500, 1500]]) {
+      Object.assign(list, { scrollHeight: 2000, clientHeight: 100, clientWidth: 600 });
+      page.resize();
+      if (before !== null) scroll(before);
+      list[size] += 50;
+      scroll(meanwhile);
+      page.resize();
+      assert.equal(list.scrollTop, wanted, `${size} changes at ${before}`);
     }
   }
 }
@@ -505,7 +703,11 @@ function checkFiles() {
     assert.match(text, /^<!DOCTYPE html>\n<html lang="en">\n/);
     assert.match(text, /<title>\w+<\/title>/);
     assert.match(text, /<meta name="viewport" content="width=device-width, initial-scale=1">/);
-    assert.match(tag('state'), / role="status"/, name);
+    const style = name.startsWith('chat/') ? 'chat' : 'dashboard';
+    const links = [...text.matchAll(/<link [^>]*>/g)].map(([it]) => it);
+    assert.deepEqual(links, ['<link rel="icon" href="data:,">', ...['../common/page', style].map((it) => `<link rel="stylesheet" href="${it}.css">`)], name);
+    assert.match(text, /<head>\n {2}<meta charset="utf-8">\n/);
+    assert.match(tag('state'), / class="stopped" role="status"/, name);
     assert.match(tag('error'), / role="alert"/, name);
     assert.equal((text.match(/<h1>/g) || []).length, 1);
     assert.deepEqual(text.match(/<script(?! src="[\w./-]+"><\/script>)|\son\w+=|javascript:|style=/g), null, `${name} has inline scripts or styles`);
@@ -514,20 +716,25 @@ function checkFiles() {
   const parts = [
     '<ol id="messages" aria-label="Messages" aria-live="polite" tabindex="0"',
     '<p id="problem" role="alert"',
-    '<label for="name">',
+    '<label for="name">Your name</label>',
+    '<button>Join</button>',
+    '<button>Send</button>',
+    '<h1>Chat</h1>',
+    'aria-label="Message" placeholder="Write a message"',
+    'autocomplete="off" placeholder="for example Ann" required autofocus>',
     'id="name" maxlength="40"',
     'id="text" maxlength="2000"',
   ];
   for (const it of parts) assert.ok(chat.includes(it), `the chat has no ${it}`);
   assert.match(read('dashboard/index.html'), /<svg [^>]*role="img" aria-label="[^"]+"/);
-  for (const name of ['common/page.js', 'chat/chat.js', 'dashboard/dashboard.js', 'dashboard/metrics.js', 'client/bayeux.js']) {
+  for (const name of ['chat/index.html', 'dashboard/dashboard.js', 'dashboard/metrics.js', 'client/bayeux.js']) {
     const sinks = /\.(?:innerHTML|outerHTML|srcdoc|insertAdjacentHTML|setHTMLUnsafe|createContextualFragment|parseFromString)\b/;
     const found = read(name).match(sinks) ?? read(name).match(/document\.write|\beval\(|new Function\(/);
     assert.equal(found, null, `${name} makes HTML or a script from a text`);
   }
 }
 
-for (const check of [checkServers, checkStates, checkTexts, checkDashboard, checkAxis, checkMetrics, checkChat, checkScrolling, checkTutorial, checkFailureExample, checkFiles]) {
+for (const check of [checkServers, checkStates, checkTexts, checkCard, checkDashboard, checkAxis, checkMetrics, checkJoining, checkChat, checkSending, checkReaders, checkScrolling, checkTutorial, checkFailureExample, checkFiles]) {
   try {
     await check();
   } catch (error) {

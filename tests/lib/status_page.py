@@ -31,17 +31,25 @@ return chart.root.querySelector('.key li').textContent;
 
 # Metrics with different values, and the facts that the page shows of them.
 SHOWN = """bayeux_uptime_seconds_total 3600
-bayeux_connections 2
-bayeux_connections_total 3
-bayeux_window_batches 4
-bayeux_shards_behind 5
-bayeux_responses_missing_total 6
-process_resident_memory_bytes 7000000
-process_virtual_memory_bytes 8000000
-process_open_fds 9
-process_max_fds 10
+bayeux_connections 1002
+bayeux_connections_total 1003
+bayeux_window_batches 1004
+bayeux_shards_behind 1005
+bayeux_responses_missing_total 1006
+process_resident_memory_bytes 1007000000
+process_virtual_memory_bytes 1008000000
+process_open_fds 1009
+process_max_fds 1010
 """
-FACTS = ["Uptime: 1 h 0 min", "Connections: 2", "Window: 4 of 4,096", "Shards behind: 5", "No response: 6", "Memory: 7 MB", "Open files: 9 of 10"]
+FACTS = ["Uptime: 1 h 0 min", "Connections: 1,002", "Window: 1,004 of 4,096", "Shards behind: 1,005", "No response: 1,006", "Memory: 1,007 MB"]
+FACTS.append("Open files: 1,009 of 1,010")
+# What functions of the page return: texts for numbers and for uptimes in seconds, and the greatest values of axes.
+RESULTS = {
+    "format": [(0.125, "0.13"), (5, "5"), (9.96, "9.96"), (10.25, "10.3"), (12.34, "12.3"), (99.94, "99.9"), (100.4, "100"), (1234567, "1,234,567"), (None, "–")],
+    "formatTime": [(1, "1 s"), (59, "59 s"), (60, "1 min 0 s"), (65.9, "1 min 5 s"), (3599, "59 min 59 s"), (3600, "1 h 0 min")],
+    "roundUp": [(0, 1), (0.2, 1), (1, 1), (1.5, 2), (3, 5), (7, 10), (10, 10), (11, 20), (100.5, 200), (1000, 1000), (12345, 20000)],
+}
+RESULTS["formatTime"] += [(7199, "1 h 59 min"), (86399, "23 h 59 min"), (86400, "1 d 0 h"), (90061, "1 d 1 h"), (None, "–")]
 # Returns the facts that the page shows of the metrics in `arguments`.
 READ_FACTS = """
 samples = [{ time: Date.now(), values: parse(arguments[0]) }];
@@ -148,22 +156,31 @@ def try_values(server, window):
     wait_until("each chart has a curve", lambda: all(points > begins for begins, points in window.run(CURVES)))
 
 
-def check_charts(window):
-    """Checks all that the charts show of given metrics, also under the pointer, and for how long they keep samples."""
+def plotted():
+    """Returns samples of PLOTTED: times, and pages or None. Also returns what the charts show of them, without and with the pointer."""
     pages = ["".join(f"{name} {values[at]}\n" for name, values in PLOTTED.items()) for at in range(len(TIMES))]
     pages[FAILED] = None
-    shown = window.run(DRAW, list(zip(TIMES, pages)), (TIMES[-1] - TIMES[1]) / 1000)
-    for at, (cursor, now) in enumerate((("", "now"), ("M891 0V100", "at"))):
-        wanted = [
+    wanted = [
+        [
             [title, unit, it[at], most, f"{title} in the last 15 minutes, now {it[at]}", curves, keys[at], rest, cursor, now]
             for title, unit, it, most, curves, keys, rest in CHARTS
         ]
-        wrong = [(found, chart) for found, chart in zip(shown[at], wanted) if found != chart]
-        expect_equal("charts, and what they must show", [wrong, len(shown[at])], [[], len(wanted)])
+        for at, (cursor, now) in enumerate((("", "now"), ("M891 0V100", "at")))
+    ]
+    return list(zip(TIMES, pages)), wanted
+
+
+def check_charts(window):
+    """Checks all that the charts show of given metrics, also under the pointer, and for how long they keep samples."""
+    samples, wanted = plotted()
+    shown = window.run(DRAW, samples, (TIMES[-1] - TIMES[1]) / 1000)
+    for found, charts in zip(shown, wanted):
+        wrong = [(it, chart) for it, chart in zip(found, charts) if it != chart]
+        expect_equal("charts, and what they must show", [wrong, len(found)], [[], len(charts)])
     expect_equal("the time after the pointer has left", shown[2], "now")
-    expect_equal("numbers", window.run("return [0.125, 5, 12.34, 1234567].map(format)"), ["0.13", "5", "12.3", "1,234,567"])
-    greatest = window.run("return [0, 1, 1.5, 3, 7, 11, 12345].map(roundUp)")
-    expect_equal("the greatest values of axes", greatest, [1, 1, 2, 5, 10, 20, 20000])
+    for name, results in RESULTS.items():
+        found = window.run(f"return arguments[0].map((it) => {name}(it))", [it for it, _ in results])
+        expect_equal(f"what {name} returns", found, [it for _, it in results])
     window.run(SET_AGES, AGES)
     ages = wait_until("the page reads the metrics again", lambda: window.run(READ_AGES))
     expect_equal("the minutes since the samples that are kept", sorted(set(ages)), [0, *sorted(AGES[1:])])
@@ -192,6 +209,5 @@ def try_status(fixture):
     expect_equal("the first shard in the key of 20 shards", window.run(MANY_SHARDS), "shard 19: 19")
     expect_equal("the facts", window.run(READ_FACTS, SHOWN), FACTS)
     check_charts(window)
-    expect_equal("uptimes", window.run("return [5, 65, 3600, 90061].map(formatTime)"), ["5 s", "1 min 5 s", "1 h 0 min", "1 d 1 h"])
     window.close()
     fixture.server.restart()

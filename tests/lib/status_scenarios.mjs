@@ -1,24 +1,27 @@
 // Runs the script of the status page in node, with a clock and metrics of this script, and with elements that only keep what they
 // get.
 //
-// usage: node tests/lib/status_scenarios.mjs PAGE
+// usage: node tests/lib/status_scenarios.mjs PAGE PLOTTED
 //
-// PAGE is a file with the page. Prints the first check that fails, and why. The status is then 1.
+// PAGE is a file with the page. PLOTTED is JSON from tests/lib/status_page.py: samples, what the charts show of them without and with
+// the pointer at the second sample, metrics, the facts that the page shows of them, and what its functions return. Prints the first check that fails, and why. The status is then 1.
 import assert from 'node:assert/strict';
 import { readFileSync } from 'node:fs';
 import vm from 'node:vm';
 
-const SCRIPT = readFileSync(process.argv[2], 'utf8').match(/<script>([^]*)<\/script>/)[1];
+const [SAMPLES, SHOWN, METRICS, FACTS, RESULTS] = JSON.parse(process.argv[3]);
+const HTML = readFileSync(process.argv[2], 'utf8');
+const [, BODY, SCRIPT] = HTML.match(/<body>([^]*)<script>([^]*)<\/script>/);
 // The longest time for which a page may wait for metrics, in milliseconds, and how long a phone is locked.
 const PATIENCE = 30000, LOCKED = 300000;
 // What the page says of a server that it reads, that it read before, and that it never read.
 const READING = /^reads the metrics every (\d+) s$/, LOST = /^no metrics since /, NEVER = /^no metrics at this address$/;
 
-/** An element that keeps its attributes, text and children. `querySelector` returns one element for each selector. */
+/** An element that keeps its attributes, text and children. `html`: the text within which `querySelector` finds parts. */
 class Element extends EventTarget {
-  constructor() {
+  constructor(tag = '', html = '') {
     super();
-    Object.assign(this, { textContent: '', className: '', attributes: {}, children: [], style: {} });
+    Object.assign(this, { tag, html, textContent: '', className: '', attributes: {}, children: [], style: {} });
     Object.assign(this, { parts: new Map(), classes: new Set() });
     this.classList = { toggle: (name, isOn) => this.classes[isOn ? 'add' : 'delete'](name) };
   }
@@ -27,11 +30,13 @@ class Element extends EventTarget {
     return { firstElementChild: this };
   }
 
-  cloneNode() {
-    return new Element();
+  cloneNode(isDeep) {
+    return new Element(this.tag, isDeep ? this.html : '');
   }
 
   querySelector(selector) {
+    const [, dot, name] = selector.match(/^(\.?)(\w+)$/);
+    if (!this.html.match(dot ? `class="${name}"` : `<${name}[ >]`)) return null;
     if (!this.parts.has(selector)) this.parts.set(selector, new Element());
     return this.parts.get(selector);
   }
@@ -49,7 +54,7 @@ class Element extends EventTarget {
   }
 
   getBoundingClientRect() {
-    return { left: 0, width: 900 };
+    return { left: 100, width: 900 };
   }
 }
 
@@ -60,13 +65,13 @@ class Page {
     this.now = Date.UTC(2026, 0, 2, 12);
     this.elements = new Map();
     this.body = new Element();
-    this.root = new Element();
-    const document = {
+    this.root = new Element('', BODY);
+    const document = this.document = {
       body: this.body,
       getElementById: (id) => this.element(id),
       querySelector: (selector) => this.root.querySelector(selector),
-      createElement: () => new Element(),
-      createElementNS: () => new Element(),
+      createElement: (tag) => new Element(tag),
+      createElementNS: (space, tag) => new Element(`${space} ${tag}`),
     };
     class PageDate extends Date {
       static now() {
@@ -75,7 +80,7 @@ class Page {
     }
     const fetch = (url, options = {}) => new Promise((resolve, reject) => {
       assert.equal(this.asked, undefined, 'a request while another one has no response');
-      this.asked = { url, signal: options.signal, resolve, reject };
+      this.asked = { url, ...options, resolve, reject };
     });
     const AbortSignal = { timeout: (milliseconds) => ({ milliseconds }) };
     const setTimeout = (go, milliseconds) => {
@@ -88,8 +93,9 @@ class Page {
   }
 
   element(id) {
-    if (!this.elements.has(id)) this.elements.set(id, new Element());
-    return this.elements.get(id);
+    const { 1: html } = BODY.match(`<template id="${id}">([^]*?)</template>`) ?? [];
+    if (!this.elements.has(id) && BODY.includes(` id="${id}"`)) this.elements.set(id, new Element('', html));
+    return this.elements.get(id) ?? null;
   }
 
   /** Returns the first chart with the title `title`. */
@@ -104,9 +110,9 @@ class Page {
 
   /** Answers the request of the page. `body`: the text of the response, or null if there is none before the page gives up. */
   async answer(body, ok = true) {
-    const { url, signal, resolve, reject } = this.asked;
+    const { url, cache, signal, resolve, reject } = this.asked;
     this.asked = undefined;
-    assert.equal(url, 'metrics');
+    assert.deepEqual([url, cache], ['metrics', 'no-store']);
     if (body !== null) {
       resolve({ ok, status: ok ? 200 : 502, text: async () => body });
     } else {
@@ -130,6 +136,8 @@ class Page {
   expectState(wanted) {
     const { className, textContent } = this.element('state');
     assert.match(textContent, wanted);
+    if (wanted === LOST) assert.equal(textContent, `no metrics since ${new Date(this.lastRead).toLocaleTimeString()}`);
+    else this.lastRead = this.now;
     assert.equal(className, wanted === READING ? 'connected' : 'interrupted');
     assert.equal(this.body.classes.has('old'), wanted === LOST);
     const [, seconds] = textContent.match(READING) ?? [];
@@ -165,6 +173,7 @@ async function checkStates() {
 async function checkGaps() {
   const page = new Page();
   await page.answer(metrics(1));
+  const begin = page.now;
   for (const pause of [undefined, undefined, LOCKED, undefined, LOCKED / 2]) {
     const before = page.pieces();
     await page.next(metrics(2), pause);
@@ -172,20 +181,34 @@ async function checkGaps() {
     const what = pause === undefined ? 'a usual pause' : `${pause} ms`;
     assert.equal(page.pieces(), before + (pause === undefined ? 0 : 1), `pieces of a curve after ${what}`);
   }
+  const early = new Page();
+  await early.answer(metrics(1));
+  await early.next(metrics(2), LOCKED);
+  assert.equal(early.pieces(), 2, 'pieces of a curve with a pause after the first sample');
+  // The curves show fifteen minutes. The oldest sample is the first one, and later the first one after the phone was locked.
+  for (const [minutes, oldest] of [[14, 0], [16, LOCKED + 2 * page.timer.milliseconds]]) {
+    await page.next(metrics(2), begin + 60000 * minutes - page.now);
+    assert.equal(vm.runInContext('samples[0].time', page.context) - begin, oldest, `the oldest sample after ${minutes} minutes`);
+  }
 }
 
 // The pointer shows the values of a time until it leaves, or until the system takes it, for example to scroll.
 async function checkPointer() {
   const page = new Page();
+  const start = page.now;
   await page.answer(metrics(1));
-  await page.next(metrics(2));
   const text = (selector) => page.chart('Sessions').querySelector(selector).textContent;
   const shown = () => [text('.value'), text('.now').split(' ')[0]];
+  page.chart('Sessions').querySelector('.plot').dispatchEvent(Object.assign(new Event('pointermove'), { clientX: 100 }));
+  assert.deepEqual(shown(), ['1', 'at']);
+  page.chart('Sessions').querySelector('.plot').dispatchEvent(new Event('pointerleave'));
+  await page.next(metrics(2));
   for (const end of ['pointerleave', 'pointercancel']) {
     assert.deepEqual(shown(), ['2', 'now']);
     const plot = page.chart('Sessions').querySelector('.plot');
-    plot.dispatchEvent(Object.assign(new Event('pointermove'), { clientX: 0 }));
+    plot.dispatchEvent(Object.assign(new Event('pointermove'), { clientX: 100 }));
     assert.deepEqual(shown(), ['1', 'at']);
+    assert.equal(text('.now'), `at ${new Date(start).toLocaleTimeString()}`);
     plot.dispatchEvent(new Event(end));
   }
   assert.deepEqual(shown(), ['2', 'now']);
@@ -214,6 +237,7 @@ async function checkKeys() {
     if (!isRead) await page.next(null);
     for (const [title, series] of Object.entries(wanted)) {
       const colours = curves(title);
+      for (const it of colours) assert.match(it, /^light-dark\(hsl\(([\d.]+) 70% 40%\), hsl\(\1 80% 70%\)\)$/);
       assert.equal(new Set(colours).size, colours.length, `colours of ${title}`);
       const value = (at) => (isRead ? values[title][at] * (title === 'Refusals' ? 3 / seconds : 1) : '–');
       assert.deepEqual(rows(title), series.map(([index, name], at) => [colours[index], `${name}: ${value(at)}`]));
@@ -221,7 +245,58 @@ async function checkKeys() {
   }
 }
 
-for (const check of [checkStates, checkGaps, checkPointer, checkKeys]) {
+// All that the charts show of given samples, without the pointer, with it, and after it has left. Also all facts.
+async function checkCharts() {
+  const page = new Page();
+  await page.answer(metrics(1));
+  const draw = (samples) => vm.runInContext(`samples = ${JSON.stringify(samples)}.map(([time, it]) => ({ time, values: it && parse(it) })); draw()`, page.context);
+  const charts = page.root.querySelector('main').children;
+  const shown = () => charts.map((root) => {
+    const part = (selector) => root.querySelector(selector);
+    const texts = ['h2', '.unit', '.value', '.most'].map((it) => part(it).textContent);
+    const curves = part('g').children.map(({ tag, attributes }) => {
+      assert.deepEqual([tag, attributes.class], ['http://www.w3.org/2000/svg path', 'curve']);
+      return attributes.d;
+    });
+    const key = part('.key').children.map(({ tag, children: [mark, label] }) => {
+      assert.deepEqual([tag, mark.tag], ['li', 'i']);
+      return label;
+    });
+    return [...texts, part('svg').attributes['aria-label'], curves, key, part('.rest').textContent, part('.cursor').attributes.d, part('.now').textContent.split(' ')[0]];
+  });
+  draw(SAMPLES);
+  assert.deepEqual(shown(), SHOWN[0]);
+  const plot = charts[0].querySelector('.plot');
+  plot.dispatchEvent(Object.assign(new Event('pointermove'), { clientX: 1000 - (SAMPLES.at(-1)[0] - SAMPLES[1][0]) / 1000 }));
+  assert.deepEqual(shown(), SHOWN[1]);
+  plot.dispatchEvent(new Event('pointerleave'));
+  assert.deepEqual(shown(), SHOWN[0]);
+  const facts = () => page.element('facts').children.map(({ tag, children: [term, value] }) => {
+    assert.deepEqual([tag, term.tag, value.tag], ['div', 'dt', 'dd']);
+    return `${term.textContent}: ${value.textContent}`;
+  });
+  assert.equal(page.document.title, 'bayeuxd at h');
+  draw([[page.now, METRICS]]);
+  assert.deepEqual(facts(), FACTS);
+  draw([[page.now, 'bayeux_uptime_seconds_total 5\n']]);
+  assert.deepEqual(facts(), ['Uptime: 5 s', ...FACTS.slice(1).map((it) => it.replace(/1,0\d\d/g, '–'))]);
+  for (const [name, results] of Object.entries(RESULTS)) {
+    const found = results.map(([it]) => vm.runInContext(`${name}(${it})`, page.context));
+    assert.deepEqual(found, results.map(([, it]) => it), name);
+  }
+}
+
+// A key lists twelve series, and says how many more there are.
+async function checkLongKeys() {
+  for (const [count, rest] of [[11, ''], [12, ''], [13, 'and 1 more']]) {
+    const page = new Page();
+    await page.answer(metrics(1) + Array.from({ length: count }, (_, shard) => `bayeux_shard_lag_entries{shard="${shard}"} 0\n`).join(''));
+    const chart = page.chart('Shard lag');
+    assert.deepEqual([chart.querySelector('.key').children.length, chart.querySelector('.rest').textContent], [Math.min(count, 12), rest]);
+  }
+}
+
+for (const check of [checkLongKeys, checkStates, checkGaps, checkPointer, checkKeys, checkCharts]) {
   try {
     await check();
   } catch (error) {
