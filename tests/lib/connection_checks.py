@@ -11,13 +11,15 @@ import time
 from base import CheckFailed, expect_equal, wait_until
 from daemon import Connection, FlagDaemon, NonExpiringDaemon, SlowReader, check_serves, expect_events, expect_status, get, hold_connect
 from daemon import open_session, post, publish, publish_to, send_connect, with_sanitizer_options
-from metrics import CONNECTS_HELD, OPEN, OPENED, SERVED, expect_values, read_page, scrape
+from metrics import CONNECTS_HELD, OPEN, OPENED, SERVED, TICKED, ask_for, expect_soon, expect_values, read_page, scrape
 from patience_checks import CASES, DAYS, LOOKS, PAUSE, SMALL_BUFFER, clocked_daemon, wait_for_reads, wait_until_idle
 
 # The connections that arrive at once: more than the daemon spawns tasks for before it yields to other tasks.
 CROWD = 400
 # After how many connections one of them has a request. The system's queue of new connections has room for as many.
 WITHOUT_REQUEST = 100
+# For how many connections the metrics listener has one.
+WITHOUT_METRICS = 16
 # The clients that read no response, the events of each response, the bytes of an event, and how much memory may grow then, in
 # units of 1,024 bytes. The table in docs/OPERATING.md allows 600,000 bytes for the pieces of a response. Its events are shared.
 UNREAD, EVENTS, EVENT, MOST_GROWTH = 16, 40, 200_000, 100 << 10
@@ -114,7 +116,7 @@ def check_crowd(program):
 
 
 def check_connections(program, count):
-    """Checks that the daemon serves its clients after `count` connections. Most of these have no request."""
+    """Checks that the daemon serves its clients after `count` connections, most without a request, and many at the metrics listener."""
     with NonExpiringDaemon(program) as daemon:
         for number in range(1, count + 1):
             with socket.socket() as it:
@@ -127,6 +129,8 @@ def check_connections(program, count):
                 # A reset, so that the system need not remember the connection.
                 it.setsockopt(socket.SOL_SOCKET, socket.SO_LINGER, struct.pack("ii", 1, 0))
         expect_values(daemon.metrics, {OPEN: 0, OPENED: count})
+        for _ in range(count // WITHOUT_METRICS):
+            expect_equal("the health", ask_for(daemon.metrics, get(b"", b"/healthz")).status, 200)
 
 
 def check_unread(program):
@@ -207,9 +211,10 @@ def check_metrics_without_files(program):
         check_serves(daemon.address, "/before")
         expect_values(daemon.metrics, {OPEN: 0})
         response, busy = wait_until("metrics without a free descriptor", lambda: ask_without_files(daemon))
-        shown = [name for name, _ in read_page(response.body.decode()) if name.startswith("process_")]
+        page = read_page(response.body.decode())
+        shown = [name for name, _ in page if name.startswith("process_")]
         if shown:
             raise CheckFailed(f"without a free descriptor, the metrics show what cannot be read: {shown}")
         if busy:
             raise CheckFailed(f"threads {busy} of the daemon never pause without a free descriptor")
-        scrape(daemon.metrics)
+        expect_soon(daemon.metrics, page[TICKED], "a lack of descriptors")

@@ -1,6 +1,7 @@
 """Checks that the metrics and the log of a daemon count what its clients saw."""
 import collections
 import contextlib
+import datetime
 import json
 import re
 import socket
@@ -8,7 +9,8 @@ import time
 import urllib.parse
 
 from base import CheckFailed, expect_equal, read, wait_until
-from daemon import CONNECT, HANDSHAKE, MOST_MESSAGES, TIMEOUT_SECONDS, Connection, FlagDaemon, NonExpiringDaemon, check_serves
+from daemon import CONNECT, HANDSHAKE, MOST_MESSAGES, TIMEOUT_SECONDS, Connection, DaemonWithReaders, FlagDaemon, NonExpiringDaemon
+from daemon import check_serves
 from daemon import expect_error, expect_status, expect_success, get, open_session, poll, post, post_coded, send_connect, subscribe
 from metrics import CONNECTS_HELD, OPEN, OPENED, REFUSED_TICKS, REQUESTS_HELD, SESSIONS, TICKED
 from metrics import ask_for, expect_values, scrape, wait_for_metrics
@@ -28,12 +30,19 @@ JUDGED = (
 # The channel to which clients of both listeners may publish, and another one. The limit of bodies, of the events of a session, and
 # of sessions.
 CHANNEL, OTHER, BODY, EVENTS, MOST_SESSIONS = "/counted/a", "/other", 60_000, 300, 3
+REFUSED = "bayeux_requests_refused_total"
 KINDS = ("handshake", "connect", "subscribe", "unsubscribe", "disconnect")
 # The documented reasons that no client can cause: the last is one of a server that has run for ages.
 RARE = ("callback-polling is off", "the content type is not application/json", "the clock is out of range")
-# How many ticks must be refused, and how many lines of a log are read, which appears at most once a second. The server counts ten
+# How many ticks must be refused, which takes a second, and how many lines of a log are read, which appears at most once a second. The server counts ten
 # ticks of at least a tenth of a second for this. The clock of the log may be adjusted meanwhile.
-REFUSED_AT_LEAST, LINES, LEAST_PAUSE = 3, 3, 0.8
+REFUSED_AT_LEAST, LINES, LEAST_PAUSE, MOST_PAUSE = 12, 3, 0.8, 6.0
+# How many requests are refused at once, and the lines of the log that count cases, with how many cases each round of `check_pace` has.
+REFUSED_AT_ONCE = 10
+COUNTED = {
+    **{f'requests failed reason="the messages are not JSON" listener={it}': REFUSED_AT_ONCE for it in ("main", "read-only")},
+    **{"sessions overflowed": 1, "handshakes rejected": 1},
+}
 # The channel of the check `overflows`. The number of sessions that overflow, and of daemons that end directly after a
 # rejected handshake. If these were logged only once a second, few of them would be.
 WATCHED, OVERFLOWING, REJECTED_ENDS = "/watched", 3, 2
@@ -192,6 +201,16 @@ def check_listener(daemon, address):
     return texts
 
 
+def expect_logged(daemon, listener, refused):
+    """Ends `daemon`, and checks that its log counts for `listener` what the metrics `refused` do, and nothing for another one."""
+    daemon.close()
+    found = collections.Counter()
+    for _, reason, name, count in daemon.failed_requests():
+        found[name, reason] += count
+    wanted = {(listener, re.search('reason="(.*)"', labels)[1]): value for (name, labels), value in refused.items() if name == REFUSED and value}
+    expect_equal(f"the reasons in the log for the listener {listener}", dict(found), wanted)
+
+
 def check_counts(program):
     flags = ["--sessions", str(MOST_SESSIONS), "--limit", str(EVENTS), "--body", str(BODY)]
     readers = ["--readers", "127.0.0.1:0", "--readers-publish", "/counted/**"]
@@ -202,6 +221,7 @@ def check_counts(program):
             expect_equal("refused ticks", scrape(daemon.metrics)[REFUSED_TICKS], 0)
             missing = {"400::Invalid channel" if is_reader else "the listener is read-only"}
             expect_equal("errors and reasons that no request caused", wanted - found, missing)
+            expect_logged(daemon, "read-only" if is_reader else "main", scrape(daemon.metrics))
             expect_documented(daemon.full_log())
     with NonExpiringDaemon(program, "--no-callback-polling") as daemon:
         before = scrape(daemon.metrics)
@@ -235,10 +255,12 @@ def check_closed(program):
         # The held connects are those of the last tick.
         gone = {("bayeux_requests", ""): -1, REQUESTS_HELD: -1}
         more = {("bayeux_responses_total", '{status="503"}'): 2, ("bayeux_processing_seconds_count", ""): 1}
+        begun = time.monotonic()
         after = expect_changes(daemon, before, {**refused, **gone, **more}, b"[]")
         ticks = wait_until("more ticks", lambda: more_ticks(scrape(daemon.metrics), after))
-        found = (ticks[TICKED], ticks[REFUSED_TICKS] > 0)
-        expect_equal("ticks after the end of standard input, and whether some were refused", found, (0, True))
+        most = 10 * (time.monotonic() - begun) + 1
+        found = (ticks[TICKED], 0 < ticks[REFUSED_TICKS] <= most)
+        expect_equal("ticks after the end of standard input, and whether some were refused, ten a second at most", found, (0, True))
         expect_equal("the health", ask_for(daemon.metrics, get(b"", b"/healthz")).status, 503)
         for it in (connection, holder):
             it.socket.close()
@@ -248,27 +270,43 @@ def check_closed(program):
         expect_documented(daemon.full_log())
 
 
-def refusals_in_log(daemon):
-    """Returns the time and the count of each line about requests that are not JSON in the log of `daemon`."""
-    return [(moment, count) for moment, *names, count in daemon.failed_requests() if names == [JUDGED[0], "main"]]
+def counted_lines(daemon):
+    """Returns the times and the counts of the lines with a count in the log of `daemon`, by their other text."""
+    found = collections.defaultdict(list)
+    for moment, text, count in re.findall(r"^(\S+)Z \[WARN  bayeuxd\] (.*) count=([0-9]+)$", daemon.timed_log().decode(), re.MULTILINE):
+        found[text].append((datetime.datetime.fromisoformat(moment), int(count)))
+    return found
+
+
+def refuse(daemon, connections):
+    """Lets `daemon` refuse requests at both listeners, to which `connections` are open, and a handshake. Overflows a session."""
+    for it in connections:
+        for response in it.repeat(post(b"["), REFUSED_AT_ONCE):
+            expect_equal("the status of a request that is not JSON", response.status, 400)
+    overflow(connections[0])
+    session = open_session(connections[0])
+    expect_error(connections[1].ask([HANDSHAKE]), "503::Too many sessions")
+    expect_success(connections[0].ask([{"channel": "/meta/disconnect", **session}]), 1)
 
 
 def check_pace(program):
-    """Checks that the log counts refused requests at most once a second, and each of them once."""
-    with FlagDaemon(program) as daemon:
-        sent, end = 0, time.monotonic() + TIMEOUT_SECONDS
-        with Connection(daemon.address) as connection:
-            while len(refusals_in_log(daemon)) < LINES:
+    """Checks that the log counts what is refused about once a second, and each case once."""
+    with DaemonWithReaders(program, "--limit", "1", "--sessions", "1") as daemon:
+        with Connection(daemon.address) as connection, Connection(daemon.readers) as reader:
+            sent, end = 0, time.monotonic() + TIMEOUT_SECONDS
+            while min(map(len, counted_lines(daemon).values()), default=0) < LINES or len(counted_lines(daemon)) < len(COUNTED):
                 if time.monotonic() > end:
-                    raise CheckFailed(f"not {LINES} lines about {sent} refused requests: {daemon.log_tail()!r}")
-                expect_status(connection, post(b"["), 400)
+                    raise CheckFailed(f"not {LINES} lines of each kind about {sent} cases: {daemon.log_tail()!r}")
+                refuse(daemon, (connection, reader))
                 sent += 1
-                time.sleep(0.01)
         daemon.close()
-        lines = refusals_in_log(daemon)
-        pauses = [(later - earlier).total_seconds() for (earlier, _), (later, _) in zip(lines[: LINES - 1], lines[1:LINES])]
-        if min(pauses) < LEAST_PAUSE or sum(count for _, count in lines) != sent:
-            raise CheckFailed(f"more than a line a second, or not {sent} refused requests: {lines}")
+        lines = counted_lines(daemon)
+    counts = {text: sum(count for _, count in of) for text, of in lines.items()}
+    expect_equal("the counts in the log", counts, {text: sent * many for text, many in COUNTED.items()})
+    for text, of in lines.items():
+        pauses = [(later - earlier).total_seconds() for (earlier, _), (later, _) in zip(of[: LINES - 1], of[1:LINES])]
+        if not LEAST_PAUSE <= min(pauses) <= MOST_PAUSE:
+            raise CheckFailed(f"not a line a second about {text}: {of}")
 
 
 def overflow(connection):

@@ -155,8 +155,8 @@ class Daemon:
         return (int(fields[11]) + int(fields[12])) / os.sysconf("SC_CLK_TCK")
 
     def expect_end(self):
-        """Waits until the process has ended. Raises `CheckFailed` if its status is not 0."""
-        if self.process.wait(TIMEOUT_SECONDS) != 0:
+        """Waits until the process has ended. Raises `CheckFailed` if its status is not 0, or its log does not end with `ended`."""
+        if self.process.wait(TIMEOUT_SECONDS) != 0 or not re.search(rb'(\] ended|"event":"ended"})\n\Z', self.full_log()):
             raise CheckFailed(f"it ended with status {self.process.returncode}: {self.log_tail()!r}")
 
     def end(self):

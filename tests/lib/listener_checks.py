@@ -10,7 +10,7 @@ import time
 from base import CheckFailed, read, wait_until
 from daemon import AT_ONCE, HANDSHAKE, Connection, FlagDaemon, NonExpiringDaemon, SlowReader, expect_events, expect_status
 from daemon import expect_success, get, open_session, poll, post, send_connect, subscribe
-from metrics import ask_for, expect_values, scrape
+from metrics import TICKED, ask_for, expect_soon, expect_values, scrape
 
 # Flags with limits and times, and the metrics with their values.
 LIMITS = ["--limit=3", "--bytes=6000", "--patterns=7", "--sessions=8", "--body=9000", "--shards=2", "--timeout=1500ms", "--interval=2s", "--max-interval=4294967295"]
@@ -218,12 +218,10 @@ def expect_no_wait_for_reader(metrics):
 
     `metrics`: the address of the metrics listener.
     """
+    before = scrape(metrics)[TICKED]
     with SlowReader(metrics, SMALL_BUFFER, SMALL_SEGMENT) as stuck:
         stuck.send(get(b"", b"/sessions"))
-        try:
-            scrape(metrics)
-        except CheckFailed as error:
-            raise CheckFailed(f"a client gets no metrics while another one reads nothing: {error}") from error
+        expect_soon(metrics, before, "a client that reads nothing")
 
 
 def check_lists(program):

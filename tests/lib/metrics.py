@@ -12,6 +12,9 @@ OPEN, OPENED, SESSIONS = ("bayeux_connections", ""), ("bayeux_connections_total"
 REQUESTS_HELD, CONNECTS_HELD = ("bayeux_requests_held", ""), ("bayeux_connects_held", "")
 FILED, SWEPT = ("bayeux_answers_filed", ""), ("bayeux_answers_swept_total", "")
 SERVED = ("bayeux_responses_total", '{status="200"}')
+# In how many ticks the metrics listener serves the next client, whatever holds it up (two seconds at most), with room for a machine
+# that is slow to look.
+MOST_SLOW_TICKS = 80
 # The two kinds of lines of a page: a comment, and a value with its name and labels.
 COMMENT = re.compile(r"# (HELP|TYPE) ([a-z_]+) (?:counter|gauge|histogram|[A-Z][^\\]*\.)")
 SAMPLE = re.compile(r'([a-z_]+)(|\{[a-z]+="[^"\\]+"(?:,[a-z]+="[^"\\]+")*\}) ([0-9]+(?:\.[0-9]+)?)')
@@ -66,6 +69,13 @@ def scrape(address):
     if (response.status, response.fields[b"content-type"]) != (200, b"text/plain; version=0.0.4; charset=utf-8"):
         raise CheckFailed(f"no page of metrics: {response.status} {response.fields}")
     return read_page(response.body.decode())
+
+
+def expect_soon(address, before, what):
+    """Checks that a client gets the metrics at `address` soon after the tick number `before`. `what`: what may have held it up."""
+    ticks = scrape(address)[TICKED] - before
+    if ticks > MOST_SLOW_TICKS:
+        raise CheckFailed(f"{what} keeps the next client of the metrics waiting for {ticks} ticks")
 
 
 def differences(values, expected):

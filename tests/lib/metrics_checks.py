@@ -8,16 +8,13 @@ import time
 from base import CheckFailed, expect_equal, wait_until
 from daemon import MOST_MESSAGES, Connection, ConnectionEnded, FlagDaemon, expect_error, expect_status, expect_success
 from daemon import get, open_session, post, post_coded, send_connect, subscribe
-from metrics import CONNECTS_HELD, FILED, OPEN, OPENED, REQUESTS_HELD, SERVED, SESSIONS, TICKED, ask_for, expect_values, scrape
+from metrics import CONNECTS_HELD, FILED, OPEN, OPENED, REQUESTS_HELD, SERVED, SESSIONS, TICKED, ask_for, expect_soon, expect_values, scrape
 from patience_checks import wait_for_reads
 
 # The pause between the bytes of a slow head, in seconds.
 SLOW_PAUSE = 1.5
 # How long a client that asks slowly is waited for, and the pause between the parts of a request, in seconds.
 PAUSE = 0.3
-# In how many ticks the metrics listener gives up a slow client (two seconds), with room for a machine that is slow to
-# look.
-MOST_SLOW_TICKS = 100
 CHANNEL = "/watched"
 # The metric of the time that requests took, and a time in which no machine processes `MOST_MESSAGES` publishes, in
 # seconds.
@@ -113,12 +110,10 @@ def ask_after_slow_client(metrics):
         sender.start()
         time.sleep(PAUSE)
         try:
-            ticks = scrape(metrics)[TICKED] - before
+            expect_soon(metrics, before, "a client that asks slowly")
         finally:
             is_over.set()
             sender.join()
-    if ticks > MOST_SLOW_TICKS:
-        raise CheckFailed(f"a client that asks slowly keeps the next one waiting for {ticks} ticks")
 
 
 def statuses_of_parts(metrics, parts, wait):

@@ -202,7 +202,7 @@ function checkServers() {
   ]) {
     const page = new Page(`${address}?server=${encodeURIComponent(wrong)}`, 'dashboard/index.html');
     const text = `“${wrong}” is not a server address. Add one to this page’s address, such as ?server=http://127.0.0.1:8087/cometd.`;
-    assert.deepEqual([page.client.url, page.client.isStarted, page.state()], [server, false, ['', text]]);
+    assert.deepEqual([page.client.url, page.client.isStarted, page.state()], [server, false, ['not connected', text]]);
   }
 }
 

@@ -252,11 +252,11 @@ def check_long_times(daemon, clock, holder, session):
 
 
 def check_metrics_listener(daemon, clock):
-    """Checks that a request to the metrics listener may take half of `ASKING` seconds, and no longer than `ASKING`.
+    """Checks that a request to the metrics listener may take almost `ASKING` seconds, and no longer than `ASKING`.
 
     A read that waits ends after real seconds, so this may have to be tried again on a slow machine.
     """
-    for pause, wanted in ((ASKING / 2, [200]), (ASKING + 0.1, [])):
+    for pause, wanted in ((ASKING - 0.3, [200]), (ASKING + 0.1, [])):
         with Connection(daemon.metrics) as connection:
             with contextlib.suppress(ConnectionEnded):
                 connection.send(b"GET /healthz HTTP/1.1\r\n")

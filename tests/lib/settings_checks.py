@@ -1,5 +1,6 @@
 """Checks of a daemon's settings, flags, help, positional arguments, seed, advice and log, and of its addresses and threads."""
 import datetime
+import itertools
 import json
 import os
 import re
@@ -9,7 +10,7 @@ import subprocess
 import tempfile
 import time
 
-from base import CheckFailed, expect_equal, free_port, read, section, wait_until
+from base import CheckFailed, expect_equal, free_port, limit_file_size, read, section, wait_until
 from chacha import drawn
 from daemon import HANDSHAKE, SEED, TIMEOUT_SECONDS, Connection, Daemon, FlagDaemon, check_serves, expect_error, expect_success
 from daemon import open_session
@@ -68,6 +69,7 @@ SETTINGS = [
     (["--readers", "localhost:0"], {"readers": "localhost:0"}),
     (["--readers", "[::1]:0"], {"readers": "[::1]:0"}),
     (["--readers", "127.0.0.1:0", "--listen", "localhost:0"], {"readers": "127.0.0.1:0", "listen": "localhost:0"}),
+    (["--readers", "localhost:0", "--readers-publish", "/hall"], {"readers": "localhost:0", "readers_publish": "/hall"}),
     (["--shards", "3"], {"shards": "3"}),
     (["--shards", "64"], {"shards": "64"}),
     (["--timeout", "7s"], {"timeout": "7s"}),
@@ -198,9 +200,9 @@ WARNED_LINES = [
 TIME = "a number of milliseconds up to 4294967295, or of seconds such as 30s"
 # How the daemon describes an address.
 ADDRESS = "a host and a port such as 127.0.0.1:8087"
-# Runs a command with its own /etc/hosts, in which a name has two addresses.
+# Runs a command with its own /etc/hosts, in which a name has three addresses.
 WITH_HOSTS = ["unshare", "--user", "--map-root-user", "--mount", "sh", "-c", 'mount --bind "$0" /etc/hosts && exec "$@"']
-HOSTS = "127.0.0.1 two.test\n127.0.0.2 two.test\n"
+HOSTS = "".join(f"127.0.0.{number} three.test\n" for number in (1, 2, 3))
 # Flags that can be repeated.
 REPEATED = ["readers-publish"]
 # A value of each flag with one, except those for files and `--connections`.
@@ -243,7 +245,7 @@ FLAGS = [
     *(
         ([f"--{name}", it], 2, f"--{name}: expected {ADDRESS}, got {it}")
         for name in ADDRESSES
-        for it in ("127.0.0.1", "localhost", "127.0.0.1:", "127.0.0.1:65536", "127.0.0.1:x", "[::1]", "")
+        for it in ("127.0.0.1", "localhost", "127.0.0.1:", "127.0.0.1:65536", "127.0.0.1:70000", "127.0.0.1:x", "[::1]", "")
     ),
     (["--readers-publish", "/hall"], 2, "the following required arguments were not provided:\n  --readers <ADDRESS>"),
     (["--readers", "localhost:0", "--readers-publish", "/hall", "--readers-publish", "hall"], 2, "--readers-publish: expected a pattern of channels such as /chat/*, got hall"),
@@ -261,8 +263,11 @@ FLAGS = [
     ),
     *(([f"--{name}"] * 2, 2, f"the argument '--{name}' cannot be used multiple times") for name in SWITCHES),
 ]
-# The second line of a daemon that has no place to listen at.
-NO_PLACE = [r'\[ERROR bayeuxd\] cannot listen address=192\.0\.2\.1:0 error=".+"', re.escape(CANNOT_LISTEN.rstrip())]
+
+
+def no_place(address):
+    """Returns patterns of the two lines of a daemon that cannot listen at `address`."""
+    return [rf'\[ERROR bayeuxd\] cannot listen address={re.escape(address)} error=".+"', re.escape(CANNOT_LISTEN.rstrip())]
 
 
 def cannot(what, name):
@@ -274,9 +279,12 @@ def cannot(what, name):
 RECORD_EXISTS = "bayeuxd: a record needs a new file: name another one, or move this one away"
 # Flags with which a daemon ends with status 1, and patterns of all lines on standard error that are no information.
 FAULTS = [
-    (["--listen", "192.0.2.1:0"], NO_PLACE),
-    ([*ANYWHERE, "--readers", "192.0.2.1:0"], NO_PLACE),
-    ([*ANYWHERE, "--metrics", "192.0.2.1:0"], cannot("cannot listen for metrics", "192.0.2.1:0")),
+    # An address of another machine, and a host name that is not valid.
+    *(
+        ([*ANYWHERE[: -len(ANYWHERE) if flag == "--listen" else None], flag, it], cannot("cannot listen for metrics", it) if flag == "--metrics" else no_place(it))
+        for it in ("192.0.2.1:0", "a..b:0")
+        for flag in ("--listen", "--readers", "--metrics")
+    ),
     ([*ANYWHERE, "--seed-file", "/dev/null"], cannot("cannot read the seed", "/dev/null")),
     (
         [*ANYWHERE, "--record", "/dev/null"],
@@ -288,31 +296,31 @@ FAULTS = [
 ]
 # Defaults in the help that OPERATING states in other words. A flag that is off has none, unless it has an argument.
 HELP_DEFAULTS = {"off": "none", "one per processor": "one for each processor", "1048576": "1m"}
-# Words that OPERATING and the help have of each flag.
-HELP_WORDS = {
-    "listen": "host name or ip address with a port",
-    "readers": "also listen at address",
-    "readers-publish": "publish",
-    "shards": "divide the sessions among n shards",
-    "seed-file": "64 hexadecimal digits",
-    "timeout": "hold a connect",
-    "interval": "advise clients to wait for time between two connects",
-    "max-interval": "accepted message",
-    "bytes": "bytes",
-    "sessions": "live",
-    "patterns": "patterns",
-    "limit": "at most n",
-    "body": "body or query",
-    "ride": "waiting events with",
-    "anonymous": "accept publishes without a",
-    "no-callback-polling": "accept only posts of application/json",
-    "connections": "exit",
-    "metrics": "serve metrics",
-    "record": "record every",
-    "record-answers": "record the sha-256 of each answer",
-    "until-eof": "standard input",
-    "log": "write the log as text",
-    "log-level": "log only errors (error",
+# The text of each flag in the help, without its default. OPERATING has the words in braces too.
+HELP_TEXTS = {
+    "listen": "Listen at ADDRESS, a {host name or IP address with a port}",
+    "readers": "{Also listen at ADDRESS}, read-only: no publishes to broadcast channels",
+    "readers-publish": "Allow publishes at --readers to channels {that PATTERN matches}; can be repeated",
+    "shards": "{Divide the sessions among N shards}, 1 to 64",
+    "seed-file": "Read the seed of client ids, {64 hexadecimal digits}, from FILE",
+    "timeout": "{Hold a connect} for at most TIME, in milliseconds, or in seconds such as 30s",
+    "interval": "{Advise clients to wait for TIME between two connects}",
+    "max-interval": "Keep a session for TIME after each {accepted message}",
+    "bytes": "Allow {at most N bytes} of waiting events per session, such as 64k",
+    "sessions": "Allow at most N {live} sessions, 1 to 65536",
+    "patterns": "Allow {at most N} active {patterns} per session, 1 to 1024",
+    "limit": "Allow {at most N} waiting {events} per session, 1 to 65536",
+    "body": "Allow {at most N bytes} in the {body or query} of a request, 1 to 1m",
+    "ride": "Send a session's {waiting events with} the replies to its own requests",
+    "anonymous": "{Accept publishes without a} client id",
+    "no-callback-polling": "{Accept only POSTs of application/json}, which browsers do not send to other sites",
+    "connections": "{Exit} after {N connections}, 0 for never",
+    "metrics": "{Serve metrics}, and a page that plots them, at ADDRESS",
+    "record": "Create FILE and {record every} request in it",
+    "record-answers": "{Record the SHA-256 of each answer} too",
+    "until-eof": "{Exit} when {standard input} closes",
+    "log": "{Write the log as text}, or as json: an object per line",
+    "log-level": "{Log only errors (error}), also {warnings (warn}), or all {(info)}",
 }
 # The contents of a seed file: those that are right, and those that are not. A longer one is too long, also if it never ends.
 RIGHT_SEEDS = [SEED, f"{SEED}\n", f"{SEED.upper()}\r\n", f"{SEED} \t\n\n", f"{SEED}{' ' * 900}\n"]
@@ -358,9 +366,13 @@ def check_settings(program):
     expect_advice(program, ["--interval", "2s", "--timeout", "7s"], {**ADVICE, "interval": 2000, "timeout": 7000})
 
 
-def run_daemon(program, args):
-    """Runs a daemon that cannot serve. Returns its status, and its output on standard output and standard error."""
-    result = subprocess.run([program, *args], stdin=subprocess.DEVNULL, capture_output=True, text=True, timeout=TIMEOUT_SECONDS, check=False)
+def run_daemon(program, args, **how):
+    """Runs a daemon that cannot serve. Returns its status, and its output on standard output and standard error.
+
+    `how`: more keyword arguments of `subprocess.run`.
+    """
+    how = {"stdin": subprocess.DEVNULL, "capture_output": True, "text": True, "timeout": TIMEOUT_SECONDS, **how}
+    result = subprocess.run([program, *args], check=False, **how)
     return result.returncode, result.stdout, result.stderr
 
 
@@ -383,6 +395,11 @@ def check_faults(program):
         status, output, errors = run_daemon(program, flags)
         expect_equal(f"the status and the output with {flags}", (status, output), (1, ""))
         expect_lines([it for it in without_times(errors.splitlines()) if not it.startswith("[INFO  ")], wanted)
+    with tempfile.TemporaryDirectory() as folder:
+        flags = [*ANYWHERE, "--until-eof", "--log-level=error", "--record", f"{folder}/record"]
+        status, output, errors = run_daemon(program, flags, preexec_fn=lambda: limit_file_size(10))
+    expect_equal("the status and the output if the first line of the record cannot be written", (status, output), (1, ""))
+    expect_lines(without_times(errors.splitlines()), cannot("cannot create the record", f"{folder}/record"))
     with open("/dev/full", "wb") as full:
         args = [program, *ANYWHERE, "--until-eof", "--log-level=error"]
         how = {"stdin": subprocess.DEVNULL, "stdout": full, "stderr": subprocess.PIPE, "text": True}
@@ -406,13 +423,15 @@ def check_help(program):
     for name, argument, help_text in rows[:-2]:
         wanted, default, greatest, words = DOCUMENTED[name]
         default = HELP_DEFAULTS.get(default, default) if wanted and name not in REPEATED else None
-        shown, limits = re.search(r"\[default: ([^\]]*)\]$", help_text), re.search(r"\b1 to (\w+)", help_text)
+        shown, limits = re.search(r" \[default: ([^\]]*)\]$", help_text), re.search(r"\b1 to (\w+)", help_text)
         found = (argument, shown and shown[1], limits and limits[1].replace("1m", str(1 << 20)))
         if found != (wanted, default, greatest if limits else None) or not limits and greatest and name != "bytes":
             wrong.append(f"--{name} has {found}, not {(wanted, default, greatest)}")
-        if HELP_WORDS[name] not in help_text.lower() or HELP_WORDS[name] not in words:
-            wrong.append(f"{HELP_WORDS[name]!r} is not in {help_text!r} or not in {words!r}")
+        parts, plain = re.findall("{(.*?)}", HELP_TEXTS[name]), re.sub("[{}]", "", HELP_TEXTS[name])
+        if help_text != plain + (shown[0] if shown else "") or not all(it.lower() in words for it in parts):
+            wrong.append(f"{help_text!r} is not {plain!r}, or {parts} are not all in {words!r}")
     expect_equal("what is wrong in the help", wrong, [])
+    expect_equal("the first lines of the help", text.splitlines()[:3], ["Serve Bayeux over HTTP", "", "Usage: bayeuxd [OPTIONS]"])
 
 
 def check_seeds(program):
@@ -534,7 +553,7 @@ def check_text_log(program):
     expect_lines(lines, [f"({LOG_TIME}) {re.escape(it)}.*" for _, it in WARNED_LINES])
     expect_times(lines, before)
     expect_lines(run_until_end(program, *WARNED, journal="{}:{}".format), [f"<{priority}>{re.escape(it)}.*" for priority, it in WARNED_LINES])
-    for other in ("{1}:{0}", "{}:{}0", "{}:{} ", "0:0", ""):
+    for other in ("{1}:{0}", "{}:{}0", "{}:{} ", "1{}:{}", "0:{1}", "{0}:0", "0:0", ""):
         expect_lines(run_until_end(program, *WARNED, journal=other.format), [f"{LOG_TIME} {re.escape(it)}.*" for _, it in WARNED_LINES])
     wanted = [r"<3>\[ERROR bayeuxd\] cannot listen address=192\.0\.2\.1:0 error=\".* .*\"", CANNOT_LISTEN.rstrip()]
     expect_lines(run_until_end(program, "--readers", "192.0.2.1:0", journal="{}:{}".format)[1:], wanted)
@@ -596,7 +615,8 @@ def check_addresses(program):
             raise CheckFailed("a daemon whose address is in use leaves the file of a record")
     expect_fault(program, ["--listen", free, "--readers", free], f'cannot listen address={free} error="')
     check_full_output(program)
-    check_second_address(program)
+    check_full_log(program)
+    check_addresses_of_name(program)
     check_ipv6(program)
 
 
@@ -611,23 +631,37 @@ def check_full_output(program):
     expect_lines(lines[-2:], [r'\[ERROR bayeuxd\] cannot serve error=".+"', CANNOT_LISTEN.rstrip()])
 
 
-def check_second_address(program):
-    """Checks that each listener listens at the second address of a name if the first one is in use."""
-    with socket.create_server(("127.0.0.1", 0)) as taken, tempfile.NamedTemporaryFile("w") as hosts:
+def check_full_log(program):
+    """Checks that a daemon serves and ends as usual if it cannot write its log."""
+    for form in ("text", "json"):
+        args = [program, *ANYWHERE, "--until-eof", "--log", form]
+        with open("/dev/full", "wb") as full, subprocess.Popen(args, stdin=subprocess.PIPE, stdout=subprocess.PIPE, stderr=full) as process:
+            if not select.select([process.stdout], [], [], TIMEOUT_SECONDS)[0]:
+                process.kill()
+                raise CheckFailed(f"a daemon that cannot write its log as {form} does not listen")
+            port = int(process.stdout.readline().rpartition(b":")[2])
+            check_serves(("127.0.0.1", port), "/full")
+            process.stdin.close()
+            expect_equal("the status if the log cannot be written", process.wait(TIMEOUT_SECONDS), 0)
+
+
+def check_addresses_of_name(program):
+    """Checks that each listener listens at the first address of a name, or at the third one if the others are in use."""
+    with socket.create_server(("127.0.0.1", 0)) as taken, socket.create_server(("127.0.0.2", taken.getsockname()[1])), tempfile.NamedTemporaryFile("w") as hosts:
         hosts.write(HOSTS)
         hosts.flush()
         if subprocess.run([*WITH_HOSTS, hosts.name, "true"], capture_output=True, check=False).returncode != 0:
-            print("tests/daemon/operation: addresses: a name with two addresses is not tried, since unshare is not allowed")
+            print("tests/daemon/operation: addresses: a name with three addresses is not tried, since unshare is not allowed")
             return
-        port = taken.getsockname()[1]
-        for flag, what in (("--listen", "] listening"), ("--readers", "] readers listening"), ("--metrics", "] metrics listening")):
+        listening = (("--listen", "] listening"), ("--readers", "] readers listening"), ("--metrics", "] metrics listening"))
+        for (flag, what), (port, host) in itertools.product(listening, ((taken.getsockname()[1], "127.0.0.3"), (free_port(), "127.0.0.1"))):
             others = [] if flag == "--listen" else ANYWHERE
-            args = [*WITH_HOSTS, hosts.name, program, flag, f"two.test:{port}", *others, "--until-eof"]
+            args = [*WITH_HOSTS, hosts.name, program, flag, f"three.test:{port}", *others, "--until-eof"]
             status, output, errors = run_daemon(args[0], args[1:])
-            if status or f"{what} address=127.0.0.2:{port}\n" not in errors:
-                raise CheckFailed(f"not the second address of a name whose first one is in use: {flag}: {status} {errors!r}")
+            if status or f"{what} address={host}:{port}\n" not in errors:
+                raise CheckFailed(f"not {host}, the first free address of a name with three: {flag}: {status} {errors!r}")
             if flag == "--listen":
-                expect_equal("the output", output, f"listening 127.0.0.2:{port}\n")
+                expect_equal("the output", output, f"listening {host}:{port}\n")
 
 
 class PlainDaemon(Daemon):

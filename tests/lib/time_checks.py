@@ -3,7 +3,7 @@ import tempfile
 import threading
 import time
 
-from base import CheckFailed, wait_until
+from base import CheckFailed, expect_equal, wait_until
 from daemon import TIMEOUT_SECONDS, Connection, NonExpiringDaemon, expect_error, expect_events, expect_status
 from daemon import hold_connect, open_session, poll, post, publish, send_connect, subscribe
 from listener_checks import read_list
@@ -12,21 +12,20 @@ from system import Clock, environment
 
 # The number of sessions and of shards, how often each session leaves an answer, and for how many ticks the number of
 # answers is checked.
-LIVE, TURNS, TICKS = 16, 3, 5
+LIVE, SHARDS, TURNS, TICKS = 17, 16, 3, 5
 # The number of ticks before the first answer. If there are too many answers, the daemon keeps each for fewer ticks than
 # this.
 BEFORE = 15
-# In how many ticks the daemon drops answers if there are too many (a second), and in how many it drops any answer (a
-# minute). Both have room for a machine that is slow to look. How many ticks old the dropped answers were at most in one
+# In how many ticks the daemon drops answers if there are too many (a second), with room for a machine that is slow to
+# look, and in how many it drops any answer (a minute). How many ticks old the dropped answers were at most in one
 # of `SWEEP_TRIES` tries.
-MOST_SWEEP_TICKS, MOST_KEPT_TICKS, FEW_SWEEP_TICKS, SWEEP_TRIES = 50, 700, 35, 15
+MOST_SWEEP_TICKS, MOST_KEPT_TICKS, FEW_SWEEP_TICKS, SWEEP_TRIES = 50, 620, 35, 15
 # How often and for how long a check that lasts pauses, in seconds. The daemon waits 30 seconds for a request and for
 # more of a body.
 PAUSES, LONG_PAUSE = 5, 11.0
-# For how long an answer that nobody takes is kept, the seconds of an uptime that is read, the number of seconds in
-# which ticks are counted, and the number of ticks in each second that must be exceeded once. A busy machine has that
-# rarely, so this is tried often.
-KEPT, LEAST_UPTIME, COUNTING, LEAST_TICKS = 60.0, 62.0, 1.0, 6.0
+# For how long an answer that nobody takes is kept, the seconds of an uptime that is read, and the least time between two
+# ticks in milliseconds, which a busy machine has rarely.
+KEPT, LEAST_UPTIME, LEAST_PAUSES = 60.0, 62.0, range(100, 115)
 # How far the clocks are put forward, in seconds: fifty days, which are more than 2^32 milliseconds. The number of ticks
 # then, and by how many seconds an age or an uptime may differ on a slow machine.
 AHEAD, TICKS_AHEAD, AGES = 50 * 86_400, 3, 3600
@@ -79,7 +78,7 @@ def expect_filed(metrics, count):
 
 
 def check_sweep(program):
-    with NonExpiringDaemon(program, "--shards", str(LIVE), "--sessions", str(LIVE)) as daemon:
+    with NonExpiringDaemon(program, "--shards", str(SHARDS), "--sessions", str(LIVE)) as daemon:
         with Connection(daemon.address) as connection:
             sessions = [open_session(connection) for _ in range(LIVE)]
             for session in sessions:
@@ -95,6 +94,9 @@ def check_sweep(program):
             dropped = expect_filed(daemon.metrics, LIVE)
             ages += [dropped - it for it in before[-2:-1]]
         expect_values(daemon.metrics, {SWEPT: (len(before) - 1) * LIVE})
+        # As many answers as sessions are not too many.
+        for page in pages(daemon.metrics, BEFORE):
+            expect_equal("answers that nobody took", page[FILED], LIVE)
 
 
 class Lasting(threading.Thread):
@@ -107,16 +109,18 @@ class Lasting(threading.Thread):
     def run(self):
         start = time.monotonic()
         try:
-            with NonExpiringDaemon(self.program, "--shards", "1") as daemon:
+            with tempfile.TemporaryDirectory() as folder, NonExpiringDaemon(self.program, "--shards", "1", "--record", f"{folder}/record") as daemon:
                 listening = time.monotonic()
                 filed = self.file_answer(daemon)
                 with Connection(daemon.address) as idle, Connection(daemon.address) as slow:
                     self.pause(daemon, idle, slow, filed)
-                self.check_ticks(daemon.metrics)
                 self.check_uptime(daemon.metrics, start, listening)
                 self.check_age(daemon.metrics, start, filed)
                 self.check_kept(daemon.metrics, filed)
                 self.check_dropped(daemon.metrics)
+                ticks = scrape(daemon.metrics)[TICKED]
+                daemon.close()
+                self.check_ticks(f"{folder}/record", ticks)
         except Exception as error:  # pylint: disable=broad-exception-caught
             self.wrong = error
 
@@ -187,19 +191,13 @@ class Lasting(threading.Thread):
             raise CheckFailed(f"ages of {ages} seconds in place of one of {least} to {time.monotonic() - start:.1f}")
 
     @staticmethod
-    def check_ticks(metrics):
-        """Raises `CheckFailed` if there are more than ten ticks a second, or always far fewer."""
-
-        def has_ticks():
-            before = time.monotonic()
-            first = scrape(metrics)[TICKED]
-            time.sleep(COUNTING)
-            ticks, seconds = scrape(metrics)[TICKED] - first, time.monotonic() - before
-            if ticks > 10 * seconds + 1:
-                raise CheckFailed(f"{ticks} ticks in {seconds:.1f} seconds")
-            return ticks > LEAST_TICKS * seconds
-
-        wait_until(f"{LEAST_TICKS} ticks a second", has_ticks)
+    def check_ticks(record, count):
+        """Checks that the record has `count` ticks and few more, ten a second."""
+        with open(record, "rb") as file:
+            moments = [int(it.partition(b" ")[0]) for it in file.read().splitlines() if it.endswith(b" T")]
+        pause = min(later - earlier for earlier, later in zip(moments, moments[1:]))
+        if pause not in LEAST_PAUSES or not count <= len(moments) < 1.5 * count:
+            raise CheckFailed(f"{len(moments)} ticks with pauses of at least {pause} ms in place of {count} and a tenth of a second")
 
 
 def moments_of(record):
