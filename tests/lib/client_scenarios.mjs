@@ -249,6 +249,15 @@ const SCENARIOS = {
       // Each failed retry is reported.
       const failures = ['408::Superseded connect', ...Array(8).fill('HTTP status 503'), '402::Unknown client'];
       assert.deepEqual(client.log.slice(2, -2), failures.map((it) => `interrupted ${it}`));
+      // After a connect that succeeds, the pauses begin anew.
+      const begin = (count) => until('the next pauses have ended, and a connect is held', () => place.pauses.length === count && server.held);
+      for (const count of [12, 14]) {
+        server.next('/meta/connect', fail);
+        server.next('/meta/connect', fail);
+        server.answerHeld([]);
+        await begin(count);
+      }
+      assert.deepEqual(place.pauses.slice(12), place.pauses.slice(10, 12));
       client.stop();
       // A server that takes no session gives the same advice, but it wants the client to wait.
       const [rejected, error] = [new Place(), '503::Too many sessions'];
