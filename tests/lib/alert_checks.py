@@ -58,31 +58,31 @@ ADVICE = {
     "BayeuxHandshakesRejected": [("raise", "--sessions"), ("lower", "--max-interval")],
     "BayeuxDescriptorsRunOut": [("raise", "LimitNOFILE")],
 }
-# For alerts whose summary names a number: metrics shortly beyond the number, and shortly before it, and the minute at which to
-# look. Few connections are none too many, even if there are hardly more responses.
+# Alerts with a number in their summary, each with metrics shortly beyond the number, metrics shortly before it, and the minute at
+# which to look. Few connections are none too many, even if there are hardly more responses.
 CONNECTED, ANSWERED = "bayeux_connections_total", 'bayeux_responses_total{status="200"}'
-SHARP_ALERTS = {
-    "BayeuxSlowTicks": ({"bayeux_ticks_total": "0+470x30", UPTIME: UP}, {"bayeux_ticks_total": "0+490x30", UPTIME: UP}, 15),
-    "BayeuxNobodyKeepsConnections": ({CONNECTED: "0+3100x40", ANSWERED: "0+6000x40"}, {CONNECTED: "0+2900x40", ANSWERED: "0+6000x40"}, 20),
-    "BayeuxNobodyKeepsConnections ": ({CONNECTED: "0+70x40", ANSWERED: "0+80x40"}, {CONNECTED: "0+50x40", ANSWERED: "0+50x40"}, 20),
-}
+SHARP_ALERTS = [
+    ("BayeuxSlowTicks", {"bayeux_ticks_total": "0+470x30", UPTIME: UP}, {"bayeux_ticks_total": "0+490x30", UPTIME: UP}, 15),
+    ("BayeuxNobodyKeepsConnections", {CONNECTED: "0+3100x40", ANSWERED: "0+6000x40"}, {CONNECTED: "0+2900x40", ANSWERED: "0+6000x40"}, 20),
+    ("BayeuxNobodyKeepsConnections", {CONNECTED: "0+70x40", ANSWERED: "0+80x40"}, {CONNECTED: "0+50x40", ANSWERED: "0+50x40"}, 20),
+]
 # For each alert: metrics of a server that is in trouble from minute 20 to minute 49, and the first and the last minute in which the
 # alert fires. A metric that ends in _total grows by the first number each minute, and by the second one in trouble. Others have these
 # values. An alert waits for `for`, and a rate falls for five minutes.
-TROUBLES = {
-    "BayeuxGone": ({SERVED: (1, 0)}, 21, 49),
-    "BayeuxSessionsNearTheirLimit": ({"bayeux_sessions": (9, 950), MOST: (1000, 1000)}, 21, 49),
-    "BayeuxHandshakesRejected": ({ERRORS.format("503::Too many sessions"): (0, 1)}, 21, 53),
-    "BayeuxDescriptorsRunOut": ({OPEN: (9, 950), MOST_OPEN: (1000, 1000), SERVED: (1, 1)}, 21, 49),
-    "BayeuxRequestsRefused": ({REFUSED.format(503, "out of memory"): (0, 1)}, 21, 53),
-    "BayeuxAnswersLost": ({LOST: (0, 1), UPTIME: (60, 60)}, 21, 53),
-    "BayeuxAnswersLost ": ({"bayeux_responses_missing_total": (0, 1), UPTIME: (60, 60)}, 21, 53),
-    "BayeuxShardsBehind": ({"bayeux_shards_behind": (0, 1)}, 21, 49),
-    "BayeuxWindowNearlyFull": ({"bayeux_window_batches": (9, 4000)}, 21, 49),
-    "BayeuxSlowTicks": ({"bayeux_ticks_total": (600, 180), UPTIME: (60, 60)}, 26, 52),
-    "BayeuxSessionsOverflow": ({ERRORS.format("413::Queue overflow"): (0, 1)}, 25, 53),
-    "BayeuxNobodyKeepsConnections": ({CONNECTED: (60, 6000), ANSWERED: (6000, 6000)}, 32, 51),
-}
+TROUBLES = [
+    ("BayeuxGone", {SERVED: (1, 0)}, 21, 49),
+    ("BayeuxSessionsNearTheirLimit", {"bayeux_sessions": (9, 950), MOST: (1000, 1000)}, 21, 49),
+    ("BayeuxHandshakesRejected", {ERRORS.format("503::Too many sessions"): (0, 1)}, 21, 53),
+    ("BayeuxDescriptorsRunOut", {OPEN: (9, 950), MOST_OPEN: (1000, 1000), SERVED: (1, 1)}, 21, 49),
+    ("BayeuxRequestsRefused", {REFUSED.format(503, "out of memory"): (0, 1)}, 21, 53),
+    ("BayeuxAnswersLost", {LOST: (0, 1), UPTIME: (60, 60)}, 21, 53),
+    ("BayeuxAnswersLost", {"bayeux_responses_missing_total": (0, 1), UPTIME: (60, 60)}, 21, 53),
+    ("BayeuxShardsBehind", {"bayeux_shards_behind": (0, 1)}, 21, 49),
+    ("BayeuxWindowNearlyFull", {"bayeux_window_batches": (9, 4000)}, 21, 49),
+    ("BayeuxSlowTicks", {"bayeux_ticks_total": (600, 180), UPTIME: (60, 60)}, 26, 52),
+    ("BayeuxSessionsOverflow", {ERRORS.format("413::Queue overflow"): (0, 1)}, 25, 53),
+    ("BayeuxNobodyKeepsConnections", {CONNECTED: (60, 6000), ANSWERED: (6000, 6000)}, 32, 51),
+]
 # An alert about a restart fires for ten minutes, and so long none fires about answers that were lost.
 RESTARTED = "0+60x19 5+60x49"
 # The errors for which an alert fires, and the reasons for which none fires, or another one.
@@ -194,7 +194,7 @@ def dashboard_test(rows):
 def alert_test(name, series, *moments):
     """Returns a test of promtool of the alert `name` with `series`. `moments`: pairs of a minute, and whether the alert fires then."""
     case = {"interval": "1m", "input_series": [{"series": it, "values": values} for it, values in series.items()]}
-    expression = f'count(ALERTS{{alertname="{name.strip()}",alertstate="firing"}})'
+    expression = f'count(ALERTS{{alertname="{name}",alertstate="firing"}})'
     samples = {True: [{"labels": "{}", "value": 1}], False: []}
     case["promql_expr_test"] = [{"expr": expression, "eval_time": f"{minute}m", "exp_samples": samples[fires]} for minute, fires in moments]
     return case
@@ -210,7 +210,7 @@ def course(metric, usual, trouble):
 
 def timed_alert_tests():
     """Returns tests of promtool that each alert of TROUBLES, and those of a restart, fire in the right minutes only."""
-    courses = [(name, {it: course(it, *values) for it, values in metrics.items()}, first, last) for name, (metrics, first, last) in TROUBLES.items()]
+    courses = [(name, {it: course(it, *values) for it, values in metrics.items()}, first, last) for name, metrics, first, last in TROUBLES]
     courses.append(("BayeuxRestarted", {UPTIME: RESTARTED}, 20, 29))
     # Answers are lost from minute 28 to minute 39, at first shortly after the restart in minute 20.
     courses.append(("BayeuxAnswersLost", {LOST: "0x27 1+1x11 12x30", UPTIME: RESTARTED}, 31, 43))
@@ -220,7 +220,7 @@ def timed_alert_tests():
 def more_alert_tests(rows):
     """Returns tests of promtool with sharp limits, and with each reason and each error that a server counts. `rows`: its series."""
     tests = timed_alert_tests()
-    for name, (firing, quiet, minutes) in SHARP_ALERTS.items():
+    for name, firing, quiet, minutes in SHARP_ALERTS:
         tests += [alert_test(name, firing, (minutes, True)), alert_test(name, quiet, (minutes, False))]
     kinds = {it: re.search(r'(reason|error)="([^"]*)"', it) for it in rows}
     reasons, errors = ({it: found[2] for it, found in kinds.items() if found and found[1] == kind} for kind in ("reason", "error"))

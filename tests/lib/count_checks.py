@@ -74,10 +74,36 @@ def expect_documented(log):
             raise CheckFailed(f"docs/OPERATING.md has no line of the log with the level and the event {(level, event)}")
 
 
+def messages_of(session):
+    """Returns lists of messages, each for one request. `session`: the member of a session with its client id."""
+    connect, publish = {**CONNECT, **session}, {"channel": CHANNEL, "data": 1, **session}
+    subscribe = {"channel": "/meta/subscribe", **session}
+    websocket = {**HANDSHAKE, "supportedConnectionTypes": ["websocket"]}
+    return [
+        [],
+        [HANDSHAKE],
+        [HANDSHAKE, HANDSHAKE],
+        [HANDSHAKE],
+        [{**HANDSHAKE, "version": "2.0"}, websocket],
+        [websocket],
+        [{"channel": "/meta/none", **session}],
+        [CONNECT],
+        [{**CONNECT, "clientId": "none"}],
+        [{**connect, "connectionType": "websocket"}],
+        *([{**subscribe, "subscription": it}] for it in ("/counted/*", "/a/", [f"/{number}" for number in range(65)], "/meta/*")),
+        [subscribe],
+        [{**subscribe, "channel": "/meta/unsubscribe", "subscription": "/none"}],
+        [{"channel": CHANNEL, **session}],
+        *([{**publish, "channel": it}] for it in ("/counted//", OTHER, "/service/a")),
+        [publish] * MOST_MESSAGES,
+        [{"channel": CHANNEL}] * (MOST_MESSAGES + 1),
+    ]
+
+
 def cases_of(session):
     """Yields cases: lists of requests, each sent over its own connection. The requests before the last one are held.
 
-    `session`: the member of a session with its client id.
+    `session`: as `messages_of` has it.
     """
 
     def of(*messages):
@@ -88,26 +114,8 @@ def cases_of(session):
 
     connect, publish = {**CONNECT, **session}, {"channel": CHANNEL, "data": 1, **session}
     ready = {**connect, "advice": {"timeout": 0}}
-    subscribe = {"channel": "/meta/subscribe", **session}
     for request in [
-        of(),
-        of(HANDSHAKE),
-        of(HANDSHAKE, HANDSHAKE),
-        of(HANDSHAKE),
-        of({**HANDSHAKE, "version": "2.0"}, {**HANDSHAKE, "supportedConnectionTypes": ["websocket"]}),
-        of({**HANDSHAKE, "supportedConnectionTypes": ["websocket"]}),
-        of({"channel": "/meta/none", **session}),
-        of(CONNECT),
-        of({**CONNECT, "clientId": "none"}),
-        of({**connect, "connectionType": "websocket"}),
-        *(of({**subscribe, "subscription": it}) for it in ("/counted/*", "/a/", [f"/{number}" for number in range(65)], "/meta/*")),
-        of(subscribe),
-        of({**subscribe, "channel": "/meta/unsubscribe", "subscription": "/none"}),
-        of({"channel": CHANNEL, **session}),
-        of({**publish, "channel": "/counted//"}),
-        of({**publish, "channel": OTHER}),
-        of({**publish, "channel": "/service/a"}),
-        of(*[publish] * MOST_MESSAGES),
+        *(of(*it) for it in messages_of(session)),
         of(ready),
         asked(message=json.dumps([publish, publish]), jsonp="a"),
         asked(message=json.dumps([ready]), jsonp="a"),
@@ -117,10 +125,7 @@ def cases_of(session):
         post_coded([b" gzip, chunked"]),
         post(b"[]").replace(b"POST", b"PUT", 1),
         post(b" " * (BODY + 1)),
-        post(b"["),
-        post(b"[1]"),
-        post(b"[{}]"),
-        of(*[{"channel": CHANNEL}] * (MOST_MESSAGES + 1)),
+        *(post(it) for it in (b"[", b"[1]", b"[{}]")),
         post(b"[]")[:-1],
     ]:
         yield [request]
