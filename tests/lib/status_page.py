@@ -77,16 +77,17 @@ const meanwhile = shown();
 plot.dispatchEvent(new PointerEvent('pointerleave'));
 return [before, meanwhile, text(document, '.now')];
 """
-# Times in milliseconds, and the values of metrics then: counters, one of which begins again, and others. The third read failed.
-TIMES, FAILED = [0, 3000, 6000, 9000, 12000], 2
+# Times in milliseconds, and the values of metrics then: counters, one of which begins again, and others. The third read failed, and
+# later ones were late.
+TIMES, FAILED = [0, 3000, 6000, 12000, 18000], 2
 REFUSED = 'bayeux_requests_refused_total{{status="{}",reason="{}"}}'
 OTHERS = [1111, 2222, 0, 3333, 4444]
 PLOTTED = {
-    "bayeux_requests_admitted_total": [10, 40, 0, 100, 160],
-    "bayeux_events_total": [5, 2, 0, 2, 302],
+    "bayeux_requests_admitted_total": [10, 40, 0, 100, 220],
+    "bayeux_events_total": [5, 2, 0, 2, 602],
     "bayeux_sessions": [1, 7, 0, 12345, 3],
     "bayeux_connects_held": [4, 4, 0, 4, 42],
-    REFUSED.format(404, "Bayeux is at /cometd"): [0, 30, 0, 30, 90],
+    REFUSED.format(404, "Bayeux is at /cometd"): [0, 30, 0, 30, 150],
     REFUSED.format(400, "the messages are not JSON"): [0, 3, 0, 3, 3],
     REFUSED.format(503, "out of memory"): [0, 0, 0, 0, 0],
     **{f'bayeux_shard_lag_entries{{shard="{shard}"}}': [10 * shard] * 5 for shard in range(14)},
@@ -96,18 +97,18 @@ PLOTTED = {
 # What each chart shows of them: its title and unit, the last value and the second one, the greatest value of the axis, the curves,
 # the key with these values, and how many series the key leaves out. A curve has a point for each value, at the place of its time
 # and at a height in proportion, of which 98 of 100 are the greatest value.
-SHARDS = [f"M888.0 {y}L891.0 {y}M897.0 {y}L900.0 {y}" for y in (f"{100 - 98 * 10 * shard / 200:.2f}" for shard in range(14))]
+SHARDS = [f"M882.0 {y}L885.0 {y}M894.0 {y}L900.0 {y}" for y in (f"{100 - 98 * 10 * shard / 200:.2f}" for shard in range(14))]
 SHARD_KEY = [f"shard {shard}: {10 * shard}" for shard in range(13, 1, -1)]
-REFUSALS = ["M891.0 51.00M900.0 2.00", "M891.0 95.10M900.0 100.00", "M891.0 100.00M900.0 100.00"]
+REFUSALS = ["M885.0 51.00M900.0 2.00", "M885.0 95.10M900.0 100.00", "M885.0 100.00M900.0 100.00"]
 REFUSAL_KEYS = [
     ["404 Bayeux is at /cometd: 20", "400 the messages are not JSON: 0"],
     ["404 Bayeux is at /cometd: 10", "400 the messages are not JSON: 1"],
 ]
 CHARTS = [
-    ("Requests", "per second", ("20", "10"), "20", ["M891.0 51.00M900.0 2.00"], ([], []), ""),
+    ("Requests", "per second", ("20", "10"), "20", ["M885.0 51.00M900.0 2.00"], ([], []), ""),
     ("Events", "per second", ("100", "–"), "100", ["M900.0 2.00"], ([], []), ""),
-    ("Sessions", "", ("3", "7"), "20,000", ["M888.0 100.00L891.0 99.97M897.0 39.51L900.0 99.99"], ([], []), ""),
-    ("Held connects", "", ("42", "4"), "50", ["M888.0 92.16L891.0 92.16M897.0 92.16L900.0 17.68"], ([], []), ""),
+    ("Sessions", "", ("3", "7"), "20,000", ["M882.0 100.00L885.0 99.97M894.0 39.51L900.0 99.99"], ([], []), ""),
+    ("Held connects", "", ("42", "4"), "50", ["M882.0 92.16L885.0 92.16M894.0 92.16L900.0 17.68"], ([], []), ""),
     ("Refusals", "per second", ("20", "11"), "20", REFUSALS, REFUSAL_KEYS, ""),
     ("Shard lag", "entries", ("130", "130"), "200", SHARDS, (SHARD_KEY, SHARD_KEY), "and 2 more"),
 ]
@@ -165,7 +166,7 @@ def plotted():
             [title, unit, it[at], most, f"{title} in the last 15 minutes, now {it[at]}", curves, keys[at], rest, cursor, now]
             for title, unit, it, most, curves, keys, rest in CHARTS
         ]
-        for at, (cursor, now) in enumerate((("", "now"), ("M891 0V100", "at")))
+        for at, (cursor, now) in enumerate((("", "now"), ("M885 0V100", "at")))
     ]
     return list(zip(TIMES, pages)), wanted
 

@@ -102,14 +102,16 @@ def check_sweep(program):
 class Lasting(threading.Thread):
     """The check `lasting`, in a thread. `finish` waits for its end."""
 
+    flags = ("--shards", "1", "--sessions", "1")
+
     def __init__(self, program):
         super().__init__(daemon=True)
-        self.program, self.wrong, self.ticks = program, None, 0
+        self.program, self.wrong, self.session, self.ticks = program, None, None, 0
 
     def run(self):
         start = time.monotonic()
         try:
-            with tempfile.TemporaryDirectory() as folder, NonExpiringDaemon(self.program, "--shards", "1", "--record", f"{folder}/record") as daemon:
+            with tempfile.TemporaryDirectory() as folder, NonExpiringDaemon(self.program, *self.flags, "--record", f"{folder}/record") as daemon:
                 listening = time.monotonic()
                 filed = self.file_answer(daemon)
                 with Connection(daemon.address) as idle, Connection(daemon.address) as slow:
@@ -118,6 +120,7 @@ class Lasting(threading.Thread):
                 self.check_age(daemon.metrics, start, filed)
                 self.check_kept(daemon.metrics, filed)
                 self.check_dropped(daemon.metrics)
+                self.check_swept(daemon)
                 ticks = scrape(daemon.metrics)[TICKED]
                 daemon.close()
                 self.check_ticks(f"{folder}/record", ticks)
@@ -133,10 +136,10 @@ class Lasting(threading.Thread):
     def file_answer(self, daemon):
         """Leaves an answer that nobody takes. Returns a time before it was left, in seconds."""
         with Connection(daemon.address) as connection:
-            session = open_session(connection)
-            subscribe(connection, "/all", session)
+            self.session = open_session(connection)
+            subscribe(connection, "/all", self.session)
         before = time.monotonic()
-        leave_answers(daemon, [session])
+        leave_answers(daemon, [self.session])
         self.ticks = expect_values(daemon.metrics, {FILED: 1})[TICKED]
         return before
 
@@ -172,6 +175,12 @@ class Lasting(threading.Thread):
             return not values[FILED]
 
         wait_until("an answer that nobody took is dropped", is_dropped)
+
+    def check_swept(self, daemon):
+        """Checks that the older one of two answers, more than there may be sessions, is soon dropped by a daemon that is no longer new."""
+        for _ in range(2):
+            leave_answers(daemon, [self.session])
+        expect_filed(daemon.metrics, 1)
 
     @staticmethod
     def check_uptime(metrics, start, listening):
