@@ -314,8 +314,16 @@ def try_silence(fixture):
     for _ in range(5):
         page.run(NEW_CLIENT + "client.start();", "/cometd", {"share": False})
     wait_until("all are connected", lambda: page.run("return clients.every((it) => it.log.length === 2)"))
-    wait_until("all wait", lambda: len(site.waiting - before) == 6)
-    client.do("publishLogged('/a', 1)")
+
+    def finds_none():
+        wait_until("all wait", lambda: len(site.waiting - before) == 6)
+        client.clear()
+        client.do("publishLogged('/a', 1)")
+        wait_until("the publish has ended", lambda: any(it == "published" or isinstance(it, list) for it in client.log()))
+        return "published" not in client.log()
+
+    # On a busy machine, a connect can end while the publish waits, so that a connection is free.
+    wait_until("a publish finds no connection", finds_none)
     client.wait_for_log("interrupted no answer in time", ["no answer in time", True])
     wait_until("it is connected again", client.is_connected)
     page.close()

@@ -26,6 +26,8 @@ pub struct Waiting {
     pub woken_under_lock: AtomicBool,
     /// How often the hub called the gate before it advanced a shard.
     pub before: AtomicU64,
+    /// How often it did so while the first task was woken.
+    pub before_woken: AtomicU64,
     /// How often the hub called the gate after it advanced a shard.
     pub after: AtomicU64,
 }
@@ -44,6 +46,7 @@ impl Waiting {
             tasks: Tasks::new(rt)?,
             woken_under_lock: AtomicBool::new(false),
             before: AtomicU64::new(0),
+            before_woken: AtomicU64::new(0),
             after: AtomicU64::new(0),
         })
     }
@@ -59,6 +62,9 @@ pub struct Looking {
 impl Gate for Looking {
     fn before(&self, _shard: usize) {
         self.waiting.before.fetch_add(1, Ordering::SeqCst);
+        if self.waiting.tasks.first.is_woken() {
+            self.waiting.before_woken.fetch_add(1, Ordering::SeqCst);
+        }
     }
 
     fn after(&self, shard: usize) {

@@ -98,6 +98,9 @@ pub enum Step {
     /// Checks whether a task was woken, and that no wake of the first task happened under its
     /// shard's lock.
     Woken(Task, bool),
+    /// Checks whether the first task was woken before the other shard advanced. Field: the shard that
+    /// advanced first.
+    WokenFirst(usize),
     /// Starts a record, and checks that this succeeds if the field is `true`, and otherwise fails.
     Starts(bool),
     Stops,
@@ -198,6 +201,10 @@ impl<L: HubKind, H: Wait + Drop> Bench<L, H> {
                 same(rt, waiting.tasks.task(task).is_woken(), wanted, step);
                 let under_lock = waiting.woken_under_lock.load(Ordering::SeqCst);
                 same(rt, under_lock, false, step);
+            }
+            Step::WokenFirst(shard) => {
+                let early = waiting.before_woken.load(Ordering::SeqCst) > 0;
+                same(rt, early, waiting.home == shard, step);
             }
             Step::Starts(wanted) => same(rt, hub.start_record(rt, alloc).is_ok(), wanted, step),
             Step::Stops => drop(hub.stop_record(rt)),

@@ -18,13 +18,16 @@ const RUNS: [&[Step]; 4] = [
         Step::Woken(Task::First, true),
         Step::Finds(2, CONNECTED, Found::Wanted),
     ],
-    // One publish wakes both tasks. Taking one answer leaves the other.
+    // One publish wakes both tasks. Shard 0 advances first, since the list then has eight entries.
+    // If the tasks wait in it, they are woken before the other shard advances. Taking one answer
+    // leaves the other.
     &[
         Step::HoldTwo,
         Step::Watch(5, Task::First, Watched::Stored(false)),
         Step::Watch(6, Task::Second, Watched::Stored(false)),
         Step::Woken(Task::Second, false),
         Step::Post(PUBLISH, 7, 0),
+        Step::WokenFirst(0),
         Step::Woken(Task::First, true),
         Step::Woken(Task::Second, true),
         Step::Finds(5, ANSWER, Found::Wanted),
