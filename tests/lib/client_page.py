@@ -310,7 +310,7 @@ def try_silence(fixture):
     """
     page, site, before = Window(fixture.browser, fixture.site.address), fixture.site, set(fixture.site.waiting)
     client = Client(page, share=False)
-    # All begin within a moment, so that no connect ends while the publish waits.
+    # All begin within a moment, so that hardly ever a connect ends while the publish waits.
     for _ in range(5):
         page.run(NEW_CLIENT + "client.start();", "/cometd", {"share": False})
     wait_until("all are connected", lambda: page.run("return clients.every((it) => it.log.length === 2)"))
