@@ -1,13 +1,15 @@
 """Checks of the page of metrics: its requests, its clients, and its values while two clients use the daemon."""
 import contextlib
 import itertools
+import json
 import re
+import resource
 import threading
 import time
 
 from base import CheckFailed, expect_equal, wait_until
-from daemon import MOST_MESSAGES, Connection, ConnectionEnded, FlagDaemon, expect_error, expect_status, expect_success
-from daemon import get, open_session, post, post_coded, send_connect, subscribe
+from daemon import HANDSHAKE, MOST_MESSAGES, Connection, ConnectionEnded, FlagDaemon, NonExpiringDaemon, expect_error, expect_status
+from daemon import expect_success, get, has_sanitizer, open_session, post, post_coded, send_connect, subscribe
 from metrics import CONNECTS_HELD, FILED, OPEN, OPENED, REQUESTS_HELD, SERVED, SESSIONS, TICKED, ask_for, expect_soon, expect_values, scrape
 from patience_checks import wait_for_reads
 
@@ -16,11 +18,15 @@ SLOW_PAUSE = 1.5
 # How long a client that asks slowly is waited for, and the pause between the parts of a request, in seconds.
 PAUSE = 0.3
 CHANNEL = "/watched"
+BEHIND, LAGS = ("bayeux_shards_behind", ""), [("bayeux_shard_lag_entries", f'{{shard="{it}"}}') for it in range(2)]
 # The metric of the time that requests took, and a time in which no machine processes `MOST_MESSAGES` publishes, in
 # seconds.
 SPENT, LEAST_SPENT = ("bayeux_processing_seconds_sum", ""), 150e-6
 # The bytes of a field in a long head for the metrics listener, such as the cookies of a browser.
 LONG_FIELD = 4000
+# How many sessions hear each event, how many events are published, and how many bytes of data the daemon may have then, which is
+# less than it has.
+HEARERS, PUBLISHED, LEAST_DATA = 4000, 600, 4096
 # Requests to the metrics listener, and their statuses.
 METRICS_REQUESTS = [
     (get(b"", b"/healthz"), 200),
@@ -177,3 +183,36 @@ def check_metrics(program):
             if not re.search(f"^{line}$", log, re.MULTILINE):
                 raise CheckFailed(f"no line {line!r}: {log!r}")
         daemon.expect_end()
+
+
+def check_behind(program):
+    """Checks that the metrics show which shards memory lacks for, and how many entries behind they are, until memory is there again."""
+    if has_sanitizer(program):
+        print("       left out: behind, since a checked build gets memory in other ways", flush=True)
+        return
+    with NonExpiringDaemon(program, "--shards", "2", "--limit", "65536") as daemon, Connection(daemon.address) as connection:
+        replies = [it.items()[0] for it in connection.repeat(post(json.dumps([HANDSHAKE]).encode()), HEARERS)]
+        subscriptions = [{"channel": "/meta/subscribe", "clientId": it["clientId"], "subscription": CHANNEL} for it in replies]
+        for at in range(0, HEARERS, MOST_MESSAGES):
+            expect_success(connection.ask(subscriptions[at : at + MOST_MESSAGES]), len(subscriptions[at : at + MOST_MESSAGES]))
+        events = post(json.dumps([{"channel": CHANNEL, "data": 1, "clientId": replies[0]["clientId"]}] * 4).encode())
+        first, published = scrape(daemon.metrics)[TICKED], 0
+
+        def lags():
+            """Returns how far the shards are behind after a time without memory, or `None` if none is, or there were no ticks."""
+            nonlocal published
+            resource.prlimit(daemon.process.pid, resource.RLIMIT_DATA, (LEAST_DATA, resource.RLIM_INFINITY))
+            for _ in range(PUBLISHED // 4):
+                connection.send(events)
+                published += 4 * (connection.response().status == 200)
+            time.sleep(PAUSE)
+            resource.prlimit(daemon.process.pid, resource.RLIMIT_DATA, (resource.RLIM_INFINITY, resource.RLIM_INFINITY))
+            page = scrape(daemon.metrics)
+            found = [page[it] for it in LAGS]
+            return found if any(found) and page[BEHIND] else None
+
+        found = wait_until("a shard is behind", lags)
+        most = published + scrape(daemon.metrics)[TICKED] - first
+        if max(found) > most:
+            raise CheckFailed(f"shards are {found} entries behind, of at most {most}")
+        wait_until("no shard is behind", lambda: not any(scrape(daemon.metrics)[it] for it in (BEHIND, *LAGS)))
