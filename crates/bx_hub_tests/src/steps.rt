@@ -98,8 +98,8 @@ pub enum Step {
     /// Checks whether a task was woken, and that no wake of the first task happened under its
     /// shard's lock.
     Woken(Task, bool),
-    /// Checks whether the first task was woken before the other shard advanced. Field: the shard that
-    /// advanced first.
+    /// Checks whether the first task was woken before the other shard advanced. Field: the shard
+    /// that advanced first.
     WokenFirst(usize),
     /// Starts a record, and checks that this succeeds if the field is `true`, and otherwise fails.
     Starts(bool),
