@@ -1,16 +1,19 @@
 """Checks of the feed of examples/dashboard with programs in place of curl and sleep."""
 import os
 import pathlib
+import re
 import subprocess
 import tempfile
 
-from base import TIMEOUT_SECONDS, TOP, CheckFailed
+from base import TIMEOUT_SECONDS, TOP, CheckFailed, section
 
 FEED = TOP / "examples/dashboard/feed"
 # The address that clients use by default (docs/CLIENT.md, examples/README.md).
 DEFAULT_URL = "http://127.0.0.1:8087/cometd"
 # How long client and feed wait for a response, in addition to the time for which the server holds it, in seconds.
 NETWORK_TIMEOUT = 10
+# The statuses other than 200 of the server and of nginx, and others of proxies.
+STATUSES = sorted({401, 500, *map(int, re.findall(r"[45]\d\d(?=[ ,\d]* \|.*\|$)", section("docs/ERRORS.md", "Statuses of HTTP"), re.M))})
 # Programs that the feed calls. This curl writes the address and data of each request to $LOG, and its other arguments to $LOG.curl.
 # It fails for the publishes that $FAIL lists, counted from 1, with the HTTP status $CODE, by default without a response, or answers
 # them with $REPLY. It answers the others, and each handshake with $OPENED if that is set. At /metrics, it answers $METRICS, and writes
@@ -35,15 +38,15 @@ FAKE_SLEEP = """#!/bin/sh
 echo "$1" >>"$LOG.sleep"
 [ "$(wc -l <"$LOG.sleep")" -le "$COUNT" ] || kill -${SIGNAL:-TERM} $PPID
 """
-# Replaces the times of processors that the feed reads from the system. From call to call, 30, 0, and 100 percent are busy.
+# Replaces the times of processors that the feed reads from the system (proc(5)). From call to call, 30, 0, and 100 percent are busy.
 FAKE_TIMES = """
-calls=0 base=1000 more=0
+lines=("cpu  1000 1000 1000 1000 1000 1000 1000 1000 7 7" "cpu  1010 1005 1003 1050 1020 1004 1002 1006 50 70")
+lines+=("cpu  1010 1005 1003 1100 1070 1004 1002 1006 500 700" "cpu  1110 1005 1003 1100 1070 1004 1002 1006 5000 7000")
 read() {
-    calls=$((calls + 1))
-    user=1000 nice=1000 system=1000 idle=1000 waiting=1000 interrupts=1000 soft=1000 stolen=1000
-    [ $calls -lt 2 ] || user=1010 nice=1005 system=1003 idle=1050 waiting=1020 interrupts=1004 soft=1002 stolen=1006
-    [ $calls -lt 3 ] || idle=1100 waiting=1070
-    [ $calls -lt 4 ] || user=1110
+    local first
+    builtin read -r first _ && [ "$first" = cpu ] || exit 9
+    builtin read "$@" <<<"${lines[0]}"
+    lines=("${lines[@]:1}")
 }
 """
 # Metrics as bayeuxd writes them (docs/OPERATING.md), and what the feed publishes of them.
@@ -54,8 +57,9 @@ bayeux_sessions 3
 # TYPE bayeux_replies_total counter
 bayeux_replies_total{kind="connect"} 0
 bayeux_replies_total{kind="publish",other="a b"} 12.5
-"""
+""" + "".join(f'bayeux_replies_total{{kind="{it}"}} {it}\n' for it in range(1000))
 REPLIES_JSON = r'"bayeux_replies_total{kind=\"connect\"}":0,"bayeux_replies_total{kind=\"publish\",other=\"a b\"}":12.5'
+REPLIES_JSON += "".join(rf',"bayeux_replies_total{{kind=\"{it}\"}}":{it}' for it in range(1000))
 METRICS_JSON = f'{{"bayeux_sessions":3,{REPLIES_JSON}}}'
 HELP_JSON = r'{"bayeux_sessions":"Sessions that are open.","bayeux_replies_total":"Successful replies, by \"kind\"."}'
 # What a command prints for the feed, and whether it is a number in JSON.
@@ -116,6 +120,11 @@ def try_feed():
             status, _, errors, requests, _ = run_feed(folder, 1, "x", "printf", "%s", text)
             expect((text, status, requests), (text, 143, requests_of_feed("/dashboard/x", text) if is_number else []))
             expect(errors, "" if is_number else f"feed: no number: {text}\n")
+        # The status of a command does not matter: `grep -c` prints 0 and fails.
+        wanted = (143, requests_of_feed("/dashboard/x", "0", "0"), 3 * "feed: no number: \n")
+        command = 'echo >>"$0"; case $(wc -l <"$0") in 2 | 4) echo 0; esac; exit 1'
+        status, _, errors, requests, _ = run_feed(folder, 5, "x", "sh", "-c", command, f"{folder}/calls")
+        expect((status, requests, errors), wanted)
         # Two publishes fail, and later another one. It says so once each time, and says when it publishes again.
         status, output, errors, requests, _ = run_feed(folder, 6, "x", "echo", "5", fail="2 3 5")
         expect((status, output), (143, 3 * line("/dashboard/x", DEFAULT_URL, 1)))
@@ -136,7 +145,7 @@ def try_feed():
 
 def try_feed_of_statuses(folder):
     """Checks that the feed ends with a message if publishing is not allowed, and tries again after each other status."""
-    for code in (400, 401, 403, 404, 413, 429, 500, 502, 503):
+    for code in STATUSES:
         status, _, errors, requests, _ = run_feed(folder, 4, "x", "echo", "5", fail="2", CODE=str(code))
         is_forbidden = code == 403
         count = sum('"data":5' in it for _, it in requests)

@@ -3,14 +3,17 @@ import contextlib
 import ctypes
 import json
 import os
+import pathlib
 import resource
 import socket
+import tempfile
 import time
 
-from base import CheckFailed, read, wait_until
+from base import CheckFailed, expect_equal, read, wait_until
 from daemon import AT_ONCE, HANDSHAKE, Connection, FlagDaemon, NonExpiringDaemon, SlowReader, expect_events, expect_status
 from daemon import expect_success, get, open_session, poll, post, send_connect, subscribe
 from metrics import TICKED, ask_for, expect_soon, expect_values, scrape
+from system import environment
 
 # Flags with limits and times, and the metrics with their values.
 LIMITS = ["--limit=3", "--bytes=6000", "--patterns=7", "--sessions=8", "--body=9000", "--shards=2", "--timeout=1500ms", "--interval=2s", "--max-interval=4294967295"]
@@ -23,10 +26,24 @@ LIMITED = {
 # How much the metrics of memory may differ from what the system reports shortly afterwards, in
 # bytes, or a tenth if that is more, and the start of the process from the time here, in seconds.
 MEMORY_CHANGE, START_CHANGE = 64 << 20, 5
+# More files than some systems list in one call.
+MANY_FILES = 400
 # A request, and the processor time that such requests must take, in seconds. The metrics show hundredths.
 SMALL_WORK, WORK = post(b"[]"), 0.1
 # The number of the system call `pidfd_getfd`, for which Python has no function.
 PIDFD_GETFD = 438
+# Files in /proc as they may be on a machine with thousands of processors and interrupts (proc(5)), and the metrics of them. The
+# processor time is 12.34 + 5.67 seconds. The process started 8.9 seconds after the machine.
+STAT_FIELDS = {14: 1234, 15: 567, 22: 890, 23: 5 << 40, 24: 6 << 30}
+PROC_FILES = {
+    "self/stat": f"4194304 (a) R 1 (b 2) S {' '.join(str(STAT_FIELDS.get(it, 2**64 - 1)) for it in range(4, 53))}\n",
+    "self/limits": "".join(f"Max {name:<22}{1_000_000:<21}{2_000_000:<21}files\n" for name in (*("other files",) * 1000, "open files", "file locks")),
+    "stat": "".join(f"cpu{it} {'1234567890 ' * 10}\n" for it in range(4096)) + f"intr 1{' 0' * 100_000}\nctxt 1\nbtime 1700000000\nprocesses 1\n",
+}
+PROC_VALUES = {
+    **{"process_cpu_seconds_total": 18.01, "process_resident_memory_bytes": (6 << 30) * 4096, "process_virtual_memory_bytes": 5 << 40},
+    **{"process_max_fds": 1_000_000, "process_start_time_seconds": 1700000008.9},
+}
 # The sessions of the check of lists, in the order in which they are opened. Two events wait for each
 # of the first two. One of these has got them, and has not acknowledged them. It has a pattern that JSON writes with escapes.
 QUOTED = '/\u00e4"\\'
@@ -107,6 +124,20 @@ def check_processor_time(daemon, metrics):
         raise CheckFailed(f"processor time after requests: not from {used} to {daemon.processor_seconds()}: {found}")
 
 
+def check_proc(program):
+    """Checks what the metrics show of the process if files in /proc are missing, and if they are as long as on a large machine."""
+    with tempfile.TemporaryDirectory() as folder:
+        proc = pathlib.Path(folder, "proc")
+        (proc / "self").mkdir(parents=True)
+        with FlagDaemon(program, "--metrics", "localhost:0", env=environment(folder, PROC=str(proc))) as daemon:
+            metrics = daemon.metrics_address()
+            for files, wanted in (({}, {}), (PROC_FILES, PROC_VALUES)):
+                for name, text in files.items():
+                    (proc / name).write_text(text, encoding="ascii")
+                found = {name: value for (name, _), value in scrape(metrics).items() if name.startswith("process_") and name != "process_open_fds"}
+                expect_equal(f"the metrics of the process with {list(files)} in /proc", found, wanted)
+
+
 def check_process(program):
     version = read("VERSION").strip()
     start = time.time()
@@ -123,8 +154,11 @@ def check_process(program):
         threads, least = len(daemon.threads()), len(os.sched_getaffinity(0)) + 4
         if threads < least:
             raise CheckFailed(f"{threads} threads, and not {least}")
-        # The metrics also count the connection that asks for them.
-        wait_until("the number of open files", lambda: scrape(metrics)[("process_open_fds", "")] == daemon.descriptors() + 1)
+        with contextlib.ExitStack() as stack:
+            for _ in range(MANY_FILES):
+                stack.enter_context(Connection(daemon.address))
+            # The metrics also count the connection that asks for them.
+            wait_until("the number of open files", lambda: scrape(metrics)[("process_open_fds", "")] == daemon.descriptors() + 1 > MANY_FILES)
         expect_near("most files", found["process_max_fds"], resource.prlimit(daemon.process.pid, resource.RLIMIT_NOFILE)[0], 0)
         check_no_delay(daemon)
         check_processor_time(daemon, metrics)

@@ -1,5 +1,7 @@
 """Checks of a daemon's settings, flags, help, positional arguments, seed, advice and log, and of its addresses and threads."""
+import contextlib
 import datetime
+import fcntl
 import itertools
 import json
 import os
@@ -8,6 +10,8 @@ import select
 import socket
 import subprocess
 import tempfile
+import termios
+import threading
 import time
 
 from base import CheckFailed, expect_equal, free_port, limit_file_size, read, section, wait_until
@@ -458,14 +462,25 @@ def check_seeds(program):
         expect_first_id(daemon, "the first client id with a seed in the arguments")
     for path in ("/nowhere/seed", "/"):
         expect_fault(program, [*ANYWHERE, "--seed-file", path], f"bayeuxd: cannot read the seed at {path}: ")
-    check_endless_seed(program)
+    check_seed_pipes(program)
 
 
-def check_endless_seed(program):
-    """Checks the message about a seed file that never ends, such as /dev/urandom."""
+def write_in_pieces(path, text):
+    """Writes `text` to the named pipe at `path` in pieces. Waits until each is read before it writes the next."""
+    with contextlib.suppress(BrokenPipeError), open(path, "wb", buffering=0) as pipe:
+        for piece in re.findall(rb"..?", text.encode(), re.DOTALL):
+            pipe.write(piece)
+            wait_until("a piece of the seed is read", lambda: not any(fcntl.ioctl(pipe, termios.FIONREAD, bytes(4))))
+
+
+def check_seed_pipes(program):
+    """Checks seeds that come through a pipe: one in pieces, and the message about one that never ends, such as /dev/urandom."""
     with tempfile.TemporaryDirectory() as folder:
         path = f"{folder}/seed"
         os.mkfifo(path)
+        threading.Thread(target=write_in_pieces, args=(path, RIGHT_SEEDS[-2]), daemon=True).start()
+        with FlagDaemon(program, "--seed-file", path) as daemon:
+            expect_first_id(daemon, "the first client id with a seed that comes in pieces")
         # While this end is open, a reader waits for more.
         writer = os.open(path, os.O_RDWR | os.O_NONBLOCK)
         try:

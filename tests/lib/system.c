@@ -5,6 +5,7 @@
    - If CLOCK_STANDS is set, the monotonic clock moves only when this number grows, and the other clocks are not changed.
      A wait for events then ends after at most WAIT milliseconds, so that the program notices a new number.
    - The first accepts fail, each with the next error of ACCEPT_ERRORS, which has numbers and commas.
+   - If PROC is set, it names a folder. Files are opened there in place of /proc.
    - If PROCESSORS is set, the program may use this number of processors.
    - If FAILING_CALL is connect, recv or send, each such call fails with the error CALL_ERROR, a number.
 
@@ -12,9 +13,12 @@
 #define _GNU_SOURCE
 #include <errno.h>
 #include <fcntl.h>
+#include <limits.h>
 #include <sched.h>
+#include <stdarg.h>
 #include <stdatomic.h>
 #include <stdint.h>
+#include <stdio.h>
 #include <stdlib.h>
 #include <string.h>
 #include <sys/epoll.h>
@@ -77,6 +81,20 @@ int sched_getaffinity(pid_t process, size_t size, cpu_set_t *processors) {
     if (!count) return syscall(SYS_sched_getaffinity, process, size, processors) < 0 ? -1 : 0;
     for (int it = 0; it < atoi(count); it++) CPU_SET_S(it, size, processors);
     return 0;
+}
+
+int open(const char *path, int flags, ...) {
+    va_list rest;
+    va_start(rest, flags);
+    mode_t mode = flags & O_CREAT ? va_arg(rest, mode_t) : 0;
+    va_end(rest);
+    char other[PATH_MAX];
+    const char *folder = getenv("PROC");
+    if (folder && strncmp(path, "/proc/", 6) == 0) {
+        snprintf(other, sizeof other, "%s/%s", folder, path + 6);
+        path = other;
+    }
+    return (int)syscall(SYS_openat, AT_FDCWD, path, flags, mode);
 }
 
 extern long __sysconf(int);
