@@ -15,6 +15,8 @@ export const NETWORK_TIMEOUT = 10000;
 // The longest pause after a failure (docs/CLIENT.md), and an upper limit for the first one.
 export const LONGEST_PAUSE = 10000;
 export const FIRST_PAUSE = 1000;
+// What a request has at most: messages, and bytes of its target and its body, with the package's flags (docs/PROTOCOL.md, "Requests").
+const [MOST_MESSAGES, LONGEST_TARGET, LONGEST_BODY] = [256, 64 * 1024 - 100, 65536];
 
 /** Waits until `condition()` returns a true value, and returns it. */
 export async function until(what, condition) {
@@ -36,7 +38,8 @@ export class Server {
     this.sessions = 0;
     this.hasBatches = true; // whether it numbers its batches of events
     this.begin();
-    this.server = http.createServer((request, response) => this.receive(request, response));
+    this.failure = new Promise((_, reject) => (this.fail = reject));
+    this.server = http.createServer({ maxHeaderSize: 4 * LONGEST_TARGET }, (request, response) => this.receive(request, response));
   }
 
   async listen() {
@@ -71,6 +74,8 @@ export class Server {
     const { pathname, searchParams } = new URL(request.url, this.origin);
     const callback = searchParams.get('jsonp');
     const messages = JSON.parse(callback ? searchParams.get('message') : body);
+    const isTooLong = request.url.length > LONGEST_TARGET || body.length > LONGEST_BODY || messages.length > MOST_MESSAGES;
+    if (isTooLong) this.fail(new Error(`a request of ${messages.length} messages, ${request.url.length} and ${body.length} bytes`));
     this.requests.push([request.method, pathname, request.headers['content-type'], messages]);
     this.headers.push(request.headers);
     const send = (items) => response.end(callback ? `${callback}(${JSON.stringify(items)})` : JSON.stringify(items));
@@ -137,6 +142,8 @@ export class Place {
     this.endless = Infinity; // the number of the first pause that does not end by itself
     this.open = new Set(); // the timers that have not ended
     this.limits = []; // milliseconds and an end of each time limit of a request
+    this.hold = ADVICE.timeout; // milliseconds for which the server may hold a connect of this place
+    this.lengths = []; // pairs: milliseconds of each timer of a request, and those that the documents name
     this.beacons = [];
     this.fetches = []; // the options of each request by fetch
     this.scripts = [];
@@ -169,8 +176,10 @@ export class Place {
     const timer = { id: null };
     const end = () => this.open.delete(timer) && !this.isOver && go();
     this.open.add(timer);
-    if (milliseconds >= NETWORK_TIMEOUT) this.limits.push([milliseconds, end]);
-    else {
+    if (milliseconds >= NETWORK_TIMEOUT) {
+      this.limits.push([milliseconds, end]);
+      this.lengths.push([milliseconds, NETWORK_TIMEOUT]);
+    } else {
       this.pauses.push(milliseconds);
       if (this.pauses.length < this.endless) timer.id = setTimeout(end, 0);
     }
@@ -179,13 +188,21 @@ export class Place {
 
   send(url, options) {
     this.fetches.push(options);
+    // The last request, which the browser sends when the page is gone, has no time limit.
+    this.lengths.push([options.signal?.milliseconds, options.keepalive ? undefined : this.limitOf(JSON.parse(options.body))]);
     return this.isOver ? new Promise(() => {}) : fetch(new URL(url, this.page ?? undefined), options);
   }
 
   limit(milliseconds) {
     const controller = new AbortController();
     this.limits.push([milliseconds, () => controller.abort(new DOMException('too late', 'TimeoutError'))]);
-    return controller.signal;
+    return Object.assign(controller.signal, { milliseconds });
+  }
+
+  /** Returns the time limit of a request with `messages`, in milliseconds (docs/PROTOCOL.md, "No answer"). */
+  limitOf(messages) {
+    const isHeld = messages.some(({ channel, advice }) => channel === '/meta/connect' && advice?.timeout !== 0);
+    return NETWORK_TIMEOUT + (isHeld ? this.hold : 0);
   }
 
   pageGlobals(address) {
@@ -201,6 +218,7 @@ export class Place {
 
   async load(script) {
     this.scripts.push(script);
+    this.lengths.at(-1)[1] = this.limitOf(JSON.parse(new URL(script.src).searchParams.get('message')));
     try {
       const response = await fetch(new URL(script.src, this.page));
       const [, name, items] = (await response.text()).match(/^(\w+)\((.*)\)$/s);
@@ -328,7 +346,8 @@ export async function run(scenarios) {
     const server = await new Server().listen();
     const tooLate = new Promise((_, reject) => setTimeout(() => reject(new Error('it does not end')), 2 * PATIENCE).unref());
     try {
-      await Promise.race([scenario(server), tooLate]);
+      await Promise.race([scenario(server), server.failure, tooLate]);
+      for (const { lengths } of places) assert.deepEqual(lengths.map(([found]) => found), lengths.map(([, wanted]) => wanted), 'the time limits');
     } catch (error) {
       console.log(`${name}: ${error.message}`);
       process.exit(1);

@@ -4,7 +4,7 @@
 //
 // Prints the first scenario that fails, and why. The status is then 1.
 import assert from 'node:assert/strict';
-import { ADVICE, connect, FIRST_PAUSE, handshake, LONGEST_PAUSE, NETWORK_TIMEOUT, NOT_HELD, outcomeOf, Place, rejection, run, subscribe, unknown, unsubscribe, until } from './client_place.mjs';
+import { ADVICE, connect, FIRST_PAUSE, handshake, LONGEST_PAUSE, NETWORK_TIMEOUT, NOT_HELD, Origin, outcomeOf, Place, rejection, run, subscribe, unknown, unsubscribe, until } from './client_place.mjs';
 
 /** Returns what arrived since `before` requests: the channels and patterns of each, without connects of a session that is connected. */
 function sentSince(server, before) {
@@ -23,7 +23,8 @@ const SCENARIOS = {
     server.emit(['/a/x', 1], ['/b', 2]);
     await until('it is acknowledged', () => server.messages('/meta/connect').length === 3);
     await client.unsubscribe('/b');
-    client.stop([{ channel: '/a/x', data: 'Bye' }, { channel: '/b', data: null }]);
+    const last = ['Bye', null, 0, false, [1]].map((data, number) => ({ channel: `/a/${number}`, data }));
+    client.stop(last);
     await until('the last request has come', () => server.messages('/meta/disconnect').length === 1);
     const id = { clientId: 'session 1' };
     const requests = [
@@ -34,12 +35,9 @@ const SCENARIOS = {
       [{ channel: '/b', data: { text: 'ü & "x"' }, ...id }],
       [connect(1, 1)],
       [unsubscribe('/b')],
-      [{ channel: '/a/x', data: 'Bye', ...id }, { channel: '/b', data: null, ...id }, { channel: '/meta/disconnect', ...id }],
+      [...last, { channel: '/meta/disconnect' }].map((message) => ({ ...message, ...id })),
     ].map((messages) => ['POST', '/cometd', 'application/json', messages]);
     assert.deepEqual(server.requests, requests);
-    const held = ADVICE.timeout + NETWORK_TIMEOUT;
-    const short = NETWORK_TIMEOUT;
-    assert.deepEqual(place.limits.map(([it]) => it), [short, short, short, held, short, held, short]);
     // The last request is sent even if the page is gone before it ends. None has an option that leaves out cookies.
     const options = place.fetches.map((it) => Object.keys(it).sort().join(' '));
     assert.deepEqual(options, [...Array(7).fill('body headers method signal'), 'body headers keepalive method']);
@@ -65,7 +63,6 @@ const SCENARIOS = {
     await until('a connect is held', () => server.held);
     const expected = [[handshake({ ack: true, name: 'Ben' })], [subscribe('/a', 2), subscribe('/b/**', 2)], [connect(2, 0, NOT_HELD)], [connect(2, 0)]];
     assert.deepEqual(server.requests.slice(before).map(([, , , messages]) => messages), expected);
-    assert.equal(place.limits.at(-1)[0], ADVICE.timeout + NETWORK_TIMEOUT, 'the hold that an advice omits');
     server.emit(['/a', 4], ['/b/c/d', 5]);
     await until('the events come', () => client.log.length === 10);
     const events = [1, 2, 3].map((number) => ['/a', number]);
@@ -120,6 +117,7 @@ const SCENARIOS = {
     const client = place.client(server.address, {}, '/**');
     await client.start();
     await until('a connect is held', () => server.held);
+    server.batch = 2 ** 40;
     const cuts = [
       (response) => response.destroy(),
       (response) => response.write('[{"channel":"/a","data":0},', () => response.destroy()),
@@ -135,7 +133,7 @@ const SCENARIOS = {
       await until('a connect is held', () => server.held);
     }
     assert.deepEqual(client.log.filter(Array.isArray), [['/a', 0], ['/a', 1]]);
-    assert.equal(client.log.includes('gap'), false);
+    assert.deepEqual([client.log.includes('gap'), server.messages('/meta/connect').at(-1).ext.ack], [false, 2 ** 40 + 2]);
     client.stop();
   },
 
@@ -145,13 +143,16 @@ const SCENARIOS = {
     server.next('/meta/handshake', { channel: '/meta/handshake', clientId: 'session 1', successful: true, advice: { ...ADVICE, interval: 2000 } });
     server.next('/meta/connect', { channel: '/meta/connect', successful: true });
     server.next('/meta/connect', { channel: '/meta/connect', successful: true, advice: { reconnect: 'retry' } });
-    server.next('/meta/connect', { channel: '/meta/connect', successful: true, advice: { interval: 0, timeout: 60000 } });
+    server.next('/meta/connect', (_, __, send) => {
+      place.hold = 60000;
+      send([{ channel: '/meta/connect', successful: true, advice: { interval: 0, timeout: 60000 } }]);
+    });
     await client.start();
     await until('a connect is held', () => server.held);
     assert.deepEqual(server.messages('/meta/connect').map(({ ext }) => ext), Array(4).fill(undefined));
     assert.deepEqual(place.pauses, [2000, 2000]);
-    const held = [0, ADVICE.timeout, ADVICE.timeout, 60000];
-    assert.deepEqual(place.limits.slice(2).map(([it]) => it), held.map((it) => it + NETWORK_TIMEOUT));
+    assert.equal(place.limits.at(-1)[0], 60000 + NETWORK_TIMEOUT);
+    place.hold = ADVICE.timeout;
     // A later session has acknowledgement, and the next one has not.
     for (const [hasBatches, ext] of [[true, { ack: 0 }], [false, undefined]]) {
       Object.assign(server, { hasBatches });
@@ -260,14 +261,18 @@ const SCENARIOS = {
       assert.deepEqual(place.pauses.slice(12), place.pauses.slice(10, 12));
       client.stop();
       // A server that takes no session gives the same advice, but it wants the client to wait.
-      const [rejected, error] = [new Place(), '503::Too many sessions'];
-      rejected.random(random);
-      const late = rejected.client(server.address);
-      for (let count = 0; count < 40; count++) server.next('/meta/handshake', { ...unknown('/meta/handshake'), error });
-      await late.start();
-      assert.deepEqual(late.log, ['connecting', ...Array(40).fill(`interrupted ${error}`), 'connected']);
-      assert.deepEqual(rejected.pauses, [...pauses.slice(0, 7), ...Array(33).fill(pauses[7])]);
-      late.stop();
+      // The pauses are the same in a program, for a page of another origin, and for windows that share a session.
+      const error = '503::Too many sessions';
+      for (const open of [() => new Place(), () => new Place('http://page.example/'), () => new Origin(server).open()]) {
+        for (let count = 0; count < 40; count++) server.next('/meta/handshake', { ...unknown('/meta/handshake'), error });
+        const rejected = open();
+        rejected.random(random);
+        const late = rejected.started ? rejected.client : rejected.client(server.address);
+        await late.start();
+        assert.deepEqual(late.log, ['connecting', ...Array(40).fill(`interrupted ${error}`), 'connected']);
+        assert.deepEqual(rejected.pauses, [...pauses.slice(0, 7), ...Array(33).fill(pauses[7])]);
+        late.stop();
+      }
       lengths.push(pauses);
     }
     assert.ok(lengths[0].every((it, at) => it > 1.5 * lengths[1][at]), `they hardly differ: ${lengths.join(' and ')}`);
@@ -561,7 +566,8 @@ const SCENARIOS = {
 
   async 'many patterns, which are asked for once'(server) {
     const place = new Place();
-    const patterns = Array.from({ length: 100 }, (_, number) => `/many/${number}`);
+    // As many as a session can have, and as long (docs/PROTOCOL.md).
+    const patterns = Array.from({ length: 1024 }, (_, number) => `/many/${number}/`.padEnd(256, 'x'));
     const client = place.client(server.address, {}, ...patterns, ...patterns);
     await client.start();
     assert.deepEqual(server.messages('/meta/subscribe').map(({ subscription }) => subscription), patterns);
@@ -615,14 +621,15 @@ const SCENARIOS = {
     const id = { clientId: 'session 1' };
     // Another origin takes only plain text.
     assert.deepEqual(place.beacons, [[server.address, JSON.stringify([{ channel: '/a', data: 'Bye', ...id }, { channel: '/meta/disconnect', ...id }])]]);
-    // An address may have a query. The line of a request has at most 64 KiB, also with the longest patterns (docs/PROTOCOL.md).
+    // An address may have a query.
     const long = Array.from({ length: 100 }, (_, number) => `/${number}`.padEnd(4, 'x') + 'é'.repeat(126));
     const other = place.client(`${server.address}?token=a%20b`, {}, ...long);
+    server.next('/meta/connect', { channel: '/meta/connect', successful: true, advice: { ...ADVICE, interval: 2000 } });
     await other.start();
+    await until('it waits for the interval', () => place.pauses.at(-1) === 2000);
     assert.deepEqual([other.state, new URL(place.scripts.at(-1).src).searchParams.get('token')], ['connected', 'a b']);
     assert.deepEqual([...other.subscribed], long);
     assert.equal(new Set(place.scripts.map(({ src }) => new URL(src).searchParams.get('jsonp'))).size, place.scripts.length);
-    assert.ok(place.scripts.every(({ src }) => String(src).length < 64 * 1024 - 100), 'the URL of a script is too long');
     other.stop();
   },
 };

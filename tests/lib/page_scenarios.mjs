@@ -363,24 +363,28 @@ function checkDashboard() {
   assert.deepEqual([curveOf(root).length, text(root, '.value'), text(root, '.age'), root.classes.has('old')], [2, '7', '', false]);
   assert.equal(root.querySelector('svg').attributes['aria-label'], 'b: 7 now, and the last 60 seconds');
   page.wait(1);
-  page.client.ongap();
+  for (let count = 0; count < 2; count++) page.client.ongap();
   listener(8, '/dashboard/b');
   assert.equal(curveOf(root).length, 3, 'a gap is shown');
   page.wait(130);
   assert.deepEqual([text(root, '.age'), root.querySelector('.newest').attributes.visibility, root.querySelector('.curve').attributes.d], ['2 min ago', 'hidden', '']);
 
-  // A number each 15 seconds is not old after 40, and its curve has no gap.
-  const slow = new Page(SITE, 'dashboard/index.html');
+  // A number each 15 minutes is not old after 40, and its curve has no gap.
+  const slow = new Page(`${SITE}?seconds=7200`, 'dashboard/index.html');
+  const pass = (minutes) => {
+    slow.now += 60000 * minutes - 1000;
+    slow.wait(1);
+  };
   const publish = slow.client.listeners.get('/dashboard/*');
   for (let number = -4; number < 4; number++) {
     publish(number, '/dashboard/slow');
-    slow.wait(15);
+    pass(15);
   }
-  slow.wait(25);
+  pass(25);
   const [card] = slow.element('cards').children;
-  assert.deepEqual([curveOf(card).length, card.classes.has('old'), text(card, '.start')], [1, false, '60 s ago']);
-  slow.wait(6);
-  assert.equal(text(card, '.age'), '46 s ago');
+  assert.deepEqual([curveOf(card).length, card.classes.has('old'), text(card, '.start')], [1, false, '7200 s ago']);
+  pass(6);
+  assert.equal(text(card, '.age'), '46 min ago');
   // Of two, ten and four seconds, four are usual.
   for (const pause of [2, 10, 4, 12]) {
     publish(1, '/dashboard/uneven');
@@ -390,6 +394,29 @@ function checkDashboard() {
   assert.equal(isOld(), false);
   slow.wait(1);
   assert.equal(isOld(), true);
+}
+
+// Shown are the least, the average and the greatest number of the chart's seconds and of the last one before, also after many at once.
+function checkOldNumbers() {
+  const page = new Page(SITE, 'dashboard/index.html');
+  const { formatNumber } = page.run('({ formatNumber })');
+  const publish = page.client.listeners.get('/dashboard/*');
+  const points = [];
+  // How many numbers come at once, and the seconds after them.
+  for (const [count, seconds] of [[200, 10], [1, 30], [100, 25], [3, 40], [1, 19], [50, 0], [1, 60], [200, 59], [1, 2], [1, 200]]) {
+    for (let number = 0; number < count; number++) {
+      points.push([page.now, (points.length * 37) % 101]);
+      publish(points.at(-1)[1], '/dashboard/x');
+    }
+    const [card] = page.element('cards').children;
+    for (let second = 0; second <= seconds; second++) {
+      const first = points.findLastIndex(([time]) => time <= page.now - 60000);
+      const values = points.slice(Math.max(0, first)).map(([, value]) => value);
+      const wanted = [Math.min(...values), values.reduce((sum, value) => sum + value, 0) / values.length, Math.max(...values)];
+      assert.deepEqual(['.min', '.average', '.max'].map((it) => card.querySelector(it).textContent), wanted.map(formatNumber), `${second} s after ${points.length} numbers`);
+      if (second < seconds) page.wait(1);
+    }
+  }
 }
 
 // The axis encloses all values and 0, and begins at 0 if none is negative. It has five lines, and the curve is within it.
@@ -426,7 +453,7 @@ function checkMetrics() {
   assert.deepEqual([page.element('metrics').children.length, page.element('empty').hidden, ...age(), page.client.isStarted], [0, false, true, 'Received 0 s ago.', false, true]);
   const publish = (metrics, help) => listener({ metrics, help }, '/metrics/all');
   const quoted = HOSTILE.replaceAll('"', "'");
-  const named = `bayeux_x_total{kind="${quoted}",other="{b}"}`;
+  const named = `bayeux_x_total{kind="${quoted}",other="{b}",third="c"}`;
   const metrics = {
     bayeux_sessions: 3,
     [named]: 10,
@@ -441,15 +468,16 @@ function checkMetrics() {
     'bayeux_y{a="2"}': 0,
     bayeux_a_total_count_b: 5,
     bayeux_own_sum: 6,
+    ...Object.fromEntries([1, 0, -2, 0.5, 0, 7].map((value, at) => [`bayeux_z{a="${at}"}`, value])),
   };
-  const help = { bayeux_sessions: HOSTILE, bayeux_lag: 'The lag.', bayeux_own: 'Another.', bayeux_own_sum: 'Its own.', bayeux_a_total_b: 'Another.' };
+  const help = { bayeux_sessions: HOSTILE, bayeux_x: 'Another.', bayeux_lag: 'The lag.', bayeux_own: 'Another.', bayeux_own_sum: 'Its own.', bayeux_a_total_b: 'Another.' };
   publish(metrics, help);
   const shown = () => page.element('metrics').children.map((root) =>
     [...['h2', 'code', '.meaning'].map((it) => root.querySelector(it).textContent), root.querySelector('dl').outline()]);
   const line = (label, value, change = '') => `(${['dt', 'dd', 'dd.change'].map((it, at) => it + ([label, value, change][at] && JSON.stringify([label, value, change][at]))).join(' ')})`;
   const expected = (sessions, x) => [
     ['sessions', 'bayeux_sessions', HOSTILE, line('', '3', sessions)],
-    ['x (total)', 'bayeux_x_total', '', line(`${quoted},{b}`, x[0], x[1])],
+    ['x (total)', 'bayeux_x_total', '', line(`${quoted},{b},c`, x[0], x[1])],
     ['lag bucket', 'bayeux_lag_bucket', 'The lag.', line('1', '4')],
     ['lag sum', 'bayeux_lag_sum', 'The lag.', line('', '2')],
     ['lag count', 'bayeux_lag_count', 'The lag.', line('', '7')],
@@ -458,6 +486,7 @@ function checkMetrics() {
     ['y', 'bayeux_y', '', line('each', '0')],
     ['a total count b', 'bayeux_a_total_count_b', '', line('', '5')],
     ['own sum', 'bayeux_own_sum', 'Its own.', line('', '6')],
+    ['z', 'bayeux_z', '', `(${['01', '2-2', '30.5', '57'].map(([label, ...value]) => line(label, value.join('')).slice(1, -1)).join(' ')})`],
   ];
   assert.deepEqual(shown(), expected('', ['10', '', '1']));
   page.wait(3);
@@ -468,13 +497,19 @@ function checkMetrics() {
   }
   page.wait(4);
   publish({ ...metrics, [named]: 1, bayeux_uptime_seconds_total: 8 }, null);
-  assert.deepEqual(shown()[1], ['x (total)', 'bayeux_x_total', '', line(`${quoted},{b}`, '1', '−2.5/s')]);
+  assert.deepEqual(shown()[1], ['x (total)', 'bayeux_x_total', '', line(`${quoted},{b},c`, '1', '−2.5/s')]);
   page.wait(5);
   assert.deepEqual([...age(), page.element('empty').hidden], [true, 'Received 5 s ago.', false, true]);
   page.wait(1);
   assert.deepEqual(age(), [false, 'Received 6 s ago.', true]);
   publish(metrics, 'no help');
   assert.deepEqual(age(), [true, 'Received 0 s ago.', false]);
+  // A metric that was missing has no change.
+  for (const values of [{ bayeux_count: 30 }, { bayeux_count: 31, bayeux_sessions: 4 }]) {
+    page.wait(1);
+    publish(values, help);
+  }
+  assert.deepEqual(shown(), [['count', 'bayeux_count', '', line('', '31', '+1/s')], ['sessions', 'bayeux_sessions', HOSTILE, line('', '4')]]);
 }
 
 /** Returns the code in `language` of a page of docs that has `text`. */
@@ -577,7 +612,7 @@ async function checkChat() {
   assert.deepEqual(chatOf(page), ['messages write', '', '', notices]);
   // A name has the same colour in each window, and others have other colours, also those of the same letters.
   const hues = new Set();
-  for (const name of ['Ann', 'Cleo', 'Oelc', 'Ken', 'Ümit \u{1f600}']) {
+  for (const name of ['Ann', 'Cleo', 'Oelc', 'Ken', 'Ümit \u{1f600}', 'Annabella Jones', 'Annabella Jonas', 'Onnabella Jones']) {
     const found = [page, join('Dan')].map((it) => {
       it.client.listeners.get('/chat/hall')({ name, text: 'x' });
       return it.element('messages').lastChild.attributes['--hue'];
@@ -586,7 +621,7 @@ async function checkChat() {
     assert.ok(found[0] >= 0 && found[0] < 360);
     hues.add(found[0]);
   }
-  assert.equal(hues.size, 5, `the colours are ${[...hues]}`);
+  assert.equal(hues.size, 8, `the colours are ${[...hues]}`);
 }
 
 // docs/CLIENT.md, "Where a publish fails", and examples/README.md: a message that may not have been sent returns to the field, and
@@ -649,6 +684,29 @@ async function checkSending() {
   }
   assert.deepEqual(sent().slice(3), ['Sixth', 'Seventh', undefined, 'Seventh', 'Seventh']);
   assert.deepEqual([new Set(page.publishes.map(([, { mark }]) => mark)).size, join('Ann').run('OWN_MARK') === late.mark], [2, false]);
+}
+
+// Texts that wait are sent one after another, shown whole, and not lost if a response fails.
+async function checkManyMessages() {
+  const page = join('Ann');
+  const texts = Array.from({ length: 240 }, (_, number) => `${number} `.padEnd(2000, 'x'));
+  page.isSlow = true;
+  for (const text of texts) {
+    page.element('text').value = text;
+    submit(page, 'write');
+  }
+  const half = texts.length / 2;
+  for (let count = 1; count <= half; count++) {
+    page.client.listeners.get('/chat/hall')(page.publishes.at(-1)[1]);
+    if (count % 3) page.publish.resolve();
+    else page.publish.reject({ message: 'no answer in time', mayHaveArrived: true });
+    await nextTurn();
+  }
+  page.publish.reject({ message: '402::Unknown client', mayHaveArrived: false });
+  await nextTurn();
+  assert.deepEqual(page.publishes.map(([, { text, number }]) => [text, number]), texts.slice(0, half + 1).map((text, at) => [text, at + 1]));
+  assert.deepEqual(page.element('messages').children.map((it) => it.children[1].textContent), texts.slice(0, half));
+  assert.deepEqual([page.element('text').value, page.run('OWN_MARK').length > 5], [texts.slice(half).join(' '), true]);
 }
 
 // At a listener for readers, the page says so at once. Other failures of the first publish show in the state.
@@ -717,13 +775,10 @@ function checkFiles() {
     '<ol id="messages" aria-label="Messages" aria-live="polite" tabindex="0"',
     '<p id="problem" role="alert"',
     '<label for="name">Your name</label>',
-    '<button>Join</button>',
-    '<button>Send</button>',
-    '<h1>Chat</h1>',
+    ...['<button>Join</button>', '<button>Send</button>', '<h1>Chat</h1>'],
     'aria-label="Message" placeholder="Write a message"',
     'autocomplete="off" placeholder="for example Ann" required autofocus>',
-    'id="name" maxlength="40"',
-    'id="text" maxlength="2000"',
+    ...['id="name" maxlength="40"', 'id="text" maxlength="2000"'],
   ];
   for (const it of parts) assert.ok(chat.includes(it), `the chat has no ${it}`);
   assert.match(read('dashboard/index.html'), /<svg [^>]*role="img" aria-label="[^"]+"/);
@@ -734,7 +789,7 @@ function checkFiles() {
   }
 }
 
-for (const check of [checkServers, checkStates, checkTexts, checkCard, checkDashboard, checkAxis, checkMetrics, checkJoining, checkChat, checkSending, checkReaders, checkScrolling, checkTutorial, checkFailureExample, checkFiles]) {
+for (const check of [checkServers, checkStates, checkTexts, checkCard, checkDashboard, checkOldNumbers, checkAxis, checkMetrics, checkJoining, checkChat, checkSending, checkManyMessages, checkReaders, checkScrolling, checkTutorial, checkFailureExample, checkFiles]) {
   try {
     await check();
   } catch (error) {
