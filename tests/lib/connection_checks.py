@@ -1,5 +1,6 @@
 """Checks of connections: what they cost a daemon while clients wait, a lack of descriptors, and many connections."""
 import contextlib
+import json
 import os
 import resource
 import select
@@ -9,10 +10,12 @@ import struct
 import time
 
 from base import CheckFailed, expect_equal, wait_until
-from daemon import Connection, FlagDaemon, NonExpiringDaemon, SlowReader, check_serves, expect_events, expect_status, get, hold_connect
-from daemon import open_session, post, publish, publish_to, send_connect, with_sanitizer_options
+from daemon import CONNECT, MOST_MESSAGES, Connection, FlagDaemon, NonExpiringDaemon, SlowReader, check_serves, expect_events, expect_status
+from daemon import get, has_sanitizer, hold_connect, open_session, post, publish, publish_to, send_connect, with_sanitizer_options
+from listener_checks import SMALL_BUFFER as LEAST_BUFFER, SMALL_SEGMENT
 from metrics import CONNECTS_HELD, OPEN, OPENED, SERVED, TICKED, ask_for, expect_soon, expect_values, read_page, scrape
 from patience_checks import CASES, DAYS, LOOKS, PAUSE, SMALL_BUFFER, clocked_daemon, wait_for_reads, wait_until_idle
+from time_checks import TICKS, pages
 
 # The connections that arrive at once: more than the daemon spawns tasks for before it yields to other tasks.
 CROWD = 400
@@ -23,9 +26,13 @@ WITHOUT_METRICS = 16
 # The clients that read no response, the events of each response, the bytes of an event, and how much memory may grow then, in
 # units of 1,024 bytes. The table in docs/OPERATING.md allows 600,000 bytes for the pieces of a response. Its events are shared.
 UNREAD, EVENTS, EVENT, MOST_GROWTH = 16, 40, 200_000, 100 << 10
-# The bytes of a body that is refused, how often it is sent, once and again, and how much memory may grow the second time, in
-# units of 1,024 bytes. It would grow by 10 MB if the daemon kept such bodies.
-LARGE, ROUNDS, MOST_KEPT = 1_000_000, 10, 6 << 10
+# The clients that read no replies, the events of each response, the bytes of an event, and how much memory may grow for the replies
+# of a full request, in units of 1,024 bytes. A reply has about a hundred bytes. The daemon reserves four hundred more to write it.
+REPLIED, SMALL_EVENTS, SMALL_EVENT, MOST_REPLIES = 64, 65, 20_000, 55
+# The bytes of a large body, how often it is sent, once and again, and how much memory may grow the second time, in units of 1,024
+# bytes. It would grow by 16 MB if the daemon kept such bodies. Before, there are small publishes: if each tick let only one request
+# go, these would take longer than the check.
+LARGE, ROUNDS, MOST_KEPT, BEFORE = 1_000_000, 16, 10 << 10, 600
 # The daemon's limit of descriptors, the number of connections, and how soon a client must be served once descriptors
 # are free, in seconds.
 FILES, COMING, MAX_WAIT = 40, 60, 15.0
@@ -34,9 +41,9 @@ FILES, COMING, MAX_WAIT = 40, 60, 15.0
 LISTENING_PAUSE = 0.3
 
 
-def large_batches(daemon, count):
-    """Opens `count` sessions for which the same large events wait. Returns the sessions and the events."""
-    events = [{"channel": "/large", "data": f"{number:02}".ljust(EVENT, "x")} for number in range(EVENTS)]
+def large_batches(daemon, count, most=EVENTS, size=EVENT):
+    """Opens `count` sessions for which the same large events wait, `most` of `size` bytes. Returns the sessions and the events."""
+    events = [{"channel": "/large", "data": f"{number:02}".ljust(size, "x")} for number in range(most)]
     with Connection(daemon.address) as connection:
         sessions = [open_session(connection) for _ in range(count)]
     publish_to(daemon.address, sessions, events)
@@ -144,18 +151,50 @@ def check_unread(program):
         expect_events(connections[-1].response().items(), events)
     if growth > MOST_GROWTH:
         raise CheckFailed(f"memory grew by {growth} KiB for {UNREAD} responses with the same {EVENTS} events of {EVENT} bytes")
+    # AddressSanitizer's own memory hides that of replies.
+    if not has_sanitizer(program):
+        check_unread_replies(program)
+
+
+def unread_growth(daemon, stack, sessions, replies):
+    """Returns by how much memory grows for responses that nobody reads, with the events of `sessions` and `replies` more replies.
+
+    It is in units of 1,024 bytes for each session. The connections end with `stack`.
+    """
+    before, served = daemon.kilobytes(), scrape(daemon.metrics)[SERVED]
+    for it in sessions:
+        connection = stack.enter_context(SlowReader(daemon.address, LEAST_BUFFER, SMALL_SEGMENT))
+        connection.send(post(json.dumps([{"channel": "/a"}] * replies + [{**CONNECT, **it}]).encode()))
+    expect_values(daemon.metrics, {SERVED: served + len(sessions)})
+    wait_until_idle("the readers of responses", daemon)
+    return (daemon.kilobytes() - before) / len(sessions)
+
+
+def check_unread_replies(program):
+    """Checks that replies which nobody reads need little memory."""
+    with NonExpiringDaemon(program) as daemon, contextlib.ExitStack() as stack:
+        sessions, _ = large_batches(daemon, 2 * REPLIED, SMALL_EVENTS, SMALL_EVENT)
+        alone = unread_growth(daemon, stack, sessions[:REPLIED], 0)
+        growth = unread_growth(daemon, stack, sessions[REPLIED:], MOST_MESSAGES - 1)
+    if growth - alone > MOST_REPLIES:
+        raise CheckFailed(f"memory grew by {growth} KiB for a response with {MOST_MESSAGES} replies, and by {alone} KiB with one")
 
 
 def check_kept(program):
-    """Checks that the daemon frees the bodies of requests that it refuses."""
-    kilobytes = []
+    """Checks that the daemon frees the bodies of requests that it refuses, and of publishes that all shards have applied."""
     with NonExpiringDaemon(program, env=with_sanitizer_options("quarantine_size_mb=1")) as daemon, Connection(daemon.address) as connection:
-        for _ in range(2):
-            for _ in range(ROUNDS):
-                expect_status(connection, post(b" " * LARGE), 400)
-            kilobytes.append(daemon.kilobytes())
-    if kilobytes[1] - kilobytes[0] > MOST_KEPT:
-        raise CheckFailed(f"memory grew from {kilobytes[0]} to {kilobytes[1]} KiB for {ROUNDS} refused bodies of {LARGE} bytes")
+        bodies = [json.dumps([{"channel": "/kept", "data": "x" * it, **open_session(connection)}]).encode() for it in (1, LARGE - 100)]
+        expect_equal("the statuses of publishes", {it.status for it in connection.repeat(post(bodies[0]), BEFORE)}, {200})
+        for what, body, status in (("publishes", bodies[1], 200), ("refused bodies", b" " * LARGE, 400)):
+            kilobytes = []
+            for _ in range(2):
+                for _ in range(ROUNDS):
+                    expect_status(connection, post(body), status)
+                list(pages(daemon.metrics, TICKS))
+                kilobytes.append(daemon.kilobytes())
+                connection.renew()
+            if kilobytes[1] - kilobytes[0] > MOST_KEPT:
+                raise CheckFailed(f"memory grew from {kilobytes[0]} to {kilobytes[1]} KiB for {ROUNDS} {what} of {LARGE} bytes")
 
 
 def check_files(program):
