@@ -8,7 +8,6 @@ use serve::serve;
 use std::process::ExitCode;
 use std::{env, io};
 
-/// The usage text, which is printed if the arguments are not valid.
 const USAGE: &str = "usage: bare_hyper address connections";
 
 fn main(rt: HostRuntime) -> ExitCode {
@@ -29,7 +28,6 @@ fn main(rt: HostRuntime) -> ExitCode {
     }
 }
 
-// Returns the command-line arguments, without the program's name.
 fn args(rt: &HostRuntime) -> io::Result<Vec<String>> {
     let mut args = Vec::new(rt.alloc());
     for arg in env::args(rt)?.skip(1) {

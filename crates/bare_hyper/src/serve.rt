@@ -1,4 +1,3 @@
-//! Serves HTTP connections, each as a task of a runtime.
 use crate::answer::Bare;
 use bx_serve::{Connections, IgnoreOutput, MakeTask, accept_limit};
 use bytes::Bytes;
@@ -17,7 +16,7 @@ use std::time::{Clock, Duration};
 use tokio::net::{TcpListener, TcpStream};
 use tokio::runtime::Runtime;
 
-// Pause after a failed accept, in milliseconds.
+// After a failed accept, in milliseconds.
 const PAUSE: u64 = 20;
 
 /// A [`MakeTask`] that serves each connection over HTTP, without time limits.
@@ -41,7 +40,7 @@ impl MakeTask for BareServer {
 /// Serves with the arguments `args`: an address and a number of connections, or 0 for no limit.
 ///
 /// Prints the address to `writer` once the server listens. Returns `false`, without serving, if
-/// `args` are not valid, and `true` once the given number of connections has ended.
+/// `args` are not valid.
 ///
 /// # Errors
 ///
@@ -66,7 +65,6 @@ where
 }
 
 // Listens on `address`, prints it, and serves `count` connections, or any number if `count` is 0.
-// Returns when they have ended.
 fn run<R, W>(rt: R, address: SocketAddr, count: u64, writer: &mut W) -> io::Result<()>
 where
     R: Wait + Threads + Clock + RandomSource + AllocGlobal + Net + Sync + Send + Copy + Drop,
@@ -78,14 +76,12 @@ where
     serve_connections(rt, &mut runtime, listener, count)
 }
 
-// Writes a line with the address on which `listener` listens to `writer`.
+// Writes `listening ADDRESS` to `writer`.
 fn told<W: Write>(listener: &TcpListener, writer: &mut W) -> io::Result<()> {
     writeln!(writer, "listening {}", listener.local_addr()?)?;
     writer.flush()
 }
 
-// Serves `count` connections of `listener`, or any number if `count` is 0. Returns when they have
-// ended.
 fn serve_connections<R>(
     rt: R,
     runtime: &mut Runtime,

@@ -1,4 +1,3 @@
-//! A client of the server, with its own connection.
 use crate::context::SharedContext;
 use crate::fault::Fault;
 use crate::link::Link;
@@ -32,17 +31,12 @@ pub struct Client {
     role: Role,
     id: String,
     state: Awaited,
-    // When the client last sent a request or became ready, or 0 before. In nanoseconds since the
-    // load started.
+    // When the client last sent a request or became ready, in nanoseconds since the load started.
     asked: u64,
 }
 
 impl Client {
-    /// Creates a client of the load of `context`, which has sent no request.
-    ///
-    /// # Errors
-    ///
-    /// `AllocError` if memory runs out.
+    /// Creates a client that has sent no request.
     pub fn new(context: &SharedContext, link: Link, role: Role) -> Result<Client, AllocError> {
         Ok(Client {
             context: Arc::try_clone(context)?,
@@ -66,7 +60,6 @@ impl Client {
         self.ask(Awaited::Handshake, request, 0)
     }
 
-    // Returns the formats of this client's requests.
     fn requests(&self) -> Requests<'_> {
         Requests {
             alloc: self.context.alloc,
@@ -96,10 +89,9 @@ impl Client {
         Ok(self.link.body()?.is_some())
     }
 
-    /// Handles the response, if it is complete, and sends the next request.
+    /// Handles the response, if it is complete, and sends the next request, except a publish.
     ///
-    /// A publisher sends its next request in [`publish`](Self::publish). `now`: nanoseconds since
-    /// the load started.
+    /// `now`: nanoseconds since the load started.
     ///
     /// # Errors
     ///
@@ -145,8 +137,8 @@ impl Client {
         answered
     }
 
-    // Sends the request that follows the response, if any. Counts a client that becomes ready, and
-    // a publish that is answered.
+    // Sends the request that follows the response. Counts a client that becomes ready, and a
+    // publish that is answered.
     fn go_on(&mut self, tally: &mut Tally, items: &[Value], now: u64) -> Result<(), Fault> {
         let awaited = self.state;
         self.state = Awaited::Nothing;
@@ -171,7 +163,7 @@ impl Client {
         }
     }
 
-    // Subscribes after the handshake. Marks a publisher as ready, which does not subscribe.
+    // Subscribes after the handshake. A publisher does not subscribe and is ready.
     fn subscribe(&mut self, tally: &mut Tally, now: u64) -> Result<(), Fault> {
         match &self.role {
             Role::Subscriber(session) => {
@@ -186,7 +178,6 @@ impl Client {
         }
     }
 
-    // Counts this client as ready.
     fn count_ready(&self, tally: &mut Tally) {
         tally.ready = tally.ready.saturating_add(1);
         self.context.unready.fetch_sub(1, Ordering::SeqCst);
@@ -202,11 +193,10 @@ impl Client {
         self.ask(Awaited::Connect, request, now)
     }
 
-    /// Sends the next event if it is due and this is a publisher that waits for no response.
+    /// Sends the next event if it is due, and this is a publisher that waits for no response.
     ///
-    /// If no event is due, such a publisher sends a connect after 5 seconds without a request.
-    /// `begun`, `now`: nanoseconds since the load started. `begun` is `None` until the publishers
-    /// start.
+    /// If none is due, it sends a connect after 5 seconds without a request. `begun`, `now`:
+    /// nanoseconds since the load started. `begun` is `None` until the publishers start.
     ///
     /// # Errors
     ///
@@ -237,7 +227,6 @@ impl Client {
     }
 }
 
-// Returns the client id in the first of `items`.
 fn id_of(alloc: Global, items: &[Value]) -> Result<String, Fault> {
     let reply = items.first().ok_or(Fault::BadResponse)?;
     let id = client_of(reply).ok_or(Fault::BadResponse)?;

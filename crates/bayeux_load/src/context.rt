@@ -1,4 +1,3 @@
-//! The state that all threads of a load share.
 use crate::fault::Fault;
 use bx_load::LoadSettings;
 use std::alloc::Global;
@@ -7,39 +6,33 @@ use std::sync::Arc;
 use std::sync::atomic::{AtomicBool, AtomicU64, Ordering};
 use std::time::{Clock, Instant};
 
-/// A handle to the state that all threads of a load share.
+/// A handle to the context, one for each thread.
 pub type SharedContext = Arc<Context, Global>;
 
 /// The state that all threads of a load share.
 #[derive(Drop)]
 pub struct Context {
-    /// The allocator, which all threads of the load use.
     pub alloc: Global,
-    /// How to load the server.
     pub settings: LoadSettings,
-    /// The address of the server.
     pub address: SocketAddr,
-    /// When the load started. All other times count from here.
+    /// When the load started. Other times are in nanoseconds after it.
     pub start: Instant,
-    /// Number of threads.
     pub threads: u64,
-    /// Number of clients that are not ready: each must open a session, and a subscriber must
-    /// subscribe.
+    /// Number of clients that are yet to open a session or, if subscribers, to subscribe.
     pub unready: AtomicU64,
-    /// When the publishers started, in nanoseconds since `start`, or 0 before.
+    /// When the publishers started, or 0 before.
     pub begun: AtomicU64,
-    /// Number of publishes that are not answered yet, whether sent or not.
+    /// Number of publishes that are not answered, whether sent or not.
     pub unpublished: AtomicU64,
     /// Number of events that arrived, with repetitions.
     pub delivered: AtomicU64,
     /// Number of threads that have not received all their events.
     pub working: AtomicU64,
-    /// Whether a thread failed.
     pub has_failed: AtomicBool,
 }
 
 impl Context {
-    /// Creates the context of a load that starts at `start`, with `threads` threads.
+    /// Creates the context of a load that starts at `start`.
     pub fn new(
         alloc: Global,
         settings: LoadSettings,
@@ -63,10 +56,6 @@ impl Context {
     }
 
     /// Returns the nanoseconds since the load started.
-    ///
-    /// # Errors
-    ///
-    /// The error of the clock, as a [`Fault`].
     pub fn now(&self, clock: &impl Clock) -> Result<u64, Fault> {
         let passed = self.start.elapsed(clock)?;
         Ok(u64::try_from(passed.as_nanos()).unwrap_or(u64::MAX))
@@ -74,8 +63,7 @@ impl Context {
 
     /// Returns when the publishers started, or `None` while a client is not ready.
     ///
-    /// The first call for which all clients are ready sets this time to `now`. Times are in
-    /// nanoseconds since the load started.
+    /// The first call for which all clients are ready sets this time to `now`.
     pub fn begun(&self, now: u64) -> Option<u64> {
         if self.unready.load(Ordering::SeqCst) > 0 {
             return None;
@@ -89,8 +77,7 @@ impl Context {
         }
     }
 
-    /// Returns the numbers of clients that are not ready, unanswered publishes, and events that
-    /// arrived.
+    /// Returns the numbers of clients that are not ready, unanswered publishes, and arrived events.
     pub fn progress(&self) -> (u64, u64, u64) {
         (
             self.unready.load(Ordering::SeqCst),

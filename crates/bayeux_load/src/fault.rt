@@ -1,30 +1,28 @@
-//! The reasons why a load fails.
 use std::alloc::{AllocError, AllocFailed};
 use std::io;
 
 /// Why a load fails.
 #[derive(Clone, Copy)]
 pub enum Fault {
-    /// The load failed, because memory ran out.
     Memory,
-    /// The load failed, because the host has no address or cannot be reached.
+    /// The host has no address or cannot be reached.
     Unreachable,
-    /// The load failed, because the server closed a connection.
+    /// The server closed a connection.
     Ended,
-    /// The load failed, because a system call failed for a reason that is not among the others.
+    /// A system call failed for another reason.
     System,
-    /// The load failed, because a response was not an array of replies and events with status 200.
+    /// A response was not an array of replies and events with status 200.
     BadResponse,
-    /// The load failed, because the server rejected a message.
+    /// The server rejected a message.
     Refused,
-    /// The load failed, because it made no progress for 30 seconds.
+    /// The load made no progress for 30 seconds.
     Silent,
-    /// The part of this thread ended, because another thread of the load failed.
+    /// Another thread of the load failed.
     Other,
 }
 
 impl Fault {
-    /// Returns the text of the error for the user.
+    /// Returns the error text for the user.
     pub fn text(self) -> &'static str {
         match self {
             Fault::Memory => "out of memory",

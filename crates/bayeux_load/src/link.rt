@@ -1,4 +1,3 @@
-//! A connection to the server, for one request after another.
 use crate::context::Context;
 use crate::fault::Fault;
 use bx_load::read_response;
@@ -12,6 +11,9 @@ use std::net::Net;
 // The largest input buffer that is kept, in bytes.
 const KEPT: usize = 4096;
 
+// The status of a response that has what was asked for.
+const OK: u16 = 200;
+
 /// A connection, with the request to write and the response read so far.
 #[derive(Drop)]
 pub struct Link {
@@ -23,10 +25,6 @@ pub struct Link {
 
 impl Link {
     /// Starts to connect to the server, and registers the connection under `token`.
-    ///
-    /// # Errors
-    ///
-    /// The [`io::Error`], as a [`Fault`].
     pub fn open(
         net: &impl Net,
         context: &Context,
@@ -45,12 +43,7 @@ impl Link {
         })
     }
 
-    /// Writes as much of `request` as it can without waiting. The previous request must be
-    /// answered.
-    ///
-    /// # Errors
-    ///
-    /// The [`io::Error`], as a [`Fault`].
+    /// Writes what it can of `request` without waiting. The previous request must be answered.
     pub fn send(&mut self, request: String) -> Result<(), Fault> {
         self.output = request;
         self.written = 0;
@@ -58,10 +51,6 @@ impl Link {
     }
 
     /// Writes as much of the rest of the request as it can without waiting.
-    ///
-    /// # Errors
-    ///
-    /// The [`io::Error`], as a [`Fault`].
     pub fn flush(&mut self) -> Result<(), Fault> {
         for _ in 0..u64::MAX {
             let left = self.output.as_bytes().get(self.written..).unwrap_or(&[]);
@@ -84,8 +73,7 @@ impl Link {
     ///
     /// # Errors
     ///
-    /// `Ended` if the server closed the connection; `Memory`; otherwise the [`io::Error`], as a
-    /// [`Fault`].
+    /// `Ended` if the server closed the connection, or that of a system call.
     pub fn fill(&mut self, buffer: &mut [u8]) -> Result<(), Fault> {
         for _ in 0..u64::MAX {
             match (&self.socket).read(buffer) {
@@ -104,7 +92,7 @@ impl Link {
         Ok(())
     }
 
-    /// Returns the body of the response, or `None` if it is not complete.
+    /// Returns the body of the response, if it is complete.
     ///
     /// # Errors
     ///
@@ -112,7 +100,7 @@ impl Link {
     pub fn body(&self) -> Result<Option<&[u8]>, Fault> {
         match read_response(self.input.as_slice()) {
             Ok(None) => Ok(None),
-            Ok(Some(found)) if found.status == 200 && found.end == self.input.len() => {
+            Ok(Some(found)) if found.status == OK && found.end == self.input.len() => {
                 Ok(Some(&self.input.as_slice()[found.start..found.end]))
             }
             _ => Err(Fault::BadResponse),

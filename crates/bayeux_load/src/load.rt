@@ -1,4 +1,3 @@
-//! A load on several threads.
 use crate::context::{Context, SharedContext};
 use crate::fault::Fault;
 use crate::part::LoadPart;
@@ -16,7 +15,6 @@ use std::time::{Clock, Instant};
 // The greatest number of threads. More threads did not increase the measured rate.
 const MOST_THREADS: u64 = 8;
 
-// A thread that runs a part.
 type Other = JoinHandle<Result<Tally, Fault>>;
 
 /// A load that runs on several threads.
@@ -40,13 +38,11 @@ where
         + Drop
         + 'static,
 {
-    /// Creates a load with `settings`, which starts now.
+    /// Creates a load, which starts now.
     ///
     /// # Errors
     ///
-    /// - `Unreachable`: the host has no address.
-    /// - `System`: the clock cannot be read.
-    /// - `Memory`: memory ran out.
+    /// `Unreachable` if the host has no address, `System` if the clock cannot be read, or `Memory`.
     pub fn new(rt: R, settings: LoadSettings) -> Result<ThreadedLoad<R>, Fault> {
         let alloc = rt.alloc();
         let threads = threads_for(&rt);
@@ -61,15 +57,13 @@ where
         })
     }
 
-    /// Loads the server and returns the results of all threads, those of this one first.
+    /// Loads the server and returns the results of all threads.
     ///
-    /// `is_shown`: whether to show a line of progress on standard error. Joins all spawned threads.
+    /// `is_shown`: whether to show a line of progress on standard error.
     ///
     /// # Errors
     ///
-    /// - `System`: a thread cannot be spawned.
-    /// - `Memory`: memory ran out, at any step.
-    /// - Otherwise the fault of the first part that failed.
+    /// `System` if a thread cannot be spawned, `Memory`, or the fault of the first failed part.
     pub fn run(&self, is_shown: bool) -> Result<Tally, Fault> {
         let alloc = self.context.alloc;
         let mut whole = Tally::new(alloc)?;
@@ -89,8 +83,7 @@ where
         }
     }
 
-    // Spawns the threads of the other parts, appends their handles to `others`, and runs the first
-    // part.
+    // Spawns the threads of the other parts, and runs the first part.
     fn run_own(&self, others: &mut Vec<Other>, is_shown: bool) -> Result<Tally, Fault> {
         for index in 1..self.context.threads {
             self.begin(index, others)?;
@@ -99,8 +92,8 @@ where
         work(&self.rt, part, is_shown)
     }
 
-    // Spawns a thread that runs part `index`, and appends its handle to `others`. Without room for
-    // it, the thread might not be joined.
+    // Spawns a thread that runs part `index`. Room for its handle comes first, so that it is
+    // joined.
     fn begin(&self, index: u64, others: &mut Vec<Other>) -> Result<(), Fault> {
         let rt = self.rt;
         let part = LoadPart::new(&self.context, index)?;
@@ -123,7 +116,6 @@ fn add(whole: &mut Tally, part: Result<Tally, Fault>) -> Option<Fault> {
     }
 }
 
-// Returns the first address of the host.
 fn address_of(net: &impl Net, target: &Target) -> Result<SocketAddr, Fault> {
     match target.host.as_str().to_socket_addrs(net) {
         Ok(mut addresses) => addresses.next().ok_or(Fault::Unreachable),
@@ -131,8 +123,7 @@ fn address_of(net: &impl Net, target: &Target) -> Result<SocketAddr, Fault> {
     }
 }
 
-// Returns half the number of processors, from 1 to 8, or 1 if it is unknown. The server may need
-// the other half.
+// Half the number of processors, from 1 to 8, if known. The server may need the other half.
 fn threads_for(rt: &impl Threads) -> u64 {
     match thread::available_parallelism(rt) {
         Ok(count) => (count.get() as u64 / 2).clamp(1, MOST_THREADS),

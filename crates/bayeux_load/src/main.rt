@@ -21,7 +21,6 @@ use std::io::IsTerminal;
 use std::process::ExitCode;
 use tally::Tally;
 
-/// The text that is printed if the arguments are wrong.
 const USAGE: &str = "usage: bayeux_load url sessions channels publishers events [rate] [ack]";
 
 fn main(rt: HostRuntime) -> ExitCode {
@@ -41,7 +40,6 @@ fn main(rt: HostRuntime) -> ExitCode {
     }
 }
 
-// Parses the command-line arguments.
 fn settings(rt: &HostRuntime) -> Result<LoadSettings, SettingsFault> {
     let mut args = Vec::new(rt.alloc());
     for arg in env::args(rt)?.skip(1) {
@@ -61,7 +59,6 @@ fn reported(rt: &HostRuntime, tally: &Tally) -> ExitCode {
     }
 }
 
-// Prints why the load failed, and returns failure.
 fn failed(rt: &HostRuntime, fault: Fault) -> ExitCode {
     let _ = eprintln!(rt; "bayeux_load: {}", fault.text());
     ExitCode::FAILURE

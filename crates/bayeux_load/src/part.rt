@@ -1,4 +1,3 @@
-//! One thread's part of a load.
 use crate::client::Client;
 use crate::context::SharedContext;
 use crate::fault::Fault;
@@ -24,32 +23,23 @@ const SILENCE: u64 = 30_000_000_000;
 /// One thread's part of a load: its clients and their results.
 #[derive(Drop)]
 pub struct LoadPart {
-    /// The state that the threads of the load share.
     pub context: SharedContext,
     clients: Vec<Client>,
-    // Number of sessions among the clients. They precede the publishers.
+    // The sessions precede the publishers.
     sessions: usize,
     // The number of the next client to open, among those of all threads.
     next: u64,
     // Number of events to receive.
     expected: u64,
     tally: Tally,
-    // The last result of `Context::progress`, and when it changed. The time is in nanoseconds since
-    // the load started.
+    // The last result of `Context::progress`, and the nanosecond of the load at which it changed.
     progress: (u64, u64, u64),
     changed: u64,
-    // Whether all events of this part have arrived.
     has_ended: bool,
 }
 
 impl LoadPart {
-    /// Creates part `index` of the load of `context`, which has no clients yet.
-    ///
-    /// `index`: counted from 0.
-    ///
-    /// # Errors
-    ///
-    /// `AllocError` if memory runs out.
+    /// Creates part `index` of the load, counted from 0, without clients.
     pub fn new(context: &SharedContext, index: u64) -> Result<LoadPart, AllocError> {
         let alloc = context.alloc;
         Ok(LoadPart {
@@ -86,7 +76,6 @@ impl LoadPart {
         Ok(())
     }
 
-    // Creates the role of the next client, and counts the client as opened.
     fn next_role(&mut self) -> Result<Role, AllocError> {
         let (settings, number) = (&self.context.settings, self.next);
         self.next = number.saturating_add(self.context.threads);
@@ -110,7 +99,7 @@ impl LoadPart {
 
     /// Writes and reads for client `token`, and handles its response if it is complete.
     ///
-    /// `buffer`: scratch space for reading. Does nothing if the client does not exist.
+    /// `buffer`: scratch space for reading.
     ///
     /// # Errors
     ///
@@ -177,7 +166,7 @@ impl LoadPart {
         Ok(self.context.working.load(Ordering::SeqCst) == 0 || quiet > PATIENCE)
     }
 
-    /// Converts this part into its results, which include the lost events.
+    /// Returns its results, which include the lost events.
     pub fn end(self) -> Tally {
         let mut tally = self.tally;
         for client in self.clients.iter() {

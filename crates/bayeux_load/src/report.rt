@@ -1,19 +1,21 @@
-//! The report of a load.
 ghost use Rattle.std.specs.Prelude.{◌<◌, ◌≤◌};
 
 use crate::tally::Tally;
+use bx_load::NANOS_PER_SECOND;
 use std::alloc::{AllocError, Global};
 
-/// Formats the results of a load as four lines.
-///
-/// # Errors
-///
-/// `AllocError` if memory runs out.
+// The percentages of events for which the report has a latency.
+const PERCENTAGES: [u64; 4] = [50, 90, 99, 100];
+
+// The number of microseconds in a millisecond.
+const MICROS_PER_MILLI: u64 = 1000;
+
+/// Formats the results as four lines.
 pub fn report(alloc: Global, tally: &Tally) -> Result<String, AllocError> {
     let mut text = String::new(alloc);
     rates(&mut text, tally)?;
     text.push_str("latency:")?;
-    for percent in [50, 90, 99, 100] {
+    for percent in PERCENTAGES {
         latency(&mut text, tally, percent)?;
     }
     let (lost, doubled) = (tally.lost, tally.doubled);
@@ -25,7 +27,6 @@ pub fn report(alloc: Global, tally: &Tally) -> Result<String, AllocError> {
     Ok(text)
 }
 
-// Appends the number and the rate of publishes and of events.
 fn rates(text: &mut String, tally: &Tally) -> Result<(), AllocError> {
     let (published, delivered) = (tally.published, tally.delivered);
     let publish_rate = rate(published, tally.begun, tally.last_published);
@@ -42,12 +43,12 @@ fn latency(text: &mut String, tally: &Tally, percent: u64) -> Result<(), AllocEr
     requires within { percent ≤ 100 }
 {
     let latency = tally.latencies.at(percent).unwrap_or(0);
-    let (whole, part) = (latency / 1000, latency % 1000);
+    let (whole, part) = (latency / MICROS_PER_MILLI, latency % MICROS_PER_MILLI);
     write!(text, " {percent} % {whole}.{part:03} ms")
 }
 
-// Returns `count` per second. `begin` and `end`: in nanoseconds.
+// Returns `count` per second between two times in nanoseconds.
 fn rate(count: u64, begin: u64, end: u64) -> u64 {
     let took = end.saturating_sub(begin).max(1);
-    u64::try_from(count as u128 * 1_000_000_000 / took as u128).unwrap_or(u64::MAX)
+    u64::try_from(count as u128 * NANOS_PER_SECOND as u128 / took as u128).unwrap_or(u64::MAX)
 }

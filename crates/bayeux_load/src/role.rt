@@ -1,33 +1,26 @@
-//! The roles of a client: to receive or to publish.
 use bx_load::{Arrivals, LoadSettings, Reception, Stamp, due, events_of};
 use std::alloc::{AllocError, Global};
 
-/// The role of a client.
+/// What a client does.
 #[derive(Drop)]
 pub enum Role {
-    /// The client is a session that receives events.
     Subscriber(Subscriber),
-    /// The client publishes events.
     Publisher(Publisher),
 }
 
-/// The role of a session that receives the events of one channel.
+/// A session that receives the events of one channel.
 #[derive(Drop)]
 pub struct Subscriber {
-    /// The number of the session's channel, counted from 0.
+    /// Counted from 0.
     pub channel: u32,
-    /// The number of the batch that the session's next connect acknowledges, if any.
+    /// The number of the batch that the next connect acknowledges.
     pub acknowledged: Option<u64>,
-    // The arrivals of events at this session, with one element for each publisher of the channel.
+    // One element for each publisher of the channel.
     arrivals: Vec<Arrivals>,
 }
 
 impl Subscriber {
-    /// Creates the role of session `number`, which has received no events.
-    ///
-    /// # Errors
-    ///
-    /// `AllocError` if memory runs out.
+    /// Creates the role of session `number`, counted from 0.
     pub fn new(
         alloc: Global,
         settings: &LoadSettings,
@@ -48,7 +41,7 @@ impl Subscriber {
         })
     }
 
-    /// Returns the number of events that the session should receive.
+    /// Returns how many events the session should receive.
     pub fn expected(&self) -> u64 {
         let mut expected: u64 = 0;
         for arrivals in self.arrivals.iter() {
@@ -57,7 +50,7 @@ impl Subscriber {
         expected
     }
 
-    /// Returns the number of events that did not arrive.
+    /// Returns how many events did not arrive.
     pub fn lost(&self) -> u64 {
         let mut lost: u64 = 0;
         for arrivals in self.arrivals.iter() {
@@ -80,20 +73,19 @@ impl Subscriber {
     }
 }
 
-/// The role of a client that publishes its share of the events.
+/// A client that publishes its share of the events.
 #[derive(Drop)]
 pub struct Publisher {
     number: u64,
-    /// The number of the publisher's channel, counted from 0.
+    /// Counted from 0.
     pub channel: u32,
-    // Number of events that the publisher has sent.
     sent: u64,
-    // The number of the publisher's next event, counted from 0 among those of all publishers.
+    // The number of the next event, counted from 0 among those of all publishers.
     next: u64,
 }
 
 impl Publisher {
-    /// Creates the role of publisher `number`, which has sent no events.
+    /// Creates the role of publisher `number`, counted from 0.
     pub fn new(settings: &LoadSettings, number: u64) -> Publisher {
         Publisher {
             number,
@@ -104,8 +96,6 @@ impl Publisher {
     }
 
     /// Returns the data of the next event if it is due, and counts the event as sent.
-    ///
-    /// Returns `None` if it is not due, or if all events are sent.
     ///
     /// `passed`: nanoseconds since the publishers started. `now`: nanoseconds since the load
     /// started.

@@ -1,21 +1,19 @@
-//! The results of a load.
 use bx_load::{Latencies, Reception};
 use std::alloc::{AllocError, Global};
+
+// The number of nanoseconds in a microsecond.
+const NANOS_PER_MICRO: u64 = 1000;
 
 /// The results of a load, or of one thread's part.
 ///
 /// All times are in nanoseconds since the load started.
 #[derive(Drop)]
 pub struct Tally {
-    /// The latencies of events.
     pub latencies: Latencies,
-    /// Number of the thread's clients that are ready.
-    ///
-    /// Each has opened a session, and each subscriber has subscribed.
+    /// Number of the thread's clients that have opened a session and, if subscribers, subscribed.
     pub ready: usize,
     /// When all clients were ready and the publishers started.
     pub begun: u64,
-    /// Number of publishes answered.
     pub published: u64,
     /// When the last publish was answered.
     pub last_published: u64,
@@ -23,9 +21,7 @@ pub struct Tally {
     pub delivered: u64,
     /// When the last event arrived.
     pub last_delivered: u64,
-    /// Number of events that did not arrive.
     pub lost: u64,
-    /// Number of repeated events.
     pub doubled: u64,
     /// Number of events that arrived after a later one of their publisher.
     pub out_of_order: u64,
@@ -35,10 +31,6 @@ pub struct Tally {
 
 impl Tally {
     /// Creates results without publishes and events.
-    ///
-    /// # Errors
-    ///
-    /// `AllocError` if memory runs out.
     pub fn new(alloc: Global) -> Result<Tally, AllocError> {
         Ok(Tally {
             latencies: Latencies::new(alloc)?,
@@ -56,12 +48,11 @@ impl Tally {
     }
 
     /// Records an event that was sent at `sent` and arrived at `now`.
-    ///
-    /// `sent`, `now`: nanoseconds since the load started.
     pub fn arrived(&mut self, arrival: Reception, sent: u64, now: u64) {
         self.delivered = self.delivered.saturating_add(1);
         self.last_delivered = now;
-        self.latencies.record(now.saturating_sub(sent) / 1000, 1);
+        self.latencies
+            .record(now.saturating_sub(sent) / NANOS_PER_MICRO, 1);
         match arrival {
             Reception::InOrder => (),
             Reception::OutOfOrder => self.out_of_order = self.out_of_order.saturating_add(1),
@@ -77,9 +68,7 @@ impl Tally {
             .saturating_sub(self.unknown)
     }
 
-    /// Adds the results of another thread's part, except `ready`.
-    ///
-    /// Each time in `self` becomes the later one of the two.
+    /// Adds the results of another thread's part, except `ready`. Of times, the later one counts.
     pub fn add(&mut self, other: &Tally) {
         self.latencies.add(&other.latencies);
         self.begun = self.begun.max(other.begun);
@@ -95,7 +84,7 @@ impl Tally {
 
     /// Returns `true` if each event reached each session of its channel once and in order.
     ///
-    /// Returns `false` also if an unknown event arrived.
+    /// No unknown event may have arrived.
     pub fn is_whole(&self) -> bool {
         self.lost == 0 && self.doubled == 0 && self.out_of_order == 0 && self.unknown == 0
     }

@@ -1,7 +1,7 @@
-//! The work of one thread of a load.
 use crate::fault::Fault;
 use crate::part::LoadPart;
 use crate::tally::Tally;
+use bx_load::NANOS_PER_SECOND;
 use mio::{Events, Poll};
 use std::net::Net;
 use std::sync::Wait;
@@ -11,20 +11,25 @@ use std::time::Clock;
 // Nanoseconds between updates of the line of progress.
 const SHOWN: u64 = 200_000_000;
 
+// The greatest number of connections that one wait reports.
+const EVENTS: usize = 1024;
+
+// The number of bytes that one read takes at most.
+const BUFFER: usize = 65_536;
+
 /// What a thread needs to wait for its connections, to read from them, and to show progress.
 #[derive(Drop)]
 struct Waiting {
     poll: Poll,
     events: Events,
     buffer: Vec<u8>,
-    // When the line of progress was last written, in nanoseconds since the load started, or `None`
-    // if it is not shown.
+    // The nanosecond of the load at which the line of progress was last written, if it is shown.
     shown: Option<u64>,
 }
 
 /// Runs a part until the load is over, and returns its results.
 ///
-/// `is_shown`: whether to show a line of progress on standard error.
+/// `is_shown`: whether to show progress on standard error.
 ///
 /// # Errors
 ///
@@ -42,15 +47,14 @@ where
     }
 }
 
-// Serves the part's clients until the load is over.
 fn turns<R>(rt: &R, part: &mut LoadPart, is_shown: bool) -> Result<(), Fault>
 where
     R: Net + Clock + Wait + Eprint,
 {
     let alloc = part.context.alloc;
     let mut waiting = Waiting {
-        events: Events::with_capacity(alloc, 1024)?,
-        buffer: vec![in alloc; 0; 65_536]?,
+        events: Events::with_capacity(alloc, EVENTS)?,
+        buffer: vec![in alloc; 0; BUFFER]?,
         poll: Poll::new(rt)?,
         shown: if is_shown { Some(0) } else { None },
     };
@@ -63,8 +67,8 @@ where
 }
 
 impl Waiting {
-    // Serves the clients once, publishes what is due, and updates the line of progress if it is
-    // shown. Returns `true` if the load is over.
+    // Serves clients, publishes what is due, and shows progress. Returns `true` if the load is
+    // over.
     fn is_last<R>(&mut self, rt: &R, part: &mut LoadPart) -> Result<bool, Fault>
     where
         R: Net + Clock + Eprint,
@@ -100,7 +104,7 @@ fn show(rt: &impl Eprint, part: &LoadPart, now: u64, is_over: bool) {
         return;
     }
     let (unready, unpublished, delivered) = part.context.progress();
-    let seconds = now / 1_000_000_000;
+    let seconds = now / NANOS_PER_SECOND;
     let _ = eprint!(rt;
         "\r{seconds:>5} s  {unready} to open, {unpublished} to publish, {delivered} events\x1b[K"
     );

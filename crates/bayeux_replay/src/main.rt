@@ -11,7 +11,6 @@ use std::sync::Arc;
 use std::thread::Threads;
 use std::{env, io};
 
-/// The usage text, printed if the arguments for a script are wrong.
 const USAGE: &str =
     "usage: bayeux_replay shards workers timeout interval max_interval [options [limit]]";
 
@@ -26,7 +25,7 @@ fn main(rt: HostRuntime) -> ExitCode {
 }
 
 // Replays the record in the file after `--record`, or on standard input if that is `-`. Without
-// `--record`, replays the script on standard input. Returns the exit code of the program.
+// `--record`, replays the script on standard input.
 fn run<T: Threads + Sync>(rt: &HostRuntime, threads: &T) -> Result<ExitCode, ScriptFault> {
     let args = match args(rt) {
         Err(error) if error.kind() == io::ErrorKind::InvalidData => {
@@ -50,7 +49,6 @@ fn run<T: Threads + Sync>(rt: &HostRuntime, threads: &T) -> Result<ExitCode, Scr
     }
 }
 
-// Returns the command-line arguments, without the name of the program.
 fn args(rt: &HostRuntime) -> io::Result<Vec<String>> {
     let mut args = Vec::new(rt.alloc());
     for arg in env::args(rt)?.skip(1) {
@@ -59,8 +57,7 @@ fn args(rt: &HostRuntime) -> io::Result<Vec<String>> {
     Ok(args)
 }
 
-// Replays the script on standard input. If the arguments are wrong, prints why and returns exit
-// code 2.
+// Returns exit code 2 if the arguments are wrong.
 fn replay_script<T: Threads + Sync>(
     rt: &HostRuntime,
     threads: &T,
@@ -85,7 +82,7 @@ fn replay_script<T: Threads + Sync>(
     }
 }
 
-// Replays a record. If its first line is wrong, prints why and returns exit code 2.
+// Returns exit code 2 if the first line is wrong.
 fn replay_record<T: Threads + Sync, R: Read + Drop>(
     rt: &HostRuntime,
     threads: &T,
@@ -102,7 +99,7 @@ fn replay_record<T: Threads + Sync, R: Read + Drop>(
     }
 }
 
-// Prints the answers to the lines that `reader` still has, and returns exit code 0.
+// Prints the answers to the lines that `reader` still has.
 fn answer<T: Threads + Sync, R: BufRead + Drop>(
     rt: &HostRuntime,
     threads: &T,

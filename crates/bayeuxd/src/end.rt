@@ -8,9 +8,12 @@ use std::alloc::Global;
 use std::io::Read;
 use std::sync::{Arc, Wait};
 
+// The most bytes that one read of standard input takes.
+const BUFFER: usize = 512;
+
 /// Reads standard input until it ends or fails, and then signals `shutdown`.
 pub fn signal_at_eof<R: Input>(rt: &R, shutdown: Sender<()>) {
-    let mut bytes = [0; 512];
+    let mut bytes = [0; BUFFER];
     let mut input = rt.reader();
     for _ in 0..u64::MAX {
         match input.read(&mut bytes) {
@@ -28,13 +31,11 @@ pub fn signal_at_eof<R: Input>(rt: &R, shutdown: Sender<()>) {
 /// Polling it locks as [`Hub::close`] does.
 #[derive(Drop)]
 pub struct CloseOnShutdown<L: HubKind, R: Wait + Drop, A> {
-    /// The right to wait for the hub's locks.
     pub rt: R,
-    /// The hub to close.
     pub hub: Arc<Hub<L, R>, Global>,
-    /// The metrics. Once `shutdown` is ready, they show that the server no longer listens.
+    /// Once `shutdown` is ready, they show that the server no longer listens.
     pub counts: Arc<Counts, Global>,
-    /// The future of the signal to end.
+    /// Ready when the server is to end.
     pub shutdown: A,
 }
 

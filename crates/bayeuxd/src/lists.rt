@@ -9,10 +9,6 @@ use std::sync::Wait;
 /// `now`: milliseconds since the server started. A session that is opened or closed meanwhile can
 /// hide another one, or show it twice.
 ///
-/// # Errors
-///
-/// `AllocError` if memory runs out.
-///
 /// # Blocking
 ///
 /// Locks one shard at a time, while one session is copied.
@@ -38,10 +34,6 @@ pub fn sessions_text<L: HubKind, H: Wait + Drop, R: Wait>(
 ///
 /// A session that is opened or closed meanwhile can hide another one, or count twice.
 ///
-/// # Errors
-///
-/// `AllocError` if memory runs out.
-///
 /// # Blocking
 ///
 /// Locks one shard at a time, while one session is copied.
@@ -56,7 +48,7 @@ pub fn channels_text<L: HubKind, H: Wait + Drop, R: Wait>(
     lines.text(alloc)
 }
 
-// Calls `add` with each session of the hub, until it returns `false` or memory runs out.
+// Calls `add` with each session of the hub, until it returns `false`.
 fn visit_sessions<L, H, R, F>(
     rt: &R,
     alloc: Global,
@@ -73,7 +65,7 @@ where
 {
     for shard in 0..shards {
         for index in 0..usize::MAX {
-            let Some(session) = hub.survey_session(rt, alloc, shard, index)? else {
+            let Some((session, _)) = hub.survey_session(rt, alloc, shard, index)? else {
                 break;
             };
             if !add(&session)? {

@@ -1,4 +1,3 @@
-//! The form of the lines in the log: text or JSON.
 use bx_settings::LogFormat;
 use jiff::Timestamp;
 use json::Writer;
@@ -12,14 +11,11 @@ use std::rt::{Env, Files};
 use std::time::Clock;
 use std::{env, fmt, fs};
 
-// The environment variable with which systemd names the journal: a device and an inode, such as
-// `8:4711`. systemd sets it if standard error is the journal.
+// systemd sets it if standard error is the journal, to a device and an inode such as `8:4711`.
 const JOURNAL: &str = "JOURNAL_STREAM";
 
-// The file of standard error.
 const STANDARD_ERROR: &str = "/proc/self/fd/2";
 
-// The error for memory that runs out while a line is written.
 const OUT_OF_MEMORY: kv::Error = kv::Error::Msg("out of memory");
 
 /// How the lines of the log look.
@@ -27,9 +23,7 @@ const OUT_OF_MEMORY: kv::Error = kv::Error::Msg("out of memory");
 pub enum LineForm {
     /// Text that begins with the time: `2026-11-29T14:20:15.123Z [INFO  bayeuxd] ended`.
     Timed,
-    /// Text that begins with the priority for systemd's journal: `<6>[INFO  bayeuxd] ended`.
-    ///
-    /// The journal has a time for each line.
+    /// Text with the priority for systemd's journal: `<6>[INFO  bayeuxd] ended`.
     Journal,
     /// A JSON object that begins with the keys `time`, `level` and `event`.
     Json,
@@ -49,7 +43,6 @@ impl LineForm {
     }
 }
 
-// Returns `true` if standard error is systemd's journal.
 fn is_journal<R: Env + Files + AllocGlobal>(rt: &R) -> bool {
     let Ok(journal) = env::var(rt, JOURNAL) else {
         return false;
@@ -65,7 +58,7 @@ fn is_journal<R: Env + Files + AllocGlobal>(rt: &R) -> bool {
 
 /// A log that writes each record to standard error, as a line.
 ///
-/// A line that cannot be formatted or written is dropped. Spans are not written.
+/// A line that cannot be formatted or written is dropped.
 #[derive(Clone, Copy, Drop)]
 pub struct LogLines<R> {
     rt: R,
@@ -108,12 +101,11 @@ impl<R: Eprint + Clock> Log for LogLines<R> {
     }
 }
 
-// Returns the time of the clock, or the start of 1970 if it cannot be read.
+// Returns the time, or the start of 1970 if it cannot be read.
 fn now<R: Clock>(rt: &R) -> Timestamp {
     Timestamp::now(rt).unwrap_or(Timestamp::UNIX_EPOCH)
 }
 
-// Returns the priority of syslog and systemd's journal for `level`.
 fn priority_of(level: Level) -> u8 {
     match level {
         Level::Error => 3,
@@ -123,7 +115,6 @@ fn priority_of(level: Level) -> u8 {
     }
 }
 
-// Returns the name of `level` in a line of JSON.
 fn name_of(level: Level) -> &'static str {
     match level {
         Level::Error => "error",
@@ -134,14 +125,12 @@ fn name_of(level: Level) -> &'static str {
     }
 }
 
-// The start of a line of text: the time, or the priority for the journal.
 #[derive(Clone, Copy)]
 enum Start {
     Time(Timestamp),
     Priority(u8),
 }
 
-// A record as a line of text.
 #[derive_where(Clone, Copy)]
 struct TextLine<'a, 'r, D, K, S> {
     start: Start,
@@ -161,7 +150,7 @@ impl<'a, 'r, D: Display, K: Source, S> Display for TextLine<'a, 'r, D, K, S> {
     }
 }
 
-// Appends `key=value` for each pair to a line of text. A value with a space is in quotation marks.
+// Appends `key=value` for each pair. A value with a space is in quotation marks.
 #[derive(Drop)]
 struct TextPairs<'f, W> {
     f: &'f mut Formatter<W>,
@@ -180,7 +169,6 @@ impl<'f, W: fmt::Write> VisitSource for TextPairs<'f, W> {
     }
 }
 
-// Finds out whether a text has a space.
 #[derive(Drop)]
 struct SpaceSearch {
     is_found: bool,
@@ -193,7 +181,7 @@ impl fmt::Write for SpaceSearch {
     }
 }
 
-// Returns `record` as a line of JSON, without a line break. Each value is a string.
+// Returns `record` as a line of JSON without a line break. Each value is a string.
 fn json_line<D: Display, K: Source, S>(
     alloc: Global,
     time: Timestamp,
@@ -216,7 +204,6 @@ fn json_line<D: Display, K: Source, S>(
     }
 }
 
-// Appends pairs to a JSON object. Each value is a string.
 #[derive(Drop)]
 struct JsonPairs {
     alloc: Global,
@@ -239,7 +226,6 @@ impl VisitSource for JsonPairs {
     }
 }
 
-// Converts the error of memory that runs out to one of a visitor of pairs.
 fn or_no_memory<T>(made: Result<T, AllocError>) -> Result<T, kv::Error> {
     match made {
         Ok(value) => Ok(value),

@@ -33,33 +33,26 @@ use std::process::ExitCode;
 use std::sync::Arc;
 use std::{env, io, thread};
 
-/// Usage text, printed if the arguments do not begin with a flag and are not valid by position.
+/// Printed if the arguments do not begin with a flag and are not valid by position.
 const USAGE: &str =
     "usage: bayeuxd address shards timeout interval max_interval seed connections [options [limit]]";
 
-/// Error text if the server cannot listen or serve. The log has the reason.
+/// Printed if the server cannot listen or serve. The log has the reason.
 const CANNOT_LISTEN: &str = "bayeuxd: cannot listen";
 
-/// What failed if the metrics listener cannot start.
 const NO_METRICS: &str = "cannot listen for metrics";
 
-/// What failed if the record file cannot be created or written.
 const CANNOT_RECORD: &str = "cannot create the record";
 
-/// What to do if the record file exists.
 const RECORD_EXISTS: &str =
     "bayeuxd: a record needs a new file: name another one, or move this one away";
 
-/// Error text if the thread that reads standard input cannot start.
 const NO_READER: &str = "bayeuxd: cannot read standard input";
 
-/// What failed if the seed cannot be read.
 const NO_SEED: &str = "cannot read the seed";
 
-/// Error text if memory runs out.
 const OUT_OF_MEMORY: &str = "bayeuxd: out of memory";
 
-// The system, with a log of the form and the level that the settings give.
 type Host = Logged<HostRuntime, LogLines<HostRuntime>>;
 
 fn main(host: HostRuntime) -> ExitCode {
@@ -109,7 +102,6 @@ fn main(host: HostRuntime) -> ExitCode {
     ended(&rt, server.serve(&parts.counts, &mut io::writer(&rt)))
 }
 
-// Adds the log that `settings` describe to `host`.
 fn with_log(host: HostRuntime, settings: &Settings<'_>) -> Host {
     let level = match settings.log_level {
         LogLevel::Error => LevelFilter::Error,
@@ -120,7 +112,6 @@ fn with_log(host: HostRuntime, settings: &Settings<'_>) -> Host {
     Logged::new(host, level, LogLines::new(host, host.alloc(), form))
 }
 
-// The parts of a server that are created before it listens.
 #[derive(Drop)]
 struct Parts<'a> {
     arguments: ServeSettings,
@@ -131,8 +122,7 @@ struct Parts<'a> {
     end: Receiver<()>,
 }
 
-// Creates the parts of the server, and logs its settings. On error, reports what is wrong and
-// returns the exit status.
+// Creates the server's parts, and logs its settings. Reports errors and returns their exit status.
 fn parts_of<'a>(rt: &Host, settings: &Settings<'a>) -> Result<Parts<'a>, ExitCode> {
     let seed = match seed_of(rt, settings.seed) {
         Ok(seed) => seed,
@@ -160,7 +150,6 @@ fn parts_of<'a>(rt: &Host, settings: &Settings<'a>) -> Result<Parts<'a>, ExitCod
     })
 }
 
-// Returns the settings with which the server runs. `seed`: the seed for nonces.
 fn arguments_of(settings: &Settings<'_>, seed: [u8; 32]) -> ServeSettings {
     ServeSettings {
         config: settings.config,
@@ -176,19 +165,15 @@ fn arguments_of(settings: &Settings<'_>, seed: [u8; 32]) -> ServeSettings {
     }
 }
 
-// The metrics listener and the record file of a server, each `None` if the settings name none.
 type Outputs = (Option<MetricsListener>, Option<NewRecordFile<File>>);
 
-// Listens for metrics and creates the record file, if the settings name them. On error, reports
-// what is wrong and returns the exit status.
+// Listens for metrics and creates the record file. Reports errors and returns their exit status.
 fn outputs_of(rt: &Host, settings: &Settings<'_>) -> Result<Outputs, ExitCode> {
     let metrics = metrics_of(rt, settings)?;
     // The record file is created last, so that a failed listener leaves no file.
     Ok((metrics, record_of(rt, settings)?))
 }
 
-// Listens for metrics, if `--metrics` names an address. On error, prints what is wrong and returns
-// the exit status.
 fn metrics_of(rt: &Host, settings: &Settings<'_>) -> Result<Option<MetricsListener>, ExitCode> {
     let Some(name) = settings.metrics else {
         return Ok(None);
@@ -203,8 +188,6 @@ fn metrics_of(rt: &Host, settings: &Settings<'_>) -> Result<Option<MetricsListen
     }
 }
 
-// Creates the record file, if `--record` names one. On error, prints what is wrong and returns the
-// exit status.
 fn record_of(rt: &Host, settings: &Settings<'_>) -> Result<Option<NewRecordFile<File>>, ExitCode> {
     let Some(path) = settings.record_file else {
         return Ok(None);
@@ -221,7 +204,7 @@ fn record_of(rt: &Host, settings: &Settings<'_>) -> Result<Option<NewRecordFile<
     }
 }
 
-// Logs the end of the server, or reports why serving failed. Returns the exit status.
+// Logs the end of the server, or reports why serving failed.
 fn ended(rt: &Host, served: io::Result<()>) -> ExitCode {
     match served {
         Ok(()) => {
@@ -232,7 +215,6 @@ fn ended(rt: &Host, served: io::Result<()>) -> ExitCode {
     }
 }
 
-// Reports why serving failed, and returns the exit status.
 fn not_served(rt: &Host, fault: ServeFault<'_>) -> ExitCode {
     match fault {
         ServeFault::CannotListen(name, error) => cannot_listen(rt, name, &error),
@@ -243,13 +225,11 @@ fn not_served(rt: &Host, fault: ServeFault<'_>) -> ExitCode {
     }
 }
 
-// Creates metrics for `shards` shards. All are 0.
 fn counts_of(rt: &Host, shards: usize) -> io::Result<Arc<Counts, Global>> {
     let alloc = rt.alloc();
     Ok(Arc::new(alloc, Counts::new(alloc, shards)?)?)
 }
 
-// Returns the command-line arguments, without the program's name.
 fn args(rt: &HostRuntime) -> io::Result<Vec<String>> {
     let mut args = Vec::new(rt.alloc());
     for arg in env::args(rt)?.skip(1) {
@@ -258,8 +238,7 @@ fn args(rt: &HostRuntime) -> io::Result<Vec<String>> {
     Ok(args)
 }
 
-// Returns the command-line arguments. If one is not UTF-8 or memory runs out, prints the error and
-// returns the exit status.
+// Returns the arguments. If one is not UTF-8, prints the usage line and returns its exit status.
 fn read_args(rt: &HostRuntime) -> Result<Vec<String>, ExitCode> {
     match args(rt) {
         Ok(args) => Ok(args),
@@ -294,15 +273,13 @@ fn settings_of<'a>(
     }
 }
 
-// Returns `true` if there are no arguments, or the first one begins with `-`.
 fn are_flags(args: &[String]) -> bool {
     match args.first() {
         Some(first) => first.as_bytes().starts_with(b"-"),
-        None => true,
+        None => false,
     }
 }
 
-// Returns the seed for nonces, which comes from the arguments, a file or the system.
 fn seed_of(rt: &Host, seed: Seed<'_>) -> io::Result<[u8; 32]> {
     match seed {
         Seed::FromArguments(seed) => Ok(seed),
@@ -311,7 +288,6 @@ fn seed_of(rt: &Host, seed: Seed<'_>) -> io::Result<[u8; 32]> {
     }
 }
 
-// Returns the name of the place that the seed comes from.
 fn seed_name<'a>(seed: Seed<'a>) -> &'a str {
     match seed {
         Seed::File(path) => path,
@@ -319,8 +295,7 @@ fn seed_name<'a>(seed: Seed<'a>) -> &'a str {
     }
 }
 
-// Resolves `name`, an address to listen at. On error, reports what is wrong and returns the exit
-// status.
+// Resolves `name`, an address to listen at. On error, reports it and returns the exit status.
 fn listen_address_of<'a>(rt: &Host, name: &'a str) -> Result<ListenAddress<'a>, ExitCode> {
     match addresses_of(rt, name) {
         Ok(addresses) => Ok(ListenAddress { name, addresses }),
@@ -328,7 +303,7 @@ fn listen_address_of<'a>(rt: &Host, name: &'a str) -> Result<ListenAddress<'a>, 
     }
 }
 
-// Returns the addresses of `name`, a host and a port, in the order in which they are tried.
+// Returns the addresses of `name`, in the order in which they are tried.
 fn addresses_of(rt: &Host, name: &str) -> io::Result<Vec<SocketAddr>> {
     let mut addresses = Vec::new(rt.alloc());
     // A runtime with a log, such as `rt`, does not look up names of hosts.
@@ -338,14 +313,12 @@ fn addresses_of(rt: &Host, name: &str) -> io::Result<Vec<SocketAddr>> {
     Ok(addresses)
 }
 
-// Reports that the server cannot listen at `listen`, and returns the exit status.
 fn cannot_listen(rt: &Host, listen: &str, error: &io::Error) -> ExitCode {
     log_cannot_listen(rt, listen, error);
     failed_by(rt, error, CANNOT_LISTEN)
 }
 
-// Logs and prints what failed, its address or file, and the error. Returns the exit status of a
-// failure.
+// Logs and prints what failed, its address or file, and the error.
 fn refused_at(rt: &Host, what: &str, name: &str, error: &io::Error) -> ExitCode {
     log_failure(rt, what, name, error);
     match format!(in rt.alloc(); "bayeuxd: {what} at {name}: {error}") {
@@ -354,7 +327,7 @@ fn refused_at(rt: &Host, what: &str, name: &str, error: &io::Error) -> ExitCode 
     }
 }
 
-// Prints `why`, or that memory ran out if this is `error`. Returns the exit status of a failure.
+// Prints `why`, or that memory ran out if this is `error`.
 fn failed_by(rt: &Host, error: &io::Error, why: &str) -> ExitCode {
     if error.kind() == io::ErrorKind::OutOfMemory {
         failed(rt, OUT_OF_MEMORY)
@@ -363,7 +336,6 @@ fn failed_by(rt: &Host, error: &io::Error, why: &str) -> ExitCode {
     }
 }
 
-// Prints `why` and returns the exit status of a failure.
 fn failed<R: Eprint>(rt: &R, why: &str) -> ExitCode {
     let _ = rt.eprintln(why);
     ExitCode::FAILURE

@@ -18,12 +18,11 @@ use std::sync::{Arc, Wait};
 use std::time::{Duration, Instant};
 use std::{fs, io, thread, time};
 
-// The longest time for a request's head to arrive, and for a write to make progress, in
-// milliseconds. Policy of this server.
+// Milliseconds for a request's head, and for a write to make progress. Policy of this server.
 const PATIENCE: u64 = 2000;
 
-// Pause after a failed accept, for example if no file descriptor is free, in milliseconds. Policy
-// of this server.
+// Milliseconds after a failed accept, for example without a free file descriptor. Policy of this
+// server.
 const PAUSE: u64 = 20;
 
 // The most bytes that are read of one request. Policy of this server.
@@ -58,15 +57,11 @@ impl MetricsListener {
 /// What the thread that answers at the metrics listener uses.
 #[derive(Drop)]
 pub struct MetricsParts<L: HubKind, R: Wait + Drop, P> {
-    /// The right to wait, to read the clock, and to allocate.
     pub rt: R,
-    /// The hub with the sessions to list.
     pub hub: Arc<Hub<L, R>, Global>,
-    /// The clock that the hub's moments come from.
+    /// The clock of the hub's moments.
     pub clock: SinceStart<R>,
-    /// The metrics.
     pub counts: Arc<Counts, Global>,
-    /// What the page of metrics shows of the server's settings.
     pub settings: PageSettings,
     /// Returns what the page of metrics shows of the process.
     pub process: P,
@@ -80,9 +75,8 @@ where
 {
     /// Answers requests at `listener` until the program ends.
     ///
-    /// Answers one request on each connection, one connection at a time, and updates the uptime
-    /// before. A request gets no response if its head takes too long, a system call fails or memory
-    /// runs out.
+    /// Answers one request on each connection, one connection at a time. A request gets no response
+    /// if its head takes too long, a system call fails or memory runs out.
     ///
     /// # Blocking
     ///
@@ -102,8 +96,6 @@ where
         }
     }
 
-    // Reads the request on one connection and writes its response. Fails if this takes too long, a
-    // system call fails or memory runs out.
     fn answer(&self, mut stream: TcpStream) -> io::Result<()>
         requires { P.IsAlwaysCallable self.now.process }
     {
@@ -132,7 +124,7 @@ where
     }
 }
 
-/// Reads what Linux reports of this process. Values in files that cannot be read are unknown.
+/// Reads what Linux reports of this process. What cannot be read is unknown.
 pub fn process_values<R: Files + AllocGlobal + Copy + Drop>(rt: &R) -> ProcessValues {
     let process = text_of(rt, "/proc/self/stat");
     let limits = text_of(rt, "/proc/self/limits");
@@ -145,7 +137,7 @@ pub fn process_values<R: Files + AllocGlobal + Copy + Drop>(rt: &R) -> ProcessVa
     ProcessValues::of(texts, open_files(rt).ok())
 }
 
-// Returns the text of the file at `path`, or an empty text if it cannot be read.
+// Returns an empty text if the file cannot be read.
 fn text_of<R: Files + AllocGlobal>(rt: &R, path: &str) -> String {
     match fs::read_to_string(rt, path) {
         Ok(text) => text,
@@ -153,7 +145,6 @@ fn text_of<R: Files + AllocGlobal>(rt: &R, path: &str) -> String {
     }
 }
 
-// Returns the number of this process's open file descriptors.
 fn open_files<R: Files + AllocGlobal + Copy + Drop>(rt: &R) -> io::Result<u64> {
     let mut count: u64 = 0;
     for entry in fs::read_dir(rt, "/proc/self/fd")? {
@@ -165,7 +156,7 @@ fn open_files<R: Files + AllocGlobal + Copy + Drop>(rt: &R) -> io::Result<u64> {
 }
 
 // Reads a request's head up to its empty line, the end of the data, or the limits `HEAD` and
-// `READS`. Returns its length in bytes, or an error if it takes too long or a system call fails.
+// `READS`.
 fn read_head<R: time::Clock>(rt: &R, stream: &mut TcpStream, head: &mut [u8]) -> io::Result<usize>
     ensures { IfOk result (λ n. n ≤ length head.new) }
 {
@@ -187,7 +178,6 @@ fn read_head<R: time::Clock>(rt: &R, stream: &mut TcpStream, head: &mut [u8]) ->
     Ok(length)
 }
 
-// Returns `true` if `head` contains the empty line that ends a head.
 fn is_whole(head: &[u8]) -> bool {
     head.windows(4).any(|it| it == b"\r\n\r\n".as_slice())
 }

@@ -1,4 +1,3 @@
-//! The record of a hub's list: its file, and the thread that writes it.
 use crate::serve::ServerKind;
 use bx_advice::Config;
 use bx_hub::{Hub, HubKind, RecordFront};
@@ -19,25 +18,23 @@ use std::thread::{JoinHandle, Threads};
 use std::time::Clock;
 use std::{io, thread};
 
-// Permissions of the record file: only its owner can read and write it.
+// Only its owner can read and write the record file.
 const OWNERS: u32 = 0o600;
 
 /// The file of a record, after its first line was written.
 #[derive(Drop)]
 pub struct NewRecordFile<F> {
     file: CountedFile<F>,
-    /// Whether the digests of answers are recorded too.
     has_answers: bool,
 }
 
 /// Creates the record file at `path` and writes the line that describes `config`.
 ///
-/// `has_answers`: whether the digests of answers are to be recorded too.
+/// `has_answers`: whether to record the digests of answers, too.
 ///
 /// # Errors
 ///
-/// `AlreadyExists` if there is a file at `path`. Otherwise the error of a system call, or of memory
-/// that runs out; the file may have been created.
+/// `AlreadyExists`, or the error of a system call, after which the file may exist.
 pub fn make_record<R: Files<File = File> + Log + AllocGlobal>(
     rt: &R,
     path: &str,
@@ -70,8 +67,7 @@ impl Recorder {
     ///
     /// # Errors
     ///
-    /// - An error of memory that runs out; nothing has changed.
-    /// - `InvalidInput`: the list is not empty; nothing has changed.
+    /// - `InvalidInput`: the list is not empty.
     /// - The error of starting the thread. The hub goes on recording.
     ///
     /// # Blocking
@@ -119,11 +115,7 @@ impl Recorder {
         })
     }
 
-    /// Returns the log of answers' digests, or `None` if they are not recorded.
-    ///
-    /// # Errors
-    ///
-    /// `AllocError` if memory runs out.
+    /// Returns the log of answers' digests, if they are recorded.
     pub fn answers(&self) -> Result<Option<Arc<WaitingAnswerLines, Global>>, AllocError> {
         match &self.answers {
             Some(log) => Ok(Some(Arc::try_clone(log)?)),
@@ -145,14 +137,14 @@ impl Recorder {
     }
 }
 
-// Why a record ended early. `place`: the place at which the recorded part of the list ends.
+// Why a record ended early, and at which place of the list.
 #[derive(Clone, Copy, Debug)]
 struct Ended {
     fault: RecordFault,
     place: u64,
 }
 
-// The lines of a hub's record, and those of its answers, that wait to be written.
+// The waiting lines of a hub's record, and those of its answers.
 #[derive(Drop)]
 struct HubRecord<L: HubKind, R: Wait + Drop> {
     rt: R,
@@ -179,9 +171,8 @@ impl<L: HubKind, R: Wait + Log + Drop> Source for HubRecord<L, R> {
         })
     }
 
-    // Takes the lines of answers that wait, and leaves the buffer `empty` in their place. Logs a
-    // warning if the log of answers ended early. The list has each request before the log has its
-    // answer.
+    // Takes the waiting lines of answers, and leaves `empty` in their place. Logs a warning if the
+    // log of answers ended early. The list has each request before the log has its answer.
     fn take_answers(&mut self, empty: Vec<u8>) -> Vec<u8> {
         let TakenAnswerLines { bytes, fault, .. } = self.log.take(&self.rt, empty);
         if let Some(fault) = fault {
@@ -197,7 +188,6 @@ impl<L: HubKind, R: Wait + Log + Drop> Source for HubRecord<L, R> {
     }
 }
 
-// Logs how much was written, and why the record ended.
 fn tell<R: Log>(rt: &R, written: &WriteSummary<Ended>) {
     let count = written.count;
     match &written.end {

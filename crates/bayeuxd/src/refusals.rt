@@ -5,13 +5,11 @@ use std::alloc::{AllocError, Global};
 use std::mem;
 use std::sync::{Arc, Mutex, Wait};
 
-// Reason of the requests that get no response because memory runs out for it.
 const NO_RESPONSE: &str = "out of memory for a response";
 
-// A reason and the number of requests that were not answered for it.
 type Refusals = (&'static str, u64);
 
-/// An observer that counts and logs the requests at a listener that are not answered, by reason.
+/// An observer that counts and logs a listener's unanswered requests, by reason.
 #[derive(Drop)]
 pub struct RefusalLogger<R> {
     rt: R,
@@ -23,7 +21,7 @@ pub struct RefusalLogger<R> {
 }
 
 impl<R: Wait + Log> RefusalLogger<R> {
-    /// Creates an observer that has not seen a request. `listener`: the listener's name in the log.
+    /// Creates an observer that has not seen a request. `listener`: its name in the log.
     pub fn new(rt: R, alloc: Global, listener: &'static str) -> RefusalLogger<R> {
         RefusalLogger {
             rt,
@@ -47,7 +45,7 @@ impl<R: Wait + Log> RefusalLogger<R> {
         }
     }
 
-    // Counts a request that was not answered for `reason`. If memory runs out, does nothing.
+    // Counts a request that was not answered, unless memory runs out.
     fn count(&self, reason: &'static str) {
         let mut refusals = self.refusals.lock(&self.rt);
         match refusals.iter_mut().find(|it| it.0 == reason) {
@@ -59,21 +57,15 @@ impl<R: Wait + Log> RefusalLogger<R> {
     }
 }
 
-/// The loggers of the refusals at both listeners.
+/// The loggers of both listeners.
 #[derive(Drop)]
 pub struct ListenerRefusals<R> {
-    /// The logger of the main listener.
     pub main: Arc<RefusalLogger<R>, Global>,
-    /// The logger of the read-only listener.
     pub read_only: Arc<RefusalLogger<R>, Global>,
 }
 
 impl<R: Wait + Log + Copy> ListenerRefusals<R> {
     /// Creates loggers that have not seen a request.
-    ///
-    /// # Errors
-    ///
-    /// `AllocError` if memory runs out.
     pub fn new(rt: R, alloc: Global) -> Result<ListenerRefusals<R>, AllocError> {
         Ok(ListenerRefusals {
             main: Arc::new(alloc, RefusalLogger::new(rt, alloc, "main"))?,
@@ -82,10 +74,6 @@ impl<R: Wait + Log + Copy> ListenerRefusals<R> {
     }
 
     /// Returns handles to the same loggers.
-    ///
-    /// # Errors
-    ///
-    /// `AllocError` if memory runs out.
     pub fn try_clone(&self) -> Result<ListenerRefusals<R>, AllocError> {
         Ok(ListenerRefusals {
             main: Arc::try_clone(&self.main)?,
@@ -95,11 +83,11 @@ impl<R: Wait + Log + Copy> ListenerRefusals<R> {
 }
 
 impl<R: Wait + Log> ListenerRefusals<R> {
-    /// Logs each reason that has occurred since the last call, with its count since then.
+    /// Logs what has occurred since the last call at both listeners.
     ///
     /// # Blocking
     ///
-    /// Waits until no request is being counted.
+    /// As [`RefusalLogger::log_new`].
     pub fn log_new(&self) {
         self.main.log_new();
         self.read_only.log_new();

@@ -3,7 +3,7 @@ use bx_advice::Error;
 use bx_metrics::{Counts, Metric};
 use log::{Log, warn};
 
-/// A logger of the replies with one error, which remembers how many it has logged.
+/// A logger of the replies with one error.
 #[derive(Clone, Copy)]
 pub struct ReplyLogger {
     error: Error,
@@ -12,9 +12,7 @@ pub struct ReplyLogger {
 }
 
 impl ReplyLogger {
-    /// Creates a logger of the replies with `error` that has logged none.
-    ///
-    /// `message`: the text of the log line.
+    /// Creates a logger of the replies with `error`. `message`: the text of the log line.
     pub fn new(error: Error, message: &'static str) -> ReplyLogger {
         ReplyLogger {
             error,

@@ -12,13 +12,12 @@ use crate::timed::TimedBackend;
 use bx_advice::{BodyLimit, Config};
 use bx_entry::{Access, ByRemainder, SharedPatterns};
 use bx_hub::{Hub, HubKind, Kind, OpenGate};
-use bx_message::Item;
 use bx_metrics::{Counts, PageSettings, ProcessValues};
 use bx_names::Pattern;
 use bx_record::WaitingAnswerLines;
 use bx_serve::{Endpoint, serve_until};
 use bx_service::{
-    AnswerLogger, Backend, BayeuxService, HubBackend, Observer, Transports, Unanswered,
+    AnswerLogger, Answered, Backend, BayeuxService, HubBackend, Observer, Transports, Unanswered,
 };
 use bx_settings::VERSION;
 use bx_window::{EmptyWindow, LogId};
@@ -39,27 +38,21 @@ use std::{io, thread};
 use tokio::net::TcpListener;
 use tokio::runtime::Runtime;
 
-/// The settings with which the server runs.
+/// How the server runs.
 #[derive(Clone, Copy)]
 pub struct ServeSettings {
-    /// The configuration of the server.
-    ///
-    /// It has the number of shards, the times in milliseconds, the limits and the options.
     pub config: Config,
-    /// The size limit of bodies and queries.
     pub body: BodyLimit,
-    /// The transports that both listeners accept.
     pub transports: Transports,
     /// The seed for nonces.
     pub seed: [u8; 32],
-    /// How many connections are accepted before the server ends, or 0 for no limit.
+    /// The number of connections after which the server ends, or 0 for no limit.
     pub connections: u64,
     /// Whether the server also ends when standard input ends.
     pub until_eof: bool,
 }
 
 impl ServeSettings {
-    // Returns the settings that the page of metrics shows.
     fn page_settings(&self) -> PageSettings {
         PageSettings {
             version: VERSION,
@@ -68,8 +61,7 @@ impl ServeSettings {
         }
     }
 
-    // Limits how long open connections are still served at the end. With a limit of connections,
-    // those that were accepted may last for any time.
+    // With a limit of connections, the accepted ones may last for any time.
     fn limit_shutdown(&self, runtime: &mut Runtime) {
         if self.until_eof && self.connections == 0 {
             runtime.set_shutdown_timeout(Some(Duration::from_millis(LEAVE)));
@@ -80,16 +72,16 @@ impl ServeSettings {
 /// The kind of the server's hub. `L`: the window of its list.
 pub type ServerKind<L> = Kind<L, ByRemainder, OpenGate>;
 
-// How long open connections are still served at the end if `until_eof` is set and there is no limit
-// of connections, in milliseconds. Policy of this server.
+// How long open connections are served at the end, with `until_eof` and no limit of connections, in
+// milliseconds. Policy of this server.
 const LEAVE: u64 = 1000;
 
 /// Why the server cannot start, or stopped.
 #[derive(Debug, Drop)]
 pub enum ServeFault<'a> {
-    /// The server cannot listen at any address of this name. The error is that of the last address.
+    /// At any address of this name. The error is that of the last address.
     CannotListen(&'a str, io::Error),
-    /// A system call failed, for example to start a thread or to print, or memory ran out.
+    /// For example, a thread cannot be started, or memory ran out.
     CannotServe(io::Error),
 }
 
@@ -99,33 +91,30 @@ impl From<io::Error> for ServeFault<'_> {
     }
 }
 
-/// A name to listen at, with its addresses.
+/// A name to listen at.
 #[derive(Drop)]
 pub struct ListenAddress<'a> {
     /// The host and the port, as they were given.
     pub name: &'a str,
-    /// The addresses of `name`, in the order in which they are tried.
+    /// In the order in which they are tried.
     pub addresses: Vec<SocketAddr>,
 }
 
-/// A runtime, with the listeners that [`listen`] opened on it.
+/// A runtime, with the listeners that are open on it.
 #[derive(Drop)]
 pub struct Listening {
     runtime: Runtime,
-    // The publishers' listener.
     listener: TcpListener,
-    // The read-only listener, if any.
     readers: Option<TcpListener>,
 }
 
 /// Listens at `listen_address` and, for the read-only listener, at `readers`.
 ///
-/// Uses the first address of each name at which it can listen.
+/// Uses the first address of each name that works.
 ///
 /// # Errors
 ///
-/// - `CannotServe`: the runtime cannot be created.
-/// - `CannotListen`: a name has no address at which the server can listen.
+/// `CannotServe` or `CannotListen`.
 pub fn listen<'a, R>(
     rt: &R,
     listen_address: ListenAddress<'a>,
@@ -147,24 +136,19 @@ where
     })
 }
 
-/// A server with its listeners, before it serves connections.
+/// A server before it serves connections.
 #[derive(Drop)]
 pub struct Server<R, F, P> {
-    /// The host, with its threads, sockets and clocks.
     pub rt: R,
-    /// The runtime and the listeners.
     pub listening: Listening,
-    /// The listener for metrics, if any.
     pub metrics: Option<MetricsListener>,
     /// Returns what the metrics show of this process.
     pub process: P,
     /// The patterns of the broadcast channels that the read-only listener allows.
     pub readers_publish: Vec<Pattern>,
-    /// How the server runs.
     pub arguments: ServeSettings,
-    /// Where to record the list, if anywhere.
     pub record_file: Option<NewRecordFile<F>>,
-    /// Is ready when the server is to end.
+    /// Ready when the server is to end.
     pub shutdown: Receiver<()>,
 }
 
@@ -185,9 +169,7 @@ where
     F: Write + Send + Drop + 'static,
     P: Fn() -> ProcessValues + Send + Drop + 'static,
 {
-    /// Serves connections until `arguments.connections` were accepted or `shutdown` is ready.
-    ///
-    /// If `arguments.connections` is 0, there is no limit.
+    /// Serves until `arguments.connections`, if not 0, were accepted or `shutdown` is ready.
     ///
     /// Prints the listeners' addresses to `writer`, and records the list in `record_file`, if
     /// given. Once `shutdown` is ready, it closes the hub, which ends held connects. Then it waits
@@ -196,7 +178,7 @@ where
     ///
     /// # Errors
     ///
-    /// The error of printing or of a system call, or of memory that runs out.
+    /// The error of a system call.
     ///
     /// # Blocking
     ///
@@ -209,7 +191,7 @@ where
         self.run::<Brand, W>(EmptyWindow::new(), start, placing, counts, writer)
     }
 
-    // Serves connections over a new hub until all have ended, while a thread posts ticks.
+    // Serves connections over a new hub, while a thread posts ticks.
     fn run<L: LogId + Send + Sync + 'static, W: Write>(
         self,
         opened: EmptyWindow,
@@ -253,7 +235,7 @@ where
         let end = shared.close_on(shutdown)?;
         counts.set_listens(true);
         tell_all(&rt, &first, other.as_ref(), writer)?;
-        let served = serve_endpoints(rt, &mut runtime, first, other, arguments, end);
+        let served = serve_hub(rt, &mut runtime, first, other, arguments, end);
         counts.set_listens(false);
         ticker.end(&rt);
         shared.hub.close(&rt);
@@ -262,7 +244,7 @@ where
     }
 }
 
-// Logs the addresses of the listeners of `first` and `other`, and prints them to `writer`.
+// Logs and prints the addresses of the listeners.
 fn tell_all<R: Log, W: Write, S, O>(
     rt: &R,
     first: &EndpointParts<S, O>,
@@ -276,7 +258,6 @@ fn tell_all<R: Log, W: Write, S, O>(
     Ok(())
 }
 
-// Logs the address of `listener` and prints it to `writer`, each time after `what`.
 fn tell<R: Log, W: Write>(
     rt: &R,
     what: &str,
@@ -289,8 +270,7 @@ fn tell<R: Log, W: Write>(
     writer.flush()
 }
 
-// Listens at the first address of `listen_address` that works. If none does, returns the last
-// error.
+// Listens at the first address that works. If none does, returns the last error.
 fn bind<'a, R: Net>(
     rt: &R,
     runtime: &Runtime,
@@ -306,7 +286,7 @@ fn bind<'a, R: Net>(
     Err(ServeFault::CannotListen(listen_address.name, refused))
 }
 
-// The parts that the listeners and threads of a server share.
+// What the listeners and threads of a server share.
 #[derive(Drop)]
 struct SharedParts<L: HubKind, R: Wait + Drop> {
     rt: R,
@@ -317,7 +297,6 @@ struct SharedParts<L: HubKind, R: Wait + Drop> {
     refusals: ListenerRefusals<R>,
 }
 
-// A listener with its backend and its observer.
 #[derive(Drop)]
 struct EndpointParts<S, O> {
     listener: TcpListener,
@@ -325,20 +304,18 @@ struct EndpointParts<S, O> {
     observer: O,
 }
 
-// The observer of a listener's requests: metrics, the log of answers, and the log of refusals.
+// Metrics, the log of answers, and the log of refusals.
 type EndpointObserver<R> = (
     (Arc<Counts, Global>, AnswerLogger<R>),
     Arc<RefusalLogger<R>, Global>,
 );
 
-// A listener of this server, with its backend and its observer.
 type HubEndpoint<L, R> = EndpointParts<
     TimedBackend<HubBackend<L, R, SinceStart<R>, RandomNonces<R>>, R>,
     EndpointObserver<R>,
 >;
 
 impl<L: HubKind, R: Wait + Clock + AllocGlobal + Log + Copy + Drop> SharedParts<L, R> {
-    // Creates the parts for `hub`. `seed`: the seed for nonces.
     fn new(
         rt: R,
         hub: Hub<L, R>,
@@ -357,9 +334,8 @@ impl<L: HubKind, R: Wait + Clock + AllocGlobal + Log + Copy + Drop> SharedParts<
         })
     }
 
-    // Creates the backend and the observer for `listener` and, if given, for `readers`.
-    //
-    // `readers`: the read-only listener. `publish`: the patterns of the channels that it allows.
+    // Creates the backends and observers. `publish`: patterns of the channels that `readers`
+    // allows.
     fn endpoints(
         &self,
         listener: TcpListener,
@@ -378,9 +354,6 @@ impl<L: HubKind, R: Wait + Clock + AllocGlobal + Log + Copy + Drop> SharedParts<
         Ok((first, Some(other)))
     }
 
-    // Creates the backend and the observer for `listener`, and returns all three. `access`: what
-    // the listener allows. `refusals`: the log of the listener's refusals. `answers`: the log of
-    // answers' digests, if they are recorded.
     fn parts_for(
         &self,
         listener: TcpListener,
@@ -411,7 +384,6 @@ impl<L: HubKind, R: Wait + Clock + AllocGlobal + Log + Copy + Drop> SharedParts<
         })
     }
 
-    // Creates the future that closes the hub once `shutdown` is ready.
     fn close_on<A: Drop>(&self, shutdown: A) -> Result<CloseOnShutdown<L, R, A>, AllocError>
         ensures { IfOk result (λ c. c.shutdown ≡ shutdown) }
     {
@@ -429,8 +401,7 @@ where
     L: LogId + Send + Sync + 'static,
     R: Wait + Threads + Clock + AllocGlobal + Log + Sync + Send + Copy + Drop + 'static,
 {
-    // Starts the thread that posts ticks. `crowd`: the number of filed answers above which they are
-    // dropped sooner.
+    // `crowd`: the number of filed answers above which they are dropped sooner.
     fn start_ticker(&self, crowd: usize) -> io::Result<Ticker> {
         Ticker::start(TickerParts {
             rt: self.rt,
@@ -442,8 +413,6 @@ where
         })
     }
 
-    // Starts the thread that answers the requests at `listener`, the listener for metrics.
-    // `process`: returns what the metrics show of this process.
     fn start_metrics<P: Fn() -> ProcessValues + Send + Drop + 'static>(
         &self,
         arguments: ServeSettings,
@@ -472,7 +441,28 @@ where
     }
 }
 
-// Serves the connections of `first` and, if given, of `other`, until `end` is ready.
+// Serves the connections of a hub's listeners until `end` is ready.
+//
+// Prover: a function of its own, because `run` has too many bounds to compare the full types.
+fn serve_hub<L, R, A>(
+    rt: R,
+    runtime: &mut Runtime,
+    first: HubEndpoint<ServerKind<L>, R>,
+    other: Option<HubEndpoint<ServerKind<L>, R>>,
+    arguments: ServeSettings,
+    end: A,
+) -> io::Result<()>
+where
+    L: LogId + Send + Sync + 'static,
+    R: Wait + Threads + Clock + RandomSource + AllocGlobal + Log + Sync + Send + Copy + Drop,
+    A: Future<Output = ()>,
+    requires { A.can_poll end }
+{
+    serve_endpoints(rt, runtime, first, other, arguments, end)
+}
+
+// Accepts up to `arguments.connections` connections (0: any number) of `first` and, if given, of
+// `other`, until `end` is ready, and serves them.
 //
 // Prover: generic, because comparing the full types in the connections' tasks takes too long.
 fn serve_endpoints<S, I, O, R, A>(
@@ -484,8 +474,8 @@ fn serve_endpoints<S, I, O, R, A>(
     end: A,
 ) -> io::Result<()>
 where
-    S: Backend<Items = I> + Send + Sync + Drop,
-    I: Future<Output = Result<Vec<Item>, Unanswered>> + Send + Drop,
+    S: Backend<Items = I, Witness: Send> + Send + Sync + Drop,
+    I: Future<Output = Result<Answered<S::Witness>, Unanswered<S::Witness>>> + Send + Drop,
     O: Observer + Send + Sync,
     R: Wait + Threads + Clock + RandomSource + AllocGlobal + Sync + Send + Copy + Drop,
     A: Future<Output = ()>,
@@ -500,7 +490,6 @@ where
     serve_until(rt, runtime, first, other, arguments.connections, end)
 }
 
-// Creates the service for the listener in `parts`, and returns both.
 fn endpoint_of<S: Backend, O: Observer>(
     alloc: Global,
     arguments: ServeSettings,

@@ -7,8 +7,8 @@ use log::{Level, Log, Metadata, Record, error, kv, warn};
 use std::fmt::{Display, Formatter};
 use std::{fmt, io};
 
-// One second, in milliseconds. If `timeout` or `max_interval` is shorter, the log has a warning,
-// since the user may have meant seconds.
+// In milliseconds. If `timeout` or `max_interval` is shorter, the log has a warning, since the user
+// may have meant seconds.
 const SECOND: u32 = 1000;
 
 /// Logs all settings except the seed, and warns of times that are probably not meant.
@@ -47,7 +47,7 @@ pub fn log_cannot_serve<R: Log>(rt: &R, error: &io::Error) {
     error!(rt; target: "bayeuxd", error:% = error; "cannot serve");
 }
 
-// The settings except the seed, each with its name in the log.
+// The settings except the seed.
 #[derive(Clone, Copy)]
 struct SettingsPairs<'s, 'a>(&'s Settings<'a>);
 
@@ -85,7 +85,6 @@ impl<'s, 'a> Source for SettingsPairs<'s, 'a> {
     }
 }
 
-// Passes a setting with its `name` and `value` to `to`.
 fn pair<V: VisitSource, T: ToValue + Drop>(
     to: &mut V,
     name: &str,
@@ -94,7 +93,7 @@ fn pair<V: VisitSource, T: ToValue + Drop>(
     to.visit_pair(name, value.to_value())
 }
 
-// A number of milliseconds, which is shown with a unit: `30s`, `1500ms`, or `0`.
+// Shown with a unit: `30s`, `1500ms`, or `0`.
 #[derive(Clone, Copy)]
 struct Time(u32);
 
@@ -108,7 +107,6 @@ impl Display for Time {
     }
 }
 
-// The hint for a number of milliseconds that may be meant as seconds.
 #[derive(Clone, Copy)]
 struct SecondsHint(u32);
 
@@ -118,7 +116,7 @@ impl Display for SecondsHint {
     }
 }
 
-// Patterns of channels, which are shown with a comma between two. No pattern has a comma.
+// Shown with a comma between two. No pattern has a comma.
 #[derive(Clone, Copy)]
 struct Patterns<'a>(&'a [Pattern]);
 

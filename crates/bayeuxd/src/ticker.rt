@@ -1,4 +1,3 @@
-//! The thread that posts ticks.
 use crate::clock::SinceStart;
 use crate::refusals::ListenerRefusals;
 use crate::replies::ReplyLogger;
@@ -23,26 +22,20 @@ const TICK: u64 = 100;
 // A filed answer is dropped after this number of ticks: a minute. Policy of this server.
 const KEPT: usize = 600;
 
-// If more answers are filed than sessions may be live, a filed answer is dropped after this number
-// of ticks: a second. Policy of this server.
+// The same, if more answers are filed than sessions may be live: a second. Policy of this server.
 const KEPT_IN_A_CROWD: usize = 10;
 
-// Number of ticks between the log lines for rejected requests and overflows: a second. Policy of
-// this server.
+// Ticks between the log lines for rejected requests and overflows: a second. Policy of this server.
 const TELLING: u64 = 10;
 
 /// What the thread that posts ticks uses.
 #[derive(Drop)]
 pub struct TickerParts<L: HubKind, R: Wait + Drop> {
-    /// The right to wait, to read the clock, and to log.
     pub rt: R,
-    /// The hub that the ticks are posted to.
     pub hub: Arc<Hub<L, R>, Global>,
-    /// The clock that the ticks' moments come from.
+    /// The clock of the ticks' moments.
     pub clock: SinceStart<R>,
-    /// The metrics, which get the hub's state.
     pub counts: Arc<Counts, Global>,
-    /// The loggers of the refusals at both listeners.
     pub refusals: ListenerRefusals<R>,
     /// The number of filed answers above which they are dropped sooner.
     pub crowd: usize,
@@ -65,7 +58,7 @@ impl Ticker {
     ///
     /// # Errors
     ///
-    /// The error of starting the thread, or of memory that runs out. No tick is then posted.
+    /// The error of starting the thread.
     pub fn start<L, R>(parts: TickerParts<ServerKind<L>, R>) -> io::Result<Ticker>
     where
         L: LogId + Send + Sync + 'static,
@@ -90,8 +83,7 @@ impl Ticker {
     }
 }
 
-// Posts a tick every 100 ms until `stop` is set. Sleeps between ticks, and locks and wakes tasks as
-// `Hub::tick` does.
+// Posts a tick every 100 ms until `stop` is set.
 fn post_ticks<L: HubKind, R>(parts: &TickerParts<L, R>, stop: &AtomicBool)
 where
     R: Wait + Clock + AllocGlobal + Log + Drop,
@@ -121,7 +113,7 @@ where
         }
         thread::sleep(rt, Duration::from_millis(TICK));
         turn = turn.wrapping_add(1);
-        // A tick that is not appended adds no place. Answers are then dropped only if too many are
+        // A tick that is not appended adds no place. Then answers are dropped only if many are
         // filed.
         match hub.tick(rt, rt.alloc(), &mut pass, Tick::new(clock.now())) {
             Ok(ticked) => {
@@ -143,8 +135,7 @@ where
     }
 }
 
-// Removes all of `places` except the newest `kept`. Returns the newest place removed, or `None` if
-// `places` is unchanged.
+// Removes all of `places` except the newest `kept`, and returns the newest place removed.
 fn last_before(places: &mut VecDeque<u64>, kept: usize) -> Option<u64> {
     let mut last = None;
     for _ in kept..places.len() {
@@ -153,8 +144,7 @@ fn last_before(places: &mut VecDeque<u64>, kept: usize) -> Option<u64> {
     last
 }
 
-// Copies the state of the hub and its shards to `counts`. Returns how many answers are filed in all
-// shards.
+// Copies the state of the hub to `counts`, and returns how many answers are filed in all shards.
 fn survey<L: HubKind, H: Wait + Drop, R: Wait>(
     rt: &R,
     hub: &Hub<L, H>,

@@ -1,4 +1,3 @@
-//! Measures how long the server takes to process requests.
 use bx_cut::Bodies;
 use bx_metrics::Counts;
 use bx_service::{Backend, Declined};
@@ -12,22 +11,23 @@ use std::time::{Clock, Instant};
 /// events, or for the network.
 #[derive(Drop)]
 pub struct TimedBackend<B, R> {
-    /// The right to read the clock.
     pub rt: R,
-    /// The backend that admits the requests.
     pub backend: B,
-    /// The metrics, which count the times.
     pub counts: Arc<Counts, Global>,
 }
 
 impl<B: Backend, R: Clock + Drop> Backend for TimedBackend<B, R> {
+    type Witness = B::Witness;
+
     type Items = B::Items;
 
-    ghost admits = { λ timed bodies outcome. B.admits timed.backend bodies outcome };
+    ghost answers = { λ timed documents output. B.answers timed.backend documents output };
+
+    ghost rejects = { λ timed documents fault witness. B.rejects timed.backend documents fault witness };
 
     ghost stands = { B.stands };
 
-    fn admit(&self, bodies: Bodies) -> Result<B::Items, Declined> {
+    fn admit(&self, bodies: Bodies) -> Result<B::Items, Declined<B::Witness>> {
         let started = Instant::now(&self.rt);
         let outcome = self.backend.admit(bodies);
         if let Ok(started) = started

@@ -1,4 +1,3 @@
-//! Outcomes of messages, and the advice for each.
 ghost use Rattle.std.specs.Prelude.{◌≡◌};
 ghost use Rattle.bx_advice.specs.Advice.{advice_of, reconnect_of};
 
@@ -8,11 +7,10 @@ use crate::error::Error;
 /// The outcome of a message, as its reply reports it.
 #[derive(Clone, Copy, Debug, PartialEq, Eq)]
 pub enum Outcome {
-    /// A handshake succeeded.
     Opened,
-    /// A connect succeeded: at once, by an event, or by a tick that ended its hold.
+    /// Answered at once, by an event, or by a tick that ended the hold.
     Connected,
-    /// A held connect succeeded without events, because its session disconnected.
+    /// A held connect ended without events, because its session disconnected.
     Disconnected,
     /// Any other message succeeded.
     Done,
@@ -20,16 +18,12 @@ pub enum Outcome {
     Failed(Error),
 }
 
-/// What a client should do next.
-///
-/// Bayeux 1.0, the advice field `reconnect`.
+/// What a client should do next. Bayeux 1.0, the advice field `reconnect`.
 #[derive(Clone, Copy, Debug, PartialEq, Eq)]
 pub enum Reconnect {
-    /// The client should connect again.
     Retry,
-    /// The client should handshake again.
     Handshake,
-    /// The client should neither connect nor handshake again. In JSON this is `none`.
+    /// Neither connect nor handshake again. In JSON this is `none`.
     Never,
 }
 
@@ -38,11 +32,10 @@ pub enum Reconnect {
 /// Bayeux 1.0, the field `advice`. Sending `timeout` with `Retry` only is a policy of this server.
 #[derive(Clone, Copy, Debug, PartialEq, Eq)]
 pub struct Advice {
-    /// How long the client should wait before it connects or handshakes again, in milliseconds.
+    /// How long the client should wait first, in milliseconds.
     pub interval: u32,
-    /// What the client should do next.
     pub reconnect: Reconnect,
-    /// The maximum hold of a connect, in milliseconds; `Some` only with `Retry`.
+    /// The maximum hold of a connect, in milliseconds; only with `Retry`.
     pub timeout: Option<u32>,
 }
 
@@ -51,8 +44,7 @@ pub struct Advice {
 /// - `Retry`: a handshake or a connect succeeded.
 /// - `Handshake`: the client id is missing or unknown, the session overflowed, or too many sessions
 ///   are live.
-/// - `Never`: the client's version or connection types are not supported, or its session
-///   disconnected.
+/// - `Never`: the version or the connection types are not supported, or the session disconnected.
 ///
 /// Other outcomes have no advice.
 ///
@@ -73,8 +65,6 @@ pub fn advice_for(outcome: Outcome, config: &Config) -> Option<Advice>
     })
 }
 
-// Returns what a client should do after `error`, if anything. Most errors leave the session
-// unchanged and need no advice.
 fn reconnect_after(error: Error) -> Option<Reconnect>
     ensures { result ≡ reconnect_of error }
 {

@@ -1,4 +1,3 @@
-//! The configuration of a server.
 ghost use Rattle.std.specs.Prelude.{◌≤◌};
 ghost use Rattle.bx_advice.specs.declared.limit.TheConstants.{MAX_SHARDS};
 
@@ -6,27 +5,25 @@ use crate::count::ShardCount;
 use crate::limit::{Limit, Limits, STANDARD_LIMITS};
 use crate::options::Options;
 
-/// The configuration of a server, with times in milliseconds.
+/// The configuration of a server. Times are in milliseconds.
 #[derive(Clone, Copy, Debug)]
 pub struct Config {
-    /// The number of shards of the server, from 1 to [`MAX_SHARDS`](crate::MAX_SHARDS).
+    /// From 1 to [`MAX_SHARDS`](crate::MAX_SHARDS).
     pub shards: usize,
-    /// The maximum hold of a connect and the advised timeout, in milliseconds.
+    /// The maximum hold of a connect, which is also the advised timeout.
     pub timeout: u32,
-    /// The advised interval between connects, in milliseconds.
+    /// The advised time between connects.
     pub interval: u32,
-    /// How long a session lives without another accepted message, in milliseconds.
-    ///
-    /// The time starts at the last accepted message or, if later, at the last deadline of a hold.
+    /// How long a session lives after its last accepted message or, if later, its last hold's
+    /// deadline.
     pub max_interval: u32,
-    /// The limits of sessions and messages.
     pub limits: Limits,
-    /// Whether the reply to a request's last message also carries the session's waiting events.
+    /// Whether the last reply of a request may also carry the session's waiting events.
     ///
-    /// This message must be a subscription, an unsubscription or a publish. All messages of the
-    /// request must be accepted and come from one session, which must not use acknowledgements.
+    /// The last message must be a subscription, an unsubscription or a publish. All messages must
+    /// be accepted and come from one session, which does not use acknowledgements.
     pub ride: bool,
-    /// Whether a publish without a client id is accepted. Such a publish belongs to no session.
+    /// Whether a publish without a client id, and so without a session, is accepted.
     pub anonymous: bool,
     pub ghost some_shard: { 1 ≤ shards },
     pub ghost shards_in_range: { shards ≤ MAX_SHARDS },
@@ -38,8 +35,7 @@ impl Config {
 
     /// Creates a configuration with the limits [`STANDARD_LIMITS`] and without options.
     ///
-    /// The options are `ride` and `anonymous`. The times are in milliseconds. Returns `None` if
-    /// `shards` is not from 1 to [`MAX_SHARDS`](crate::MAX_SHARDS).
+    /// Returns `None` if `shards` is not from 1 to [`MAX_SHARDS`](crate::MAX_SHARDS).
     ///
     /// # Examples
     ///
@@ -114,7 +110,6 @@ mod tests {
         Ok(())
     }
 
-    // Checks that the limits are the ones in PROTOCOL and OPERATING.
     #[test]
     fn limits_are_the_documented_ones(rt: HostRuntime) -> Result<(), Fail> {
         for (limit, name, greatest, standard) in [

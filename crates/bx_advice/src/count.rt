@@ -1,22 +1,19 @@
-//! Numbers from 1 to a maximum.
 use crate::limit::{BODY_LIMIT, MAX_SHARDS, MAX_WORKERS};
 use std::marker::Model;
 
 /// A number from 1 to `MAX`.
-///
-/// Model: the number.
 #[derive(Clone, Copy, Debug, PartialEq, Eq)]
 pub struct Count<const MAX: usize> {
     number: usize,
 }
 
-/// A number of shards, from 1 to [`MAX_SHARDS`].
+/// A number of shards.
 pub type ShardCount = Count<MAX_SHARDS>;
 
-/// A number of workers, from 1 to [`MAX_WORKERS`].
+/// A number of workers.
 pub type WorkerCount = Count<MAX_WORKERS>;
 
-/// The maximum length of a body or query that is read, in bytes: 1 to [`BODY_LIMIT`].
+/// The maximum length in bytes of a body or query that is read.
 pub type BodyLimit = Count<BODY_LIMIT>;
 
 impl<const MAX: usize> Model for Count<MAX> {
@@ -34,7 +31,7 @@ impl<const MAX: usize> Model for Count<MAX> {
 impl<const MAX: usize> Count<MAX> {
     ghost use Rattle.std.specs.Prelude.{◌≡◌, ◌≤◌, ◌↔◌, IsSome, IfSome};
 
-    /// Creates the number `number`, or returns `None` if it is not from 1 to `MAX`.
+    /// Creates the number, or returns `None` if it is not from 1 to `MAX`.
     pub fn new(number: usize) -> Option<Count<MAX>>
         ensures valid { IsSome result ↔ ((1 ≤ number) × (number ≤ MAX)) }
         ensures number { IfSome result (λ c. c ≡ number) }
@@ -61,7 +58,7 @@ impl<const MAX: usize> Count<MAX> {
         Count { number: MAX }
     }
 
-    /// Returns the number, from 1 to `MAX`.
+    /// Returns the number.
     pub fn get(self) -> usize
         ensures same { result ≡ self.entry }
         ensures some { 1 ≤ result }

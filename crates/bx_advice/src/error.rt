@@ -1,4 +1,3 @@
-//! Errors in replies.
 ghost use Rattle.std.specs.Prelude.{◌≡◌};
 ghost use Rattle.bx_advice.specs.Errors.{error_text};
 
@@ -6,47 +5,42 @@ use std::fmt;
 
 /// Why a message was rejected, or a connect failed.
 ///
-/// The variants through `MissingData` are in the order in which a message is tested. The first that
-/// applies is reported. The last two are results of connects that were accepted.
+/// The variants through `MissingData` are in the order in which a message is tested; the last two
+/// are results of accepted connects.
 ///
-/// Bayeux 1.0, the field `error`, leaves codes and texts open. These are a policy of this server.
+/// Bayeux 1.0 leaves codes and texts of `error` open: they are a policy of this server.
 #[derive(Clone, Copy, Debug, PartialEq, Eq, Hash)]
 pub enum Error {
-    /// The message's channel begins with `/meta/` and is not one of Bayeux's five meta channels.
+    /// The channel begins with `/meta/` and is not one of Bayeux's five meta channels.
     UnknownMetaChannel,
-    /// The message is a handshake after another one in the same request.
+    /// A handshake after another one in the same request.
     SecondHandshake,
     /// The `version` of a handshake is not a string that equals `1` or begins with `1.`.
     UnsupportedVersion,
-    /// A handshake's `supportedConnectionTypes` is not an array with at least one polling type.
-    ///
-    /// The polling types are `long-polling` and `callback-polling`.
+    /// `supportedConnectionTypes` is not an array with `long-polling` or `callback-polling`.
     NoSupportedConnectionType,
-    /// The message is a handshake, but the server already has its maximum number of live sessions.
+    /// The server already has its maximum number of live sessions.
     TooManySessions,
-    /// The message's `clientId` is not a string, or is absent although the message needs it.
+    /// `clientId` is not a string, or is absent although the message needs it.
     NoClientId,
-    /// The message's `clientId` is not the id of a live session.
+    /// `clientId` is not the id of a live session.
     UnknownClient,
-    /// The `connectionType` of a connect is neither absent nor one of the two polling types.
-    ///
-    /// The polling types are `long-polling` and `callback-polling`.
+    /// `connectionType` is neither absent nor `long-polling` nor `callback-polling`.
     UnknownConnectionType,
     /// The channel of a publish is not a channel name.
     InvalidChannel,
-    /// A string in the message's `subscription` is not a pattern.
+    /// A string in `subscription` is not a pattern.
     InvalidPattern,
-    /// The message's `subscription` has more strings than `Limits::texts`.
+    /// `subscription` has more strings than `Limits::texts`.
     TooManyPatterns,
-    /// A pattern in the message's `subscription` begins with `/meta/`.
+    /// A pattern in `subscription` begins with `/meta/`.
     SubscriptionDenied,
-    /// The message's `subscription` is absent, or neither a string nor an array of strings.
+    /// `subscription` is absent, or neither a string nor an array of strings.
     MissingSubscription,
-    /// The message is a publish without `data`.
+    /// A publish has no `data`.
     MissingData,
-    /// A held connect was ended by a newer connect of its session.
+    /// A newer connect of the session ended a held connect.
     SupersededConnect,
-    /// The session of the connect has overflowed.
     QueueOverflow,
 }
 

@@ -1,4 +1,3 @@
-//! The limits of a server: what each bounds, its greatest value, and its default.
 ghost use Rattle.std.specs.Prelude.{◌≤◌};
 
 /// The maximum length of a request's body or query, in bytes.
@@ -10,35 +9,31 @@ pub const MAX_SHARDS: usize = 64;
 /// The maximum number of workers of a round.
 pub const MAX_WORKERS: usize = 16;
 
-/// The greatest moment of a request or a tick: 2^62 milliseconds after the server started.
+/// The greatest moment: 2^62 milliseconds after the server started.
 pub const MAX_MOMENT: u64 = 4_611_686_018_427_387_904;
 
 /// The maximum number of entries in the list: 2^62.
 pub const MAX_ENTRIES: u64 = 4_611_686_018_427_387_904;
 
-/// The limits of a server, by default [`STANDARD_LIMITS`].
+/// The limits of a server.
 #[derive(Clone, Copy, Debug)]
 pub struct Limits {
-    /// The maximum number of a session's events that wait or are sent but not acknowledged.
+    /// The most events of a session that wait, or are sent and not acknowledged.
     pub events: usize,
-    /// The maximum total length of the texts of a session's events, in bytes.
-    ///
-    /// It counts the events that wait or are sent but not acknowledged.
+    /// The most bytes of their texts.
     pub bytes: usize,
-    /// The maximum number of a session's active patterns.
+    /// The most active patterns of a session.
     pub patterns: usize,
-    /// The maximum number of events in one answer to a connect or a rider.
+    /// The most events in one answer.
     pub batch: usize,
-    /// The maximum number of live sessions.
+    /// The most live sessions.
     pub sessions: usize,
-    /// The maximum number of strings in the `subscription` of one message.
+    /// The most strings in the `subscription` of one message.
     pub texts: usize,
     pub ghost some_batch: { 1 ≤ batch },
 }
 
-/// The default limits of sessions and messages.
-///
-/// The default of [`Limits::bytes`] is 2^62, which is more than the events of any session have.
+/// The default limits. That of [`Limits::bytes`], 2^62, is more than any session reaches.
 pub const STANDARD_LIMITS: Limits = Limits {
     events: 1024,
     bytes: 4_611_686_018_427_387_904,
@@ -49,17 +44,11 @@ pub const STANDARD_LIMITS: Limits = Limits {
 };
 
 /// A limit that can be configured.
-///
-/// A configuration has the limit's default, or a value from 1 to the limit's greatest value.
 #[derive(Clone, Copy, Debug, PartialEq, Eq)]
 pub enum Limit {
-    /// [`Limits::bytes`].
     Bytes,
-    /// [`Limits::sessions`].
     Sessions,
-    /// [`Limits::patterns`].
     Patterns,
-    /// [`Limits::events`].
     Events,
 }
 
@@ -67,7 +56,7 @@ impl Limit {
     ghost use Rattle.std.specs.Prelude.{◌≡◌};
     ghost use Rattle.bx_advice.specs.Limits.{accepts, greatest, limit_name, standard};
 
-    /// All limits that can be configured, in the order in which a record names them.
+    /// All of them, in the order in which a record names them.
     pub const ALL: [Limit; 4] = [
         Limit::Bytes,
         Limit::Sessions,
@@ -99,14 +88,14 @@ impl Limit {
         }
     }
 
-    /// Returns the default value, that of [`STANDARD_LIMITS`].
+    /// Returns the default value.
     pub fn standard(self) -> usize
         ensures { result ≡ standard self }
     {
         STANDARD_LIMITS.get(self)
     }
 
-    /// Returns `true` if `n` can be configured: the default, or from 1 to the greatest value.
+    /// Returns `true` if `n` is the default, or from 1 to the greatest value.
     pub fn accepts(self, n: usize) -> bool
         ensures { result ≡ accepts self n }
     {

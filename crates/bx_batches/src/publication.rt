@@ -1,4 +1,3 @@
-//! Ghost: queued events with the places of their publishes.
 ghost use Rattle.bx_entry.specs.Windows as windows;
 
 use bx_history::Lists;
@@ -21,7 +20,6 @@ impl Model for Publication {
     ghost also_owns = { λ _. ftrue };
 }
 
-// Ghost: the map from a place and an event to the list of that one publication.
 pub(crate) struct Published;
 
 impl<'a> Lists<(u64, &'a SharedEvent), Publication> for Published {

@@ -1,4 +1,3 @@
-//! The queued events of one session, and their batches.
 ghost use Rattle.std.specs.Prelude.{◌≡◌, ◌<◌, ◌≤◌, ◌+◌, ◌++◌, ◌⊎◌, ◌↔◌, [], not, IsFalse, IsTrue, OnOk, OnErr, IsErrOf, length, take, drop, if◌then◌else◌, ◌^◌};
 ghost use Rattle.std.specs.Vec.{vec_capacity, vec_len};
 ghost use Rattle.std.specs.VecDeque.{deque_capacity};
@@ -18,22 +17,17 @@ use std::marker::Model;
 
 /// The queued events of one session, oldest first: the outstanding batch, then the waiting events.
 ///
-/// The outstanding batch was sent and is not acknowledged yet.
+/// The outstanding batch was sent and not acknowledged (CometD's acknowledgement extension).
 ///
-/// Model: the events with the places of their publishes, how many are outstanding, and the number
-/// of the last batch. Also for how many more events there is room.
-///
-/// CometD's acknowledgement extension.
+/// Model: the events with the places of their publishes, the number of outstanding events, the
+/// number of the last batch, and the room for more events.
 #[derive(Drop)]
 pub struct Window {
     events: VecDeque<SharedEvent>,
-    // Ghost: the events with the places of their publishes.
     queue: History<Publication>,
-    // Number of outstanding events.
     out: usize,
-    // Number of the last batch, or 0 before the first.
+    // 0 before the first batch.
     number: u64,
-    // Total length of the JSON texts of the events, in bytes.
     bytes: usize,
 }
 
@@ -56,12 +50,12 @@ impl Model for Window {
         × (w.bytes ≡ sum_by event_size w.events.items) };
 }
 
-/// The outstanding batch, and the number of the last batch.
+/// The outstanding batch.
 #[derive(Drop)]
 pub struct OutstandingBatch<'a> {
     /// The number of the last batch, or 0 before the first.
     pub number: u64,
-    /// The outstanding events, oldest first. Empty if no batch is outstanding.
+    /// The outstanding events, oldest first.
     pub events: Iter<'a, SharedEvent>,
 }
 
@@ -79,9 +73,7 @@ impl Window {
         }
     }
 
-    /// Returns `true` if appending `event` would exceed `events` events or `bytes` bytes.
-    ///
-    /// The bytes are those of the JSON texts of all events.
+    /// Returns `true` if `event` would make it more than `events` events or `bytes` bytes of JSON.
     #[tactic(auto, using(crate::proofs::Parts::bytes_in), unfolding(bx_entry::specs::Windows::has_room))]
     pub fn is_full(&self, events: usize, bytes: usize, event: &SharedEvent) -> bool
         ensures full { result ≡ not (has_room events bytes event.now self.now.contents) }
@@ -93,14 +85,14 @@ impl Window {
         }
     }
 
-    /// Returns the number of queued events: the outstanding batch and the waiting events.
+    /// Returns the number of outstanding and waiting events.
     pub fn len(&self) -> usize
         ensures { result ≡ length self.now.contents.queue }
     {
         self.events.len()
     }
 
-    /// Returns the length in bytes of the JSON texts of all events.
+    /// Returns the length of the events' JSON texts.
     #[tactic(auto, using(crate::proofs::Parts::bytes_in))]
     pub fn bytes(&self) -> usize
         ensures { result ≡ bytes_of self.now.contents.queue }
@@ -116,10 +108,6 @@ impl Window {
     }
 
     /// Reserves room for `count` more events.
-    ///
-    /// # Errors
-    ///
-    /// `AllocError` if memory runs out; nothing has changed.
     pub fn reserve(&mut self, count: usize) -> Result<(), AllocError>
         ensures ok { OnOk result (count ≤ self.new.spare) }
         ensures refused { OnErr result (self.old.spare < count) }
@@ -131,8 +119,8 @@ impl Window {
 
     /// Appends the event published at `place`. Does not allocate.
     ///
-    /// Call [`reserve`](Self::reserve) first. The texts of all events together must be less than
-    /// 2^64 bytes long. This is so if [`is_full`](Self::is_full) returned `false` for `event`.
+    /// Call [`reserve`](Self::reserve) first. All texts together must have less than 2^64 bytes, as
+    /// they have if [`is_full`](Self::is_full) returned `false`.
     #[tactic(auto, using(crate::proofs::Parts::bytes_in, crate::proofs::Parts::pushed_bytes))]
     pub fn push_reserved(&mut self, place: u64, event: SharedEvent)
         requires room { 0 < self.old.spare }
@@ -155,8 +143,8 @@ impl Window {
 
     /// Returns how many events a connect gets after the first `done` are acknowledged.
     ///
-    /// `done`: 0 or the number of outstanding events. If a batch is then still outstanding, the
-    /// connect gets it again. If not, it gets at most `most` of the waiting events.
+    /// `done`: 0 or the number of outstanding events. A batch that is then still outstanding is
+    /// sent again. Otherwise, at most `most` of the waiting events are sent.
     pub fn portion(&self, done: usize, most: usize) -> usize
         requires { (done ≡ 0) ⊎ (done ≡ self.now.contents.out) }
         ensures again { done < self.now.contents.out → result ≡ self.now.contents.out }
@@ -169,10 +157,7 @@ impl Window {
         }
     }
 
-    /// Acknowledges batch `number`.
-    ///
-    /// Drops the outstanding events if `number` is at least the number of the last batch. Otherwise
-    /// does nothing.
+    /// Drops the outstanding events if `number` is at least the number of the last batch.
     #[tactic(auto, using(crate::proofs::Parts::front_bytes))]
     pub fn acknowledge(&mut self, number: u64)
         ensures contents { self.new.contents ≡ acknowledged number self.old.contents }
@@ -184,9 +169,7 @@ impl Window {
         self.out -= done;
     }
 
-    /// Forms the next batch from at most `most` waiting events.
-    ///
-    /// Does nothing if a batch is outstanding or no events wait.
+    /// Forms the next batch from at most `most` waiting events, unless a batch is outstanding.
     pub fn give(&mut self, most: usize)
         requires { self.old.contents.out ≡ 0 → self.old.contents.number + 1 < 2 ^ 64 }
         ensures contents { self.new.contents ≡ formed most self.old.contents }
@@ -201,8 +184,6 @@ impl Window {
     }
 
     /// Returns the outstanding batch and the number of the last batch.
-    ///
-    /// An outstanding batch stays the same until it is acknowledged or cleared.
     pub fn outstanding_batch(&self) -> OutstandingBatch<'_>
         ensures number { result.number ≡ self.now.contents.number }
         ensures events { deque_iter_rest result.events ≡ events_of (outstanding self.now.contents) }
@@ -221,8 +202,6 @@ impl Window {
     }
 
     /// Drops the first `count` events, which were sent without a batch.
-    ///
-    /// No batch may be outstanding.
     #[tactic(auto, using(crate::proofs::Parts::front_bytes))]
     pub fn forget(&mut self, count: usize)
         requires none_out { self.old.contents.out ≡ 0 }
@@ -233,10 +212,9 @@ impl Window {
         self.bytes -= drop_front(&mut self.events, count);
     }
 
-    /// Moves the first `count` events to the empty list `into`, and returns it.
+    /// Moves the first `count` events to the empty list `into`, and returns it. Does not allocate.
     ///
-    /// The events are sent without a batch, so no batch may be outstanding. `into` must have room
-    /// for `count` events. Does not allocate.
+    /// They are sent without a batch. `into` must have room for them.
     #[tactic(auto, using(crate::proofs::Parts::front_bytes))]
     pub fn hand_over(&mut self, count: usize, into: Vec<SharedEvent>) -> Vec<SharedEvent>
         requires none_out { self.old.contents.out ≡ 0 }
@@ -253,7 +231,7 @@ impl Window {
         into
     }
 
-    /// Drops all events, outstanding and waiting, but keeps the number of the last batch.
+    /// Drops all events, but keeps the number of the last batch.
     pub fn clear(&mut self)
         ensures contents { self.new.contents ≡ emptied self.old.contents }
         ensures spare { self.old.spare ≤ self.new.spare }
@@ -265,7 +243,7 @@ impl Window {
     }
 }
 
-// Drops up to `count` events from the front, and returns the length of their texts in bytes.
+// Returns the length of the dropped events' texts.
 #[tactic(auto, using(crate::proofs::Parts::front_bytes, crate::proofs::Parts::first_bytes))]
 fn drop_front(events: &mut VecDeque<SharedEvent>, count: usize) -> usize
     requires { sum_by event_size events.old.items < 2 ^ 64 }
@@ -284,7 +262,6 @@ fn drop_front(events: &mut VecDeque<SharedEvent>, count: usize) -> usize
     bytes
 }
 
-// Moves up to `count` events from the front to the end of `into`, which must have room for `count`.
 fn move_front(events: &mut VecDeque<SharedEvent>, count: usize, into: &mut Vec<SharedEvent>)
     requires { vec_len into.old + count ≤ vec_capacity into.old }
     ensures moved { into.new.items ≡ into.old.items ++ take count events.old.items }
@@ -300,7 +277,6 @@ fn move_front(events: &mut VecDeque<SharedEvent>, count: usize, into: &mut Vec<S
     }
 }
 
-// Returns the length of the texts of `events`, in bytes.
 #[tactic(auto, using(crate::proofs::Parts::grown_bytes))]
 fn bytes_in(events: &[SharedEvent]) -> usize
     requires { sum_by event_size events.now < 2 ^ 64 }

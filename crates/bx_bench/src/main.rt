@@ -89,7 +89,8 @@ fn main(rt: HostRuntime) -> Result<()> {
     Ok(())
 }
 
-// Runs the workload `name` and returns its total, or returns 0 if there is no such workload.
+// Runs the workload `name`. Returns what it counts, such as messages or events, or 0 for an unknown
+// `name`.
 fn run<R: Threads + Wait + Sync>(rt: &R, alloc: Global, name: &str) -> Result<usize> {
     match name.split_once('-').map_or(name, |parts| parts.0) {
         "check" | "cut" | "value" | "item" | "take" => run_texts(alloc, name),

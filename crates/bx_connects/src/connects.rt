@@ -1,4 +1,3 @@
-//! The connects of a shard, from their entries until their answers are taken.
 ghost use Rattle.std.specs.Prelude.{◌≡◌, ◌<◌, ℕ, nat_eq, nat_lt, not, Some, None, if◌then◌else◌, OnOk, OnErr, IfSome, IfNone, Option, option_map, option_to_list, is_some, [], ◌++◌};
 ghost use Rattle.std.specs.Map.{keys_of};
 ghost use Rattle.std.specs.Option.{option_or};
@@ -19,40 +18,31 @@ use std::alloc::{AllocError, Global};
 use std::marker::Model;
 
 /// Ghost: the state of a known connect or rider.
-///
-/// Only a held connect has a waker.
 #[derive(Drop)]
 pub enum ConnectState {
-    /// A connect that is held until it is answered, at the latest by a tick at or after the
-    /// deadline.
+    /// A connect that waits for its answer, at the latest until a tick at or after the deadline.
     Held {
-        /// The number of the session of the held connect.
         session: u64,
-        /// The deadline of the hold, or `None` if no tick can be that late. In milliseconds since
-        /// the server started.
+        /// In milliseconds since the server started; `None` if no tick can be that late.
         deadline: Option<u64>,
-        /// The waker of the task that waits for the answer, if any. Dropping it wakes the task.
+        /// Dropping it wakes the task that waits for the answer.
         waker: Option<Waker>,
     },
-    /// An answered connect or rider; the answer is not taken yet.
+    /// An answered connect or rider, whose answer is not taken yet.
     Filed {
-        /// The number of the session of the answered connect or rider.
         session: u64,
-        /// The place of the entry that gave the answer.
         place: u64,
-        /// The answer: its events and its reply.
         answer: Answer,
     },
 }
 
-/// A filed answer, with its session and the place of the entry that gave it.
+/// A filed answer.
 #[derive(Drop)]
 pub struct FiledAnswer {
-    /// The number of the session of the answered connect or rider.
+    /// The session of the answered connect or rider.
     pub session: u64,
     /// The place of the entry that gave the answer.
     pub place: u64,
-    /// The answer: its events and its reply.
     pub answer: Answer,
 }
 
@@ -61,9 +51,7 @@ pub struct FiledAnswer {
 /// A connect is known while it is held or its answer is filed. Riders are never held.
 ///
 /// While a connect is held, there is room for its waker and its answer, so storing them does not
-/// allocate. When it is answered or removed, its waker is appended to the caller's list.
-///
-/// Model: the held connects and the filed answers, each with its place.
+/// allocate. A call that answers or removes it appends its waker to the caller's list.
 #[derive(Drop)]
 pub struct Connects {
     held: HeldConnects,
@@ -95,12 +83,8 @@ impl Connects {
 
     /// Holds the connect at `place` for `session`.
     ///
-    /// `deadline`: milliseconds since the server started. Without one, no tick ends the hold. No
+    /// `deadline`: milliseconds since the server started, or `None` if no tick ends the hold. No
     /// connect or answer may be known at `place`.
-    ///
-    /// # Errors
-    ///
-    /// `AllocError` if memory runs out; nothing has changed.
     pub fn hold(
         &mut self,
         place: u64,
@@ -116,10 +100,9 @@ impl Connects {
         self.held.hold(place, session, deadline)
     }
 
-    /// Removes the connect or rider at `place`, held or answered, if it is known.
+    /// Removes the connect or rider at `place`, if it is known, with its answer.
     ///
-    /// Appends the waker of a held connect, if any, to `wakers`. Drops the answer of an answered
-    /// one.
+    /// Appends the waker of a held connect to `wakers`.
     pub fn forget(&mut self, place: u64, wakers: &mut Wakers)
         ensures forgotten { (p : ℕ) → connect_at self.new p ≡ (if nat_eq place p then None else connect_at self.old p) }
         ensures woken { wakers.new ≡ wakers.old ++ option_to_list (waker_of (connect_at self.old place)) }
@@ -132,8 +115,8 @@ impl Connects {
 
     /// Files `answered`, the answer that the entry at `place` gives to a known connect.
     ///
-    /// Appends the connect's waker, if any, to `wakers`. If an answer is already filed, replaces
-    /// that answer. Does nothing if the connect is not known.
+    /// Appends the connect's waker to `wakers`. Replaces an answer that is already filed. Does
+    /// nothing if the connect is not known.
     pub fn file(&mut self, place: u64, answered: Answered, wakers: &mut Wakers)
         ensures filed { (p : ℕ) → connect_at self.new p
             ≡ (if nat_eq answered.place p then filed_as place answered.answer (connect_at self.old answered.place)
@@ -165,13 +148,9 @@ impl Connects {
         }
     }
 
-    /// Files `answer` for the rider at `place`, a message of `session`.
+    /// Files `answer` for the rider at `place`, which the rider's own entry gave.
     ///
-    /// The entry of the rider gave the answer. No connect or answer may be known at `place`.
-    ///
-    /// # Errors
-    ///
-    /// `AllocError` if memory runs out; nothing has changed.
+    /// No connect or answer may be known at `place`.
     pub fn file_rider(&mut self, place: u64, session: u64, answer: Answer) -> Result<(), AllocError>
         requires { connect_at self.old place ≡ None }
         ensures ok { OnOk result ((p : ℕ) → connect_at self.new p
@@ -188,7 +167,7 @@ impl Connects {
         Ok(())
     }
 
-    /// Replaces the events of the answer filed for the connect or rider at `place`, if any.
+    /// Replaces the events of the answer filed at `place`, if any.
     pub fn set_events(&mut self, place: u64, events: Vec<SharedEvent>)
         ensures { (p : ℕ) → connect_at self.new p
             ≡ (if nat_eq place p then completed events.items (connect_at self.old place) else connect_at self.old p) }
@@ -198,7 +177,7 @@ impl Connects {
         }
     }
 
-    /// Files `answered`, if there is one, as [`file`](Self::file) does.
+    /// Files `answered`, if any, as [`file`](Self::file) does.
     pub fn file_if(&mut self, place: u64, answered: Option<Answered>, wakers: &mut Wakers)
         ensures filed { (p : ℕ) → connect_at self.new p ≡ filing place answered (connect_at self.old) p }
         ensures woken { AreWoken (connect_at self.old) (connect_at self.new) wakers.old wakers.new }
@@ -208,10 +187,9 @@ impl Connects {
         }
     }
 
-    /// Returns the number of a session that holds a connect due at `moment`, if any.
+    /// Returns the session of the held connect with the earliest deadline, if that is due.
     ///
-    /// A connect is due if its deadline is at or before `moment`. `moment`: milliseconds since the
-    /// server started. Of several sessions, returns the one with the earliest deadline.
+    /// Its deadline is then at or before `moment`, in milliseconds since the server started.
     pub fn first_due(&self, moment: u64) -> Option<u64>
         ensures due { IfSome result (λ session. IsDue self.now session moment) }
         ensures none { IfNone result ((place session deadline : ℕ)
@@ -221,7 +199,7 @@ impl Connects {
         Some(session)
     }
 
-    /// Takes the answer filed for the connect or rider at `place`, if any.
+    /// Takes the answer filed at `place`, if any.
     pub fn take(&mut self, place: u64) -> Option<Answer>
         ensures answer { result ≡ filed_answer (connect_at self.old place) }
         ensures taken { (p : ℕ) → connect_at self.new p
@@ -231,7 +209,7 @@ impl Connects {
         Some(answer)
     }
 
-    /// Takes any one filed answer, or returns `None` if no answer is filed.
+    /// Takes any one filed answer.
     pub fn take_any(&mut self) -> Option<TakenAnswer>
         ensures filed { IfSome result (λ f. (session : ℕ) × (connect_at self.old f.connect ≡ Some (Filed session f.place f.answer))) }
         ensures taken { IfSome result (λ f. (p : ℕ) → connect_at self.new p
@@ -250,7 +228,7 @@ impl Connects {
     /// Registers `waker` with the connect at `place`, and returns the waker that it replaces.
     ///
     /// Returns `waker` itself if the answer is filed (`Ready`), no connect is held at `place`
-    /// (`Unknown`), or `is_closed_to_wakers` is `true` (`Shut`).
+    /// (`Unknown`), or `is_closed_to_wakers` is set (`Shut`).
     pub fn watch(&mut self, place: u64, waker: Waker, is_closed_to_wakers: bool) -> Watch
         ensures watch { result ≡ watched is_closed_to_wakers waker (connect_at self.old place) }
         ensures stored { (p : ℕ) → connect_at self.new p
@@ -264,7 +242,7 @@ impl Connects {
 
     /// Drops the filed answers that entries before place `before` gave, and returns their number.
     ///
-    /// The cost depends on how many answers are filed, not on how many connects are held.
+    /// The cost depends on the filed answers alone.
     pub fn sweep(&mut self, before: u64) -> usize
         ensures swept { self.new ≡ swept before self.old }
         ensures kept { (p : ℕ) → connect_at self.new p ≡ unswept before (connect_at self.old p) }
@@ -281,7 +259,7 @@ impl Connects {
 
     /// Drops the wakers of all held connects, which wakes their tasks.
     ///
-    /// The cost depends on how many connects are held, not on how many answers are filed.
+    /// The cost depends on the held connects alone.
     pub fn unwatch_all(&mut self)
         ensures { (p : ℕ) → connect_at self.new p ≡ option_map unwatched (connect_at self.old p) }
     {
@@ -304,8 +282,6 @@ impl Connects {
     }
 
     /// Returns the session's number and the deadline of the connect at `place`, if it is known.
-    ///
-    /// An answered connect has no deadline.
     pub fn known(&self, place: u64) -> Option<(u64, Option<u64>)>
         ensures { result ≡ known_as (connect_at self.now place) }
     {
@@ -316,9 +292,7 @@ impl Connects {
         Some((filed.session, None))
     }
 
-    /// Takes the answer at the last of [`filed_places`](Self::filed_places), with that place.
-    ///
-    /// This need not be the answer that was filed last. Returns `None` if no answer is filed.
+    /// Takes the answer at the last of [`filed_places`](Self::filed_places), not always the newest.
     pub fn pop_filed(&mut self) -> Option<(u64, FiledAnswer)>
         ensures filed { self.old.filed ≡ self.new.filed ++ option_to_list result }
         ensures held { self.new.held ≡ self.old.held }
@@ -328,13 +302,7 @@ impl Connects {
         self.filed.pop()
     }
 
-    /// Holds the connect at `place` for `session`, unless a connect or an answer is known there.
-    ///
-    /// `deadline`: milliseconds since the server started. Without one, no tick ends the hold.
-    ///
-    /// # Errors
-    ///
-    /// `AllocError` if memory runs out; nothing has changed.
+    /// Holds a connect as [`hold`](Self::hold) does, unless one is known at `place`.
     pub fn reserve_connect(
         &mut self,
         place: u64,
@@ -351,7 +319,6 @@ impl Connects {
         self.hold(place, session, deadline)
     }
 
-    // Returns `true` if the connect at `place` is held or answered.
     fn is_known(&self, place: u64) -> bool
         ensures { result ≡ is_some (connect_at self.now place) }
     {

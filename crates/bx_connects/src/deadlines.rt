@@ -1,16 +1,13 @@
-//! The deadlines of held connects.
 ghost use Rattle.std.specs.Prelude.{◌≡◌, ◌≤◌, ◌<◌, ℕ, true, false, None, if◌then◌else◌, OnOk, OnErr, IfSome, IfNone};
 ghost use Rattle.bx_connects.specs.Deadlines.{is_noted, same_hold};
 
 use std::alloc::{AllocError, Global};
 use std::collections::BTreeSet;
 
-/// A hold: its deadline, the place of its connect, and the number of its session.
-///
-/// The deadline is in milliseconds since the server started.
+/// A hold: its deadline in milliseconds since the server started, its connect's place, its session.
 pub(crate) type Hold = (u64, u64, u64);
 
-/// The holds of a shard, ordered by deadline.
+/// The holds of a shard, by deadline.
 ///
 /// A tick examines only the holds that it ends, and at most one more.
 #[derive(Drop)]
@@ -19,7 +16,6 @@ pub(crate) struct Deadlines {
 }
 
 impl Deadlines {
-    /// Creates an empty set of holds.
     pub(crate) fn new(alloc: Global) -> Deadlines
         ensures { (q : ℕ × ℕ × ℕ) → is_noted result q ≡ false }
     {
@@ -28,11 +24,7 @@ impl Deadlines {
         }
     }
 
-    /// Adds `hold` to the set, unless it is already there.
-    ///
-    /// # Errors
-    ///
-    /// `AllocError` if memory runs out; nothing has changed.
+    /// Adds `hold`, unless it is there already.
     pub(crate) fn note(&mut self, hold: Hold) -> Result<(), AllocError>
         ensures ok { OnOk result ((q : ℕ × ℕ × ℕ) → is_noted self.new q
             ≡ (if same_hold hold q then true else is_noted self.old q)) }
@@ -42,7 +34,6 @@ impl Deadlines {
         Ok(())
     }
 
-    /// Removes `hold`, if it is in the set.
     pub(crate) fn forget(&mut self, hold: Hold)
         ensures { (q : ℕ × ℕ × ℕ) → is_noted self.new q
             ≡ (if same_hold hold q then false else is_noted self.old q) }
@@ -50,7 +41,7 @@ impl Deadlines {
         self.holds.remove(&hold);
     }
 
-    /// Returns the hold with the earliest deadline, if that is at or before `moment`.
+    /// Returns the first hold, if its deadline is at or before `moment`.
     pub(crate) fn first_due(&self, moment: u64) -> Option<Hold>
         ensures due { IfSome result (λ hold. hold.0 ≤ moment) }
         ensures noted { IfSome result (λ hold. is_noted self.now hold ≡ true) }

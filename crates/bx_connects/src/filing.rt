@@ -1,13 +1,11 @@
-//! A filed answer and its connect or rider.
 use bx_message::Answer;
 
-/// The answer to a connect or a rider, with the place of the entry that gave it.
+/// An answer that was taken.
 #[derive(Drop)]
 pub struct TakenAnswer {
-    /// The place of the connect or rider that the answer is for.
+    /// The place of the connect or rider.
     pub connect: u64,
-    /// The place of the entry that gave the answer. For a rider, this is equal to `connect`.
+    /// The place of the entry that gave the answer; for a rider, its own.
     pub place: u64,
-    /// The answer: its events and its reply.
     pub answer: Answer,
 }

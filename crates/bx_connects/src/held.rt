@@ -1,4 +1,3 @@
-//! The held connects of a shard, and their deadlines.
 ghost use Rattle.std.specs.Prelude.{◌≡◌, ◌≤◌, ◌<◌, ◌+◌, ℕ, nat_eq, true, false, is_some, None, Some, [], length, if◌then◌else◌, OnOk, OnErr, IfSome, IfNone, Option, option_map};
 ghost use Rattle.std.specs.Map.{keys_of};
 ghost use Rattle.futures.specs.declared.task.waker.Waker.{Waker};
@@ -12,10 +11,9 @@ use indexmap::IndexMap;
 use std::alloc::{AllocError, Global};
 use std::marker::Model;
 
-/// A connect held by `session`, and the waker of the task that waits for its answer, if any.
+/// A held connect, until a tick at or after its deadline, if it has one.
 ///
-/// A tick at or after `deadline` ends the hold. Without a deadline, no tick does. Dropping `waker`
-/// wakes the task.
+/// Dropping `waker` wakes the task that waits for the answer.
 #[derive(Drop)]
 pub(crate) struct HeldConnect {
     pub(crate) session: u64,
@@ -24,8 +22,7 @@ pub(crate) struct HeldConnect {
 }
 
 impl HeldConnect {
-    // Stores `waker` and returns the one that it replaces. Returns `waker` itself if
-    // `is_closed_to_wakers`.
+    // Returns the waker that `waker` replaces, or `waker` itself if `is_closed_to_wakers`.
     fn watch(&mut self, waker: Waker, is_closed_to_wakers: bool) -> Watch
         ensures watch { result ≡ watched_hold is_closed_to_wakers waker (Some self.old) }
         ensures stored { self.new ≡ stored_at is_closed_to_wakers waker self.old }
@@ -38,8 +35,6 @@ impl HeldConnect {
 }
 
 /// The held connects by place, and their deadlines.
-///
-/// Model: the connects, each with its place.
 #[derive(Drop)]
 pub(crate) struct HeldConnects {
     by_place: IndexMap<u64, HeldConnect>,
@@ -59,7 +54,6 @@ impl Model for HeldConnects {
 }
 
 impl HeldConnects {
-    /// Creates a collection without connects.
     pub(crate) fn new(alloc: Global) -> HeldConnects
         ensures { result ≡ [] }
     {
@@ -69,7 +63,6 @@ impl HeldConnects {
         }
     }
 
-    /// Returns how many connects are held.
     pub(crate) fn len(&self) -> usize
         ensures len { result ≡ length self.now }
         ensures small { result < 9223372036854775808 }
@@ -77,13 +70,7 @@ impl HeldConnects {
         self.by_place.len()
     }
 
-    /// Holds the connect at `place`, which must not be held, for `session` until `deadline`.
-    ///
-    /// `deadline`: milliseconds since the server started. Without one, no tick ends the hold.
-    ///
-    /// # Errors
-    ///
-    /// `AllocError` if memory runs out; nothing has changed.
+    /// Holds the connect at `place`, which must not be held yet.
     pub(crate) fn hold(
         &mut self,
         place: u64,
@@ -113,7 +100,6 @@ impl HeldConnects {
         noted
     }
 
-    /// Removes and returns the connect at `place`, if it is held.
     pub(crate) fn release(&mut self, place: u64) -> Option<HeldConnect>
         ensures was { result ≡ hold_at self.old place }
         ensures released { (p : ℕ) → hold_at self.new p ≡ (if nat_eq place p then None else hold_at self.old p) }
@@ -126,7 +112,6 @@ impl HeldConnects {
         Some(held)
     }
 
-    /// Returns the hold with the earliest deadline, if that is at or before `moment`.
     pub(crate) fn first_due(&self, moment: u64) -> Option<Hold>
         ensures due { IfSome result (λ hold. hold.0 ≤ moment) }
         ensures held { IfSome result (λ hold. is_held_until (hold_at self.now hold.1) hold.2 hold.0 ≡ true) }
@@ -136,10 +121,7 @@ impl HeldConnects {
         self.deadlines.first_due(moment)
     }
 
-    /// Registers `waker` with the connect at `place`, and returns the waker that it replaces.
-    ///
-    /// Returns `waker` itself if no connect is held at `place` (`Unknown`), or if
-    /// `is_closed_to_wakers` is `true` (`Shut`).
+    /// Registers `waker` as [`Connects::watch`](crate::Connects::watch) does.
     pub(crate) fn watch(&mut self, place: u64, waker: Waker, is_closed_to_wakers: bool) -> Watch
         ensures watch { result ≡ watched_hold is_closed_to_wakers waker (hold_at self.old place) }
         ensures stored { (p : ℕ) → hold_at self.new p
@@ -152,7 +134,6 @@ impl HeldConnects {
         }
     }
 
-    /// Drops the wakers of all held connects, which wakes their tasks.
     pub(crate) fn unwatch_all(&mut self)
         ensures unwatched { (p : ℕ) → hold_at self.new p ≡ option_map unwatched_hold (hold_at self.old p) }
         ensures bound { length self.new ≤ length self.old }
@@ -167,14 +148,12 @@ impl HeldConnects {
         );
     }
 
-    /// Returns the places of the held connects.
     pub(crate) fn places(&self) -> &[u64]
         ensures { result.now ≡ keys_of self.now }
     {
         self.by_place.keys().as_slice()
     }
 
-    /// Returns the session's number and the deadline of the connect at `place`, if it is held.
     pub(crate) fn known(&self, place: u64) -> Option<(u64, Option<u64>)>
         ensures { result ≡ option_map hold_of (hold_at self.now place) }
     {
@@ -182,7 +161,6 @@ impl HeldConnects {
         Some((held.session, held.deadline))
     }
 
-    /// Returns `true` if the connect at `place` is held.
     pub(crate) fn has(&self, place: u64) -> bool
         ensures { result ≡ is_some (hold_at self.now place) }
     {

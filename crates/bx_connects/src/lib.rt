@@ -7,6 +7,7 @@ mod filing;
 mod held;
 mod wakers;
 mod watch;
+mod woken;
 
 pub use connects::{ConnectState, Connects, FiledAnswer};
 pub use filing::TakenAnswer;

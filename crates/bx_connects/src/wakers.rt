@@ -1,6 +1,6 @@
-//! A list of wakers of tasks that waited for connects.
 ghost use Rattle.std.specs.Prelude.{◌≡◌, [], ◌∷◌, ◌++◌, length, option_to_list, ◌≤◌};
 
+use crate::woken::Woken;
 use bx_history::History;
 use futures::task::Waker;
 use std::alloc::Global;
@@ -10,15 +10,12 @@ use std::marker::Model;
 ///
 /// Create it before you lock a shard, and drop it after you unlock the shard. If memory runs out
 /// for a waker, its task is woken at once.
-///
-/// Model: all wakers that were appended, in order.
 #[derive(Drop)]
 pub struct Wakers {
     list: Vec<Waker>,
-    // Ghost: all wakers that were appended (`given`), and those that were woken at once
-    // (`at_once`).
     given: History<Waker>,
-    at_once: History<Waker>,
+    // Ghost: the wakers for which memory ran out.
+    at_once: Woken,
 }
 
 impl Model for Wakers {
@@ -30,7 +27,6 @@ impl Model for Wakers {
 
     ghost view = { λ w. w.given };
 
-    // The appended wakers are exactly those in the list and those that were woken at once.
     ghost invariant = { λ w. IsPermutation w.given (w.at_once ++ w.list.items) };
 }
 
@@ -42,7 +38,7 @@ impl Wakers {
         Wakers {
             list: Vec::new(alloc),
             given: History::new(),
-            at_once: History::new(),
+            at_once: Woken::new(),
         }
     }
 
@@ -53,11 +49,10 @@ impl Wakers {
     {
         self.given.push(&waker);
         if let Err(refused) = self.list.push(waker) {
-            self.at_once.push(&refused.value);
+            self.at_once.wake(refused.value);
         }
     }
 
-    /// Appends `waker`, if there is one, or wakes its task at once if memory runs out.
     pub(crate) fn push_if(&mut self, waker: Option<Waker>)
         ensures { self.new ≡ self.old ++ option_to_list waker }
     {
@@ -66,9 +61,7 @@ impl Wakers {
         }
     }
 
-    /// Returns how many tasks are still to be woken.
-    ///
-    /// Tasks that were woken at once do not count.
+    /// Returns how many tasks are still to be woken, without those that were woken at once.
     pub fn len(&self) -> usize
         ensures { result ≤ length self.now }
     {

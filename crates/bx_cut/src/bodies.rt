@@ -1,18 +1,17 @@
-//! The documents of a request.
 ghost use Rattle.std.specs.Prelude.{◌≡◌, ◌<◌, ◌==◌, ℕ, List, [], length, get_or};
 ghost use Rattle.bx_cut.specs.Bodies.{texts_of};
 
 /// The documents of one request, before they are parsed.
 #[derive(Drop)]
 pub enum Bodies {
-    /// The request has one document: its whole body.
+    /// The whole body.
     Whole(Vec<u8>),
-    /// The request has these documents, from a form or a query, already percent-decoded.
+    /// Those of a form or a query, percent-decoded.
     Decoded(Vec<String>),
 }
 
 impl Bodies {
-    /// Returns the number of documents, which is 1 for a whole body.
+    /// Returns the number of documents.
     pub fn len(&self) -> usize
         ensures { result ≡ length (texts_of self.now) }
     {
@@ -29,7 +28,7 @@ impl Bodies {
         self.len() == 0
     }
 
-    /// Returns the bytes of document `index`, counted from 0 and less than [`len`](Self::len).
+    /// Returns the bytes of document `index`, counted from 0.
     pub fn get(&self, index: usize) -> &[u8]
         requires { index < length (texts_of self.now) }
         ensures { result.now ≡ get_or (texts_of self.now) index [] }

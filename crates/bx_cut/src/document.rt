@@ -1,4 +1,3 @@
-//! JSON documents, split into messages.
 ghost use Rattle.std.specs.Prelude.{◌≡◌, ◌≢◌, ◌<◌, length, map, option_map, is_some, IfOk, IfErr, OnOk, IfSome, Some, None};
 ghost use Rattle.std.specs.List.{list_all};
 ghost use Rattle.serde_json.specs.Data.{Data};
@@ -19,14 +18,12 @@ use serde_json::Value;
 use std::alloc::{AllocError, Global};
 use std::marker::Model;
 
-/// The maximum number of messages in a document, and in all documents of a request together.
+/// The maximum number of messages in all documents of a request together.
 ///
 /// Policy of this server.
 pub const MAX_MESSAGES: usize = 256;
 
 /// A JSON document, split into messages that borrow its text.
-///
-/// Model: the list of the messages.
 #[derive(Debug, Drop)]
 pub struct Document<'a> {
     pieces: Vec<Piece<'a>>,
@@ -34,7 +31,7 @@ pub struct Document<'a> {
 
 /// A message: the part of a document that is one JSON object, without surrounding whitespace.
 ///
-/// Model: its text, and its members as pairs of a quoted key and the text of a value.
+/// Model: its text, and pairs of a quoted key and the text of a value.
 #[derive(Debug, Drop)]
 pub struct Piece<'a> {
     text: &'a str,
@@ -61,12 +58,9 @@ impl<'a> Model for Document<'a> {
 impl<'a> Document<'a> {
     /// Parses a document and splits it into messages: its object, or the objects of its array.
     ///
-    /// `body`: the bytes of the document.
-    ///
     /// # Errors
     ///
-    /// - `NotJson`, `NotObject`, `TooMany`: the first that applies.
-    /// - `Memory`: memory ran out, whether the document is valid or not.
+    /// The first of `NotJson`, `NotObject` and `TooMany` that applies, or `Memory`.
     ///
     /// # Examples
     ///
@@ -105,17 +99,16 @@ impl<'a> Document<'a> {
 }
 
 impl<'a> Piece<'a> {
-    /// Returns the text of the object, as the sender wrote it.
+    /// Returns the text, as the sender wrote it.
     pub fn text(&self) -> &'a str
         ensures { result.now ≡ self.now.0 }
     {
         self.text
     }
 
-    /// Returns the text of the value of member `name`, if there is one.
+    /// Returns the text of the value of member `name`, if any. Does not allocate.
     ///
-    /// Keys are compared after unescaping. If a key occurs more than once, the last member counts.
-    /// Does not allocate.
+    /// Keys are compared after unescaping. Of equal keys, the last counts.
     pub fn member(&self, name: &str) -> Option<&'a str>
         ensures { option_map (λ value. value.now) result ≡ last_member name.now self.now.1 }
     {
@@ -129,7 +122,6 @@ impl<'a> Piece<'a> {
     }
 }
 
-// Checks that `text` is a JSON object, or an array of at most `MAX_MESSAGES` objects.
 fn check(alloc: Global, text: &str) -> Result<(), CutError>
     ensures ok { OnOk result (value_fault (read text.now) ≡ None) }
     ensures fault { IfErr result (λ e. e ≢ CutError.Memory
@@ -146,7 +138,6 @@ fn check(alloc: Global, text: &str) -> Result<(), CutError>
     }
 }
 
-// Returns why a value is not a valid document, or `None` if it is one.
 #[tactic(auto, using(crate::proofs::Checks::faults))]
 fn fault_of(value: &Value) -> Option<CutError>
     ensures { result ≡ value_fault (Some (view value.now)) }
@@ -172,7 +163,6 @@ fn are_objects(items: &[Value]) -> bool
     items.iter().all(|item| item.is_object())
 }
 
-// Splits a valid document into its messages: its one object, or the objects of its array.
 fn cut(alloc: Global, text: &str) -> Result<Vec<Piece<'_>>, AllocError>
     ensures { IfOk result (λ found. found.items ≡ pieces text.now) }
 {
@@ -193,9 +183,7 @@ fn cut(alloc: Global, text: &str) -> Result<Vec<Piece<'_>>, AllocError>
     Ok(pieces)
 }
 
-// Splits `text` after its first object, which may follow whitespace, into the object and the rest.
-//
-// Returns `None` if `text` does not begin with an object.
+// Splits `text` into its first object, which may follow whitespace, and the rest.
 fn split_object<'a>(
     alloc: Global,
     text: &'a str,
@@ -215,9 +203,7 @@ fn split_object<'a>(
     Ok(Some((Piece { text, members }, after)))
 }
 
-// Returns the members of an object, and the rest of `text` after the last of them.
-//
-// `text` begins after the object's opening brace.
+// Returns the members of an object, and the rest of `text`, which begins after the opening brace.
 fn split_members<'a>(alloc: Global, text: &'a str) -> Result<(Vec<Member<'a>>, &'a str), AllocError>
     ensures value { IfOk result (λ parts. (map member_view parts.0.items, parts.1.now)
         ≡ listed split_member text.now) }

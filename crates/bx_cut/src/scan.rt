@@ -1,4 +1,3 @@
-//! Lengths of the parts of a JSON text, in bytes.
 ghost use Rattle.std.specs.Prelude.{◌≡◌, ◌<◌, ◌≤◌, false, length, slice_index, option_map, IsTrue, IfSome};
 ghost use Rattle.std.specs.List.{prefix_len};
 ghost use Rattle.std.specs.Str.{IsCharBoundary};
@@ -15,7 +14,6 @@ fn is_space(byte: u8) -> bool
     matches!(byte, b' ' | b'\t' | b'\n' | b'\r')
 }
 
-// Returns the length of the whitespace at the start of `text`.
 pub(crate) fn blank_len(text: &str) -> usize
     ensures value { result ≡ prefix_len is_space text.now }
     ensures boundary { IsCharBoundary text.now result }
@@ -41,7 +39,7 @@ pub(crate) fn plain_len(text: &str) -> usize
     at
 }
 
-// Returns the length of a string through its closing quote, or of all `text` if none closes it.
+// Returns the length of a string through its closing quote, or of all `text` if there is none.
 //
 // `text` begins after the opening quote.
 #[tactic(auto, using(crate::proofs::Reach::string_ends))]
@@ -62,9 +60,9 @@ fn string_len(text: &[u8]) -> usize
     text.len()
 }
 
-// Returns the length of an array or object through its closing bracket.
+// Returns the length of an array or object through its closing bracket, or of all `text`.
 //
-// `text` begins after the opening bracket. If no bracket closes it, the result is its whole length.
+// `text` begins after the opening bracket.
 #[tactic(auto, using(crate::proofs::Reach::nest_ends))]
 fn nested_len(text: &[u8]) -> usize
     ensures value { result ≡ nest_len outside 0 text.now }
@@ -105,7 +103,7 @@ fn word_len(text: &[u8]) -> usize
     at
 }
 
-// Returns the length of the JSON value at the start of `text`, or 0 if there is none.
+// Returns the length of the JSON value at the start of `text`, or 0.
 #[tactic(auto, using(crate::proofs::Reach::value_ends))]
 pub(crate) fn value_len(text: &str) -> usize
     ensures value { result ≡ value_len text.now }
@@ -132,7 +130,6 @@ pub(crate) fn begins_with(text: &str, byte: u8) -> bool
     }
 }
 
-// Returns the rest of `text` after `byte`, or `None` if `text` does not begin with `byte`.
 #[tactic(auto, unfolding(crate::specs::Cut::after_first))]
 pub(crate) fn after_first(text: &str, byte: u8) -> Option<&str>
     requires { byte < 128 }

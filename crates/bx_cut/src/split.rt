@@ -1,4 +1,3 @@
-//! Splits JSON texts into values, members and elements.
 ghost use Rattle.std.specs.Prelude.{◌≡◌, ◌<◌, length, Some, option_map, option_and_then, IsSome, IfSome};
 ghost use Rattle.std.specs.Iterator.{YieldsFirstRef, item_count};
 ghost use Rattle.serde_json.specs.Data.{Data};
@@ -13,10 +12,9 @@ use crate::scan::{after_first, begins_with, blank_len, value_len};
 use crate::string::spells;
 use std::marker::Model;
 
-// A member of a JSON object, as text.
 #[derive(Clone, Copy, Debug, Drop)]
 pub(crate) struct Member<'a> {
-    // The text of the key, with its quotes.
+    // With its quotes.
     pub(crate) key: &'a str,
     pub(crate) value: &'a str,
 }
@@ -28,9 +26,7 @@ pub(crate) fn past_blank(text: &str) -> &str
     text.split_at(blank_len(text)).1
 }
 
-// Skips whitespace and then `byte`, and returns the rest of `text`.
-//
-// Returns `None` if the first byte that is not whitespace is not `byte`.
+// Returns the rest of `text` after whitespace and then `byte`, if it begins with these.
 pub(crate) fn past(text: &str, byte: u8) -> Option<&str>
     requires { byte < 128 }
     ensures value { option_map (λ rest. rest.now) result ≡ past_byte byte text.now }
@@ -40,9 +36,7 @@ pub(crate) fn past(text: &str, byte: u8) -> Option<&str>
     after_first(past_blank(text), byte)
 }
 
-// Splits `text` after its first value, which may follow whitespace, into the value and the rest.
-//
-// Returns `None` if `text` does not begin with a value.
+// Splits `text` into its first value, which may follow whitespace, and the rest.
 #[tactic(auto, unfolding(crate::specs::Cut::split_value))]
 fn split_value(text: &str) -> Option<(&str, &str)>
     ensures value { option_map (λ parts. (parts.0.now, parts.1.now)) result
@@ -59,9 +53,7 @@ fn split_value(text: &str) -> Option<(&str, &str)>
     }
 }
 
-// Splits `text` after its first member, which may follow whitespace, into the member and the rest.
-//
-// Returns `None` if `text` does not begin with a member.
+// Splits `text` into its first member, which may follow whitespace, and the rest.
 #[tactic(auto, unfolding(crate::specs::Cut::split_member))]
 pub(crate) fn split_member(text: &str) -> Option<(Member<'_>, &str)>
     ensures value { option_map (λ parts. (member_view parts.0, parts.1.now)) result
@@ -79,8 +71,7 @@ pub(crate) fn split_member(text: &str) -> Option<(Member<'_>, &str)>
 
 /// Returns the text of the value of member `name`, if `object` has that member.
 ///
-/// `object`: the text of a JSON value. If it is not an object, the result is `None`. Keys are
-/// compared after unescaping. If a key occurs more than once, the last member counts.
+/// `object`: any JSON value. Keys are compared after unescaping. Of equal keys, the last counts.
 pub fn member_of<'a>(object: &'a str, name: &str) -> Option<&'a str>
     ensures value { option_map (λ value. value.now) result ≡ member_text name.now object.now }
     ensures reads { (d : Data) → read object.now ≡ Some d
@@ -102,8 +93,6 @@ pub fn member_of<'a>(object: &'a str, name: &str) -> Option<&'a str>
 }
 
 /// An iterator over the texts of an array's elements, without surrounding whitespace.
-///
-/// Model: the remaining elements.
 #[derive(Debug, Drop)]
 pub struct Elements<'a> {
     rest: &'a str,
@@ -118,9 +107,7 @@ impl<'a> Model for Elements<'a> {
     ghost view = { λ elements. (listed split_value elements.rest.now).0 };
 }
 
-/// Returns an iterator over the texts of the elements of `array`.
-///
-/// `array`: the text of a JSON value. If it is not an array, there are no elements.
+/// Iterates over the texts of the elements of `array`, the text of a JSON value.
 pub fn elements_of(array: &str) -> Elements<'_>
     ensures value { result ≡ elements array.now }
     ensures reads { (d : Data) → read array.now ≡ Some d → AreElementsOf result d }

@@ -1,4 +1,3 @@
-//! Decodes JSON strings.
 ghost use Rattle.std.specs.Prelude.{◌≡◌, ◌≢◌, ◌↔◌, ℕ, ◌+◌, ◌<◌, ◌≤◌, List, ◌++◌, length, drop, slice_index, Some, None, option_map, string_bytes, IsTrue, IfNone, IfOk, IfSome, SomeIff, MatchOption, true};
 ghost use Rattle.std.specs.List.{list_all, prefix_len};
 ghost use Rattle.std.specs.Char.{digit_value, encode_utf8};
@@ -13,15 +12,15 @@ ghost use Rattle.bx_cut.specs.Strings.{spelled, quoted, IsPart, Unescapes};
 use crate::scan::{after_first, begins_with, plain_len};
 use std::alloc::{AllocError, Global};
 
-// How the rest of a JSON string begins: with the closing quote, a valid escape, or neither.
+// How the rest of a JSON string begins.
 enum Part<'a> {
     End,
-    // The rest begins with an escape: its decoded character, and the text after the escape.
+    // With an escape: its decoded character, and the text after it.
     Escape(char, &'a str),
     Fault,
 }
 
-// Parses the four hexadecimal digits at index `at` of `text`. Returns `None` for other characters.
+// Parses the four hexadecimal digits at index `at`.
 #[tactic(auto, unfolding(json::specs::Text::code_unit))]
 fn unit_at(text: &[u8], at: usize) -> Option<u32>
     requires { at + 4 ≤ length text.now }
@@ -61,8 +60,6 @@ fn short_escape(letter: u8) -> Option<char>
 }
 
 // Decodes a surrogate pair: its first half is `high`, its second the escape at the start of `text`.
-//
-// Returns `None` if `text` does not begin with the escape of a second half.
 #[tactic(auto, using(crate::proofs::Contents::low_half))]
 fn with_low_half(high: u32, text: &[u8]) -> Option<char>
     requires high { (0xd800 ≤ high) × (high < 0xdc00) }
@@ -82,9 +79,7 @@ fn with_low_half(high: u32, text: &[u8]) -> Option<char>
     char::from_u32(0x10000 + (high - 0xd800) * 1024 + (low - 0xdc00))
 }
 
-// Decodes an escape. Returns its character, and its length in bytes without the backslash.
-//
-// `text` begins after the backslash. Returns `None` if `text` does not begin with an escape's rest.
+// Decodes the escape after the backslash before `text`. Returns its character and its length.
 #[tactic(auto, using(crate::proofs::Contents::escapes))]
 fn escape(text: &[u8]) -> Option<(char, usize)>
     ensures { Unescapes after_backslash text.now result }
@@ -124,7 +119,6 @@ fn next_part(text: &str) -> Part<'_>
     }
 }
 
-// Returns the rest of `text` after `front`, or `None` if `text` does not begin with `front`.
 fn without<'a>(text: &'a [u8], front: &[u8]) -> Option<&'a [u8]>
     ensures { MatchOption result ((rest : List ℕ) → text.now ≢ front.now ++ rest)
         (λ rest. text.now ≡ front.now ++ rest.now) }
@@ -138,8 +132,7 @@ fn without<'a>(text: &'a [u8], front: &[u8]) -> Option<&'a [u8]>
 
 // Returns `true` if the first bytes alone show that `rest` differs from `text` after unescaping.
 //
-// `rest`: the content of a JSON string and its closing quote. The result is `false` if `rest`
-// begins with an escape, or one of the two is empty.
+// `rest`: the content of a JSON string and its closing quote.
 #[tactic(auto, using(crate::proofs::Contents::differing))]
 fn differs_at_once(rest: &str, text: &str) -> bool
     ensures { IsTrue result → content plain rest.now ≢ Some text.now }
@@ -150,9 +143,7 @@ fn differs_at_once(rest: &str, text: &str) -> bool
     }
 }
 
-/// Returns `true` if `value` is a JSON string that equals `text` after unescaping.
-///
-/// Does not allocate.
+/// Returns `true` if `value` is a JSON string that is `text` after unescaping. Does not allocate.
 pub fn spells(value: &str, text: &str) -> bool
     ensures value { IsTrue result ↔ (spelled value.now ≡ Some text.now) }
     ensures reads { (d : Data) → read value.now ≡ Some d → BeginsBare value.now
@@ -185,9 +176,9 @@ pub fn spells(value: &str, text: &str) -> bool
     }
 }
 
-/// Returns the content of a JSON string without escapes, or `None` for any other value.
+/// Returns the content of a JSON string that has no escapes. Does not allocate.
 ///
-/// `value`: the text of a JSON value. Does not allocate.
+/// Returns `None` for any other JSON value.
 pub fn plain_text_of(value: &str) -> Option<&str>
     ensures value { IfSome result (λ text. spelled value.now ≡ Some text.now) }
     ensures plain { IfSome result (λ text. list_all is_plain text.now ≡ true) }
@@ -202,13 +193,7 @@ pub fn plain_text_of(value: &str) -> Option<&str>
     }
 }
 
-/// Returns the unescaped content of a JSON string, or `None` for any other value.
-///
-/// `value`: the text of a JSON value.
-///
-/// # Errors
-///
-/// `AllocError` if memory runs out.
+/// Returns the unescaped content of a JSON string, or `None` for any other JSON value.
 pub fn text_of(alloc: Global, value: &str) -> Result<Option<String>, AllocError>
     ensures value { IfOk result (λ text. option_map string_bytes text ≡ spelled value.now) }
     ensures reads { IfOk result (λ text. (d : Data) → read value.now ≡ Some d → BeginsBare value.now

@@ -1,4 +1,3 @@
-//! What a listener allows.
 ghost use Rattle.std.specs.Prelude.{◌≡◌, IfOk};
 ghost use Rattle.bx_names.specs.Globs.{any_matches};
 ghost use Rattle.bx_entry.specs.Requests.{allows, allows_all};
@@ -9,21 +8,16 @@ use std::alloc::{AllocError, Global};
 use std::marker::Model;
 use std::sync::Arc;
 
-/// What the listener that received a request allows.
-///
-/// Policy of this server.
+/// What the listener that received a request allows. Policy of this server.
 #[derive(Clone, Drop)]
 pub enum Access {
-    /// The main listener, which allows all messages.
+    /// All messages.
     ReadWrite,
-    /// The read-only listener. It rejects a request with a message to a broadcast channel, unless
-    /// one of these patterns matches the channel.
+    /// No message to a broadcast channel, unless one of these patterns matches the channel.
     ReadOnly(SharedPatterns),
 }
 
 /// A list of patterns that its clones share.
-///
-/// Model: the patterns, in order.
 #[derive(Drop)]
 pub struct SharedPatterns {
     patterns: Arc<Vec<Pattern>>,
@@ -41,10 +35,6 @@ impl Model for SharedPatterns {
 
 impl SharedPatterns {
     /// Creates the first handle to `patterns`.
-    ///
-    /// # Errors
-    ///
-    /// `AllocError` if memory runs out.
     pub fn new(alloc: Global, patterns: Vec<Pattern>) -> Result<SharedPatterns, AllocError>
         ensures { IfOk result (λ shared. shared ≡ patterns.items) }
     {
@@ -52,14 +42,12 @@ impl SharedPatterns {
         Ok(SharedPatterns { patterns })
     }
 
-    // Returns the patterns in order.
     fn as_slice(&self) -> &[Pattern]
         ensures { result.now ≡ self.now }
     {
         self.patterns.as_slice()
     }
 
-    // Returns `true` if the read-only listener with these patterns allows each of `messages`.
     pub(crate) fn allows_all(&self, alloc: Global, messages: &[Message]) -> Result<bool, AllocError>
         ensures { IfOk result (λ allowed. allowed ≡ allows_all self.now messages.now) }
     {
@@ -81,10 +69,7 @@ impl Clone for SharedPatterns {
     }
 }
 
-// Returns `true` if the read-only listener with `patterns` allows messages to `channel`.
-//
-// It does if `channel` is not a broadcast channel, or if it is a valid name and one of `patterns`
-// matches it.
+// Returns `true` unless `channel` is a broadcast channel that none of `patterns` matches.
 fn allows(alloc: Global, patterns: &[Pattern], channel: &str) -> Result<bool, AllocError>
     ensures { IfOk result (λ allowed. allowed ≡ allows patterns.now channel.now) }
 {
@@ -98,7 +83,6 @@ fn allows(alloc: Global, patterns: &[Pattern], channel: &str) -> Result<bool, Al
     Ok(any_matches(patterns, &name))
 }
 
-// Returns `true` if one of `patterns` matches `name`.
 fn any_matches(patterns: &[Pattern], name: &ChannelName) -> bool
     ensures { result ≡ any_matches patterns.now name.now }
 {

@@ -1,4 +1,3 @@
-//! Requests and ticks, and why they are rejected.
 ghost use Rattle.std.specs.Prelude.{◌≡◌};
 ghost use Rattle.bx_entry.specs.Refusals.{refusal_reason, refusal_status};
 ghost use Rattle.bx_entry.specs.declared.input.AdmitFault.TheVariants.{Memory};
@@ -11,34 +10,30 @@ use std::alloc::{AllocError, AllocFailed};
 /// A request as it arrived, with its documents still to be read.
 #[derive(Drop)]
 pub struct Arrival {
-    /// The moment at which the request arrived, in milliseconds since the server started.
+    /// In milliseconds since the server started.
     pub moment: u64,
-    /// 128 random bits, from which the client id of a session that the request opens is made.
+    /// 128 random bits, for the client id of a session that the request opens.
     pub nonce: u128,
-    /// What the listener that received the request allows.
     pub access: Access,
-    /// The documents of the request, still to be parsed as JSON.
+    /// Still to be parsed as JSON.
     pub bodies: Bodies,
 }
 
 /// A request or a tick of the clock.
 #[derive(Drop)]
 pub enum Input {
-    /// The input is a request, as it arrived.
     Post(Arrival),
-    /// The input is a tick, with its moment in milliseconds since the server started.
+    /// At this moment, in milliseconds since the server started.
     Tick(u64),
 }
 
 /// Why a request or a tick is rejected.
 ///
-/// The variants are in the order in which they are tested, the first four each over all documents
-/// of the request. A rejected request or tick changes nothing.
+/// The variants are in the order of the tests, the first four each over all documents.
 #[derive(Clone, Copy, Debug, PartialEq, Eq)]
 pub enum Refusal {
-    /// A document is not JSON.
     NotJson,
-    /// A document is neither an object nor an array of objects.
+    /// Neither an object nor an array of objects.
     NotObject,
     /// The documents together have more than `MAX_MESSAGES` (256) messages.
     TooMany,
@@ -46,20 +41,16 @@ pub enum Refusal {
     NoChannel,
     /// A message is to a broadcast channel that the read-only listener does not allow.
     Forbidden,
-    /// The moment of the request or tick exceeds `MAX_MOMENT`, 2^62 milliseconds.
+    /// The moment exceeds `MAX_MOMENT`, 2^62 milliseconds.
     BadMoment,
-    /// With the request or tick, the list would have more than `MAX_ENTRIES` (2^62) entries.
+    /// The list would have more than `MAX_ENTRIES` (2^62) entries.
     Ended,
 }
 
-/// Why a request or a tick is not admitted.
-///
-/// Nothing has changed in either case.
+/// Why a request or a tick is not admitted. Nothing has changed.
 #[derive(Clone, Copy, Debug, PartialEq, Eq)]
 pub enum AdmitFault {
-    /// The request or tick is rejected, for this reason.
     Refused(Refusal),
-    /// Memory ran out before the request or tick was admitted.
     Memory,
 }
 
@@ -80,9 +71,7 @@ impl<T: Drop> From<AllocFailed<T>> for AdmitFault {
 }
 
 impl Refusal {
-    /// Returns the reason in words, such as "the messages are not JSON".
-    ///
-    /// Policy of this server.
+    /// Returns the reason in words. Policy of this server.
     pub fn reason(self) -> &'static str
         ensures { result.now ≡ refusal_reason self }
     {
@@ -97,11 +86,7 @@ impl Refusal {
         }
     }
 
-    /// Returns the HTTP status of the response to a request that is rejected for this reason.
-    ///
-    /// It is 403 for `Forbidden`, 503 for `Ended`, and otherwise 400.
-    ///
-    /// Policy of this server.
+    /// Returns the HTTP status of the response. Policy of this server.
     pub fn status(self) -> Status
         ensures { result ≡ refusal_status self }
     {

@@ -25,8 +25,7 @@ impl Model for Element {
 
 /// Ghost: messages and ticks in the order of their admission.
 ///
-/// It takes no memory, and a program cannot read it. Moments are in milliseconds since the server
-/// started.
+/// Moments are in milliseconds since the server started.
 #[derive(Drop)]
 pub struct Listing {
     elements: History<Element>,
@@ -51,7 +50,7 @@ impl Listing {
         }
     }
 
-    /// Appends the messages of a request that arrived at `moment` and has the nonce `nonce`.
+    /// Appends the messages of a request.
     pub fn post(&mut self, moment: u64, nonce: u128, messages: &[Message])
         ensures { self.new ≡ self.old ++ elements.request moment nonce messages.now }
     {
@@ -71,7 +70,7 @@ impl Listing {
         self.elements.join(&History::of::<u64, Tick>(&moment));
     }
 
-    /// Appends all messages and ticks of `later`, in order.
+    /// Appends the elements of `later`.
     pub fn join(&mut self, later: &Listing)
         ensures { self.new ≡ self.old ++ later.now }
     {
@@ -94,9 +93,6 @@ struct Request<'a> {
     nonce: u128,
     messages: &'a [Message],
 }
-
-// Ghost: the maps from a request and from a tick's moment to the elements that each appends to the
-// list.
 
 struct Messages;
 

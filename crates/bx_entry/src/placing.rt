@@ -1,4 +1,3 @@
-//! Rules that place sessions in shards.
 ghost use Rattle.std.specs.Prelude.{◌≡◌, ◌≤◌, ◌<◌, ℕ, IfOk};
 ghost use Rattle.bx_entry.specs.Placings.{all_first, by_remainder, by_remainder-below, by_table, by_table-below};
 
@@ -11,7 +10,7 @@ pub trait Placing {
 
     /// Returns the shard of session `number`, from 0 to `shards - 1`.
     ///
-    /// `shards`: from 1 to 64. Equal arguments give equal results.
+    /// Equal arguments give equal results.
     fn place(&self, number: u64, shards: usize) -> usize
         requires some_shard { 1 ≤ shards }
         requires shards_in_range { shards ≤ 64 }
@@ -52,8 +51,6 @@ impl Placing for AllFirst {
 /// A rule that places session `number` in shard `table[number % table.len()] % shards`.
 ///
 /// An empty table places all sessions in the first shard.
-///
-/// Model: the table.
 #[derive(Drop)]
 pub struct ByTable {
     table: Vec<u8>,
@@ -68,11 +65,7 @@ impl Model for ByTable {
 }
 
 impl ByTable {
-    /// Creates the rule that places sessions by a copy of `table`.
-    ///
-    /// # Errors
-    ///
-    /// `AllocError` if memory runs out.
+    /// Creates the rule from a copy of `table`.
     pub fn new(alloc: Global, table: &[u8]) -> Result<ByTable, AllocError>
         ensures { IfOk result (λ t. t ≡ table.now) }
     {

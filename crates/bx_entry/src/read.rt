@@ -1,4 +1,3 @@
-//! Reads the messages of a request.
 ghost use Rattle.std.specs.Prelude.{◌≡◌, ◌++◌, ◌<◌, IfOk, IfErr, OnOk, IsErrOf, map, length, nat_lt, Some, None, Ok, option_map};
 ghost use Rattle.std.specs.List.{list_any};
 ghost use Rattle.bx_cut.specs.Bodies.{texts_of};
@@ -17,8 +16,7 @@ impl Arrival {
     ///
     /// # Errors
     ///
-    /// - `Refused`: the first [`Refusal`] through `Forbidden` that applies.
-    /// - `Memory`: memory ran out, at any step.
+    /// `Refused`, with the first [`Refusal`] through `Forbidden`, or `Memory` if memory runs out.
     pub fn read(&self, alloc: Global) -> Result<Vec<Message>, AdmitFault>
         ensures messages { IfOk result (λ ms. arrival_messages self.now ≡ Ok ms.items) }
         ensures fault { IfErr result (IsUnread (arrival_messages self.now)) }
@@ -36,15 +34,13 @@ impl Arrival {
     }
 }
 
-// A document that is split into its messages, or why it cannot be split.
 type Cut<'a> = Result<Document<'a>, CutError>;
 
 /// Reads the messages of all documents, in order, whatever the listener allows.
 ///
 /// # Errors
 ///
-/// - `Refused`: the first [`Refusal`] through `NoChannel` that applies.
-/// - `Memory`: memory ran out, at any step.
+/// `Refused`, with the first [`Refusal`] through `NoChannel`, or `Memory` if memory runs out.
 pub fn read_messages(alloc: Global, bodies: &Bodies) -> Result<Vec<Message>, AdmitFault>
     ensures messages { IfOk result (λ ms. request_messages (texts_of bodies.now) ≡ Ok ms.items) }
     ensures fault { IfErr result (IsUnread (request_messages (texts_of bodies.now))) }
@@ -60,10 +56,9 @@ pub fn read_messages(alloc: Global, bodies: &Bodies) -> Result<Vec<Message>, Adm
     }
 }
 
-// Splits every document into its messages. The result has the document or its error, in order.
+// Splits every document into its messages, in order.
 //
-// Goes on after an error, since a later document may have an error that is tested earlier. Fails
-// only if memory runs out.
+// Goes on after an error, since a later document may have an error that is tested earlier.
 fn cut_all(alloc: Global, bodies: &Bodies) -> Result<Vec<Cut<'_>>, AllocError>
     ensures { IfOk result (λ cuts. cuts.items ≡ map cut_of (texts_of bodies.now)) }
 {
@@ -77,7 +72,6 @@ fn cut_all(alloc: Global, bodies: &Bodies) -> Result<Vec<Cut<'_>>, AllocError>
     Ok(cuts)
 }
 
-// Returns the first of `NotJson`, `NotObject` and `TooMany` that applies to the documents, if any.
 fn fault_in(cuts: &[Cut<'_>]) -> Option<Refusal>
     ensures { result ≡ cut_fault cuts.now }
 {
@@ -111,7 +105,6 @@ fn has_too_many(cuts: &[Cut<'_>]) -> bool
     cuts.iter().any(|cut| matches!(cut, Err(CutError::TooMany)))
 }
 
-// Returns `true` if the documents together have more than [`MAX_MESSAGES`] messages.
 fn are_too_many(cuts: &[Cut<'_>]) -> bool
     ensures { result ≡ nat_lt MAX_MESSAGES (length (objects_of cuts.now)) }
 {
@@ -142,9 +135,9 @@ fn read_all(alloc: Global, cuts: &[Cut<'_>]) -> Result<Vec<Message>, MessageErro
     Ok(messages)
 }
 
-// Appends the messages of a document to `messages`. Appends none if the document has an error.
+// Appends the messages of a document without an error.
 //
-// Fails if a message has no channel or memory runs out. Earlier messages may then be appended.
+// On error, earlier ones may be appended.
 fn read_cut(alloc: Global, cut: &Cut<'_>, messages: &mut Vec<Message>) -> Result<(), MessageError>
     ensures added { OnOk result (option_map (λ ms. messages.old.items ++ ms)
         (all_messages (objects_in cut.now)) ≡ Some messages.new.items) }

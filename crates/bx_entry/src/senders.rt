@@ -1,20 +1,18 @@
-//! The sessions that a request's messages come from.
 ghost use Rattle.std.specs.Prelude.{◌≡◌};
 ghost use Rattle.bx_entry.specs.Registry.{is_one, joined};
 
-/// Whether the messages of a request judged so far all come from one session.
+/// Whether the messages of a request so far all come from one session.
 #[derive(Clone, Copy, Debug, PartialEq, Eq)]
 pub enum Senders {
-    /// No message of the request has been judged yet.
     NoneYet,
-    /// All messages so far were accepted and come from the session with this number.
+    /// All are accepted and come from the session with this number.
     Only(u64),
-    /// Not all messages so far are accepted ones of one session, or one of them is a handshake.
+    /// Some are not accepted messages of one session, or one is a handshake.
     Mixed,
 }
 
 impl Senders {
-    /// Returns the senders after one more accepted message, which comes from `session`.
+    /// Returns the senders after one more accepted message, from `session`.
     pub fn joined(self, session: u64) -> Senders
         ensures { result ≡ joined self session }
     {
@@ -25,7 +23,7 @@ impl Senders {
         }
     }
 
-    /// Returns `true` if there are messages so far, all accepted and all from one session.
+    /// Returns `true` for [`Only`](Self::Only).
     pub fn is_one(self) -> bool
         ensures { result ≡ is_one self }
     {

@@ -1,4 +1,3 @@
-//! Collecting the answers to the last input and to held connects.
 ghost use Rattle.std.specs.Prelude.{ℕ, ◌≡◌, ◌≤◌, [], ◌∷◌, length, map, slice_get, Some, if◌then◌else◌, IfOk, OnErr};
 ghost use Rattle.bx_entry.specs.Requests.{read_input};
 ghost use Rattle.bx_fanout.specs.CurrentInputs.{IsLevel, out_of};
@@ -18,18 +17,13 @@ use bx_world::World;
 use std::alloc::{AllocError, Global};
 use std::thread::Threads;
 
-/// Advances every shard to the end of the list, and collects the answers to the last input.
+/// Advances every shard to the end of the list, and collects the answers to `current`.
 ///
-/// Uses `workers` workers. The last input is `current`. Returns `true` if all answers to `current`
-/// are collected. Otherwise holds `current` and returns `false`. Then assigns the other filed
-/// answers to the held connects that wait for them, and drops the rest.
+/// Returns `true` if all of them are collected. Otherwise holds `current` and returns `false`. Then
+/// assigns the other filed answers to the held connects that wait for them, and drops the rest. The
+/// memory for this is allocated before the first shard advances.
 ///
-/// Memory for the answers and for holding `current` is allocated before the first shard advances.
-///
-/// # Errors
-///
-/// `AllocError` if memory runs out. Then some shard still lacks entries, and no answer is
-/// collected.
+/// On error, some shard still lacks entries, and no answer is collected.
 pub(crate) fn bring_in<R: Threads + Sync, G: Gate + Sync, P: Placing + Send + Sync>(
     rt: &R,
     alloc: Global,

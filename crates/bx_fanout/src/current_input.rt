@@ -1,4 +1,3 @@
-//! The last input of a round, until it is held or its out is appended.
 ghost use Rattle.std.specs.Prelude.{◌≡◌, ◌+◌, ◌≤◌, [], IfOk, length};
 ghost use Rattle.std.specs.VecDeque.{deque_capacity};
 ghost use Rattle.bx_fanout.specs.CurrentInputs.{Collects, IsCollected, IsLevel, IsWhole, Keeps, Next, OthersStay, out_of, response_of};
@@ -12,30 +11,27 @@ use bx_world::World;
 use std::alloc::{AllocError, Global};
 use std::collections::VecDeque;
 
-/// An input in progress: it is not held, and its out is not appended yet.
+/// The last input of a run, while its answers are collected.
 #[derive(Drop)]
 pub(crate) struct CurrentInput {
-    /// The number of the input in progress among all inputs of the round, from 0.
+    /// Its number among all inputs of the round, from 0.
     pub(crate) number: usize,
-    /// The length of the list before the input in progress, and so the place of its first entry, if
-    /// any.
+    /// The length of the list before the input, and so the place of its first entry, if any.
     pub(crate) first: u64,
-    /// Why the input in progress was rejected, if it was.
     pub(crate) refusal: Option<Refusal>,
-    /// The first items of the response to the input in progress, converted from answers.
+    /// The first items of the response.
     pub(crate) items: Vec<Item>,
-    /// The answers to the input in progress that are collected and not converted yet, in order.
+    /// Collected answers whose items are not in `items` yet, in order.
     pub(crate) answers: VecDeque<Answer>,
-    /// How the input's messages without a collected answer are answered, in order.
+    /// How the messages without a collected answer are answered, in order.
     pub(crate) slots: VecDeque<Slot>,
 }
 
 impl CurrentInput {
-    /// Collects the answers to the input's messages in order, and returns `true` if none is
-    /// missing.
+    /// Collects the answers to the input's messages in order, up to the first missing one.
     ///
-    /// Stops at the first missing answer and returns `false`. Every shard must be at the end of the
-    /// list, and `answers` must have room for all answers.
+    /// Returns `true` if none is missing. Every shard must be at the list's end, and `answers` have
+    /// room.
     pub(crate) fn collect<P: Placing>(&mut self, alloc: Global, world: &mut World<P>) -> bool
         requires room { length self.old.answers.items + length self.old.slots.items ≤ deque_capacity self.old.answers }
         requires level { IsLevel (world_of world.old) }
@@ -55,11 +51,9 @@ impl CurrentInput {
         true
     }
 
-    /// Converts the collected answers to items, and appends these to the items of the response.
+    /// Converts the collected answers to items.
     ///
-    /// # Errors
-    ///
-    /// `AllocError` if memory runs out. Some answers may be converted; the next call continues.
+    /// On error, some may be converted; the next call continues.
     pub(crate) fn write(&mut self) -> Result<(), AllocError>
         ensures items { response_of self.new ≡ response_of self.old }
         ensures all { IfOk result (λ _. self.new.answers.items ≡ []) }
@@ -74,7 +68,7 @@ impl CurrentInput {
         Ok(())
     }
 
-    /// Converts the input to its out. All its answers must be converted by [`write`](Self::write).
+    /// Converts the input to its out, after [`write`](Self::write).
     pub(crate) fn into_out(self) -> Out
         requires { self.answers.items ≡ [] }
         ensures { result ≡ out_of self }
@@ -95,8 +89,7 @@ impl CurrentInput {
     }
 }
 
-// Takes the answer to the first slot's message, and removes the slot. Returns `None` and keeps the
-// slot if the answer is missing. Also returns `None` without slots.
+// Takes the answer to the first slot's message, and the slot, if the answer is there.
 fn next_answer<P: Placing>(
     alloc: Global,
     slots: &mut VecDeque<Slot>,

@@ -1,4 +1,3 @@
-//! Moving filed answers to the held connects that wait for them.
 ghost use Rattle.std.specs.Prelude.{◌≡◌, ◌+◌, List};
 ghost use Rattle.bx_fanout.specs.HeldInputs.{Row};
 ghost use Rattle.bx_fanout.specs.Draining.{CanDrain, Drained, Draining};
@@ -21,8 +20,6 @@ pub(crate) fn drain<P: Placing>(world: &mut World<P>, held: &mut HeldInputs)
     }
 }
 
-// Takes the filed answers of `shard`, and assigns each to the held connect that waits for it. Drops
-// an answer for which no connect waits.
 fn drain_shard<P: Placing>(world: &mut World<P>, shard: usize, held: &mut HeldInputs)
     ensures draining { (before : List Row) → Draining (setup_of world.old) before (world_of world.old) held.old shard
         → Draining (setup_of world.old) before (world_of world.new) held.new (shard + 1) }

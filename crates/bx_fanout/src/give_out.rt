@@ -1,4 +1,3 @@
-//! Appending the outs of answered connects and of the complete input.
 ghost use Rattle.std.specs.Prelude.{◌≡◌, ◌++◌, [], filter, IfOk, OnErr};
 ghost use Rattle.bx_fanout.specs.HeldInputs.{waits};
 ghost use Rattle.bx_fanout.specs.Stages.{GivesOut, is_collecting, own};
@@ -10,12 +9,8 @@ use std::alloc::{AllocError, Global};
 
 /// Appends the outs of answered held connects, and then that of the complete input, to `outs`.
 ///
-/// The answered connects are removed from `held`. If `stage` has a complete input, it becomes
-/// `Idle`; otherwise it is unchanged.
-///
-/// # Errors
-///
-/// `AllocError` if memory runs out. Some outs may be appended; the next call continues.
+/// Removes these connects from `held`, and the input from `stage`. On error, some outs may be
+/// appended; the next call continues.
 pub(crate) fn give_out(
     alloc: Global,
     held: &mut HeldInputs,
@@ -30,8 +25,7 @@ pub(crate) fn give_out(
     give_own(stage, outs)
 }
 
-// Appends the out of the input in `Complete` to `outs`, and sets `stage` to `Idle`. Does nothing in
-// another stage. On error `outs` is unchanged; the next call continues.
+// Moves the out of the complete input, if any, from `stage` to `outs`, or keeps it on error.
 fn give_own(stage: &mut Stage, outs: &mut Vec<Out>) -> Result<(), AllocError>
     ensures all { IfOk result (λ _. own stage.new ≡ []) }
     ensures added { IfOk result (λ _. outs.new.items ≡ outs.old.items ++ own stage.old) }

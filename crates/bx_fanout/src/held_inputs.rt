@@ -1,4 +1,3 @@
-//! The held connects of a round.
 ghost use Rattle.std.specs.Prelude.{List, ◌≡◌, ◌↔◌, ◌+◌, ◌++◌, ◌≤◌, IsTrue, [], ◌∷◌, filter, is_none, if◌then◌else◌, length, vec_capacity, vec_len, IfOk, OnOk, OnErr, reverse};
 ghost use Rattle.std.specs.List.{list_any};
 ghost use Rattle.std.specs.Map.{remove_entry};
@@ -13,28 +12,22 @@ use std::alloc::{AllocError, Global};
 use std::collections::BTreeMap;
 use std::marker::Model;
 
-/// A connect that was held, with its answer once there is one.
-///
-/// It is removed when its input's out is appended.
+/// A connect that was held, until its input's out is appended.
 #[derive(Drop)]
 pub(crate) struct HeldInput {
-    /// The number of the held connect's input among all inputs of the round, from 0.
+    /// The number of its input among all inputs of the round, from 0.
     pub(crate) number: usize,
-    /// The answer to the held connect, or `None` while the connect waits.
+    /// `None` while the connect waits.
     pub(crate) answer: Option<Answer>,
 }
 
 /// The held connects of a round, by place, and the answers that have arrived for them.
 ///
-/// Assigning an answer, or appending the outs of answered connects, does not scan the connects that
-/// wait.
-///
-/// Model: the connects, in ascending order of their places.
+/// Assigning an answer, or appending the outs of answered connects, scans no waiting connects.
 #[derive(Drop)]
 pub(crate) struct HeldInputs {
     held: BTreeMap<u64, HeldInput>,
-    // The places of the answered connects, in any order. The capacity is enough for the places of
-    // all held connects.
+    // The places of the answered connects, in any order, with room for those of all held connects.
     answered: Vec<u64>,
 }
 
@@ -50,7 +43,6 @@ impl Model for HeldInputs {
 }
 
 impl HeldInputs {
-    /// Creates a collection of no connects.
     pub(crate) fn new(alloc: Global) -> HeldInputs
         ensures { result ≡ [] }
     {
@@ -60,14 +52,9 @@ impl HeldInputs {
         }
     }
 
-    /// Adds the connect at `place`, without an answer.
+    /// Adds the connect at `place`, after the places of all held connects.
     ///
-    /// `place` must be after the places of all held connects. `number`: the number of the connect's
-    /// input.
-    ///
-    /// # Errors
-    ///
-    /// `AllocError` if memory runs out; nothing has changed.
+    /// `number`: that of its input.
     pub(crate) fn hold(&mut self, place: u64, number: usize) -> Result<(), AllocError>
         requires { AllBelow place self.old }
         ensures ok { OnOk result (self.new ≡ self.old ++ (place, record { number = number; answer = None }) ∷ []) }
@@ -82,7 +69,7 @@ impl HeldInputs {
         Ok(())
     }
 
-    /// Removes the connect with the last place, if any. It must have no answer.
+    /// Removes the connect with the last place, which must have no answer.
     pub(crate) fn release(&mut self)
         requires { LastWaits self.old }
         ensures { (earlier : List Row) → (row : Row) → self.old ≡ earlier ++ row ∷ [] → self.new ≡ earlier }
@@ -90,7 +77,7 @@ impl HeldInputs {
         self.held.pop_last();
     }
 
-    /// Assigns `answer` to the connect that waits at `place`, or drops it if none waits there.
+    /// Assigns `answer` to the connect that waits at `place`, if any.
     pub(crate) fn answer(&mut self, place: u64, answer: Answer)
         ensures { self.new ≡ answered_at place answer self.old }
     {
@@ -99,12 +86,9 @@ impl HeldInputs {
         }
     }
 
-    /// Removes the answered connects, and appends their outs to `outs` in the order of their
-    /// places.
+    /// Removes the answered connects, and appends their outs in the order of their places.
     ///
-    /// # Errors
-    ///
-    /// `AllocError` if memory runs out. Some outs may be appended; the next call continues.
+    /// On error, some outs may be appended; the next call continues.
     pub(crate) fn give(&mut self, alloc: Global, outs: &mut Vec<Out>) -> Result<(), AllocError>
         ensures gives { Gives self.old outs.old.items outs.new.items self.new }
         ensures all { IfOk result (λ _. self.new ≡ filter waits self.old) }
@@ -115,18 +99,13 @@ impl HeldInputs {
         give_from(alloc, &mut self.held, &mut self.answered, outs)
     }
 
-    /// Returns `true` if no connect is held.
     pub(crate) fn is_empty(&self) -> bool
         ensures { IsTrue result ↔ (self.now ≡ []) }
     {
         self.held.is_empty()
     }
 
-    /// Returns the input numbers of the connects without an answer, in the order of their places.
-    ///
-    /// # Errors
-    ///
-    /// `AllocError` if memory runs out.
+    /// Returns the input numbers of the connects without an answer, in order.
     pub(crate) fn waiting(&self, alloc: Global) -> Result<Vec<usize>, AllocError>
         ensures { IfOk result (λ ns. ns.items ≡ numbers (filter waits self.now)) }
     {
@@ -141,8 +120,7 @@ impl HeldInputs {
 }
 
 impl HeldInput {
-    // Sets the answer and returns `true`. If there is one already, drops `answer` and returns
-    // `false`.
+    // Sets the answer and returns `true`, unless there is one already.
     fn put(&mut self, answer: Answer) -> bool
         ensures number { self.new.number ≡ self.old.number }
         ensures answer { self.new.answer ≡ (if is_none self.old.answer then Some answer else self.old.answer) }
@@ -156,8 +134,7 @@ impl HeldInput {
     }
 }
 
-// Sets the answer of the connect that waits at `place`, and returns `true`. If none waits there,
-// drops `answer` and returns `false`.
+// Sets the answer of the connect that waits at `place`, if any, and returns `true`.
 fn put(held: &mut BTreeMap<u64, HeldInput>, place: u64, answer: Answer) -> bool
     requires { IsOrdered nat_cmp held.old }
     ensures put { held.new.entries ≡ answered_at place answer held.old.entries }
@@ -170,11 +147,9 @@ fn put(held: &mut BTreeMap<u64, HeldInput>, place: u64, answer: Answer) -> bool
     }
 }
 
-// Removes answered connects in the order of their places, and appends their outs to `outs`. On
-// error the connects without an appended out are still held.
+// Removes answered connects in the order of their places, and appends their outs to `outs`.
 //
-// `answered`: the places of the answered connects, the lowest last. Each is removed with its
-// connect.
+// `answered`: their places, the lowest last. On error, connects without an out are still held.
 fn give_from(
     alloc: Global,
     held: &mut BTreeMap<u64, HeldInput>,
@@ -200,8 +175,7 @@ fn give_from(
     Ok(())
 }
 
-// Removes the connect at `place`, if any, and returns its out. Returns `None` if there is no such
-// connect or it has no answer. On error `held` is unchanged.
+// Removes the connect at `place`, unless it has no answer or memory runs out. Returns its out.
 fn take_out(
     alloc: Global,
     held: &mut BTreeMap<u64, HeldInput>,
@@ -226,8 +200,7 @@ fn take_out(
     }))
 }
 
-// Returns how many items the response to the connect at `place` has. Returns 0 if there is no such
-// connect or it has no answer.
+// Returns how many items the response to the connect at `place` has, or 0 without an answer.
 fn room_at(held: &BTreeMap<u64, HeldInput>, place: u64) -> usize
     ensures { result ≡ room_by (get nat_cmp held.now place) }
 {

@@ -1,4 +1,3 @@
-//! Advancing every shard to the end of the list.
 ghost use Rattle.std.specs.Prelude.{ℕ, ◌≡◌, ◌≤◌, length, slice_get, IfOk, OnErr, Some};
 ghost use Rattle.bx_fanout.specs.CurrentInputs.{IsLevel};
 ghost use Rattle.bx_world.specs.Seen.{setup_of, world_of};
@@ -10,11 +9,7 @@ use bx_world::World;
 use std::alloc::{AllocError, Global};
 use std::thread::Threads;
 
-/// Advances every shard to the end of the list, with `workers` workers.
-///
-/// # Errors
-///
-/// `AllocError` if memory runs out. Then some shard still lacks entries.
+/// Advances every shard to the end of the list. On error, some shard still lacks entries.
 pub(crate) fn level<R: Threads + Sync, G: Gate + Sync, P: Placing + Send + Sync>(
     rt: &R,
     alloc: Global,

@@ -1,16 +1,14 @@
-//! The results of a round.
 use bx_entry::Refusal;
 use bx_message::{Item, Sequence};
 
 /// The result of a complete input.
 #[derive(Drop)]
 pub struct Out {
-    /// The number of the complete input among all inputs of the round, from 0.
+    /// Its number among all inputs of the round, from 0.
     pub input: usize,
-    /// The response to the complete input, or why that input was rejected.
+    /// The response, or why the input was rejected.
     ///
-    /// A response has, for each message in order, its events and then its reply. It is empty for a
-    /// tick.
+    /// A response has, for each message, its events and then its reply. That to a tick is empty.
     pub result: Result<Sequence<Item>, Refusal>,
 }
 

@@ -1,4 +1,3 @@
-//! Completing an input without the shards, which apply its entries later.
 ghost use Rattle.std.specs.Prelude.{◌≡◌, IsTrue, false, IfOk};
 ghost use Rattle.bx_fanout.specs.RoundStates.{IsCalm, IsSettled, IsConsistent};
 ghost use Rattle.bx_fanout.specs.Stages.{is_collecting};
@@ -17,17 +16,13 @@ use std::thread::Threads;
 /// The most entries that the slowest shard may lack if an input is completed without the shards.
 const DEFERRED_LIMIT: u64 = 1_024;
 
-/// Completes the last input if it needs no shard.
+/// Completes the last input if it needs no shard. Returns `true` if none of its answers is left.
 ///
-/// Returns `true` if no answer to the last input is left to collect.
-///
-/// An input needs no shard if no connect is held, the slowest shard lacks at most `DEFERRED_LIMIT`
+/// It needs no shard if no connect is held, the slowest shard lacks at most `DEFERRED_LIMIT`
 /// entries, and all messages of the input are answered at once. Then no client waits for an answer
 /// that a shard would file.
 ///
-/// # Errors
-///
-/// `AllocError` if memory runs out; the next call continues.
+/// On error, the next call continues.
 pub(crate) fn pass_over<P: Placing>(
     alloc: Global,
     state: &mut RoundState<P>,
@@ -64,11 +59,7 @@ pub(crate) fn pass_over<P: Placing>(
 
 /// Advances every shard to the end of the list.
 ///
-/// No answer may be left to collect, and no out to append.
-///
-/// # Errors
-///
-/// `AllocError` if memory runs out; some shards may then still lack entries.
+/// No answer to collect and no out to append may be left. On error, some shards lack entries.
 pub(crate) fn catch_up<R: Threads + Sync, G: Gate + Sync, P: Placing + Send + Sync>(
     rt: &R,
     alloc: Global,

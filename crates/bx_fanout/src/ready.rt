@@ -1,4 +1,3 @@
-//! Collecting the replies that are known once an input is admitted.
 ghost use Rattle.std.specs.Prelude.{◌≡◌, [], IsTrue, IfOk};
 ghost use Rattle.bx_fanout.specs.CurrentInputs.{Collects, IsCollected, NextReady};
 ghost use Rattle.bx_entry.specs.Placings.{Setup};
@@ -12,13 +11,7 @@ use std::collections::VecDeque;
 
 /// Collects the replies of the input's slots, up to the first `Waiting` slot.
 ///
-/// Returns `true` if there is no `Waiting` slot, and so all answers are collected.
-///
-/// Shards need not have applied the input's entries.
-///
-/// # Errors
-///
-/// `AllocError` if memory runs out; the replies collected so far are kept.
+/// Returns `true` if there is none. On error, the replies collected so far are kept.
 pub(crate) fn collect_ready(alloc: Global, current: &mut CurrentInput) -> Result<bool, AllocError>
     ensures so_far { (setup : Setup) (w : WorldState) → IsCollected setup w current.old → IsCollected setup w current.new }
     ensures collects { Collects current.old current.new }
@@ -34,8 +27,7 @@ pub(crate) fn collect_ready(alloc: Global, current: &mut CurrentInput) -> Result
     Ok(true)
 }
 
-// Takes the reply in the first slot as an answer without events, and removes the slot. Returns
-// `None` if the first slot is `Waiting`, and keeps the slot. Also returns `None` without slots.
+// Takes the reply in the first slot, and removes the slot, unless it is `Waiting`.
 fn next_ready(alloc: Global, slots: &mut VecDeque<Slot>) -> Option<Answer>
     ensures { NextReady slots.old.items slots.new.items result }
 {

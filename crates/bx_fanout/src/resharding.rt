@@ -1,4 +1,3 @@
-//! Changing the number of shards.
 ghost use Rattle.std.specs.Prelude.{◌≡◌, MatchResult, IfOk};
 ghost use Rattle.std.specs.Arc.{arc_value};
 ghost use Rattle.bx_fanout.specs.RoundStates.{IsDone, IsConsistent};
@@ -13,12 +12,8 @@ use std::sync::Arc;
 
 /// Redistributes the sessions among `shards` shards, by `placing`.
 ///
-/// Every shard must be at the end of the list, and all answers to the last input collected. The
-/// inputs and outs of earlier runs are kept.
-///
-/// # Errors
-///
-/// The unchanged state and an `AllocError` if memory runs out.
+/// Every shard must be at the end of the list, and all answers to the last input collected. On
+/// error, returns the unchanged state.
 pub(crate) fn redistribute<P: Placing + Drop>(
     alloc: Global,
     state: RoundState<P>,

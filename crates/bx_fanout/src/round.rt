@@ -1,4 +1,3 @@
-//! A round: inputs answered in order, over several runs.
 ghost use Rattle.bx_fanout.specs.RoundStates.{IsConsistent};
 ghost use Rattle.bx_fanout.specs.Props.{consistent-prop};
 
@@ -17,9 +16,6 @@ use std::thread::Threads;
 ///
 /// Inputs come in runs. An input starts when it is admitted or rejected. It is complete once all
 /// its messages are answered; until then, its connect is held.
-///
-/// Model: the configuration, the number of shards, the placing, the number of workers, and the
-/// inputs and outs of all runs.
 #[derive(Drop)]
 pub struct Round<P: Placing> {
     state: RoundState<P>,
@@ -35,11 +31,7 @@ impl<P: Placing> Round<P> {
     ghost use Rattle.bx_fanout.specs.Runs.{AreHeldBefore};
     ghost use Rattle.bx_entry.specs.Placings.{placed_by};
 
-    /// Creates a round of `config.shards` shards and `workers` workers, with no inputs.
-    ///
-    /// # Errors
-    ///
-    /// `AllocError` if memory runs out.
+    /// Creates a round without inputs.
     pub fn new(
         alloc: Global,
         config: Config,
@@ -62,9 +54,8 @@ impl<P: Placing> Round<P> {
     /// Each input is completed or held before the next one starts. Outs that become ready together
     /// are appended in the order of their inputs.
     ///
-    /// An input needs no shard if it adds no entries to the list, or if no connect is held and all
-    /// its messages are answered at once. The shards then apply its entries later. All shards
-    /// advance to the end of the list:
+    /// An input needs no shard if it adds no entries, or if no connect is held and all its messages
+    /// are answered at once. All shards advance to the end of the list:
     ///
     /// - before any other input is completed or held,
     /// - when the slowest shard lacks more than 1,024 entries,
@@ -75,8 +66,8 @@ impl<P: Placing> Round<P> {
     ///
     /// # Errors
     ///
-    /// `Memory` if memory runs out, with the number of `inputs` that were started. The next run,
-    /// even one without inputs, appends their remaining outs. No out is appended twice.
+    /// `Memory`, with the number of `inputs` that were started. The next run, even one without
+    /// inputs, appends their remaining outs.
     ///
     /// # Examples
     ///
@@ -84,16 +75,16 @@ impl<P: Placing> Round<P> {
     /// let workers = WorkerCount::new(2).ok_or("workers: 1 to 16")?;
     /// let mut round = Round::new(alloc, config, placing, workers)?;
     /// let arrival = Arrival {
-    ///     moment: 0,
-    ///     nonce: 0,
-    ///     access: Access::ReadWrite,
-    ///     bodies: Bodies::Whole(br#"{"channel":"/meta/ping"}"#.to_vec(alloc)?),
+    ///  moment: 0,
+    ///  nonce: 0,
+    ///  access: Access::ReadWrite,
+    ///  bodies: Bodies::Whole(br#"{"channel":"/meta/ping"}"#.to_vec(alloc)?),
     /// };
     /// let inputs = [Input::Post(arrival), Input::Tick(100)];
     /// let mut outs = Vec::new(alloc);
     /// round
-    ///     .run(&rt, alloc, &OpenGate, &inputs, &mut outs)
-    ///     .map_err(|_| "out of memory")?;
+    ///  .run(&rt, alloc, &OpenGate, &inputs, &mut outs)
+    ///  .map_err(|_| "out of memory")?;
     /// assert_eq!(rt; outs.len(), 2);
     /// ```
     pub fn run<R: Threads + Sync, G: Gate + Sync>(
@@ -116,13 +107,11 @@ impl<P: Placing> Round<P> {
     /// Redistributes the sessions among `shards` shards, by `placing`.
     ///
     /// First, the calling thread advances every shard to the end of the list, without a gate, and
-    /// collects the answers that are left. The next run appends their outs. The inputs and outs of
-    /// earlier runs are kept.
+    /// collects the answers that are left. The next run appends their outs.
     ///
     /// # Errors
     ///
-    /// The round, with the shards and the placing that it had, and an `AllocError` if memory runs
-    /// out.
+    /// The round, with the shards and the placing that it had, if memory runs out.
     pub fn reshard<R: Threads + Sync>(
         self,
         rt: &R,
@@ -159,13 +148,8 @@ impl<P: Placing> Round<P> {
 
     /// Returns the numbers of the incomplete inputs, in ascending order.
     ///
-    /// If memory ran out before all answers to the last input were collected, some shard lacks
-    /// entries. The result then has the numbers of the inputs that were incomplete before the last
-    /// input, and the number of the last input.
-    ///
-    /// # Errors
-    ///
-    /// `AllocError` if memory runs out.
+    /// If memory ran out before all answers to the last input were collected, these are the inputs
+    /// that were incomplete before it, and the last input.
     pub fn held(&self, alloc: Global) -> Result<Vec<usize>, AllocError>
         ensures held { IfOk result (λ numbers. IsLevel self.now ⊎ (is_collecting self.now ≡ false)
             → numbers.items ≡ runs.held (setup_in self.now).config (inputs_of self.now)) }

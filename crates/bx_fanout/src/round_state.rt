@@ -1,4 +1,3 @@
-//! The state of a round, and the steps of a run.
 ghost use Rattle.std.specs.Prelude.{ℕ, ◌≡◌, ◌+◌, ◌++◌, ◌≤◌, ◌<◌, ◌^◌, ◌⊎◌, [], ◌∷◌, false, length, slice_get, Some, IfOk, OnErr, OnOk};
 ghost use Rattle.bx_fanout.specs.RoundStates.{AddsOuts, IsCalm, IsDone, IsConsistent};
 ghost use Rattle.bx_fanout.specs.Stages.{is_collecting};
@@ -29,21 +28,13 @@ use std::thread::Threads;
 pub(crate) struct RoundState<P: Placing> {
     pub(crate) world: World<P>,
     pub(crate) held: HeldInputs,
-    /// The progress of the round's last input.
     pub(crate) stage: Stage,
-    /// The number of inputs that the round has started, and so the number of its next input.
+    /// The number of inputs that were started, and so the number of the next one.
     pub(crate) intake: usize,
-    // Ghost: the inputs that the round has started, in order.
     pub(crate) inputs: History<Input>,
-    // Ghost: the outs that the round has appended, in order.
     pub(crate) added: History<Out>,
 }
 
-/// Creates a state of `config.shards` shards, with no inputs.
-///
-/// # Errors
-///
-/// `AllocError` if memory runs out.
 pub(crate) fn new_state<P: Placing + Drop>(
     alloc: Global,
     config: Config,
@@ -66,12 +57,7 @@ pub(crate) fn new_state<P: Placing + Drop>(
 
 /// Advances every shard to the end of the list, and completes or holds the last input.
 ///
-/// If all answers to the last input are collected, only advances the shards. Uses one worker if
-/// fewer than `SHARED_WORK` deliveries are expected, and otherwise `workers`.
-///
-/// # Errors
-///
-/// `AllocError` if memory runs out; the next call continues.
+/// On error, the next call continues.
 pub(crate) fn finish<R: Threads + Sync, G: Gate + Sync, P: Placing + Send + Sync>(
     rt: &R,
     alloc: Global,
@@ -117,8 +103,6 @@ pub(crate) fn finish<R: Threads + Sync, G: Gate + Sync, P: Placing + Send + Sync
 const SHARED_WORK: u64 = 1_024;
 
 /// Returns one worker if fewer than `SHARED_WORK` deliveries are expected, and otherwise `workers`.
-///
-/// Counts the deliveries for all entries that some shard has yet to apply.
 pub(crate) fn workers_for<P: Placing>(world: &World<P>, workers: WorkerCount) -> WorkerCount
     ensures { (result ≡ 1) ⊎ (result ≡ workers) }
 {
@@ -135,7 +119,7 @@ pub(crate) fn workers_for<P: Placing>(world: &World<P>, workers: WorkerCount) ->
 
 // Estimates how many deliveries the entry at `place` needs. A publish needs one for each live
 // session, a tick one for each session that it closes, and any other entry one. A tick may also
-// answer held connects; these are usually few. Returns 0 if there is no entry at `place`.
+// answer held connects; these are usually few.
 fn expected<P: Placing>(world: &World<P>, place: u64) -> u64 {
     match world.entry(place) {
         Some(entry) => match &entry.kind {
@@ -149,12 +133,8 @@ fn expected<P: Placing>(world: &World<P>, place: u64) -> u64 {
 
 /// Appends the outs of answered held connects, and then that of the complete input, to `outs`.
 ///
-/// All answers to the last input must be collected. The answered connects and the complete input
-/// are removed from `state`.
-///
-/// # Errors
-///
-/// `AllocError` if memory runs out; the next call continues.
+/// All answers to the last input must be collected. Removes these connects and this input from
+/// `state`. On error, the next call continues.
 pub(crate) fn add_outs<P: Placing>(
     alloc: Global,
     state: &mut RoundState<P>,
@@ -173,14 +153,9 @@ pub(crate) fn add_outs<P: Placing>(
     given
 }
 
-/// Completes or holds the last input, and appends the outs of all inputs that it completes to
-/// `outs`.
+/// Completes or holds the last input, and appends the outs of all inputs that it completes.
 ///
-/// Does not advance the shards if the last input needs none of them.
-///
-/// # Errors
-///
-/// `AllocError` if memory runs out; the next call continues.
+/// Advances the shards only if the last input needs one. On error, the next call continues.
 pub(crate) fn settle<R: Threads + Sync, G: Gate + Sync, P: Placing + Send + Sync>(
     rt: &R,
     alloc: Global,
@@ -203,11 +178,7 @@ pub(crate) fn settle<R: Threads + Sync, G: Gate + Sync, P: Placing + Send + Sync
 
 /// Starts `input`: admits or rejects it. Completes it if it adds no entries to the list.
 ///
-/// No answer may be left to collect, and no out to append.
-///
-/// # Errors
-///
-/// `AllocError` if memory runs out; `input` is not started.
+/// No answer to collect and no out to append may be left.
 pub(crate) fn take_in_next<P: Placing>(
     alloc: Global,
     state: &mut RoundState<P>,

@@ -1,4 +1,3 @@
-//! One run of a round.
 ghost use Rattle.bx_fanout.specs.RoundStates.{IsConsistent};
 ghost use Rattle.bx_fanout.specs.Runs.{Runs};
 ghost use Rattle.std.specs.Prelude.{◌+◌, ◌≤◌, ◌^◌, length};
@@ -14,12 +13,11 @@ use std::thread::Threads;
 
 /// Finishes the previous run, answers `inputs` in order, and then advances every shard.
 ///
-/// The outs of all inputs that an input completes are appended before the next input starts.
+/// The outs that an input completes are appended before the next input starts.
 ///
 /// # Errors
 ///
-/// `Memory` if memory runs out, with the number of `inputs` that were started. The next run
-/// continues.
+/// `Memory`, with the number of `inputs` that were started. The next run continues.
 pub(crate) fn run<R: Threads + Sync, G: Gate + Sync, P: Placing + Send + Sync>(
     rt: &R,
     alloc: Global,

@@ -1,4 +1,3 @@
-//! The stages of a round's last input.
 ghost use Rattle.std.specs.Prelude.{◌≡◌, false, IfNone, IfSome};
 ghost use Rattle.bx_fanout.specs.Stages.{is_collecting, is_complete};
 ghost use Rattle.bx_fanout.specs.declared.stage.Stage.TheVariants.{Collecting, Complete, Idle};
@@ -9,16 +8,15 @@ use std::mem;
 /// The progress of a round's last input.
 #[derive(Drop)]
 pub(crate) enum Stage {
-    /// No input is in progress. The last input, if any, is held, or its out is appended.
+    /// No input is in progress.
     Idle,
-    /// The answers to the last input are being collected. Some shard lacks entries.
+    /// Its answers are being collected. Some shard lacks entries.
     Collecting(CurrentInput),
-    /// All answers to the last input are collected; its out is not appended yet.
+    /// All its answers are collected; its out is not appended yet.
     Complete(CurrentInput),
 }
 
 impl Stage {
-    /// Returns the input in `Collecting`, or `None` in another stage.
     pub(crate) fn collecting(&self) -> Option<&CurrentInput>
         ensures some { IfSome result (λ current. self.now ≡ Collecting current.now) }
         ensures none { IfNone result (is_collecting self.now ≡ false) }
@@ -30,8 +28,6 @@ impl Stage {
     }
 
     /// Takes the input in `Collecting`, and sets `self` to `Idle`.
-    ///
-    /// In another stage, returns `None` and leaves `self` unchanged.
     pub(crate) fn take_collecting(&mut self) -> Option<CurrentInput>
         ensures some { IfSome result (λ current. (self.old ≡ Collecting current) × (self.new ≡ Idle)) }
         ensures none { IfNone result ((is_collecting self.old ≡ false) × (self.new ≡ self.old)) }
@@ -46,8 +42,6 @@ impl Stage {
     }
 
     /// Takes the input in `Complete`, and sets `self` to `Idle`.
-    ///
-    /// In another stage, returns `None` and leaves `self` unchanged.
     pub(crate) fn take_complete(&mut self) -> Option<CurrentInput>
         ensures some { IfSome result (λ current. (self.old ≡ Complete current) × (self.new ≡ Idle)) }
         ensures none { IfNone result ((is_complete self.old ≡ false) × (self.new ≡ self.old)) }

@@ -1,4 +1,3 @@
-//! Starting an input: it is admitted or rejected.
 ghost use Rattle.std.specs.Prelude.{◌≡◌, ◌<◌, ◌++◌, [], ◌∷◌, filter, length, map, IfOk, OnErr};
 ghost use Rattle.bx_entry.specs.Requests.{read_input};
 ghost use Rattle.bx_fanout.specs.CurrentInputs.{IsLevel};
@@ -18,13 +17,9 @@ use bx_world::World;
 use std::alloc::{AllocError, Global};
 use std::collections::VecDeque;
 
-/// Admits or rejects `input`, and returns it with no answers collected.
+/// Admits or rejects `input`, the next one of the round.
 ///
-/// `number`: how many inputs were started before. The outs of all complete inputs must be appended.
-///
-/// # Errors
-///
-/// `AllocError` if memory runs out; the world is unchanged.
+/// The outs of all complete inputs must be appended.
 pub(crate) fn take_in<P: Placing>(
     alloc: Global,
     world: &mut World<P>,
@@ -70,7 +65,6 @@ fn admit<P: Placing>(
     }
 }
 
-// Creates a `CurrentInput` with the given fields, and no answers collected.
 fn current_of(
     alloc: Global,
     number: usize,

@@ -1,6 +1,5 @@
 -- What a poll for an answer returns.
-use Rattle.std.specs.Prelude.{◌≡◌, List, Bool, false, Option, Result, Ok, Err, Some, None}
-use mathlib.Core.List.{IsPrefix}
+use Rattle.std.specs.Prelude.{◌≡◌, List, Option, Result, Ok, Err, Some, None}
 use Rattle.bx_entry.specs.declared.entry.Ticket.{Ticket}
 use Rattle.bx_message.specs.declared.reply.Answer.{Answer}
 use Rattle.bx_entry.specs.Placings.{Setup}
@@ -23,9 +22,3 @@ abbrev pub IsGiven : Setup → Ticket → List LogStep → Result (Option Answer
 IsGiven setup ticket front (Ok (Some a)) = answer_over setup.config front ticket.place ≡ Some a
 IsGiven setup ticket front (Ok None) = Unit {0}
 IsGiven setup ticket front (Err fault) = IsStopped fault ticket.shard front
-
--- If `is_done` is `true`, nothing is claimed, because an output was returned before. Otherwise,
--- `IsGiven` allows `output` for a front that extends `seen`.
-abbrev pub MayGive : Setup → Ticket → List LogStep → Bool → Result (Option Answer) HubFault → Type 0
-MayGive setup ticket seen is_done output =
-    is_done ≡ false → (front : List LogStep) × IsPrefix seen front × IsGiven setup ticket front output

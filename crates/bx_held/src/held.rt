@@ -1,14 +1,11 @@
-//! Pending answers to connects and riders.
 ghost use Rattle.std.specs.Prelude.{◌≡◌, ◌≢◌, ◌<◌, true, false, length, Option, None, Result, Ok, IfErr, IfSome, IfNone};
 ghost use mathlib.Core.List.{IsPrefix};
 ghost use Rattle.futures.specs.Poll.{IfReady, OnPending};
 ghost use Rattle.futures.specs.Task.{Covers, Keeps};
 ghost use Rattle.futures.specs.declared.task.Poll.TheVariants as polls;
 ghost use Rattle.bx_window.specs.Steps.{list_of, setup_of};
-ghost use Rattle.bx_held.specs.Outputs.{IsGiven, MayGive, output_of};
+ghost use Rattle.bx_held.specs.Outputs.{IsGiven, output_of};
 ghost use Rattle.bx_held.specs.Waiting.{IsUnknown, IsWaitedFor};
-ghost use Rattle.bx_message.specs.declared.reply.Answer.{Answer};
-ghost use Rattle.bx_hub.specs.declared.fault.HubFault.{HubFault};
 
 use bx_entry::Ticket;
 use bx_hub::{Hub, HubKind, NoAnswer, Pass, Watch, WatchEvidence};
@@ -20,16 +17,15 @@ use std::sync::Wait;
 
 /// The pending answer to a connect or a rider.
 ///
-/// While no answer is filed, each poll registers a waker of its task with the connect. If memory
-/// runs out for the waker, the task is polled again instead. When the connect is answered, the task
-/// that polled last is woken.
+/// While no answer is filed, each poll registers a waker of its task with the connect or, if memory
+/// runs out for it, has the task polled again. When the connect is answered, the task that polled
+/// last is woken.
 #[derive(Drop)]
 pub struct PendingAnswer<L: LogId> {
     pass: Pass<L>,
     ticket: Ticket,
-    // Identifies this answer among the things that a task may wait for.
     source: Source,
-    // A waker that is not registered. It is kept because dropping a waker wakes its task.
+    // Not registered. It is kept because dropping a waker wakes its task.
     own: Option<Waker>,
     // Whether a poll has returned an answer, a fault or `None`. Later polls return `None`.
     is_done: bool,
@@ -53,8 +49,21 @@ impl<L: HubKind> PendingAnswer<L> {
         }
     }
 
-    // Polls the hub once. Returns the answer or a fault, and then sets `is_done`. Returns `None` if
-    // there is no answer yet.
+    /// Returns the pass, which the polls extend.
+    pub fn pass(&self) -> &Pass<L>
+        ensures { result.now ≡ self.now.pass }
+    {
+        &self.pass
+    }
+
+    /// Returns the ticket.
+    pub fn ticket(&self) -> Ticket
+        ensures { result ≡ self.now.ticket }
+    {
+        self.ticket
+    }
+
+    // Polls the hub once for an answer or a fault, and then sets `is_done`.
     fn ask<H: Wait + Drop, R: Wait>(
         &mut self,
         rt: &R,
@@ -85,12 +94,11 @@ impl<L: HubKind> PendingAnswer<L> {
     /// Polls for the answer to the connect or rider.
     ///
     /// The output is `None` if no connect is known under the ticket, or if the output was returned
-    /// before. While pending, a waker of the polling task is registered with the connect, or the
-    /// task is polled again in any case.
+    /// before. While pending, a waker of the task is registered with the connect, or the task is
+    /// polled again in any case.
     ///
-    /// The second value is evidence that the waker is registered, or that no connect is known. It
-    /// is `None` with an answer or a fault, and after the output was returned before. It is also
-    /// `None` if the task is polled again in any case, or if the ticket names no shard.
+    /// The second value is evidence that the waker is registered, or that no connect is known, if
+    /// one of these is so and the ticket names a shard.
     ///
     /// # Errors
     ///
@@ -109,20 +117,15 @@ impl<L: HubKind> PendingAnswer<L> {
         Poll<Result<Option<Answer>, NoAnswer<L>>>,
         Option<WatchEvidence<L>>,
     )
-        ensures value { IfReady result.0 (λ o. MayGive (setup_of L.config L.placing) self.old.ticket self.old.pass
-            self.old.is_done (output_of o)) }
         ensures own { IfReady result.0 (λ o. IfErr o (λ s. s.ticket.value ≡ self.old.ticket)) }
         ensures unknown { self.old.is_done ≡ false → IfReady result.0
             (λ o. o ≡ Ok None → IsUnknown L.config.shards self.old.ticket result.1) }
-        ensures same { OnPending result.0 ((output : Result (Option Answer) HubFault)
-            → MayGive (setup_of L.config L.placing) self.new.ticket self.new.pass self.new.is_done output
-            → MayGive (setup_of L.config L.placing) self.old.ticket self.old.pass self.old.is_done output) }
+        ensures ticket { self.new.ticket ≡ self.old.ticket }
         ensures registered { OnPending result.0 (Covers cx.new (λ s. s ≡ self.new.source.id)) }
         ensures left { OnPending result.0 (IsWaitedFor self.new.ticket result.1 cx.old cx.new) }
         ensures kept { Keeps cx.old cx.new }
         ensures seen { IsPrefix self.old.pass self.new.pass }
-        ensures given { self.old.is_done ≡ false → IfReady result.0
-            (λ o. IsGiven (setup_of L.config L.placing) self.new.ticket self.new.pass (output_of o)) }
+        ensures given { IfReady result.0 (λ o. IsGiven (setup_of L.config L.placing) self.new.ticket self.new.pass (output_of o)) }
         ensures done { IfReady result.0 (λ _. self.new.is_done ≡ true) }
         ensures pending { OnPending result.0 (self.new.is_done ≡ false) }
         ensures after { self.old.is_done ≡ true → result.0 ≡ polls.Ready (Ok None) }

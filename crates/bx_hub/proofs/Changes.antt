@@ -1,5 +1,6 @@
 -- The state of a shard after a change.
-use Rattle.std.proofs.Common.{ℕ, ◌≡◌, ◌≢◌, Bool, true, false, not, cond, Option, Some, None, refl, sym, ◌∙◌, ap}
+use Rattle.std.proofs.Common.{ℕ, ◌≡◌, ◌≢◌, ◌++◌, Bool, true, false, not, cond, List, Option, Some, None, refl, sym, ◌∙◌, ap}
+use mathlib.Core.List.{IsPrefix}
 use Rattle.bx_connects.specs.Connects.{is_filed_below, unswept}
 use Rattle.bx_connects.specs.declared.connects.ConnectState.{ConnectState}
 use Rattle.bx_shard.specs.States.{State, Swept, connect_in}
@@ -30,3 +31,6 @@ pub resumed_goes : (activity : Activity) → resumed activity ≢ Paused
 resumed_goes Active e = cc
 resumed_goes Paused e = cc
 resumed_goes Closed e = cc
+
+pub added_behind : (old more new : List ℕ) → new ≡ old ++ more → IsPrefix old new
+added_behind old more new e = (more, sym e)

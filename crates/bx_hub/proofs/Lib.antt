@@ -1,10 +1,12 @@
 pub mod Changes
 pub mod Counts
 pub mod Held
+pub mod Lags
 pub mod Lists
 pub mod Places
 pub mod Posts
 pub mod Records
+pub mod Sequences
 pub mod Surveys
 pub mod Waking
 pub mod Walks

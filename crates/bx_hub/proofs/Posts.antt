@@ -1,5 +1,5 @@
 -- What a request or a tick adds to the front of a pass, and why it is not admitted.
-use Rattle.std.proofs.Common.{◌≡◌, ℕ, ◌+◌, ◌<◌, ◌≤◌, Option, None, List, [], ◌∷◌, ◌++◌, length, take, drop, refl, sym, ap, ◌∙◌, subst, arith, inr, length-append}
+use Rattle.std.proofs.Common.{◌≡◌, ◌⊎◌, ℕ, ◌+◌, ◌<◌, ◌≤◌, Option, None, List, [], ◌∷◌, ◌++◌, length, take, drop, refl, sym, ap, ◌∙◌, subst, arith, inl, inr, ⊎_elim, length-append}
 use Rattle.std.specs.Prelude.{Result, Ok, Err, IfOk, IfErr, IfSome, IsOkUnless, OnOk, OnErr}
 use Rattle.std.proofs.lemmas.{Grind.common_steps, List.drop_at}
 use mathlib.Core.List.{IsPrefix}
@@ -12,7 +12,6 @@ use Rattle.bx_registry.proofs.Slotting.{tick_slots}
 use Rattle.bx_entry.specs.Listing as messages
 use Rattle.bx_advice.specs.Limits.{greatest_length}
 use Rattle.bx_advice.specs.declared.config.Config.{Config}
-use Rattle.bx_entry.specs.Inputs.{Tick}
 use Rattle.bx_entry.specs.Words.{IsFault, ReadInput, added_by, refusal_of, Listed, entries}
 use Rattle.bx_entry.specs.declared.input.Input.{Input}
 use Rattle.bx_entry.specs.declared.entry.Entry.{Entry}
@@ -51,19 +50,50 @@ continues config list l p inputs same is c some =
 pub places_end : (list : List Listed) (l : Standing) (p : Plan) → l.list ≡ list → Continues l p → length list + length p.batch.entries ≤ greatest_length
 places_end list l p is c = omega (arith, ap (λ (xs : List Listed). length xs) is, c.change.bounded, length-append l.list p.elements, entries_many l p c)
 
--- ---- The place in the list
+-- ---- Fronts of a log with one more step
 
-pub none_added : (xs : List Listed) → length xs ≡ 0 → xs ≡ []
+pub none_added : {A : Type 0} (xs : List A) → length xs ≡ 0 → xs ≡ []
 none_added [] e = refl
 none_added (x ∷ xs) e = absurd (omega (arith, e))
+
+-- A front is within the log before its last step, or is the whole log.
+front_parts : (front log : List LogStep) (step : LogStep) → IsPrefix front (log ++ step ∷ []) → IsPrefix front log ⊎ (front ≡ log ++ step ∷ [])
+front_parts [] log step b = inl (log, refl)
+front_parts (f ∷ front) [] step b =
+    let rest : front ++ b.0 ≡ [] = cc b.1 in
+    let none : front ≡ [] = none_added front (omega (arith, ap (λ (xs : List LogStep). length xs) rest, length-append front b.0)) in
+    let same : f ≡ step = cc b.1 in
+    inr (cc (none, same))
+front_parts (f ∷ front) (l ∷ log) step b =
+    let same : f ≡ l = cc b.1 in
+    let rest : front ++ b.0 ≡ log ++ step ∷ [] = cc b.1 in
+    ⊎_elim (λ (p : IsPrefix front log). inl (p.0, cc (same, p.1))) (λ (e : front ≡ log ++ step ∷ []). inr (cc (same, e))) (front_parts front log step (b.0, rest))
+
+-- Each front within `new` shows all that is new since `old`, or nothing of it.
+abbrev pub ShowsAllOrNone : List LogStep → List LogStep → Type 0
+ShowsAllOrNone old new = (front : List LogStep) → IsPrefix front new → (length (list_of front) ≤ length (list_of old)) ⊎ (list_of front ≡ list_of new)
+
+pub shows_none : (log : List LogStep) → ShowsAllOrNone log log
+shows_none log front b = inl (list_length front log b)
+
+pub shows_step : (log new : List LogStep) (step : LogStep) → new ≡ log ++ step ∷ [] → ShowsAllOrNone log new
+shows_step log new step e =
+    subst (ShowsAllOrNone log) (sym e)
+    (λ front b. ⊎_elim (λ (p : IsPrefix front log). inl (list_length front log p)) (λ (same : front ≡ log ++ step ∷ []). inr (ap list_of same)) (front_parts front log step b))
+
+pub with_step : {T E : Type 0} (P : T → Type 0) (Q : Type 0) (r : Result T E) → IfOk r P → OnOk r Q → IfOk r (λ a. P a × Q)
+with_step P Q (Ok a) p q = (p, q)
+with_step P Q (Err e) p q = tt
+
+-- ---- The place in the list
 
 take_front : {A : Type 0} (xs ys : List A) → take (length xs) (xs ++ ys) ≡ xs
 take_front [] ys = refl
 take_front (x ∷ xs) ys = ap (λ l. x ∷ l) (take_front xs ys)
 
 pub admitted_by : (input : ReadInput) (l : Standing) (p : Plan) (old whole new : List LogStep) → l.list ≡ list_of whole → Continues l p → p.elements ≡ added_by input → refusal_of (length l.list) input ≡ None →
-    IsPrefix old whole → list_of new ≡ list_of whole ++ p.elements → IsAdmittedAt input p.batch.first old new
-admitted_by input l p old whole new is c added allowed pre grown =
+    IsPrefix old whole → list_of new ≡ list_of whole ++ p.elements → ShowsAllOrNone whole new → IsAdmittedAt input p.batch.first old new
+admitted_by input l p old whole new is c added allowed pre grown shown =
     let first : p.batch.first ≡ length (list_of whole) = c.first ∙ ap (λ (xs : List Listed). length xs) is in
     let more : list_of new ≡ list_of whole ++ added_by input = grown ∙ ap (λ (xs : List Listed). list_of whole ++ xs) added in
     record {
@@ -71,6 +101,7 @@ admitted_by input l p old whole new is c added allowed pre grown =
       fresh = omega (arith, first, list_length old whole pre);
       there = ap (drop p.batch.first) more ∙ drop_at (list_of whole) (added_by input) p.batch.first (sym first);
       end = omega (arith, first, ap (λ (xs : List Listed). length xs) more, length-append (list_of whole) (added_by input));
+      at_once = λ front b. ⊎_elim (λ (h : length (list_of front) ≤ length (list_of whole)). inl (omega (arith, h, first))) (λ (e : list_of front ≡ list_of new). inr e) (shown front b);
     }
 
 pub slots_by : (setup : Setup) (input : ReadInput) (p : Plan) (whole new : List LogStep) → p.batch.first ≡ length (list_of whole) → p.slots ≡ admitted_slots setup (list_of whole) p.elements → p.elements ≡ added_by input →
@@ -81,7 +112,7 @@ slots_by setup input p whole new first slots added grown =
     slots ∙ ap (admitted_slots setup (list_of whole)) added ∙ ap (λ (xs : List Listed). admitted_slots setup xs (added_by input)) (sym front)
 
 pub admitted_before : (input : ReadInput) (first : ℕ) (old mid new : List LogStep) → IsPrefix old mid → IsAdmittedAt input first mid new → IsAdmittedAt input first old new
-admitted_before input first old mid new p a = record { allowed = a.allowed; fresh = omega (arith, list_length old mid p, a.fresh); there = a.there; end = a.end }
+admitted_before input first old mid new p a = record { allowed = a.allowed; fresh = omega (arith, list_length old mid p, a.fresh); there = a.there; end = a.end; at_once = a.at_once }
 
 -- ---- The results of plans
 

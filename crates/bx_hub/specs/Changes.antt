@@ -1,5 +1,7 @@
 -- Pausing, resuming, closing and sweeping shards.
-use Rattle.std.specs.Prelude.{ℕ, ◌≡◌, ◌≢◌, true, length}
+use Rattle.std.specs.Prelude.{ℕ, ◌≡◌, ◌≢◌, List, true, length, IsSomeAnd}
+use Rattle.std.specs.List.{All}
+use mathlib.Core.List.{IsPrefix}
 use Rattle.bx_connects.specs.Connects.{unswept}
 use Rattle.bx_shard.specs.States.{State, Swept, WasShut, connect_in}
 use Rattle.bx_hub.specs.Faults.{paused, resumed}
@@ -25,6 +27,14 @@ MakesOf Resume old new = new ≡ old
 MakesOf Shut old new = WasShut old new
 MakesOf (Sweep before) old new = Swept before old new
 
+-- The change turns the places of a shard's taken or swept answers from `old` into `new`. Only a
+-- sweep adds places.
+abbrev pub TakesOf : ShardChange → List ℕ → List ℕ → Type 0
+TakesOf Pause old new = new ≡ old
+TakesOf Resume old new = new ≡ old
+TakesOf Shut old new = new ≡ old
+TakesOf (Sweep before) old new = IsPrefix old new
+
 -- The shard has the activity and the state `s` after the change. `Pause` leaves the shard not
 -- active, and `Resume` not paused. `Shut` leaves it closed, also to wakers. After `Sweep`, no
 -- answer is left that an entry before `before` filed.
@@ -39,6 +49,11 @@ module _ {L : Type 0} where
   abbrev pub IsChanged : ℕ → ShardChange → ChangeEvidence L → Type 0
   IsChanged shard change changed = (changed.shard.value ≡ shard) × (changed.change.value ≡ change)
 
-  -- The report is for `change`, and has a result for each of `shards` shards.
+  -- While the shard was locked, nothing but the change added to its taken answers.
+  abbrev pub IsKeptBy : ShardChange → ChangeEvidence L → Type 0
+  IsKeptBy change changed = IsSomeAnd changed.taken (λ taken. TakesOf change taken.before taken.after)
+
+  -- The report is for `change`, and has a result for each of `shards` shards, whose taken answers
+  -- nothing but the change added to.
   abbrev pub AreAllChanged : ℕ → ShardChange → ChangeReport L → Type 0
-  AreAllChanged shards change all = (length all.done ≡ shards) × (all.change.value ≡ change)
+  AreAllChanged shards change all = (length all.done ≡ shards) × (all.change.value ≡ change) × All (IsKeptBy change) all.done

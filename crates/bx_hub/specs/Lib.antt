@@ -1,5 +1,6 @@
 pub mod Advancing
 pub mod Changes
+pub mod Consistency
 pub mod Faults
 pub mod Held
 pub mod Lagging

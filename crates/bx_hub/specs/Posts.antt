@@ -1,25 +1,35 @@
 -- What a post or a tick returns, and why it is not admitted.
-use Rattle.std.specs.Prelude.{ℕ, ◌≡◌, ◌≢◌, ◌+◌, ◌<◌, ◌≤◌, ◌⊎◌, ◌^◌, List, length, take, drop, Some, None}
+use Rattle.std.specs.Prelude.{ℕ, ◌≡◌, ◌≢◌, ◌+◌, ◌<◌, ◌≤◌, ◌⊎◌, ◌^◌, ◌++◌, List, length, take, drop, Some, None}
 use mathlib.Core.List.{IsPrefix}
 use Rattle.bx_registry.specs.Slots.{admitted_slots}
 use Rattle.bx_entry.specs.Inputs.{ReadInput, Unread, added_by, refusal_of}
 use Rattle.bx_entry.specs.declared.entry.Slot.{Slot}
+use Rattle.bx_entry.specs.declared.input.Input.{Input}
 use Rattle.bx_entry.specs.declared.input.Refusal.TheVariants as refusals
 use Rattle.bx_entry.specs.Placings.{Setup}
 use Rattle.bx_window.specs.declared.law.LogStep.{LogStep}
-use Rattle.bx_window.specs.Steps.{list_of, firsts_of, begin_of, below}
+use Rattle.bx_window.specs.Steps.{list_of, firsts_of, begin_of, below, inputs_of}
 use Rattle.bx_hub.specs.declared.fault.PostFault.{PostFault}
 use Rattle.bx_hub.specs.declared.fault.PostFault.TheVariants.{Refused, Closed, Behind, Overrun, WrongShard, Memory}
 use Rattle.bx_window.specs.declared.writer.TheConstants.{MAX_BATCHES}
 
 -- A call admitted `input` at place `first`, and extended its pass from `old` to `new`.
 -- No rule rejects `input` there. The list of `old` ends at `first` or before. From `first` on, the
--- list of `new` has exactly the entries that `input` adds.
+-- list of `new` has exactly the entries that `input` adds. Each front within `new` shows all of
+-- these entries, or none.
 pub record IsAdmittedAt (input : ReadInput) (first : ℕ) (old new : List LogStep) : Type 0 where
   pub allowed : refusal_of first input ≡ None
   pub fresh : length (list_of old) ≤ first
   pub there : drop first (list_of new) ≡ added_by input
   pub end : length (list_of new) ≡ first + length (added_by input)
+  pub at_once : (front : List LogStep) → IsPrefix front new → (length (list_of front) ≤ first) ⊎ (list_of front ≡ list_of new)
+
+-- `new` is the whole log after `input` was appended to the log `old`, at place `first`. `recorded`
+-- are the inputs that are recorded of it.
+pub record IsGrown (input : ReadInput) (recorded : List Input) (first : ℕ) (old new : List LogStep) : Type 0 where
+  pub first_is : first ≡ length (list_of old)
+  pub list_is : list_of new ≡ list_of old ++ added_by input
+  pub inputs_are : inputs_of new ≡ inputs_of old ++ recorded
 
 -- `slots` are what a single-threaded server gives for `input` at place `first` of the list of
 -- `front`.

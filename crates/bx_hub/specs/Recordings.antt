@@ -1,5 +1,5 @@
 -- How a record continues and ends.
-use Rattle.std.specs.Prelude.{ℕ, ◌≡◌, List, ◌++◌}
+use Rattle.std.specs.Prelude.{ℕ, ◌≡◌, List, ◌++◌, Option, Some, None}
 use Rattle.bx_window.specs.declared.law.LogStep.{LogStep}
 use Rattle.bx_window.specs.declared.law.LogId as LogId
 use Rattle.bx_hub.specs.declared.{admission.RecordEnd.RecordEnd, recording.Recording.Recording}
@@ -15,3 +15,11 @@ module _ {L : Type 0} {g : LogId.Ghosts L} where
     pub from : end.recording.from ≡ old.from
     pub waiting : end.recording.waiting ≡ old.waiting
     pub upto : end.front ≡ front
+
+  -- A record goes on with `text` appended, or has ended at `front`. Without a record, nothing has
+  -- changed. The arguments are the record and the rest of an ended one, before and after.
+  abbrev pub IsRecorded : List LogStep → List ℕ → Option (Recording L g) → Option (RecordEnd L g) → Option (Recording L g) → Option (RecordEnd L g) → Type 0
+  IsRecorded front text (Some old) old_end (Some new) new_end = GoesOn old text new
+  IsRecorded front text (Some old) old_end None (Some new_end) = EndsBefore old front new_end
+  IsRecorded front text (Some old) old_end None None = ⊥
+  IsRecorded front text None old_end new new_end = (new ≡ None) × (new_end ≡ old_end)

@@ -16,12 +16,12 @@ use Rattle.bx_hub.specs.declared.submission.Submission.TheVariants as submission
 
 -- The request or tick as it arrived, without the messages that were read from it.
 abbrev pub input_in : Submission → Input
-input_in (submission.Request r) = Post r.arrival
-input_in (submission.Tick tick) = Tick tick.moment
+input_in (submission.Request r) = Post r.now.arrival
+input_in (submission.Tick tick) = Tick tick.now.moment
 
 -- The documents of a request; a tick has none.
 abbrev pub documents_in : Submission → List (List ℕ)
-documents_in (submission.Request r) = texts_of r.arrival.bodies
+documents_in (submission.Request r) = texts_of r.now.arrival.bodies
 documents_in (submission.Tick tick) = []
 
 -- The list of only `input` if its request has messages, and otherwise the empty list.
@@ -31,8 +31,8 @@ where_any (m ∷ ms) input = input ∷ []
 
 -- The inputs recorded of a request or tick: itself, unless it is a request without messages.
 abbrev pub inputs_by : Submission → List Input
-inputs_by (submission.Request r) = where_any r.messages.items (Post r.arrival)
-inputs_by (submission.Tick tick) = Tick tick.moment ∷ []
+inputs_by (submission.Request r) = where_any r.now.messages.items (Post r.now.arrival)
+inputs_by (submission.Tick tick) = Tick tick.now.moment ∷ []
 
 -- The inputs recorded of the request `input`: itself, if messages were read from it and there are
 -- any.

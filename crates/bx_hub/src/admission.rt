@@ -1,36 +1,36 @@
-//! The state that the admission lock guards.
-ghost use Rattle.std.specs.Prelude.{◌≡◌, ◌<◌, ◌≤◌, ◌++◌, ◌⊎◌, drop, length, [], None, Some, true, false, is_some, IfOk, IfErr, IfSome, IfNone, MatchOption, OnOk, OnErr};
+ghost use Rattle.std.specs.Prelude.{◌≡◌, ◌<◌, ◌≤◌, ◌++◌, ◌∷◌, ◌⊎◌, drop, length, [], None, Some, true, false, is_some, IfOk, IfErr, IfSome, IfNone, MatchOption, MatchResult, OnOk, OnErr};
 ghost use Rattle.std.specs.Option.{ForSome};
-ghost use Rattle.std.specs.List.{All};
 ghost use mathlib.Core.List.{IsPrefix};
 ghost use Rattle.bx_registry.specs.Slots.{admitted_slots};
 ghost use Rattle.bx_registry.specs.Standings.{Continues};
 ghost use Rattle.bx_entry.specs.Inputs.{IsFault, added_by, refusal_of};
-ghost use Rattle.bx_window.specs.Steps.{below, firsts_of, inputs_of, list_of, setup_of};
+ghost use Rattle.bx_window.specs.Steps.{adding, below, firsts_of, inputs_of, list_of, setup_of};
 ghost use Rattle.bx_hub.specs.declared.shard_state.evidence.ShardChange.TheVariants as changes;
 ghost use Rattle.bx_hub.specs.declared.fault.PostFault.TheVariants as faults;
 ghost use Rattle.bx_hub.specs.Submissions.{input_of};
-ghost use Rattle.bx_hub.specs.Records.{inputs_by, list_by};
+ghost use Rattle.bx_hub.specs.Records.{input_in, inputs_by, list_by};
 ghost use Rattle.bx_record.specs.Record.{record_of};
 ghost use Rattle.bx_hub.specs.Surveys.{survey_of};
-ghost use Rattle.bx_hub.specs.Posts.{AreSlotsAt, IsAdmittedAt, IsRefused, IsTrimmedTo, IsUnpublished, IsWhole};
+ghost use Rattle.bx_hub.specs.Posts.{AreSlotsAt, IsAdmittedAt, IsGrown, IsRefused, IsTrimmedTo, IsUnpublished, IsWhole};
+
+mod lock;
 
 use crate::fault::PostFault;
 use crate::recording::{RecordFront, Recording, inputs_by};
-use crate::shard_state::ShardPosition;
-use crate::submission::{ConsumedSubmission, Submission};
+use crate::submission::Submission;
 use crate::survey::Survey;
-use crate::walk::{ChangeReport, LowestPosition};
+use crate::walk::{AdvanceReport, ChangeReport};
 use bx_advice::Config;
-use bx_entry::{AdmitFault, Admitted, Batch, Input, Placing, Refusal};
-use bx_history::History;
+use bx_entry::{AdmitFault, Admitted, Batch, Placing, Refusal};
 use bx_record::{RecordFault, TakenText, TextPosition};
 use bx_registry::{Plan, Registry};
 use bx_window::{Front, LogId, LogWriter, PublishFault, UnpublishedBatch};
+pub(crate) use lock::AdmissionLock;
 use std::alloc::{AllocError, Global};
+use std::mem;
 use std::sync::{Arc, Wait};
 
-/// The unwritten rest of a record that a fault ended, and that fault.
+/// The unwritten rest of a record that a fault ended.
 #[derive(Drop)]
 struct RecordEnd<L: LogId> {
     recording: Recording<L>,
@@ -47,7 +47,7 @@ pub(crate) struct Admission<L: LogId, R: Wait + Drop> {
     closed: bool,
     writer: LogWriter<L, R>,
     recording: Option<Recording<L>>,
-    // The rest of a record that a fault ended, until it is taken.
+    // Kept until it is taken.
     record_end: Option<RecordEnd<L>>,
     ghost config: { registry.config ≡ L.config },
     ghost counted: { registry.shards ≡ L.config.shards },
@@ -57,13 +57,9 @@ pub(crate) struct Admission<L: LogId, R: Wait + Drop> {
 }
 
 impl<L: LogId, R: Wait + Drop> Admission<L, R> {
-    ghost use Rattle.bx_hub.specs.Recordings.{EndsBefore, GoesOn};
+    ghost use Rattle.bx_hub.specs.Advancing.{lowest_of};
+    ghost use Rattle.bx_hub.specs.Recordings.{IsRecorded};
 
-    /// Creates an open admission with an empty list.
-    ///
-    /// # Errors
-    ///
-    /// `AllocError` if memory runs out.
     pub(crate) fn new(
         alloc: Global,
         config: Config,
@@ -84,105 +80,91 @@ impl<L: LogId, R: Wait + Drop> Admission<L, R> {
 
     /// Appends a request or a tick to the list, and to the record if one is kept.
     ///
-    /// Returns the first place and the slots of `wanted`, and what is left of `wanted`, to be
-    /// dropped after admission is unlocked. A request without messages appends nothing. On success,
-    /// `pass` has then seen the whole list. If `wanted` cannot be recorded, the record ends before
-    /// it, and the call still succeeds.
+    /// Returns the first place and the slots of `wanted`. A request without messages appends
+    /// nothing. `pass` has then seen the whole list, unless the result is `Closed`. If `wanted`
+    /// cannot be recorded, the record ends before it.
     ///
     /// # Errors
     ///
-    /// `wanted`, with the first of these that applies. Nothing is appended, and the record is
-    /// unchanged:
+    /// The first of these that applies. Nothing is appended or recorded:
     ///
     /// - `Closed`: admission is closed.
     /// - `Refused`: the moment is too large, or the list or the window's log is too long.
     /// - `Behind`: the window is full.
-    /// - `Memory`: memory ran out, at any step, or an earlier change still cannot be shown to
-    ///   readers.
+    /// - `Memory`: memory ran out, or an earlier change still cannot be shown to readers.
+    #[tactic(auto, using(crate::proofs::Posts::whole_planned, crate::proofs::Posts::input_readable))]
     pub(crate) fn admit<P: Placing>(
         &mut self,
         alloc: Global,
         placing: &P,
         pass: &mut Front<L>,
-        wanted: Submission,
-    ) -> Result<(Admitted, ConsumedSubmission), (Submission, PostFault)>
+        wanted: &Submission<'_>,
+    ) -> Result<Admitted, PostFault>
         requires placing { P.place_of placing.now ≡ L.placing }
         ensures seen { IsPrefix pass.old pass.new }
-        ensures admitted { IfOk result (λ a. IsAdmittedAt (input_of wanted) a.0.first pass.old pass.new) }
-        ensures slots { IfOk result (λ a. AreSlotsAt (setup_of L.config L.placing) (input_of wanted) a.0.first
-            pass.new a.0.slots) }
-        ensures back { IfErr result (λ r. r.0 ≡ wanted) }
-        ensures refused { IfErr result (λ r. IsRefused (input_of wanted) r.1 pass.new) }
-        ensures grown { IfOk result (λ a. (a.0.first ≡ length (list_of self.old.writer)) × (list_of self.new.writer ≡ list_of self.old.writer ++ added_by (input_of wanted)) × (pass.new ≡ self.new.writer)) }
-        ensures same { OnErr result (self.new.writer ≡ self.old.writer) }
-        ensures whole { IfErr result (λ r. IsWhole r.1 pass.new self.new.writer) }
-        ensures closed { IfErr result (λ r. (r.1 ≡ faults.Closed → self.old.closed ≡ true) × (self.old.closed ≡ true → r.1 ≡ faults.Closed)) }
+        ensures admitted { IfOk result (λ a. IsAdmittedAt (input_of wanted.now) a.first pass.old pass.new) }
+        ensures slots { IfOk result (λ a. AreSlotsAt (setup_of L.config L.placing) (input_of wanted.now) a.first
+            pass.new a.slots) }
+        ensures refused { IfErr result (λ f. IsRefused (input_of wanted.now) f pass.new) }
+        ensures whole { MatchResult result (λ a. pass.new ≡ self.new.writer) (λ f. IsWhole f pass.new self.new.writer) }
+        ensures grown { IfOk result (λ a. IsGrown (input_of wanted.now) (inputs_by wanted.now) a.first self.old.writer pass.new) }
+        ensures same { OnErr result ((self.new.writer ≡ self.old.writer) × (self.new.recording ≡ self.old.recording) × (self.new.record_end ≡ self.old.record_end)) }
+        ensures closed { IfErr result (λ f. (f ≡ faults.Closed → self.old.closed ≡ true) × (self.old.closed ≡ true → f ≡ faults.Closed)) }
         ensures open { OnOk result (self.old.closed ≡ false) }
         ensures kept { self.new.closed ≡ self.old.closed }
-        ensures recorded { OnOk result (IfSome self.old.recording (λ r. IfSome self.new.recording (GoesOn r (record_of (inputs_by wanted)))
-            × IfNone self.new.recording (MatchOption self.new.record_end ⊥ (EndsBefore r self.old.writer)))) }
-        ensures unrecorded { OnErr result ((self.new.recording ≡ self.old.recording) × (self.new.record_end ≡ self.old.record_end)) }
-        ensures inputs { OnOk result (inputs_of pass.new ≡ inputs_of self.old.writer ++ inputs_by wanted) }
-        ensures none { OnOk result (IfNone self.old.recording ((self.new.recording ≡ None) × (self.new.record_end ≡ self.old.record_end))) }
+        ensures recorded { OnOk result (IsRecorded self.old.writer (record_of (inputs_by wanted.now)) self.old.recording self.old.record_end self.new.recording self.new.record_end) }
     {
-        let before = self.writer.tell();
-        let recording = self.recording.take();
-        match self.list(alloc, placing, pass, &wanted) {
-            Ok(receipt) => {
-                if let Some(recording) = recording {
-                    self.record(alloc, recording, before, &wanted);
-                }
-                Ok((receipt, wanted.into_consumed()))
-            }
-            Err(fault) => {
-                self.recording = recording;
-                Err((wanted, fault))
-            }
+        if self.closed {
+            return Err(PostFault::Closed);
         }
+        *pass = self.writer.tell_beyond(pass);
+        let plan = self.plan(alloc, placing, wanted)?;
+        let count = plan.batch.entries.len();
+        if count == 0 {
+            return Ok(Admitted {
+                first: plan.batch.first,
+                slots: plan.slots,
+            });
+        }
+        self.publish(alloc, pass, plan, wanted)
     }
 
-    // Appends `listed`, which was just admitted, to `recording`, and keeps the result as the
-    // record. If that fails, the record ends at `before`, the front without `listed`. A request
-    // without messages adds nothing.
+    // Keeps `recording`, if given, as the record, with `listed` appended, which was just published.
+    // If that fails, the record ends at `before`, the front without `listed`.
+    #[tactic(auto, using(crate::proofs::Records::record_none, crate::proofs::Records::record_on, crate::proofs::Records::record_ended))]
     fn record(
         &mut self,
         alloc: Global,
-        recording: Recording<L>,
+        recording: Option<Recording<L>>,
         before: Front<L>,
-        listed: &Submission,
+        listed: &Submission<'_>,
     )
         requires unrecorded { self.old.recording ≡ None }
-        requires inputs { recording.inputs ≡ inputs_of before }
+        requires some { inputs_by listed.now ≡ input_in listed.now ∷ [] }
+        requires inputs { ForSome recording (λ r. r.inputs ≡ inputs_of before) }
         requires listed { list_by (inputs_of before) ≡ list_of before }
         requires grown { inputs_of self.old.writer ≡ inputs_of before ++ inputs_by listed.now }
         ensures same { (self.new.registry ≡ self.old.registry) × (self.new.writer ≡ self.old.writer) × (self.new.closed ≡ self.old.closed) }
-        ensures goes_on { IfSome self.new.recording (GoesOn recording (record_of (inputs_by listed.now))) }
-        ensures ends { IfNone self.new.recording (MatchOption self.new.record_end ⊥ (EndsBefore recording before)) }
+        ensures recorded { IsRecorded before (record_of (inputs_by listed.now)) recording self.old.record_end self.new.recording self.new.record_end }
     {
-        let mut recording = recording;
-        if !listed.adds() {
-            self.recording = Some(recording);
-            return;
-        }
-        match recording.add(alloc, listed) {
-            Ok(()) => self.recording = Some(recording),
-            Err(fault) => {
-                self.record_end = Some(RecordEnd {
-                    recording,
-                    front: before,
-                    fault,
-                });
-            }
+        match recording {
+            None => {}
+            Some(mut recording) => match recording.add(alloc, listed) {
+                Ok(()) => self.recording = Some(recording),
+                Err(fault) => {
+                    self.record_end = Some(RecordEnd {
+                        recording,
+                        front: before,
+                        fault,
+                    });
+                }
+            },
         }
     }
 
     /// Starts to record what is appended to the list, which must be empty.
     ///
-    /// Returns the front at which the record begins.
-    ///
-    /// # Errors
-    ///
-    /// The front of the list, if it is not empty; nothing has changed.
+    /// Returns the front at which the record begins, or the front of a list that is not empty.
     pub(crate) fn start_record(&mut self, alloc: Global) -> Result<RecordFront<L>, Front<L>>
         ensures same { (self.new.registry ≡ self.old.registry) × (self.new.writer ≡ self.old.writer) × (self.new.closed ≡ self.old.closed) }
         ensures started { IfOk result (λ it. (it.front ≡ []) × (self.old.writer ≡ [])
@@ -199,7 +181,6 @@ impl<L: LogId, R: Wait + Drop> Admission<L, R> {
         Ok(start)
     }
 
-    /// Stops recording, and drops what waits to be written.
     pub(crate) fn stop_record(&mut self)
         ensures same { (self.new.registry ≡ self.old.registry) × (self.new.writer ≡ self.old.writer) × (self.new.closed ≡ self.old.closed) }
         ensures none { (self.new.recording ≡ None) × (self.new.record_end ≡ None) }
@@ -208,9 +189,7 @@ impl<L: LogId, R: Wait + Drop> Admission<L, R> {
         self.record_end = None;
     }
 
-    /// Returns how many bytes of the record wait to be written.
-    ///
-    /// Returns 0 if nothing is recorded or the record has ended.
+    /// Returns how many bytes of the record wait to be written; 0 without a record.
     pub(crate) fn waiting_record_bytes(&self) -> usize
         ensures { MatchOption self.now.recording (result ≡ 0) (λ r. result ≡ length r.waiting) }
     {
@@ -220,11 +199,9 @@ impl<L: LogId, R: Wait + Drop> Admission<L, R> {
         }
     }
 
-    /// Takes what waits to be written to the record, and leaves the empty buffer `empty` in its
-    /// place.
+    /// Takes what waits to be written to the record, and leaves `empty` in its place.
     ///
-    /// If a fault ended the record, returns its rest once, with the fault. Returns `None` if
-    /// nothing is recorded and no such rest is left.
+    /// If a fault ended the record, returns its rest once, with the fault.
     pub(crate) fn take_record(
         &mut self,
         empty: Vec<u8>,
@@ -254,55 +231,13 @@ impl<L: LogId, R: Wait + Drop> Admission<L, R> {
         })
     }
 
-    // Appends `wanted` to the list, and returns its first place and slots. A request without
-    // messages appends nothing. `pass` has then seen the whole list, unless the result is `Closed`.
-    // Does not record `wanted`. Fails as `admit` does.
-    #[tactic(auto, using(crate::proofs::Posts::whole_planned, crate::proofs::Posts::input_readable))]
-    fn list<P: Placing>(
-        &mut self,
-        alloc: Global,
-        placing: &P,
-        pass: &mut Front<L>,
-        wanted: &Submission,
-    ) -> Result<Admitted, PostFault>
-        requires placing { P.place_of placing.now ≡ L.placing }
-        requires unrecorded { self.old.recording ≡ None }
-        ensures seen { IsPrefix pass.old pass.new }
-        ensures admitted { IfOk result (λ a. IsAdmittedAt (input_of wanted.now) a.first pass.old pass.new) }
-        ensures slots { IfOk result (λ a. AreSlotsAt (setup_of L.config L.placing) (input_of wanted.now) a.first
-            pass.new a.slots) }
-        ensures refused { IfErr result (λ f. IsRefused (input_of wanted.now) f pass.new) }
-        ensures grown { IfOk result (λ a. (a.first ≡ length (list_of self.old.writer)) × (list_of self.new.writer ≡ list_of self.old.writer ++ added_by (input_of wanted.now)) × (pass.new ≡ self.new.writer)) }
-        ensures same { OnErr result (self.new.writer ≡ self.old.writer) }
-        ensures whole { IfErr result (λ f. IsWhole f pass.new self.new.writer) }
-        ensures closed { IfErr result (λ f. (f ≡ faults.Closed → self.old.closed ≡ true) × (self.old.closed ≡ true → f ≡ faults.Closed)) }
-        ensures open { OnOk result (self.old.closed ≡ false) }
-        ensures inputs { OnOk result (inputs_of self.new.writer ≡ inputs_of self.old.writer ++ inputs_by wanted.now) }
-        ensures kept { (self.new.closed ≡ self.old.closed) × (self.new.recording ≡ None) × (self.new.record_end ≡ self.old.record_end) }
-    {
-        if self.closed {
-            return Err(PostFault::Closed);
-        }
-        *pass = self.writer.tell_beyond(pass);
-        let plan = self.plan(alloc, placing, wanted)?;
-        let count = plan.batch.entries.len();
-        if count == 0 {
-            return Ok(Admitted {
-                first: plan.batch.first,
-                slots: plan.slots,
-            });
-        }
-        self.publish(alloc, pass, plan, inputs_by(wanted))
-    }
-
-    // Returns a plan with the entries and slots that `wanted` gets at the end of the list. The list
-    // is unchanged. Fails if a rule rejects `wanted` or memory runs out.
+    // Plans the entries and slots that `wanted` gets at the end of the list, which is unchanged.
     #[tactic(auto, using(crate::proofs::Posts::planning))]
     fn plan<P: Placing>(
         &mut self,
         alloc: Global,
         placing: &P,
-        wanted: &Submission,
+        wanted: &Submission<'_>,
     ) -> Result<Plan, AdmitFault>
         requires placing { P.place_of placing.now ≡ L.placing }
         ensures same { (self.new.writer ≡ self.old.writer) × (self.new.closed ≡ self.old.closed) × (self.new.recording ≡ self.old.recording) × (self.new.record_end ≡ self.old.record_end) }
@@ -325,31 +260,32 @@ impl<L: LogId, R: Wait + Drop> Admission<L, R> {
         }
     }
 
-    // Publishes `plan` and applies it to the registry. Returns its first place and slots. `inputs`:
-    // the request or tick of `plan`. `pass` must have seen the whole list, and has then seen `plan`
-    // too. `plan` must have entries, and admission must have been locked since it was made. On
-    // error nothing has changed.
+    // Publishes `plan`, applies it to the registry, and records `wanted`, from which it was made.
+    // Returns its first place and slots. `pass` must have seen the whole list, and has then seen
+    // `plan` too. On error nothing has changed.
     fn publish(
         &mut self,
         alloc: Global,
         pass: &mut Front<L>,
         plan: Plan,
-        inputs: History<Input>,
+        wanted: &Submission<'_>,
     ) -> Result<Admitted, PostFault>
-        requires inputs { list_by inputs ≡ plan.elements }
+        requires inputs { list_by (inputs_by wanted.now) ≡ plan.elements }
         requires continues { Continues self.old.registry plan }
         requires some { 0 < length plan.batch.entries }
         requires whole { pass.old ≡ self.old.writer }
-        requires unrecorded { self.old.recording ≡ None }
         ensures seen { IsPrefix pass.old pass.new }
         ensures taken { IfOk result (λ a. (a ≡ record { first = plan.batch.first; slots = plan.slots })
             × (list_of pass.new ≡ list_of pass.old ++ plan.elements)) }
-        ensures inputs { OnOk result (inputs_of self.new.writer ≡ inputs_of self.old.writer ++ inputs) }
+        ensures step { OnOk result (pass.new ≡ pass.old ++ adding plan.elements (inputs_by wanted.now) ∷ []) }
+        ensures inputs { OnOk result (inputs_of pass.new ≡ inputs_of pass.old ++ inputs_by wanted.now) }
         ensures refused { IfErr result (λ f. IsUnpublished f pass.new) }
         ensures same { OnErr result ((self.new.writer ≡ self.old.writer) × (pass.new ≡ pass.old)) }
+        ensures unrecorded { OnErr result ((self.new.recording ≡ self.old.recording) × (self.new.record_end ≡ self.old.record_end)) }
         ensures whole { pass.new ≡ self.new.writer }
         ensures room { IfErr result (λ f. IsWhole f pass.new self.new.writer) }
-        ensures kept { (self.new.closed ≡ self.old.closed) × (self.new.recording ≡ None) × (self.new.record_end ≡ self.old.record_end) }
+        ensures kept { self.new.closed ≡ self.old.closed }
+        ensures recorded { OnOk result (IsRecorded self.old.writer (record_of (inputs_by wanted.now)) self.old.recording self.old.record_end self.new.recording self.new.record_end) }
     {
         let Plan {
             batch,
@@ -359,67 +295,74 @@ impl<L: LogId, R: Wait + Drop> Admission<L, R> {
         } = plan;
         let first = batch.first;
         let added = elements.again();
+        let recording = self.recording.take();
         let bundle = UnpublishedBatch {
             batch,
             elements,
-            inputs,
+            inputs: inputs_by(wanted),
         };
         match self.writer.publish(alloc, bundle) {
             Ok(()) => {
                 self.registry.commit(change, &added);
-                *pass = self.writer.tell();
+                let before = mem::replace(pass, self.writer.tell());
+                self.record(alloc, recording, before, wanted);
                 Ok(Admitted { first, slots })
             }
-            Err((_, PublishFault::Ended)) => Err(PostFault::Refused(Refusal::Ended)),
-            Err((_, PublishFault::Full)) => Err(PostFault::Behind {
-                first: pass.begin(),
-            }),
-            Err((_, PublishFault::Memory)) => Err(PostFault::Memory),
+            Err((_, fault)) => {
+                self.recording = recording;
+                match fault {
+                    PublishFault::Ended => Err(PostFault::Refused(Refusal::Ended)),
+                    PublishFault::Full => Err(PostFault::Behind {
+                        first: pass.begin(),
+                    }),
+                    PublishFault::Memory => Err(PostFault::Memory),
+                }
+            }
         }
     }
 
-    /// Drops the batches that all shards have applied, and returns the lowest position of a shard.
+    /// Drops the batches that all shards have applied.
     ///
-    /// `least` has the positions of all shards. Drops nothing if the window's log has no room for
-    /// another step.
+    /// Drops nothing if the window's log has no room for another step.
     ///
     /// # Errors
     ///
     /// `AllocError` if an earlier change still cannot be shown to readers; nothing has changed.
     #[tactic(auto, using(crate::proofs::Places::untrimmable))]
-    pub(crate) fn trim(&mut self, least: LowestPosition<L>) -> Result<ShardPosition<L>, AllocError>
-        requires all { length least.positions ≡ L.config.shards }
-        ensures lowest { IfOk result (λ s. All (λ p. s.place ≤ p) least.positions) }
-        ensures trimmed { IfOk result (λ s. (firsts_of self.new.writer ≡ firsts_of self.old.writer)
-            ⊎ (firsts_of self.new.writer ≡ drop (below s.place (length (list_of self.old.writer)) (firsts_of self.old.writer)) (firsts_of self.old.writer))) }
-        ensures room { IfOk result (λ s. IsTrimmedTo s.place self.new.writer) }
+    pub(crate) fn trim(&mut self, report: &AdvanceReport<L>) -> Result<(), AllocError>
+        requires all { length report.now.stays ≡ L.config.shards }
+        ensures trimmed { OnOk result ((firsts_of self.new.writer ≡ firsts_of self.old.writer)
+            ⊎ (firsts_of self.new.writer ≡ drop (below (lowest_of report.now) (length (list_of self.old.writer)) (firsts_of self.old.writer)) (firsts_of self.old.writer))) }
+        ensures room { OnOk result (IsTrimmedTo (lowest_of report.now) self.new.writer) }
         ensures same { OnErr result (self.new.writer ≡ self.old.writer) }
-        ensures list { list_of self.new.writer ≡ list_of self.old.writer }
+        ensures list { (list_of self.new.writer ≡ list_of self.old.writer) × (inputs_of self.new.writer ≡ inputs_of self.old.writer) × (self.new.registry ≡ self.old.registry) }
         ensures kept { (self.new.closed ≡ self.old.closed) × (self.new.recording ≡ self.old.recording) × (self.new.record_end ≡ self.old.record_end) }
     {
-        let Some(lowest) = least.into_lowest() else {
-            unreachable!()
-        };
-        match self.writer.trim(lowest.place()) {
-            Ok(()) => Ok(lowest),
-            Err(_) => Err(AllocError),
-        }
+        self.writer.trim(report.lowest_place())
     }
 
-    /// Moves the batches that were trimmed since the last call to `taken`.
+    /// Moves to `taken` the batches that were trimmed since the last call.
     ///
-    /// The caller drops them after admission is unlocked. Allocates only if `taken` has too little
-    /// room.
+    /// The caller drops them after unlocking. Allocates only if `taken` has too little room.
     pub(crate) fn take_trimmed(&mut self, taken: &mut Vec<Arc<Batch, Global>>)
         ensures same { (self.new.registry ≡ self.old.registry) × (self.new.writer ≡ self.old.writer) × (self.new.closed ≡ self.old.closed) × (self.new.recording ≡ self.old.recording) × (self.new.record_end ≡ self.old.record_end) }
     {
         self.writer.take_trimmed(taken);
     }
 
-    /// Returns how many entries, live sessions, sessions ever opened and batches in the window
-    /// there are.
+    /// Moves the batches of earlier trims to `taken`, and trims the window.
     ///
-    /// `pass` has then seen the whole list.
+    /// If an earlier change still cannot be shown to readers, drops no batches.
+    pub(crate) fn let_go(&mut self, report: &AdvanceReport<L>, taken: &mut Vec<Arc<Batch, Global>>)
+        requires all { length report.now.stays ≡ L.config.shards }
+        ensures list { (list_of self.new.writer ≡ list_of self.old.writer) × (inputs_of self.new.writer ≡ inputs_of self.old.writer) × (self.new.registry ≡ self.old.registry) }
+        ensures kept { (self.new.closed ≡ self.old.closed) × (self.new.recording ≡ self.old.recording) × (self.new.record_end ≡ self.old.record_end) }
+    {
+        self.take_trimmed(taken);
+        let _ = self.trim(report);
+    }
+
+    /// Returns the state of the list and the sessions. `pass` has then seen the whole list.
     pub(crate) fn survey(&mut self, pass: &mut Front<L>) -> Survey
         ensures same { (self.new.registry ≡ self.old.registry) × (self.new.writer ≡ self.old.writer) × (self.new.closed ≡ self.old.closed) × (self.new.recording ≡ self.old.recording) × (self.new.record_end ≡ self.old.record_end) }
         ensures seen { IsPrefix pass.old pass.new }
@@ -435,7 +378,6 @@ impl<L: LogId, R: Wait + Drop> Admission<L, R> {
         }
     }
 
-    /// Returns `true` if admission is closed.
     pub(crate) fn is_closed(&self) -> bool
         ensures { result ≡ self.now.closed }
     {

@@ -1,4 +1,3 @@
-//! The hub, a server for many threads: its calls, and the locks that they take.
 ghost use Rattle.std.specs.Prelude.{◌≡◌, ◌≢◌, ◌⊎◌, ◌≤◌, ◌<◌, ◌++◌, [], length, Ok, None, Some, IsErr, OnOk, IfOk, IfErr, IfSome, IfNone, IsSomeAnd, MatchOption, is_some, nat_lt};
 ghost use Rattle.std.specs.Arc.{arc_value};
 ghost use mathlib.Core.List.{IsPrefix};
@@ -7,18 +6,18 @@ ghost use Rattle.bx_entry.specs.declared.input.Input.TheVariants as inputs;
 ghost use Rattle.bx_window.specs.Steps.{inputs_of, list_of, setup_of};
 ghost use Rattle.bx_hub.specs.Faults.{IsStopped};
 
-use crate::admission::Admission;
+use crate::admission::{Admission, AdmissionLock};
 use crate::fault::{PostFault, PostReceipt, TickReceipt};
 use crate::kind::HubKind;
 use crate::parsed_request::{ParsedRequest, Rejection};
 use crate::recording::{NotRecording, RecordFront};
 use crate::shard_state::{
-    AddedWakers, ChangeEvidence, NoAnswer, PolledAnswer, ShardAdvance, ShardChange, ShardPosition,
-    ShardState, Unfiled, WatchEvidence,
+    AddedWakers, ChangeEvidence, LockedShard, NoAnswer, PolledAnswer, SessionEvidence,
+    ShardAdvance, ShardChange, ShardState, TakenMark, Unfiled, WatchEvidence,
 };
-use crate::submission::{ConsumedSubmission, Submission, Tick};
+use crate::submission::{Submission, Tick};
 use crate::survey::{ShardSurvey, Survey};
-use crate::walk::{AdvanceReport, ChangeReport, LowestPosition};
+use crate::walk::{AdvanceReport, ChangeReport};
 use bx_advice::Config;
 use bx_connects::Watch;
 use bx_entry::{Admitted, Arrival, Ticket};
@@ -29,10 +28,10 @@ use bx_window::{EmptyWindow, Front, log_pair};
 use futures::task::Waker;
 use std::alloc::{AllocError, Global};
 use std::snapshot::Snapshot;
-use std::sync::{Arc, Mutex, MutexGuard, Wait};
+use std::sync::{Arc, Mutex, Wait};
 
 // Posts trim the window when the list's length reaches or passes a multiple of this number. The
-// memory of the window is then reused while it is in a processor's cache. Policy of this server.
+// window's memory is then reused while it is in a processor's cache. Policy of this server.
 const TRIM_EVERY: u64 = 64;
 
 // Room for the batches of a trim. While no shard lags, trims drop fewer batches.
@@ -40,52 +39,44 @@ const TRIM_ROOM: usize = 128;
 
 /// The part of a hub's list that a caller has seen.
 ///
-/// It never shrinks. Each call that takes the pass can extend it, also by entries of other callers.
-/// [`Front::longer`] returns the longer of two passes.
+/// Calls that take the pass can extend it, also by entries of other callers. [`Front::longer`]
+/// returns the longer of two passes.
 pub type Pass<L> = Front<L>;
 
 /// The server for any number of threads.
 ///
-/// Requests and ticks are appended to one list, under the admission lock. Each shard applies the
-/// list under its own lock, at its own pace.
+/// Admission, under a lock, appends requests and ticks to one list. Each shard applies the list
+/// under its own lock, at its own pace.
 ///
-/// A caller gets what a single-threaded server would give for the entries that the [`Pass`] of the
-/// caller has seen.
+/// A caller gets what a server with one thread gives for the entries that its [`Pass`] has seen.
 #[derive(Drop)]
 pub struct Hub<L: HubKind, R: Wait + Drop> {
     placing: Arc<L::Placing, Global>,
     gate: L::Gate,
-    start: Front<L>,
-    admission: Mutex<Admission<L, R>>,
+    admission: AdmissionLock<L, R>,
     shards: Vec<Mutex<ShardState<L, L::Placing>>>,
     ghost placed: { L.Placing.place_of (arc_value placing) ≡ L.placing },
-    ghost started: { start ≡ [] },
+    ghost started: { admission.start ≡ [] },
     ghost counted: { length shards.items ≡ L.config.shards },
 }
 
 impl<L: HubKind, R: Wait + Drop> Hub<L, R> {
-    ghost use Rattle.bx_hub.specs.Advancing.{IsOfAll};
+    ghost use Rattle.bx_hub.specs.Advancing.{IsAdvance, IsOfAll};
     ghost use Rattle.bx_hub.specs.Held.{IsUnfiledAt, answer_over};
-    ghost use Rattle.bx_hub.specs.Lags.{IsLagging};
+    ghost use Rattle.bx_hub.specs.Lags.{IsLagging, no_room_of};
     ghost use Rattle.bx_hub.specs.Submissions.{input_of};
     ghost use Rattle.bx_hub.specs.Records.{EndsIn, inputs_by, inputs_from};
     ghost use Rattle.bx_hub.specs.Posts.{AreSlotsAt, IsAdmittedAt, IsRefused, IsTrimmedTo, IsWithoutRoom};
     ghost use Rattle.bx_hub.specs.Surveys.{IsSessionOf, survey_of};
     ghost use Rattle.bx_hub.specs.Waking.{put_of};
-    ghost use Rattle.bx_hub.specs.Changes.{AreAllChanged, IsChanged};
+    ghost use Rattle.bx_hub.specs.Changes.{AreAllChanged, IsChanged, IsKeptBy};
     ghost use Rattle.bx_connects.specs.declared.watch.Watch.TheVariants as watches;
     ghost use Rattle.bx_hub.specs.Watches.{IsBack, IsToldOf};
     ghost use Rattle.bx_hub.specs.declared.shard_state.evidence.ShardChange.TheVariants as changes;
 
     /// Creates a hub with an empty list and `config.shards` shards.
     ///
-    /// `rt`: the right to wait, which the window's writer keeps. `opened`: a new, empty window.
-    /// `placing`: the rule that assigns sessions to shards. `gate`: called before and after a shard
-    /// applies entries.
-    ///
-    /// # Errors
-    ///
-    /// `AllocError` if memory runs out.
+    /// `rt`: the right to wait, which the window's writer keeps.
     pub fn new(
         alloc: Global,
         rt: R,
@@ -98,9 +89,11 @@ impl<L: HubKind, R: Wait + Drop> Hub<L, R> {
         requires book { opened.seen.book ≡ L.book }
         requires config { config ≡ L.config }
         requires placing { L.Placing.place_of (arc_value placing) ≡ L.placing }
+        ensures empty { IfOk result (λ hub. hub.admission.start ≡ []) }
+        ensures parts { IfOk result (λ hub. (arc_value hub.placing ≡ arc_value placing) × (hub.gate ≡ gate)) }
+        ensures shards { IfOk result (λ hub. length hub.shards.items ≡ config.shards) }
     {
         let (writer, readers) = log_pair::<L, R>(alloc, rt, opened, config.shards)?;
-        let start = writer.tell();
         let mut shards = Vec::new(alloc);
         for reader in readers {
             let shard_state = ShardState::new(
@@ -112,11 +105,10 @@ impl<L: HubKind, R: Wait + Drop> Hub<L, R> {
             );
             shards.push(Mutex::new(shard_state))?;
         }
-        let admission = Mutex::new(Admission::new(alloc, config, writer)?);
+        let admission = AdmissionLock::new(Admission::new(alloc, config, writer)?);
         Ok(Hub {
             placing,
             gate,
-            start,
             admission,
             shards,
         })
@@ -126,44 +118,42 @@ impl<L: HubKind, R: Wait + Drop> Hub<L, R> {
     pub fn pass(&self) -> Pass<L>
         ensures { result ≡ [] }
     {
-        self.start.again()
+        self.admission.start()
     }
 
     /// Appends a request to the list and advances every shard.
     ///
-    /// Consumes `arrival` on success and returns it on error. On success, `pass` has then seen the
-    /// list through the last message of the request. A request without messages appends nothing. If
-    /// the list's length reaches or passes a multiple of 64, trims the window.
+    /// `pass` has then seen the list through the last message of the request. A request without
+    /// messages appends nothing. If the list reaches a multiple of 64 entries, trims the window.
     ///
     /// # Errors
     ///
-    /// The first of these that applies. Nothing is appended, but `pass` may have seen more of the
-    /// list:
+    /// `arrival`, with the first of these that applies. Nothing is appended, but `pass` may grow:
     ///
-    /// - `Refused`, from `NotJson` to `Forbidden`: the documents are not messages, have more than
-    ///   256 messages, or the read-only listener forbids them.
+    /// - `Refused`, from `NotJson` to `Forbidden`: the documents are not at most 256 messages, or
+    ///   the read-only listener forbids them.
     /// - `Closed`: [`close`](Self::close) was called.
     /// - `Refused(BadMoment)`, `Refused(Ended)`: the moment is too large; the list or the window's
     ///   log is too long.
     /// - `Overrun`, `WrongShard`, `Behind`: the window is full, and advancing the shards made no
     ///   room.
-    /// - `Memory`: memory ran out, at any step.
+    /// - `Memory`: memory ran out.
     ///
     /// # Blocking
     ///
     /// Locks admission, then each shard in turn. Tasks with an answered connect are woken after its
     /// shard is unlocked, or before if memory runs out. If the window is full, the shards are also
-    /// advanced while admission is locked. Trimming locks each shard again, and then admission.
+    /// advanced while admission is locked. Trimming locks admission again.
     ///
     /// # Examples
     ///
     /// ```
     /// let mut pass = hub.pass();
     /// let receipt = hub
-    ///     .post(rt, alloc, &mut pass, connect)
-    ///     .map_err(|_| "rejected")?;
+    ///  .post(rt, alloc, &mut pass, connect)
+    ///  .map_err(|_| "rejected")?;
     /// let Some(Slot::Waiting(ticket)) = receipt.slots.as_slice().first() else {
-    ///     return Err(Fail::from("answered at once"));
+    ///  return Err(Fail::from("answered at once"));
     /// };
     /// let (answer, _) = hub.poll_answer(rt, alloc, &mut pass, *ticket);
     /// assert!(rt; answer.map_err(|_| "stopped")?.is_none());
@@ -186,20 +176,15 @@ impl<L: HubKind, R: Wait + Drop> Hub<L, R> {
         ensures inputs { OnOk result (EndsIn (inputs_of pass.new) (inputs_from (inputs.Post arrival))) }
     {
         let request = ParsedRequest::of(alloc, arrival)?;
-        let wanted = Submission::Request(request);
-        let (Admitted { first, slots }, consumed) = match self.admit(rt, alloc, pass, wanted) {
-            Ok(listed) => listed,
-            Err((wanted, why)) => {
-                let Some(arrival) = wanted.into_arrival() else {
-                    unreachable!()
-                };
-                return Err((arrival, why));
-            }
+        let wanted = Submission::Request(&request);
+        let Admitted { first, slots } = match self.admit(rt, alloc, pass, &wanted) {
+            Ok(admitted) => admitted,
+            Err(why) => return Err((request.arrival, why)),
         };
         let advanced = self.advance_all(rt, alloc, &*pass);
-        drop(consumed);
+        drop(request);
         if first % TRIM_EVERY + slots.len() as u64 >= TRIM_EVERY {
-            self.let_go(rt, alloc);
+            self.let_go(rt, alloc, &advanced);
         }
         Ok(PostReceipt {
             first,
@@ -210,8 +195,7 @@ impl<L: HubKind, R: Wait + Drop> Hub<L, R> {
 
     /// Appends a tick, advances every shard and trims the window.
     ///
-    /// Consumes `tick` on success and returns it on error. On success, `pass` has then seen the
-    /// list through the tick.
+    /// `pass` has then seen the list through the tick.
     ///
     /// # Errors
     ///
@@ -219,7 +203,7 @@ impl<L: HubKind, R: Wait + Drop> Hub<L, R> {
     ///
     /// # Blocking
     ///
-    /// Takes the locks and wakes tasks as [`post`](Self::post) does.
+    /// As [`post`](Self::post).
     pub fn tick<W: Wait>(
         &self,
         rt: &W,
@@ -235,165 +219,99 @@ impl<L: HubKind, R: Wait + Drop> Hub<L, R> {
         ensures behind { IfOk result (λ t. IsOfAll L.config.shards pass.new t.advanced) }
         ensures inputs { OnOk result (EndsIn (inputs_of pass.new) (inputs_from (inputs.Tick tick.moment))) }
     {
-        let wanted = Submission::Tick(tick);
-        let (Admitted { first, .. }, _) = match self.admit(rt, alloc, pass, wanted) {
-            Ok(listed) => listed,
-            Err((wanted, why)) => {
-                let Some(tick) = wanted.into_tick() else {
-                    unreachable!()
-                };
-                return Err((tick, why));
-            }
+        let wanted = Submission::Tick(&tick);
+        let Admitted { first, .. } = match self.admit(rt, alloc, pass, &wanted) {
+            Ok(admitted) => admitted,
+            Err(why) => return Err((tick, why)),
         };
         let advanced = self.advance_all(rt, alloc, &*pass);
-        self.let_go(rt, alloc);
+        self.let_go(rt, alloc, &advanced);
         Ok(TickReceipt {
             place: first,
             advanced,
         })
     }
 
-    // Appends `wanted`, making room first if the window is full. Returns its first place and slots,
-    // and what is left of `wanted`, to be dropped after admission is unlocked. On success, `pass`
-    // has then seen the entries of `wanted`. On error, returns `wanted` and the reason.
+    // Appends `wanted`, making room first if the window is full. `pass` has then seen its entries.
     fn admit<W: Wait>(
         &self,
         rt: &W,
         alloc: Global,
         pass: &mut Front<L>,
-        wanted: Submission,
-    ) -> Result<(Admitted, ConsumedSubmission), (Submission, Rejection<L>)>
+        wanted: &Submission<'_>,
+    ) -> Result<Admitted, Rejection<L>>
         ensures seen { IsPrefix pass.old pass.new }
-        ensures admitted { IfOk result (λ a. IsAdmittedAt (input_of wanted) a.0.first pass.old pass.new) }
-        ensures slots { IfOk result (λ a. AreSlotsAt (setup_of L.config L.placing) (input_of wanted) a.0.first
-            pass.new a.0.slots) }
-        ensures back { IfErr result (λ r. r.0 ≡ wanted) }
-        ensures refused { IfErr result (λ r. IsRefused (input_of wanted) r.1.fault pass.new) }
-        ensures lags { IfErr result (λ r. IsLagging r.1.fault r.1.lag pass.new) }
-        ensures inputs { OnOk result (EndsIn (inputs_of pass.new) (inputs_by wanted)) }
+        ensures admitted { IfOk result (λ a. IsAdmittedAt (input_of wanted.now) a.first pass.old pass.new) }
+        ensures slots { IfOk result (λ a. AreSlotsAt (setup_of L.config L.placing) (input_of wanted.now) a.first
+            pass.new a.slots) }
+        ensures refused { IfErr result (λ r. IsRefused (input_of wanted.now) r.fault pass.new) }
+        ensures lags { IfErr result (λ r. IsLagging r.fault r.lag pass.new) }
+        ensures inputs { OnOk result (EndsIn (inputs_of pass.new) (inputs_by wanted.now)) }
     {
         let mut admission = self.admission.lock(rt);
-        let wanted = match admission.admit(alloc, &*self.placing, pass, wanted) {
-            Ok(listed) => return Ok(listed),
-            Err((wanted, PostFault::Behind { .. })) => wanted,
-            Err((wanted, fault)) => return Err((wanted, Rejection::of(&*admission, fault, None))),
-        };
+        match admission.admit(alloc, &*self.placing, pass, wanted) {
+            Err(PostFault::Behind { .. }) => {}
+            Err(fault) => return Err(Rejection::of(&*admission, fault, None)),
+            Ok(admitted) => return Ok(admitted),
+        }
         let lowest = match self.make_room(rt, alloc, &mut admission, pass) {
             Ok(lowest) => lowest,
-            Err((fault, lag)) => return Err((wanted, Rejection::of(&*admission, fault, lag))),
+            Err((fault, lag)) => return Err(Rejection::of(&*admission, fault, lag)),
         };
         match admission.admit(alloc, &*self.placing, pass, wanted) {
-            Ok(listed) => Ok(listed),
-            Err((wanted, fault)) => Err((wanted, Rejection::of(&*admission, fault, Some(lowest)))),
+            Ok(admitted) => Ok(admitted),
+            Err(fault) => Err(Rejection::of(&*admission, fault, Some(lowest))),
         }
     }
 
-    // Advances every shard to the end of `pass`, and trims the full window. Returns the lowest
-    // position of a shard. On error, returns the fault and, if a shard is overrun, its position.
+    // Advances every shard to the end of `pass`, and trims the full window. Returns the result of a
+    // shard with the lowest position. Fails if this shard is overrun or was not found. On an
+    // overrun, `pass` grows to what the shard's reader has seen.
+    #[tactic(auto, using(crate::proofs::Lags::without_room))]
     fn make_room<W: Wait>(
         &self,
         rt: &W,
         alloc: Global,
         admission: &mut Admission<L, R>,
         pass: &mut Front<L>,
-    ) -> Result<ShardPosition<L>, (PostFault, Option<ShardPosition<L>>)>
+    ) -> Result<ShardAdvance<L>, (PostFault, Option<ShardAdvance<L>>)>
         ensures seen { IsPrefix pass.old pass.new }
         ensures refused { IfErr result (λ r. IsWithoutRoom r.0 pass.new × IsLagging r.0 r.1 pass.new) }
-        ensures room { IfOk result (λ s. IsTrimmedTo s.place admission.new.writer) }
-        ensures kept { admission.new.closed ≡ admission.old.closed }
+        ensures room { IfOk result (λ s. (no_room_of s.index s.stays ≡ None) × IsTrimmedTo s.place admission.new.writer) }
+        ensures list { (list_of admission.new.writer ≡ list_of admission.old.writer) × (inputs_of admission.new.writer ≡ inputs_of admission.old.writer)
+            × (admission.new.registry ≡ admission.old.registry) }
+        ensures kept { (admission.new.closed ≡ admission.old.closed) × (admission.new.recording ≡ admission.old.recording)
+            × (admission.new.record_end ≡ admission.old.record_end) }
     {
-        let least = self.advance_and_find_lowest(rt, alloc, pass)?;
-        match admission.trim(least) {
-            Ok(lowest) => Ok(lowest),
+        let report = self.advance_all(rt, alloc, &*pass);
+        let trimmed = admission.trim(&report);
+        let Some(lowest) = report.into_lowest() else {
+            unreachable!()
+        };
+        if let Some(fault) = lowest.no_room() {
+            *pass = lowest.front();
+            return Err((fault, Some(lowest)));
+        }
+        match trimmed {
+            Ok(()) => Ok(lowest),
             Err(_) => Err((PostFault::Memory, None)),
         }
     }
 
-    // Drops the window's batches that all shards have applied. If memory runs out or a shard is not
-    // found, drops nothing; a later call drops the batches then. The memory of the dropped batches
-    // is freed by the next call, after it has unlocked admission.
-    fn let_go<W: Wait>(&self, rt: &W, alloc: Global) {
-        let mut least = LowestPosition::new();
-        for index in 0..self.shards.len() {
-            let Ok(shard_state) = self.lock_shard(rt, index) else {
-                return;
-            };
-            let position = ShardPosition::of(&*shard_state);
-            drop(shard_state);
-            least.add(position);
-        }
+    // Drops the window's batches that all shards have applied, by the positions in `report`. If
+    // memory runs out or a shard was not found, a later call drops them. The next call frees them,
+    // after it has unlocked admission.
+    fn let_go<W: Wait>(&self, rt: &W, alloc: Global, report: &AdvanceReport<L>)
+        requires { length report.now.stays ≡ L.config.shards }
+    {
         let mut taken = Vec::with_capacity(alloc, TRIM_ROOM).unwrap_or(Vec::new(alloc));
-        let mut admission = self.admission.lock(rt);
-        admission.take_trimmed(&mut taken);
-        let _ = admission.trim(least);
-        drop(admission);
-        drop(taken);
+        self.admission.lock(rt).let_go(report, &mut taken);
     }
 
-    // Advances every shard to the end of `pass` and returns the lowest position. A shard that stops
-    // earlier counts with its position. An error is returned at the first shard that is overrun or
-    // not found. On an overrun, `pass` grows to what the shard's reader has seen. Wakes tasks as in
-    // `post`.
-    fn advance_and_find_lowest<W: Wait>(
-        &self,
-        rt: &W,
-        alloc: Global,
-        pass: &mut Front<L>,
-    ) -> Result<LowestPosition<L>, (PostFault, Option<ShardPosition<L>>)>
-        ensures seen { IsPrefix pass.old pass.new }
-        ensures refused { IfErr result (λ r. IsWithoutRoom r.0 pass.new × IsLagging r.0 r.1 pass.new) }
-        ensures all { IfOk result (λ l. length l.positions ≡ L.config.shards) }
-    {
-        let mut least = LowestPosition::new();
-        for index in 0..self.shards.len() {
-            let mut wakers = Wakers::new(alloc);
-            let (position, _woken) = self.advance_one_to_end(rt, alloc, index, pass, &mut wakers);
-            least.add(position?);
-        }
-        Ok(least)
-    }
-
-    // Advances a shard to the end of `pass`, and returns the position where it stops. A pause, the
-    // closed hub or a lack of memory can stop it earlier. Fails if the shard is overrun or not
-    // found. On an overrun, `pass` grows to what the shard's reader has seen. Adds the wakers of
-    // answered connects to `wakers`, and returns evidence of them, unless the shard is not found.
-    // When `wakers` is dropped, after the shard is unlocked, their tasks are woken.
-    fn advance_one_to_end<W: Wait>(
-        &self,
-        rt: &W,
-        alloc: Global,
-        index: usize,
-        pass: &mut Front<L>,
-        wakers: &mut Wakers,
-    ) -> (
-        Result<ShardPosition<L>, (PostFault, Option<ShardPosition<L>>)>,
-        Option<AddedWakers>,
-    )
-        requires { index < length self.now.shards.items }
-        ensures seen { IsPrefix pass.old pass.new }
-        ensures position { IfOk result.0 (λ s. s.index.value ≡ index) }
-        ensures still { OnOk result.0 (pass.new ≡ pass.old) }
-        ensures refused { IfErr result.0 (λ r. IsWithoutRoom r.0 pass.new × IsLagging r.0 r.1 pass.new) }
-        ensures put { wakers.new ≡ wakers.old ++ put_of result.1 }
-        ensures asked { IfNone result.1 (IsErr result.0) }
-    {
-        match self.lock_shard(rt, index) {
-            Ok(mut shard_state) => {
-                let (position, woken) = shard_state.advance_to_end(alloc, &self.gate, pass, wakers);
-                (position, Some(woken))
-            }
-            Err(other) => {
-                let found = other.index();
-                let shard = index;
-                (Err((PostFault::WrongShard { shard, found }, None)), None)
-            }
-        }
-    }
-
-    // Advances every shard to the end of `prefix`, and reports how many did not reach it and why.
     #[tactic(auto, using(crate::proofs::Walks::all_walked))]
     fn advance_all<W: Wait>(&self, rt: &W, alloc: Global, prefix: &Front<L>) -> AdvanceReport<L>
-        ensures { IsOfAll L.config.shards prefix.now result }
+        ensures all { IsOfAll L.config.shards prefix.now result }
+        ensures lowest { IfSome result.lowest (IsAdvance prefix.now) }
     {
         let shards = self.shards.len();
         let mut round = AdvanceReport::new(prefix, shards);
@@ -405,9 +323,7 @@ impl<L: HubKind, R: Wait + Drop> Hub<L, R> {
         round
     }
 
-    // Advances shard `index` to the end of `prefix`, and returns what stopped it before, if
-    // anything. If the shard is not found, the result is `WrongShard`. Adds the wakers of answered
-    // connects to `wakers`.
+    // Advances shard `index` to the end of `prefix`, unless a fault stops it.
     fn advance_one<W: Wait>(
         &self,
         rt: &W,
@@ -417,49 +333,52 @@ impl<L: HubKind, R: Wait + Drop> Hub<L, R> {
         wakers: &mut Wakers,
     ) -> ShardAdvance<L>
         requires { index < length self.now.shards.items }
-        ensures advanced { (result.index.value ≡ index) × (result.prefix.value ≡ prefix.now) }
+        ensures advance { IsAdvance prefix.now result }
+        ensures index { result.index ≡ index }
         ensures put { wakers.new ≡ wakers.old ++ put_of result.woken }
+        ensures kept { IsSomeAnd result.taken (λ taken. taken.after ≡ taken.before) }
     {
         match self.lock_shard(rt, index) {
-            Ok(mut shard_state) => shard_state.advance_to(alloc, &self.gate, prefix, wakers),
-            Err(other) => ShardAdvance::misplaced(&*other, &index, prefix),
+            Ok((mut shard_state, taken)) => {
+                let advanced = shard_state.advance_to(alloc, &self.gate, prefix, wakers);
+                advanced.unlocked(taken.unlock(shard_state))
+            }
+            Err((other, taken)) => {
+                let advanced = ShardAdvance::misplaced(&*other, index, prefix);
+                advanced.unlocked(taken.unlock(other))
+            }
         }
     }
 
-    // Locks shard `index`, and returns the guard of the lock. Returns the guard as `Err` if the
-    // lock guards another shard.
-    //
-    // Prover: no contract can state which shard a lock guards, so every call checks.
+    // Locks shard `index`. Returns the guard as `Err` if the lock guards another shard. Prover: no
+    // contract can state which shard a lock guards, so every call checks.
     fn lock_shard<W: Wait>(
         &self,
         rt: &W,
         index: usize,
-    ) -> Result<
-        MutexGuard<'_, ShardState<L, L::Placing>>,
-        MutexGuard<'_, ShardState<L, L::Placing>>,
-    >
+    ) -> Result<LockedShard<'_, L, L::Placing>, LockedShard<'_, L, L::Placing>>
         requires { index < length self.now.shards.items }
-        ensures own { IfOk result (λ shard_state. shard_state.value.shard.index ≡ index) }
-        ensures other { IfErr result (λ shard_state. shard_state.value.shard.index ≢ index) }
+        ensures own { IfOk result (λ locked. locked.0.value.shard.index ≡ index) }
+        ensures other { IfErr result (λ locked. locked.0.value.shard.index ≢ index) }
+        ensures taken { (IfOk result (λ locked. locked.1.places ≡ locked.0.value.taken)) × (IfErr result (λ locked. locked.1.places ≡ locked.0.value.taken)) }
     {
-        let shard_state = self.shards[index].lock(rt);
+        let (shard_state, taken) = TakenMark::lock(&self.shards[index], rt);
         if shard_state.index() == index {
-            Ok(shard_state)
+            Ok((shard_state, taken))
         } else {
-            Err(shard_state)
+            Err((shard_state, taken))
         }
     }
 
     /// Takes the answer to a connect or a rider, if it is filed.
     ///
     /// If it is not, advances the ticket's shard to the end of the longest front that it has
-    /// learned, `pass` included, and looks again. `pass` has then seen at least that front. Returns
-    /// `None` if there is still no answer, or if `ticket` names no shard. A filed answer can be
-    /// taken even after [`close`](Self::close).
+    /// learned, `pass` included, and looks again. `pass` has then seen at least that front. A filed
+    /// answer can be taken even after [`close`](Self::close).
     ///
-    /// With `None`, the second value is evidence that the shard was active and had no answer under
-    /// `ticket` when it had applied all that `pass` has seen. The second value is `None` with an
-    /// answer or an error, and if `ticket` names no shard.
+    /// If there is still no answer, the second value is evidence that the shard was active and had
+    /// no answer under `ticket` when it had applied all that `pass` has seen. If `ticket` names no
+    /// shard, there is neither.
     ///
     /// # Errors
     ///
@@ -468,8 +387,6 @@ impl<L: HubKind, R: Wait + Drop> Hub<L, R> {
     /// - `Closed`, `Paused`: the hub is closed, or the shard paused.
     /// - `Overrun`: the window no longer has the shard's next entry.
     /// - `Memory`: memory ran out.
-    ///
-    /// On error no answer is taken.
     ///
     /// # Blocking
     ///
@@ -495,9 +412,8 @@ impl<L: HubKind, R: Wait + Drop> Hub<L, R> {
         (answer, unfiled)
     }
 
-    // Takes the answer under `ticket` from its shard, which must exist, as `poll_answer` does. Adds
-    // the wakers of answered connects to `wakers`. The third value is evidence of them, or `None`
-    // if the shard was not found.
+    // Takes the answer under `ticket` from its shard, as `poll_answer` does. Returns evidence of
+    // the added wakers if the shard is found.
     fn poll_one<W: Wait>(
         &self,
         rt: &W,
@@ -515,20 +431,19 @@ impl<L: HubKind, R: Wait + Drop> Hub<L, R> {
         ensures asked { IfNone result.2 (IsErr result.0) }
     {
         match self.lock_shard(rt, ticket.shard) {
-            Ok(mut shard) => {
+            Ok((mut shard, _)) => {
                 let (answer, unfiled, woken) = shard.poll(alloc, &self.gate, pass, ticket, wakers);
                 (answer, unfiled, Some(woken))
             }
-            Err(other) => (Err(NoAnswer::misplaced(&*other, &ticket)), None, None),
+            Err((other, _)) => (Err(NoAnswer::misplaced(&*other, &ticket)), None, None),
         }
     }
 
     /// Registers `waker` with a held connect, and returns the waker that it replaces.
     ///
     /// Returns `waker` itself if an answer is filed (`Ready`), no connect is held under `ticket`
-    /// (`Unknown`), or the hub is closed (`Shut`). If `ticket` names no shard, the result is
-    /// `Unknown`, and the second value is `None`. Otherwise, the second value is evidence of the
-    /// result.
+    /// (`Unknown`), or the hub is closed (`Shut`). The second value is evidence of the result. If
+    /// `ticket` names no shard, the result is `Unknown`, without evidence.
     ///
     /// # Blocking
     ///
@@ -548,11 +463,11 @@ impl<L: HubKind, R: Wait + Drop> Hub<L, R> {
             return (Watch::Unknown(waker), None);
         }
         match self.lock_shard(rt, ticket.shard) {
-            Ok(mut shard_state) => {
+            Ok((mut shard_state, _)) => {
                 let (said, evidence) = shard_state.watch(ticket, waker);
                 (said, Some(evidence))
             }
-            Err(other) => {
+            Err((other, _)) => {
                 let seen = Snapshot::of(&waker);
                 let said = Watch::Unknown(waker);
                 let evidence = WatchEvidence::misplaced(&*other, &ticket, seen, &said);
@@ -561,10 +476,7 @@ impl<L: HubKind, R: Wait + Drop> Hub<L, R> {
         }
     }
 
-    /// Returns how many entries, live sessions, sessions ever opened and batches in the window
-    /// there are.
-    ///
-    /// `pass` has then seen the whole list.
+    /// Returns the state of the list and the sessions. `pass` has then seen the whole list.
     ///
     /// # Blocking
     ///
@@ -576,9 +488,7 @@ impl<L: HubKind, R: Wait + Drop> Hub<L, R> {
         self.admission.lock(rt).survey(pass)
     }
 
-    /// Returns how far a shard has advanced, and how many held connects and filed answers it has.
-    ///
-    /// Returns `None` if the shard does not exist.
+    /// Returns the state of shard `shard`, if it exists.
     ///
     /// # Blocking
     ///
@@ -590,16 +500,10 @@ impl<L: HubKind, R: Wait + Drop> Hub<L, R> {
         Some(shard_state.lock(rt).survey())
     }
 
-    /// Returns what an operator sees of a session of a shard.
+    /// Returns what an operator sees of a session of a shard, with evidence of that.
     ///
-    /// Returns `None` if the shard does not exist, or has no session at `index`.
-    ///
-    /// `index`: counted from 0, in no particular order. If a session is opened or closed, the
-    /// indexes of others may change.
-    ///
-    /// # Errors
-    ///
-    /// `AllocError` if memory runs out for the session's patterns.
+    /// Returns `None` if the shard does not exist, or has no session at `index`. If a session is
+    /// opened or closed, indexes of others may change.
     ///
     /// # Blocking
     ///
@@ -610,15 +514,15 @@ impl<L: HubKind, R: Wait + Drop> Hub<L, R> {
         alloc: Global,
         shard: usize,
         index: usize,
-    ) -> Result<Option<SessionSurvey>, AllocError>
-        ensures shown { IfOk result (λ survey. IfSome survey (IsSessionOf (setup_of L.config L.placing) shard index)) }
+    ) -> Result<Option<(SessionSurvey, SessionEvidence<L>)>, AllocError>
+        ensures shown { IfOk result (λ survey. IfSome survey (λ s. IsSessionOf (setup_of L.config L.placing) shard index s.0 s.1)) }
         ensures unknown { L.config.shards ≤ shard → result ≡ Ok None }
     {
         if shard >= self.shards.len() {
             return Ok(None);
         }
         match self.lock_shard(rt, shard) {
-            Ok(shard_state) => shard_state.survey_session(alloc, index),
+            Ok((shard_state, _)) => shard_state.survey_session(alloc, index),
             Err(_) => Ok(None),
         }
     }
@@ -629,7 +533,7 @@ impl<L: HubKind, R: Wait + Drop> Hub<L, R> {
     ///
     /// # Errors
     ///
-    /// The front of the list, if it is not empty; nothing has changed.
+    /// The front of the list, if it is not empty.
     ///
     /// # Blocking
     ///
@@ -641,9 +545,7 @@ impl<L: HubKind, R: Wait + Drop> Hub<L, R> {
         self.admission.lock(rt).start_record(alloc)
     }
 
-    /// Returns how many bytes of the record wait to be written.
-    ///
-    /// Returns 0 if nothing is recorded or the record has ended.
+    /// Returns how many bytes of the record wait to be written; 0 without a record.
     ///
     /// # Blocking
     ///
@@ -652,15 +554,13 @@ impl<L: HubKind, R: Wait + Drop> Hub<L, R> {
         self.admission.lock(rt).waiting_record_bytes()
     }
 
-    /// Takes what waits to be written to the record, and leaves the empty buffer `empty` in its
-    /// place.
+    /// Takes what waits to be written to the record, and leaves `empty` in its place.
     ///
     /// If a fault ended the record, returns its rest once, with the fault.
     ///
     /// # Errors
     ///
-    /// `NotRecording` if nothing is recorded, or if the rest of an ended record was already taken;
-    /// nothing has changed.
+    /// `NotRecording` if nothing is recorded, or if the rest of an ended record was already taken.
     ///
     /// # Blocking
     ///
@@ -707,9 +607,7 @@ impl<L: HubKind, R: Wait + Drop> Hub<L, R> {
 
     /// Pauses a shard until [`resume`](Self::resume), and returns evidence of that.
     ///
-    /// Returns `None` if the shard does not exist. A closed shard stays closed.
-    ///
-    /// The window keeps the entries that the shard has yet to apply.
+    /// The window keeps the entries that the shard has yet to apply. A closed shard stays closed.
     ///
     /// # Blocking
     ///
@@ -726,9 +624,7 @@ impl<L: HubKind, R: Wait + Drop> Hub<L, R> {
 
     /// Resumes a shard, and returns evidence of that.
     ///
-    /// Returns `None` if the shard does not exist. A closed shard stays closed.
-    ///
-    /// The next post or tick, or the next poll for an answer of the shard, advances the shard.
+    /// The next call that advances the shard applies what it lacks. A closed shard stays closed.
     ///
     /// # Blocking
     ///
@@ -749,8 +645,8 @@ impl<L: HubKind, R: Wait + Drop> Hub<L, R> {
     ///
     /// # Blocking
     ///
-    /// Locks admission, then each shard in turn. Tasks with a held connect are woken while its
-    /// shard is locked.
+    /// Locks admission, then each shard in turn. Tasks with a held connect are woken under its
+    /// lock.
     pub fn close<W: Wait>(&self, rt: &W) -> ChangeReport<L>
         ensures { AreAllChanged L.config.shards changes.Shut result }
     {
@@ -759,7 +655,6 @@ impl<L: HubKind, R: Wait + Drop> Hub<L, R> {
         all
     }
 
-    // Applies `change` to each shard in turn, and adds the evidence of that to `all`.
     fn change_all<W: Wait>(&self, rt: &W, change: ShardChange, all: &mut ChangeReport<L>)
         requires none { all.old.done ≡ [] }
         requires change { all.old.change.value ≡ change }
@@ -770,15 +665,19 @@ impl<L: HubKind, R: Wait + Drop> Hub<L, R> {
         }
     }
 
-    // Applies `change` to shard `index`, and returns evidence of that. If the lock at `index`
-    // guards another shard, nothing changes, and the evidence states that.
     fn change<W: Wait>(&self, rt: &W, index: usize, change: ShardChange) -> ChangeEvidence<L>
         requires { index < length self.now.shards.items }
-        ensures { IsChanged index change result }
+        ensures changed { IsChanged index change result }
+        ensures kept { IsKeptBy change result }
     {
         match self.lock_shard(rt, index) {
-            Ok(mut shard_state) => shard_state.change(change),
-            Err(other) => ChangeEvidence::misplaced(&*other, &index, change),
+            Ok((mut shard_state, taken)) => {
+                let changed = shard_state.change(change);
+                changed.unlocked(taken.unlock(shard_state))
+            }
+            Err((other, taken)) => ChangeEvidence::misplaced(&*other, &index, change).unlocked(
+                taken.unlock(other),
+            ),
         }
     }
 }

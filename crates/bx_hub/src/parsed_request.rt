@@ -1,4 +1,3 @@
-//! Requests with their messages.
 ghost use Rattle.std.specs.Prelude.{◌≡◌, List, Ok, IfOk, IfErr};
 ghost use Rattle.bx_entry.specs.Requests.{arrival_messages};
 
@@ -12,12 +11,10 @@ use std::alloc::Global;
 
 /// A request with its messages, which its listener allows.
 ///
-/// Admission consumes it, so it is appended to the list at most once.
+/// Admission consumes it, so it is appended at most once.
 #[derive(Drop)]
 pub(crate) struct ParsedRequest {
-    /// The request as it arrived.
     pub(crate) arrival: Arrival,
-    /// The messages that were read from the request, in order.
     pub(crate) messages: Vec<Message>,
     ghost read: { arrival_messages arrival ≡ Ok messages.items },
 }
@@ -33,8 +30,7 @@ impl ParsedRequest {
     ///
     /// # Errors
     ///
-    /// `arrival`, with the reason: its documents are not messages or have more than 256, its
-    /// listener forbids the messages, or memory ran out.
+    /// `arrival`, with the reason.
     pub(crate) fn of<L: LogId>(
         alloc: Global,
         arrival: Arrival,

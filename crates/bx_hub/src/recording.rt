@@ -1,4 +1,3 @@
-//! The record of admitted requests and ticks, until it is written.
 ghost use Rattle.std.specs.Prelude.{◌≡◌, ◌≢◌, ◌+◌, ◌<◌, ◌++◌, ◌∷◌, [], None, false, length, OnErr, OnOk, IfErr, IfOk};
 ghost use Rattle.std.specs.List.{AllByRecursion};
 ghost use Rattle.bx_hub.specs.Records.{documents_in, input_in, inputs_by, list_by, record_props};
@@ -21,8 +20,7 @@ use std::sync::Wait;
 
 /// A front of the hub's list that a record has reached.
 ///
-/// The requests and ticks up to the front result in exactly the list up to it, and all of them can
-/// be recorded.
+/// The requests and ticks up to it result in exactly the list up to it, and can be recorded.
 #[derive(Drop)]
 pub struct RecordFront<L: LogId> {
     front: Front<L>,
@@ -31,8 +29,7 @@ pub struct RecordFront<L: LogId> {
 }
 
 impl<L: LogId> RecordFront<L> {
-    // Creates a `RecordFront` at `front`. The list of `front` must be the result of its requests
-    // and ticks, and all of these must be recordable.
+    // The list of `front` must result from its requests and ticks, all of which are recordable.
     fn of(front: Front<L>) -> RecordFront<L>
         requires listed { list_by (inputs_of front) ≡ list_of front }
         requires recordable { AllByRecursion CanRecord (inputs_of front) }
@@ -48,7 +45,7 @@ impl<L: LogId> RecordFront<L> {
         self.front.len()
     }
 
-    /// Creates the start of a record, before the first entry. `front` must be empty.
+    /// Creates the start of a record at the empty `front`.
     pub(crate) fn first(front: Front<L>) -> RecordFront<L>
         requires { front ≡ [] }
         ensures { result.front ≡ front }
@@ -84,7 +81,6 @@ pub struct NotRecording<L: LogId> {
 }
 
 impl<L: LogId> NotRecording<L> {
-    /// Creates evidence that `admission` records nothing and has no rest of an ended record.
     pub(crate) fn of<R: Wait + Drop>(admission: &Admission<L, R>) -> NotRecording<L>
         requires recording { admission.now.recording ≡ None }
         requires end { admission.now.record_end ≡ None }
@@ -96,11 +92,10 @@ impl<L: LogId> NotRecording<L> {
 
 /// The lines of a record that wait to be written.
 ///
-/// They follow the text of the record up to `from`, which was taken earlier.
+/// They follow the text up to `from`, which was taken earlier.
 #[derive(Drop)]
 pub(crate) struct Recording<L: LogId> {
     from: RecordFront<L>,
-    // Ghost: all requests and ticks recorded since the record began.
     inputs: History<Input>,
     waiting: WaitingBytes,
     ghost whole: { record_of (inputs_of from.front) ++ waiting ≡ record_of inputs },
@@ -108,7 +103,7 @@ pub(crate) struct Recording<L: LogId> {
 }
 
 impl<L: LogId> Recording<L> {
-    /// Creates a record without requests and ticks. `from`: the start of the record.
+    /// Creates a record that begins at `from`, without requests and ticks.
     pub(crate) fn new(alloc: Global, from: RecordFront<L>) -> Recording<L>
         requires { from.front ≡ [] }
         ensures { (result.from ≡ from) × (result.inputs ≡ []) × (result.waiting ≡ []) }
@@ -120,7 +115,6 @@ impl<L: LogId> Recording<L> {
         }
     }
 
-    /// Returns how many bytes wait to be written.
     pub(crate) fn waiting(&self) -> usize
         ensures { result ≡ length self.now.waiting }
     {
@@ -128,16 +122,8 @@ impl<L: LogId> Recording<L> {
     }
 
     /// Appends the lines of `listed`, which must have added entries to the list.
-    ///
-    /// # Errors
-    ///
-    /// The first of these that applies; nothing has changed:
-    ///
-    /// - `Unrecordable`: no line can hold the request.
-    /// - `Full`: more than 64 MiB would wait.
-    /// - `Memory`: memory ran out, at any step.
     #[tactic(auto, using(crate::proofs::Records::all_recordable))]
-    pub(crate) fn add(&mut self, alloc: Global, listed: &Submission) -> Result<(), RecordFault>
+    pub(crate) fn add(&mut self, alloc: Global, listed: &Submission<'_>) -> Result<(), RecordFault>
         requires { inputs_by listed.now ≡ input_in listed.now ∷ [] }
         ensures added { OnOk result ((self.new.inputs ≡ self.old.inputs ++ input_in listed.now ∷ []) × (self.new.waiting ≡ self.old.waiting ++ input_text (input_in listed.now))) }
         ensures same { OnErr result ((self.new.inputs ≡ self.old.inputs) × (self.new.waiting ≡ self.old.waiting)) }
@@ -150,11 +136,10 @@ impl<L: LogId> Recording<L> {
         Ok(())
     }
 
-    /// Takes all bytes that wait, and leaves the empty buffer `empty` in their place.
+    /// Takes all bytes that wait, and leaves `empty` in their place. Does not allocate or copy.
     ///
-    /// Returns the text of the record from the front of the last call, or from the beginning, to
-    /// `upto`. `upto` must be the front that ends with the last recorded request or tick. Does not
-    /// allocate or copy.
+    /// Returns the text since the last call, up to `upto`, which must be the front that ends with
+    /// the last recorded request or tick.
     pub(crate) fn take(&mut self, upto: Front<L>, empty: Vec<u8>) -> Chunk<RecordFront<L>>
         requires inputs { self.old.inputs ≡ inputs_of upto }
         requires listed { list_by self.old.inputs ≡ list_of upto }
@@ -171,16 +156,15 @@ impl<L: LogId> Recording<L> {
 
 /// Returns the ghost list of what is recorded of `wanted`.
 ///
-/// It is empty for a request without messages, and otherwise has the request or tick.
-pub(crate) fn inputs_by(wanted: &Submission) -> History<Input>
+/// It is empty for a request without messages.
+pub(crate) fn inputs_by(wanted: &Submission<'_>) -> History<Input>
     ensures { result ≡ inputs_by wanted.now }
 {
-    History::of::<&Submission, Recorded>(&wanted)
+    History::of::<&Submission<'_>, Recorded>(&wanted)
 }
 
-// Returns the record's lines for `listed`. Fails with `Unrecordable` if no line can hold the
-// request, and with `Memory` if memory runs out.
-fn text_of(alloc: Global, listed: &Submission) -> Result<Vec<u8>, RecordFault>
+// Returns the lines for `listed`. Fails with `Unrecordable` if no line can hold the request.
+fn text_of(alloc: Global, listed: &Submission<'_>) -> Result<Vec<u8>, RecordFault>
     ensures text { IfOk result (λ text. text.items ≡ input_text (input_in listed.now)) }
     ensures recordable { OnOk result (CanRecord (input_in listed.now)) }
     ensures unsayable { IfErr result (λ f. (f ≢ faults.Full) × (f ≡ faults.Unrecordable → can_say (documents_in listed.now) ≡ false)) }
@@ -199,7 +183,7 @@ fn text_of(alloc: Global, listed: &Submission) -> Result<Vec<u8>, RecordFault>
 // Ghost: what is recorded of a request or a tick.
 struct Recorded;
 
-impl<'a> Lists<&'a Submission, Input> for Recorded {
+impl<'a, 'b> Lists<&'a Submission<'b>, Input> for Recorded {
     ghost use Rattle.bx_hub.specs.Records.{inputs_by};
 
     ghost listed = { λ listed. inputs_by listed.now };

@@ -232,7 +232,7 @@ impl<L: HubKind, H: Wait + Drop> Bench<L, H> {
             .hub
             .survey_session(rt, self.alloc, self.waiting.home, index)?;
         same(rt, shown.is_some(), wanted.is_some(), index);
-        if let (Some(shown), Some(wanted)) = (shown, wanted) {
+        if let (Some((shown, _)), Some(wanted)) = (shown, wanted) {
             same(rt, (shown.number, shown.opened), (1, wanted.opened), index);
             let flags = (shown.ack, shown.has_overflowed, shown.is_held);
             same(

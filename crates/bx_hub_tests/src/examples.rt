@@ -1,6 +1,6 @@
 //! A test that runs the example in the doc comment of `Hub::post`.
 //!
-//! `tests/documents/run` checks that a test has the lines of each example.
+//! `tests/test_documents.py` checks that a test has the lines of each example.
 
 use bx_calls::texts::{CONNECT, HANDSHAKE};
 use bx_calls::{HubWork, Stage, arrival, config_of, post, work_in_open_hub};

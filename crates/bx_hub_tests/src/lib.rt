@@ -6,6 +6,8 @@
 #[cfg(test)]
 mod bench;
 #[cfg(test)]
+mod crowd;
+#[cfg(test)]
 mod examples;
 #[cfg(test)]
 mod moves;

@@ -20,7 +20,7 @@ use std::test::*;
 pub const LATE: u64 = (1 << 62) + 1;
 
 /// What an operator must see of session 1, the first one.
-#[derive(Clone, Copy, Debug)]
+#[derive(Clone, Copy)]
 pub struct Shown {
     /// The moment at which the session was opened.
     pub opened: u64,
@@ -36,7 +36,7 @@ pub struct Shown {
 }
 
 /// A step of a run. `Finds`, `Wait` and `Watch` name places in the first session's shard.
-#[derive(Clone, Copy, Debug)]
+#[derive(Clone, Copy)]
 pub enum Step {
     /// Opens and subscribes the first session. Its connect is held at place 2.
     Hold,
@@ -118,102 +118,102 @@ pub enum Step {
 
 impl<L: HubKind, H: Wait + Drop> Bench<L, H> {
     // Runs a step that posts or ticks, and passes other steps to `ask`.
-    fn take<R: Wait + Abort>(&mut self, rt: &R, step: Step) -> Result<(), Fail> {
+    fn take<R: Wait + Abort>(&mut self, rt: &R, step: Step, at: usize) -> Result<(), Fail> {
         let alloc = self.alloc;
         match step {
             Step::Hold => {
                 let ticket = hold(rt, alloc, &self.hub, &mut self.pass)?;
-                same(rt, ticket, self.ticket(2), step);
+                same(rt, ticket, self.ticket(2), at);
             }
             Step::HoldTwo => self.hold_two(rt)?,
             Step::Publish => self.publish(rt)?,
             Step::PublishApart => self.publish_apart(rt)?,
             Step::Post(body, place, paused) => {
                 let posted = self.post(rt, arrival(alloc, body)?, body);
-                same(rt, posted, Ok((place, behind(paused))), step);
+                same(rt, posted, Ok((place, behind(paused))), at);
             }
             Step::Wait(body, place) => self.wait(rt, body, place)?,
             Step::Pings(first, end, length, paused) => self.pings(rt, first, end, length, paused)?,
             Step::Refused(body, fault) => {
                 let posted = self.post(rt, arrival(alloc, body)?, body);
-                same(rt, posted, Err(fault), step);
+                same(rt, posted, Err(fault), at);
             }
             Step::Again(body, wanted) => {
                 let back = self.back.take().ok_or("nothing came back")?;
                 let wanted = wanted.map(|place| (place, behind(0)));
-                same(rt, self.post(rt, back, body), wanted, step);
+                same(rt, self.post(rt, back, body), wanted, at);
             }
             Step::Tick(moment, wanted) => {
                 let ticked = tick(rt, alloc, &self.hub, &mut self.pass, moment);
-                same(rt, ticked, wanted, step);
+                same(rt, ticked, wanted, at);
             }
-            _ => self.ask(rt, step)?,
+            _ => self.ask(rt, step, at)?,
         }
         Ok(())
     }
 
     // Runs a step that polls, watches, sweeps, closes, pauses or resumes, and passes others to
     // `look`.
-    fn ask<R: Wait + Abort>(&mut self, rt: &R, step: Step) -> Result<(), Fail> {
+    fn ask<R: Wait + Abort>(&mut self, rt: &R, step: Step, at: usize) -> Result<(), Fail> {
         let home = self.waiting.home;
         match step {
             Step::Finds(place, text, wanted) => {
                 let ticket = self.ticket(place);
-                same(rt, self.find(rt, ticket, text)?, wanted, step);
+                same(rt, self.find(rt, ticket, text)?, wanted, at);
             }
             Step::Watch(place, task, wanted) => {
                 let ticket = self.ticket(place);
-                same(rt, self.watch(rt, ticket, task)?, wanted, step);
+                same(rt, self.watch(rt, ticket, task)?, wanted, at);
             }
             Step::Elsewhere => {
                 let ticket = Ticket { place: 2, shard: 2 };
-                same(rt, self.find(rt, ticket, "")?, Found::Nothing, step);
+                same(rt, self.find(rt, ticket, "")?, Found::Nothing, at);
                 let watched = self.watch(rt, ticket, Task::First)?;
-                same(rt, watched, Watched::Unknown, step);
+                same(rt, watched, Watched::Unknown, at);
             }
-            Step::Pause => same(rt, self.hub.pause(rt, home).is_some(), true, step),
-            Step::Resume => same(rt, self.hub.resume(rt, home).is_some(), true, step),
-            Step::PauseShard(index) => same(rt, self.hub.pause(rt, index).is_some(), true, step),
-            Step::ResumeShard(index) => same(rt, self.hub.resume(rt, index).is_some(), true, step),
-            Step::Sweep(place, count) => same(rt, self.hub.sweep(rt, place).dropped(), count, step),
+            Step::Pause => same(rt, self.hub.pause(rt, home).is_some(), true, at),
+            Step::Resume => same(rt, self.hub.resume(rt, home).is_some(), true, at),
+            Step::PauseShard(index) => same(rt, self.hub.pause(rt, index).is_some(), true, at),
+            Step::ResumeShard(index) => same(rt, self.hub.resume(rt, index).is_some(), true, at),
+            Step::Sweep(place, count) => same(rt, self.hub.sweep(rt, place).dropped(), count, at),
             Step::Close => drop(self.hub.close(rt)),
-            _ => self.look(rt, step)?,
+            _ => self.look(rt, step, at)?,
         }
         Ok(())
     }
 
     // Runs a step that inspects the hub or uses its record.
-    fn look<R: Wait + Abort>(&mut self, rt: &R, step: Step) -> Result<(), Fail> {
+    fn look<R: Wait + Abort>(&mut self, rt: &R, step: Step, at: usize) -> Result<(), Fail> {
         let (alloc, hub, waiting) = (self.alloc, &self.hub, &self.waiting);
         match step {
             Step::Seen(begin, len) => {
                 let seen = (self.pass.begin(), self.pass.len());
-                same(rt, seen, (begin, len), step);
+                same(rt, seen, (begin, len), at);
             }
-            Step::List(survey) => same(rt, hub.survey(rt, &mut self.pass), survey, step),
+            Step::List(survey) => same(rt, hub.survey(rt, &mut self.pass), survey, at),
             Step::NoShard(index) => self.misses(rt, index)?,
             Step::Stands(place, held, filed) => {
                 let stood = ShardSurvey { place, held, filed };
-                same(rt, hub.survey_shard(rt, waiting.home), Some(stood), step);
+                same(rt, hub.survey_shard(rt, waiting.home), Some(stood), at);
             }
             Step::Session(index, wanted) => self.sees(rt, index, wanted)?,
             Step::Woken(task, wanted) => {
-                same(rt, waiting.tasks.task(task).is_woken(), wanted, step);
+                same(rt, waiting.tasks.task(task).is_woken(), wanted, at);
                 let under_lock = waiting.woken_under_lock.load(Ordering::SeqCst);
-                same(rt, under_lock, false, step);
+                same(rt, under_lock, false, at);
             }
             Step::WokenFirst(shard) => {
                 let early = waiting.before_woken.load(Ordering::SeqCst) > 0;
-                same(rt, early, waiting.home == shard, step);
+                same(rt, early, waiting.home == shard, at);
             }
-            Step::Starts(wanted) => same(rt, hub.start_record(rt, alloc).is_ok(), wanted, step),
+            Step::Starts(wanted) => same(rt, hub.start_record(rt, alloc).is_ok(), wanted, at),
             Step::Stops => drop(hub.stop_record(rt)),
-            Step::Waits(length) => same(rt, hub.waiting_record_bytes(rt), length, step),
+            Step::Waits(length) => same(rt, hub.waiting_record_bytes(rt), length, at),
             Step::Takes(length, fault) => drop(self.take_record(rt, length, fault)?),
             Step::Lines(lines, fault) => self.take_lines(rt, lines, fault)?,
             Step::NoRecord => {
                 let taken = hub.take_record(rt, Vec::new(alloc));
-                same(rt, taken.is_err(), true, step);
+                same(rt, taken.is_err(), true, at);
             }
             _ => return Err(Fail::from("a step of no kind")),
         }
@@ -234,8 +234,8 @@ impl<L: HubKind, H: Wait + Drop> Bench<L, H> {
     // them.
     fn take_all<R: Wait + Abort>(&mut self, rt: &R, steps: &[Step]) -> Result<(), Fail> {
         same(rt, self.pass.len(), 0, "seen at first");
-        for step in steps {
-            self.take(rt, *step)?;
+        for (at, step) in steps.iter().enumerate() {
+            self.take(rt, *step, at)?;
         }
         let before = self.waiting.before.load(Ordering::SeqCst);
         same(rt, before > 0, true, "the gate was passed");

@@ -1,3 +1,4 @@
+pub mod EventOrder
 pub mod Given
 pub mod Holds
 pub mod ReadBack

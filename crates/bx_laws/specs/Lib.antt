@@ -1,3 +1,4 @@
+pub mod EventOrder
 pub mod ReadBack
 pub mod Readers
 pub mod Samples

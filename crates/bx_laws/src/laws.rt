@@ -18,6 +18,7 @@ ghost use Rattle.bx_theory.specs.Opens.{OpenIsHeld, OpensGoOn, OutsAdd};
 ghost use Rattle.bx_theory.specs.Sole.{OpenAreSole, OpensAscend};
 ghost use Rattle.bx_entry.specs.Keeping.{KeptSteps, KeptRuns, KeptInBounds};
 ghost use Rattle.bx_theory.specs.Fronts.{AcknowledgedEventsAreNotGivenAgain, AnswersShareNoEvent, RepeatedConnectGetsTheSameBatch};
+ghost use Rattle.bx_laws.specs.EventOrder.{AnswersInOrder, EventsInOneOrder};
 ghost use Rattle.bx_laws.specs.Readers.{ReadOnlyRequestPublishesAsAllowed, ReadersPublishAsAllowed};
 ghost use Rattle.bx_laws.specs.ReadBack.{RepliesReadBack, EventsReadBack, BodiesReadBack};
 
@@ -28,8 +29,7 @@ pub fn done_event_count_never_falls()
 
 /// Proves that the queue, the batch and the counts of a session always agree.
 ///
-/// The queue has the events that may still be sent, or none after an overflow. The outstanding
-/// batch is at the start of the queue. No event waits while a connect is held.
+/// The outstanding batch is at the start of the queue. No event waits while a connect is held.
 pub fn queue_batch_and_counts_agree()
     ensures { CountsAgree }
 {}
@@ -46,44 +46,39 @@ pub fn answers_ignore_later_entries()
 
 /// Proves that a connect that acknowledges nothing new gets the outstanding batch again.
 ///
-/// The batch has the number and the events that it had before. The session must not have
-/// overflowed.
+/// It has the same number and events. The session must not have overflowed.
 pub fn batch_repeats()
     ensures { BatchRepeats }
 {}
 
 /// Proves that an event is never sent again after it is acknowledged, or sent by a plain session.
-///
-/// A plain session does not acknowledge.
 pub fn never_given_again()
     ensures { NeverGivenAgain }
 {}
 
 /// Proves that each event in an answer was published after all events that were done before it.
 ///
-/// An event is done if it is acknowledged, or sent by a session that does not acknowledge. So done
-/// events are never sent again.
+/// So done events are never sent again.
 pub fn no_event_twice()
     ensures { NoEventTwice }
 {}
 
 /// Proves that the events sent so far are a session's first ones, in order, each in one answer.
 ///
-/// The session does not acknowledge. The answers are those to connects and riders. Events that
-/// still wait, or that an overflow drops, are not among them.
+/// This is so for a plain session. Events that still wait, or that an overflow drops, are not sent.
 pub fn given_once()
     ensures { GivenOnce }
 {}
 
 /// Proves that a repeated connect gets the outstanding batch again, over every front of a log.
 ///
-/// The connect acknowledges nothing new, and its session has not overflowed. It gets the number and
-/// the events of the answer that formed the batch.
+/// The connect acknowledges nothing new, and its session has not overflowed. The number and the
+/// events are those of the answer that formed the batch.
 pub fn repeated_connect_gets_the_same_batch()
     ensures { RepeatedConnectGetsTheSameBatch }
 {}
 
-/// Proves that no event is in two answers of a session that does not acknowledge.
+/// Proves that no event is in two answers of a plain session.
 ///
 /// Each answer may be over its own front of a log.
 pub fn answers_share_no_event()
@@ -92,8 +87,8 @@ pub fn answers_share_no_event()
 
 /// Proves that no answer has an event that was acknowledged at the answer's place or before.
 ///
-/// If the session does not acknowledge, no answer has an event that was sent before the answer's
-/// place. The answer may be over any front of a log.
+/// For a plain session, no answer has an event that was sent before the answer's place. The answer
+/// may be over any front of a log.
 pub fn acknowledged_events_are_not_given_again()
     ensures { AcknowledgedEventsAreNotGivenAgain }
 {}
@@ -103,17 +98,16 @@ pub fn no_riders_without_option()
     ensures { NoRidersUnasked }
 {}
 
-/// Proves that a rider's session is one that does not acknowledge.
+/// Proves that a rider's session is a plain one.
 pub fn rider_sessions_do_not_acknowledge()
     ensures { RidersArePlain }
 {}
 
 /// Proves when a message is a rider of a session.
 ///
-/// The message is a rider exactly if `--ride` is set, the session does not acknowledge, and the
-/// message is the last one of its request. All messages of the request must be accepted and come
-/// from the session, and none may be a handshake. The last one must be a subscription, an
-/// unsubscription or a publish.
+/// It is one exactly if `--ride` is set, the session is plain, and the message is the last one of
+/// its request. All messages of the request must be accepted and come from the session, and none
+/// may be a handshake. The last one must be a subscription, an unsubscription or a publish.
 pub fn when_a_message_is_a_rider()
     ensures { RiderReading }
 {}
@@ -130,7 +124,7 @@ pub fn only_subscriptions_and_publishes_ride()
 
 /// Proves that a rider gets the first waiting events in one answer, up to one batch.
 ///
-/// The events are taken after the entry has taken effect. Events beyond one batch keep waiting.
+/// They are taken after the entry has taken effect.
 pub fn rider_given()
     ensures { RiderGiven }
 {}
@@ -142,8 +136,7 @@ pub fn live_from_opening_to_first_close()
 
 /// Proves that a pattern is active exactly if the last message that names it is a subscription.
 ///
-/// Only accepted subscriptions and unsubscriptions of the session count. After an overflow, no
-/// pattern is active.
+/// Only accepted messages of the session count. After an overflow, no pattern is active.
 pub fn pattern_active_if_last_subscribed()
     ensures { InForceReading }
 {}
@@ -158,17 +151,15 @@ pub fn connect_held_until_entry_ends_hold()
 
 /// Proves that a held connect is answered at the first entry that ends the hold.
 ///
-/// A publish that reaches the session answers the connect with its event, and a newer connect
-/// answers it with an error. A disconnect, or a tick from the deadline on, answers it with success
-/// and no events.
+/// A publish that reaches the session answers it with its event, a newer connect with an error. A
+/// disconnect, or a tick from the deadline on, answers it with success and no events.
 pub fn held_connect_answered_by_first_ending_entry()
     ensures { EndingReading }
 {}
 
 /// Proves that a session has overflowed exactly if some earlier entry found no room.
 ///
-/// The entry is a publish that the queue has no room for, or a subscription that results in too
-/// many patterns.
+/// It is a publish that the queue has no room for, or a subscription beyond the limit of patterns.
 pub fn overflowed_if_entry_found_no_room()
     ensures { OverflowReading }
 {}
@@ -180,8 +171,7 @@ pub fn queue_bounded()
 
 /// Proves that the due moment of a session is the greatest that its accepted messages set.
 ///
-/// Each message sets a sum: the greatest moment in the list so far, the time that the message may
-/// be held, and `config.max_interval`.
+/// Each message sets the sum of the greatest moment so far, its hold, and `config.max_interval`.
 pub fn due_is_greatest_set_by_messages()
     ensures { DueReading }
 {}
@@ -198,16 +188,16 @@ pub fn registry_and_entries_agree_on_live()
 
 /// Proves that each event of a session is an accepted publish that reached it.
 ///
-/// The publish was to a broadcast channel that an active pattern of the session matched. The
-/// session was live and had not overflowed, and its queue had room.
+/// An active pattern of the session matched its broadcast channel. The session was live, had not
+/// overflowed, and its queue had room.
 pub fn events_were_published()
     ensures { EventsWerePublished }
 {}
 
 /// Proves that each publish that reaches a session becomes the next of its events.
 ///
-/// A publish to a broadcast channel reaches a live session if an active pattern matches the
-/// channel. The session must not have overflowed, and its queue must have room.
+/// It reaches a live session that has not overflowed, if an active pattern matches its broadcast
+/// channel and the queue has room.
 pub fn publishes_are_events()
     ensures { PublishesAreEvents }
 {}
@@ -219,6 +209,15 @@ pub fn events_have_ascending_places()
     ensures { EventsRise }
 {}
 
+/// Proves that all sessions get their events in one order, that of the publishes in the list.
+///
+/// The events that two sessions both get are one list, also if each session is looked at over its
+/// own front of a log. Each answer has consecutive events of its session.
+pub fn sessions_get_events_in_one_order()
+    ensures events { EventsInOneOrder }
+    ensures answers { AnswersInOrder }
+{}
+
 /// Proves that each event in an answer is byte for byte that of an accepted publish.
 ///
 /// The publish reached the session of the connect or rider that is answered.
@@ -228,8 +227,8 @@ pub fn given_was_published()
 
 /// Proves that a request through the read-only listener publishes only as its patterns allow.
 ///
-/// Whatever else is listed, a pattern matches each broadcast channel to which the request adds a
-/// message, and the channel of each event that it adds. Without patterns, it publishes nothing.
+/// A pattern matches each broadcast channel to which the request adds a message, and the channel of
+/// each event that it adds. Without patterns, it publishes nothing.
 pub fn read_only_request_publishes_as_allowed()
     ensures { ReadOnlyRequestPublishesAsAllowed }
 {}
@@ -248,22 +247,18 @@ pub fn outs_grow()
 
 /// Proves that the effect of an entry on a session does not depend on the session's history.
 ///
-/// The history has the session's earlier events and answers. The rest, which a server keeps,
-/// determines what the server keeps after the entry, and the answers that the entry gives.
+/// The history is the earlier events and answers. The rest, which a server keeps, determines what
+/// it keeps after the entry, and the answers that the entry gives.
 pub fn entry_effect_ignores_history()
     ensures { KeptSteps }
 {}
 
 /// Proves that what a server keeps of a session can be computed from entry to entry.
-///
-/// The session's history, its earlier events and answers, is not needed.
 pub fn kept_state_computed_without_history()
     ensures { KeptRuns }
 {}
 
-/// Proves that the session of an accepted message is live before the message.
-///
-/// A handshake is an exception, since it opens its session.
+/// Proves that the session of an accepted message, other than a handshake, is live before it.
 pub fn accepted_while_live()
     ensures { AcceptedWhileLive }
 {}
@@ -287,8 +282,7 @@ pub fn closed_session_never_changes()
 
 /// Proves that the text of a reply is a JSON object with the reply's members, sorted by name.
 ///
-/// The id and the subscription in the reply must be JSON texts, and its numbers must fit in 64
-/// bits.
+/// The id and the subscription must be JSON texts, and the numbers must fit in 64 bits.
 pub fn replies_read_back()
     ensures { RepliesReadBack }
 {}
@@ -308,15 +302,11 @@ pub fn bodies_read_back()
 {}
 
 /// Proves that an input appends the outs of all inputs that it completes, in order.
-///
-/// An input is complete once all its messages are answered.
 pub fn input_appends_outs_it_completes()
     ensures { OutsAdd }
 {}
 
 /// Proves that an input stays incomplete until some input completes it.
-///
-/// An input is complete once all its messages are answered.
 pub fn input_stays_incomplete_until_completed()
     ensures { OpensGoOn }
 {}

@@ -1,7 +1,6 @@
 //! Laws of the server's definitions, in a user's terms, and worked runs.
 //!
-//! Each law is the contract of a function with an empty body, so that the prover checks it. So is
-//! each group of runs.
+//! Each is the contract of a function with an empty body, so that the prover checks it.
 #![tactic(auto)]
 
 mod laws;
@@ -26,7 +25,7 @@ pub use laws::{
     read_only_request_publishes_as_allowed, readers_publish_as_allowed,
     registry_and_entries_agree_on_live, repeated_connect_gets_the_same_batch,
     replay_prints_held_last, replies_read_back, rider_given, rider_sessions_do_not_acknowledge,
-    when_a_message_is_a_rider,
+    sessions_get_events_in_one_order, when_a_message_is_a_rider,
 };
 pub use worked::{
     acknowledgements, channels, deliveries, endings, handshakes, held_connects, overflows,

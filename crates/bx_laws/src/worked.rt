@@ -33,8 +33,6 @@ pub fn deliveries()
 {}
 
 /// Proves examples of requests that have a rider, and of requests that have none.
-///
-/// A rider is a request's last message, if its reply carries the session's waiting events.
 #[tactic(auto, unfolding(json::specs::Print::escape_byte, bx_entry::specs::Windows::has_room, bx_entry::specs::Windows::bytes_of, bx_message::specs::Events::event_size))]
 pub fn riders()
     ensures events_ride { EventsRide }

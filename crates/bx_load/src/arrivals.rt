@@ -1,4 +1,3 @@
-//! The events of one publisher that a session received.
 ghost use Rattle.std.specs.Prelude.{◌≡◌, ◌≢◌, ◌+◌, ◌<◌, ◌≤◌, ◌↔◌, length, slice_index_or, slice_set, count_by, not, true, false, vec_len, IfOk, replicate};
 
 use std::alloc::{AllocError, Global};
@@ -6,31 +5,27 @@ use std::alloc::{AllocError, Global};
 /// How an event arrived.
 #[derive(Clone, Copy)]
 pub enum Reception {
-    /// The event arrived for the first time, and before any later event of its publisher.
+    /// For the first time, and before any later event of its publisher.
     InOrder,
-    /// The event arrived for the first time, but after a later event of its publisher.
+    /// For the first time, but after a later event of its publisher.
     OutOfOrder,
-    /// The event had already arrived.
+    /// It had already arrived.
     Doubled,
-    /// The event is unknown: its publisher has no event with this number.
+    /// Its publisher has no event with this number.
     Unknown,
 }
 
-/// The events of one publisher, numbered from 0, that one session received.
+/// The events of one publisher that one session received.
 #[derive(Drop)]
 pub struct Arrivals {
-    /// Whether each event of the publisher arrived, by the event's number.
+    /// By the event's number, from 0.
     pub seen: Vec<bool>,
-    /// One more than the greatest number of an event that arrived, or 0 if no event arrived.
+    /// One more than the greatest number of an event that arrived.
     pub next: usize,
 }
 
 impl Arrivals {
-    /// Creates the record of `count` events of one publisher. None of them has arrived.
-    ///
-    /// # Errors
-    ///
-    /// `AllocError` if memory runs out.
+    /// Creates the record of `count` events, none of which has arrived.
     pub fn new(alloc: Global, count: usize) -> Result<Arrivals, AllocError>
         ensures none { IfOk result (λ a. a.seen.items ≡ replicate count false) }
         ensures next { IfOk result (λ a. a.next ≡ 0) }

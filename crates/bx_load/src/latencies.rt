@@ -1,4 +1,3 @@
-//! Counts of the latencies of events.
 ghost use Rattle.std.specs.Prelude.{◌≡◌, ◌+◌, ◌*◌, ◌^◌, ◌<◌, ◌≤◌, ◌↔◌, sum_by, slice_index, slice_set, vec_len, IfOk, IfSome, IsNone};
 ghost use Rattle.bx_load.specs.Places.{greatest_of, IsReachedAt};
 
@@ -13,25 +12,24 @@ const WIDTH: u64 = 1024;
 // Number of counts. They reach to 67 seconds; the last one also counts all longer latencies.
 const COUNTS: usize = 131_072;
 
+// All latencies, in percent.
+const ALL: u128 = 100;
+
 /// How often each latency occurred.
 ///
 /// Exact to the microsecond below 65 ms, and to one part in 64 up to 67 seconds.
 #[derive(Drop)]
 pub struct Latencies {
-    /// The counts, from the shortest latency to the longest.
+    /// From the shortest latency to the longest.
     pub counts: Vec<u64>,
-    /// The number of latencies that were counted: the sum of the counts.
+    /// The sum of the counts.
     pub total: u64,
     ghost places: { vec_len counts ≡ 131072 },
     ghost counted: { sum_by (λ n. n) counts.items ≡ total },
 }
 
 impl Latencies {
-    /// Creates the counts, all of them 0.
-    ///
-    /// # Errors
-    ///
-    /// `AllocError` if memory runs out.
+    /// Creates counts of 0.
     pub fn new(alloc: Global) -> Result<Latencies, AllocError>
         ensures { IfOk result (λ l. l.total ≡ 0) }
     {
@@ -66,8 +64,7 @@ impl Latencies {
 
     /// Returns the latency in microseconds that `percent` percent of all latencies do not exceed.
     ///
-    /// `percent`: 1 to 100. The result is as exact as the counts, and rounded up. Returns `None` if
-    /// there are no latencies.
+    /// `percent`: 1 to 100. The result is as exact as the counts, and rounded up.
     pub fn at(&self, percent: u64) -> Option<u64>
         requires some { 0 < percent }
         requires within { percent ≤ 100 }
@@ -81,7 +78,7 @@ impl Latencies {
         let mut reached = 0;
         for (place, times) in self.counts.iter().enumerate() {
             reached += *times;
-            if 100 * reached as u128 >= wanted {
+            if ALL * reached as u128 >= wanted {
                 return Some(greatest_of(place));
             }
         }
@@ -89,7 +86,7 @@ impl Latencies {
     }
 }
 
-// Returns the place of the count for a latency. Below 67 seconds, `greatest_of` that place is the
+// Returns the index of the count for a latency. Below 67 seconds, `greatest_of` that index is the
 // latency rounded up by at most one part in 64.
 fn place_of(microseconds: u64) -> usize
     ensures room { result < COUNTS }

@@ -17,4 +17,4 @@ pub use latencies::Latencies;
 pub use requests::Requests;
 pub use response::{Malformed, Response, read_response};
 pub use settings::{LoadSettings, SettingsFault, Target};
-pub use shares::{due, events_of};
+pub use shares::{NANOS_PER_SECOND, due, events_of};

@@ -1,25 +1,18 @@
-//! The requests that a client writes.
 use crate::items::Stamp;
 use crate::settings::Target;
 use std::alloc::{AllocError, Global};
 
-/// The requests of one client.
+/// Formats the POSTs of one client.
 #[derive(Clone, Copy)]
 pub struct Requests<'a> {
-    /// The allocator of the requests.
     pub alloc: Global,
-    /// The URL of the server.
     pub target: &'a Target,
-    /// The client id, or an empty text before the handshake.
+    /// Empty before the handshake.
     pub client: &'a str,
 }
 
 impl Requests<'_> {
-    /// Formats the POST of a handshake, which asks for acknowledgement if `acknowledges` is `true`.
-    ///
-    /// # Errors
-    ///
-    /// `AllocError` if memory runs out.
+    /// Formats a handshake, which may ask for acknowledgement.
     pub fn handshake(&self, acknowledges: bool) -> Result<String, AllocError> {
         let ext = if acknowledges {
             r#","ext":{"ack":true}"#
@@ -32,11 +25,7 @@ impl Requests<'_> {
         self.post(body.as_str())
     }
 
-    /// Formats the POST of a subscription to channel `/load/{channel}`.
-    ///
-    /// # Errors
-    ///
-    /// `AllocError` if memory runs out.
+    /// Formats a subscription to channel `/load/{channel}`.
     pub fn subscribe(&self, channel: u32) -> Result<String, AllocError> {
         let client = self.client;
         let body = format!(in self.alloc;
@@ -45,11 +34,7 @@ impl Requests<'_> {
         self.post(body.as_str())
     }
 
-    /// Formats the POST of a connect that acknowledges batch `acknowledged`, if any.
-    ///
-    /// # Errors
-    ///
-    /// `AllocError` if memory runs out.
+    /// Formats a connect that acknowledges batch `acknowledged`, if any.
     pub fn connect(&self, acknowledged: Option<u64>) -> Result<String, AllocError> {
         let client = self.client;
         let mut body = format!(in self.alloc;
@@ -62,11 +47,7 @@ impl Requests<'_> {
         self.post(body.as_str())
     }
 
-    /// Formats the POST of a connect that the server answers at once.
-    ///
-    /// # Errors
-    ///
-    /// `AllocError` if memory runs out.
+    /// Formats a connect that the server answers at once.
     pub fn touch(&self) -> Result<String, AllocError> {
         let client = self.client;
         let body = format!(in self.alloc;
@@ -75,11 +56,7 @@ impl Requests<'_> {
         self.post(body.as_str())
     }
 
-    /// Formats the POST of a publish to channel `/load/{channel}`, with the data `stamp`.
-    ///
-    /// # Errors
-    ///
-    /// `AllocError` if memory runs out.
+    /// Formats a publish to channel `/load/{channel}`, with the data `stamp`.
     pub fn publish(&self, channel: u32, stamp: Stamp) -> Result<String, AllocError> {
         let client = self.client;
         let (publisher, number, moment) = (stamp.publisher, stamp.number, stamp.moment);
@@ -89,7 +66,6 @@ impl Requests<'_> {
         self.post(body.as_str())
     }
 
-    // Formats an HTTP POST to the server with the JSON `body`.
     fn post(&self, body: &str) -> Result<String, AllocError> {
         let (host, path) = (self.target.host.as_str(), self.target.path.as_str());
         let length = body.len();

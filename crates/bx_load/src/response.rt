@@ -1,4 +1,3 @@
-//! The responses that a client reads.
 ghost use Rattle.std.specs.Prelude.{◌+◌, ◌≤◌, length, IfOk, IfSome};
 
 // The greatest length of an incomplete head, in bytes.
@@ -7,24 +6,22 @@ const MAX_HEAD: usize = 16_384;
 /// The status of a complete response, and the position of its body in the input.
 #[derive(Clone, Copy)]
 pub struct Response {
-    /// The HTTP status of the response, such as 200.
     pub status: u16,
-    /// The index in the input of the first byte of the response's body.
+    /// The index of the first byte of the body in the input.
     pub start: usize,
-    /// The index in the input after the last byte of the response's body.
+    /// The index after its last byte.
     pub end: usize,
 }
 
-/// Bytes that do not begin with an HTTP/1.1 response that has a `content-length`.
+/// The input does not begin with an HTTP/1.1 response that has a `content-length`.
 #[derive(Clone, Copy)]
 pub struct Malformed;
 
-/// Parses the response at the start of `input`, or returns `None` if it is not complete.
+/// Parses the response at the start of `input`, if it is complete.
 ///
 /// # Errors
 ///
-/// `Malformed` if `input` exceeds 16 KiB and has no end of a head, or if the head is not that of
-/// an HTTP/1.1 response with a `content-length`.
+/// `Malformed` if `input` is not such a response, or exceeds 16 KiB and has no end of a head.
 pub fn read_response(input: &[u8]) -> Result<Option<Response>, Malformed>
     ensures start { IfOk result (λ found. IfSome found (λ r. r.start ≤ r.end)) }
     ensures end { IfOk result (λ found. IfSome found (λ r. r.end ≤ length input.now)) }
@@ -53,7 +50,7 @@ pub fn read_response(input: &[u8]) -> Result<Option<Response>, Malformed>
     }))
 }
 
-// Returns the index of the line end before the first empty line, or `None` if no line is empty.
+// Returns the index of the line end before the first empty line.
 fn end_of_head(input: &[u8]) -> Option<usize>
     ensures { IfSome result (λ at. at + 4 ≤ length input.now) }
 {
@@ -65,13 +62,13 @@ fn end_of_head(input: &[u8]) -> Option<usize>
     None
 }
 
-// Parses the status in the first line of a head. Returns `None` if this is not a line of HTTP/1.1.
+// Parses the status in the first line of a head, if that is one of HTTP/1.1.
 fn status_of(head: &str) -> Option<u16> {
     let (status, _) = head.strip_prefix("HTTP/1.1 ")?.split_once(' ')?;
     status.parse().ok()
 }
 
-// Parses the first `content-length` field of a head. Returns `None` if it is missing or no number.
+// Parses the first `content-length` field of a head.
 fn size_of_body(head: &str) -> Option<usize> {
     for line in head.lines() {
         if let Some((name, value)) = line.split_once(':')

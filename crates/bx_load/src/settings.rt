@@ -1,4 +1,3 @@
-//! Command-line arguments of `bayeux_load`.
 ghost use Rattle.std.specs.Prelude.{◌<◌, IfOk, IfSome};
 
 use std::alloc::{AllocError, Global};
@@ -8,9 +7,9 @@ use std::io;
 /// The URL of the server.
 #[derive(Drop)]
 pub struct Target {
-    /// The host name or the IP address, and the port if the URL has one.
+    /// With the port, if the URL has one.
     pub host: String,
-    /// The path, with its leading `/`.
+    /// With its leading `/`.
     pub path: String,
 }
 
@@ -26,20 +25,18 @@ impl Target {
 /// How to load a server.
 #[derive(Drop)]
 pub struct LoadSettings {
-    /// The URL of the server.
     pub target: Target,
     /// Number of sessions that receive events.
     pub sessions: u32,
-    /// Number of channels among which sessions and publishers are divided, at least 1.
+    /// Number of channels among which sessions and publishers are divided.
     pub channels: u32,
-    /// Number of clients that publish, at least 1.
+    /// Number of clients that publish.
     pub publishers: u32,
     /// Number of events that all publishers together publish.
     pub events: u32,
-    /// Events per second of all publishers together. If 0, each publisher sends its next event as
+    /// Events per second of all publishers together. With 0, each publisher sends its next event as
     /// soon as the previous one is answered.
     pub rate: u32,
-    /// Whether the sessions acknowledge batches.
     pub is_acknowledging: bool,
     ghost some_channel: { 0 < channels },
     ghost some_publisher: { 0 < publishers },
@@ -48,24 +45,21 @@ pub struct LoadSettings {
 /// Why arguments are rejected.
 #[derive(Clone, Copy, Debug, PartialEq, Eq)]
 pub enum SettingsFault {
-    /// The arguments are not parsed, because memory ran out.
     Memory,
-    /// The arguments are not parsed, because one is not UTF-8.
     NotText,
-    /// There are fewer than five arguments for a load, or more than seven.
+    /// Fewer than five, or more than seven.
     Count,
-    /// The URL does not have the form `http://HOST/PATH`, or has characters that are not visible
-    /// ASCII.
+    /// Not of the form `http://HOST/PATH`, or with characters that are not visible ASCII.
     Url,
-    /// The number of sessions is not a number below 2^32.
+    /// Not a number below 2^32.
     Sessions,
-    /// The number of channels is not a number from 1 to 2^32 - 1.
+    /// Not a number from 1 to 2^32 - 1.
     Channels,
-    /// The number of publishers is not a number from 1 to 2^32 - 1.
+    /// Not a number from 1 to 2^32 - 1.
     Publishers,
-    /// The number of events is not a number from 1 to 2^32 - 1.
+    /// Not a number from 1 to 2^32 - 1.
     Events,
-    /// The rate is not a number from 1 to 2^32 - 1.
+    /// Not a number from 1 to 2^32 - 1.
     Rate,
     /// The last of seven arguments is not `ack`.
     Ack,
@@ -109,13 +103,8 @@ impl LoadSettings {
     ///
     /// # Errors
     ///
-    /// The first of these that applies:
-    ///
-    /// - `Count`: there are fewer than five arguments.
-    /// - `Url`, `Sessions`, `Channels`, `Publishers`, `Events`: this argument is wrong.
-    /// - `Ack`, `Rate`: an optional argument is wrong.
-    /// - `Count`: there are more than seven arguments.
-    /// - `Memory`: memory ran out.
+    /// `Count` for fewer than five arguments, then the first wrong argument, with `Ack` before
+    /// `Rate`, then `Count` for more than seven, or `Memory`.
     pub fn read(alloc: Global, args: &[String]) -> Result<LoadSettings, SettingsFault> {
         let [url, sessions, channels, publishers, events, options @ ..] = args else {
             return Err(SettingsFault::Count);
@@ -145,7 +134,7 @@ impl LoadSettings {
     }
 }
 
-// Parses the optional arguments: the rate, or 0 without one, and whether the sessions acknowledge.
+// Parses the rate, or 0 without one, and whether the sessions acknowledge.
 fn options_of(args: &[String]) -> Result<(u32, bool), SettingsFault> {
     match args {
         [] => Ok((0, false)),
@@ -161,7 +150,6 @@ fn rate_of(arg: &String) -> Result<u32, SettingsFault> {
     count_of(arg.as_str()).ok_or(SettingsFault::Rate)
 }
 
-// Parses a number from 1 to 2^32 - 1. Returns `None` for other texts.
 fn count_of(digits: &str) -> Option<u32>
     ensures { IfSome result (λ count. 0 < count) }
 {
@@ -172,7 +160,6 @@ fn count_of(digits: &str) -> Option<u32>
 }
 
 // Splits a URL such as http://127.0.0.1:8087/cometd into its host and its path without the `/`.
-// Returns `None` for other texts.
 fn place_of(url: &str) -> Option<(&str, &str)> {
     if is_plain(url) {
         url.strip_prefix("http://")?.split_once('/')
@@ -181,7 +168,7 @@ fn place_of(url: &str) -> Option<(&str, &str)> {
     }
 }
 
-// Returns `true` if `text` has only visible ASCII characters, which the head of a request may have.
+// Returns `true` if the head of a request may have `text`: visible ASCII characters only.
 fn is_plain(text: &str) -> bool {
     text.as_bytes().iter().all(|byte| byte.is_ascii_graphic())
 }

@@ -1,4 +1,3 @@
-//! Events, and the handles with which their receivers share them.
 ghost use Rattle.std.specs.Prelude.{◌≡◌, IfOk, IfSome};
 ghost use Rattle.bx_names.specs.Segments.{segments};
 ghost use Rattle.bx_message.specs.Events.{event_size};
@@ -15,7 +14,7 @@ use std::sync::Arc;
 /// Bayeux 1.0, delivery of events.
 #[derive(Drop)]
 pub struct Event {
-    /// The channel of the event, a valid channel name.
+    /// A valid channel name.
     pub channel: Text,
     /// The publish's `data`, as the sender wrote it.
     pub payload: RawJson,
@@ -23,7 +22,6 @@ pub struct Event {
     pub id: Option<RawJson>,
 }
 
-/// An event, its parsed channel name and the size of its JSON text in bytes.
 #[derive(Drop)]
 struct NamedEvent {
     event: Event,
@@ -31,16 +29,14 @@ struct NamedEvent {
     size: usize,
 }
 
-// Size in bytes of an event's JSON text without its values; an `id` adds `ID_BYTES`.
+// Size of an event's JSON text without its values; an `id` adds `ID_BYTES`.
 const EVENT_BYTES: usize = 22;
 
 const ID_BYTES: usize = 6;
 
 /// A handle to an event. Its clones share the event instead of copying it.
 ///
-/// The event's channel is parsed only once, and the size of its JSON text is computed only once.
-///
-/// Model: the event.
+/// The channel is parsed, and the size of the JSON text computed, only once.
 #[derive(Drop)]
 pub struct SharedEvent {
     named: Arc<NamedEvent>,
@@ -62,13 +58,7 @@ impl Model for SharedEvent {
 }
 
 impl SharedEvent {
-    /// Creates the first handle to `event`.
-    ///
-    /// `name`: the event's channel, parsed.
-    ///
-    /// # Errors
-    ///
-    /// `AllocError` if memory runs out.
+    /// Creates the first handle to `event`. `name`: its channel, parsed.
     pub fn new(alloc: Global, event: Event, name: ChannelName) -> Result<SharedEvent, AllocError>
         requires named { name ≡ segments event.channel }
         ensures { IfOk result (λ s. s ≡ event) }
@@ -92,7 +82,7 @@ impl SharedEvent {
         &self.named.name
     }
 
-    /// Returns the size of the event's JSON text, in bytes.
+    /// Returns the size of its JSON text, in bytes.
     pub fn size(&self) -> usize
         ensures { result ≡ event_size self.now }
     {
@@ -100,7 +90,7 @@ impl SharedEvent {
     }
 }
 
-// Returns the size of an event's JSON text, in bytes. Formats the text only if `plain_size` fails.
+// Formats the text only if `plain_size` fails.
 #[tactic(auto, unfolding(crate::specs::Events::event_size))]
 fn size_of(alloc: Global, event: &Event) -> Result<usize, AllocError>
     ensures { IfOk result (λ size. size ≡ event_size event.now) }
@@ -111,7 +101,7 @@ fn size_of(alloc: Global, event: &Event) -> Result<usize, AllocError>
     }
 }
 
-// Computes the size of an event's JSON text in bytes, without formatting the text.
+// Computes the size of an event's JSON text, without formatting it.
 //
 // Returns `None` if the channel needs escapes, or if the size overflows.
 #[tactic(auto, using(crate::proofs::Sizes::size_without_id, crate::proofs::Sizes::size_with_id))]

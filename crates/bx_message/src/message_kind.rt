@@ -1,4 +1,3 @@
-//! Kinds of messages.
 ghost use Rattle.std.specs.Prelude.{◌≡◌};
 ghost use Rattle.bx_message.specs.MessageKinds.{message_kind_of};
 
@@ -7,7 +6,7 @@ use bx_names::{ChannelKind, kind_of};
 /// The kind of a message, by its channel.
 ///
 /// The first five are the meta messages of Bayeux 1.0, named after their channels, such as
-/// `/meta/handshake`. `docs/MODEL.md` lists the members of the reply to each kind.
+/// `/meta/handshake`. The page MODEL lists the members of the reply to each kind.
 #[derive(Clone, Copy, Debug, PartialEq, Eq)]
 pub enum MessageKind {
     Handshake,
@@ -15,9 +14,9 @@ pub enum MessageKind {
     Subscribe,
     Unsubscribe,
     Disconnect,
-    /// A message to a channel outside `/meta/`.
+    /// To a channel outside `/meta/`.
     Publish,
-    /// A message to a channel that begins with `/meta/`, except Bayeux's five meta channels.
+    /// To a channel that begins with `/meta/`, except Bayeux's five meta channels.
     UnknownMeta,
 }
 

@@ -1,4 +1,3 @@
-//! Numbers in decimal digits, and the values of limits.
 ghost use Rattle.std.specs.Prelude.{◌≡◌};
 ghost use Rattle.std.specs.Char.{is_ascii_digit};
 ghost use Rattle.std.specs.List.{list_all};
@@ -9,8 +8,7 @@ use bx_advice::Limit;
 
 /// Parses a number of at most 2^64-1, written in digits only.
 ///
-/// Leading zeros are allowed. Returns `None` if `digits` is empty, if the number is larger, or if
-/// there is another character, such as a sign or a point.
+/// Leading zeros are allowed.
 ///
 /// Policy of this server.
 pub fn number_of(digits: &[u8]) -> Option<u64>
@@ -25,7 +23,7 @@ pub fn number_of(digits: &[u8]) -> Option<u64>
     }
 }
 
-/// Parses a number from 1 to `greatest` as [`number_of`] does, or returns `None`.
+/// Parses a number from 1 to `greatest` as [`number_of`] does.
 pub fn count_in(greatest: usize, digits: &[u8]) -> Option<usize>
     ensures { result ≡ count_in greatest digits.now }
 {
@@ -37,17 +35,16 @@ pub fn count_in(greatest: usize, digits: &[u8]) -> Option<usize>
     }
 }
 
-/// Parses a number below 2^32 as [`number_of`] does, or returns `None`.
+/// Parses a number below 2^32 as [`number_of`] does.
 pub fn time_in(digits: &[u8]) -> Option<u32>
     ensures { result ≡ time_in digits.now }
 {
     u32::try_from(number_of(digits)?).ok()
 }
 
-/// Parses a value of `limit`, or returns `None`.
+/// Parses a value of `limit`, from 1 to the limit's greatest value.
 ///
-/// A value is a number from 1 to the limit's greatest value. If the limit's default is beyond that
-/// value, `-` is the default.
+/// If the limit's default is beyond that value, `-` is the default.
 pub fn limit_in(limit: Limit, word: &[u8]) -> Option<usize>
     ensures { result ≡ limit_in limit word.now }
 {

@@ -1,4 +1,3 @@
-//! Writing of JSON objects.
 ghost use Rattle.std.specs.Prelude.{◌≡◌, [], ◌∷◌, ◌++◌, IfOk, OnOk, decimal, true};
 ghost use Rattle.std.specs.List.{list_all};
 ghost use Rattle.json.specs.Run.{is_plain};
@@ -12,9 +11,7 @@ use json::Writer;
 use std::alloc::AllocError;
 use std::marker::Model;
 
-/// The name of a member of the JSON objects that this server writes.
-///
-/// In JSON, its first letter is in lower case.
+/// The name of a member of the JSON objects that this server writes, there in `camelCase`.
 #[derive(Clone, Copy, Debug)]
 pub enum Name {
     Ack,
@@ -35,7 +32,6 @@ pub enum Name {
 }
 
 impl Name {
-    // Returns a comma, the quoted name and a colon.
     #[tactic(auto, unfolding(json::specs::Print::escape_byte))]
     fn lead(self) -> &'static str
         ensures { result.now ≡ 44 ∷ (quoted (name_text self) ++ 58 ∷ []) }
@@ -61,6 +57,8 @@ impl Name {
 }
 
 /// A writer that appends one JSON object to a buffer, without whitespace.
+///
+/// If memory runs out, the member or object that was being written may be incomplete.
 #[derive(Drop)]
 pub struct ObjectWriter {
     out: Vec<u8>,
@@ -78,11 +76,7 @@ impl Model for ObjectWriter {
 }
 
 impl ObjectWriter {
-    /// Begins an object at the end of `out`.
-    ///
-    /// # Errors
-    ///
-    /// `AllocError` if memory runs out; `out` is dropped.
+    /// Begins an object at the end of `out`, which is dropped if memory runs out.
     pub fn begin(mut out: Vec<u8>) -> Result<ObjectWriter, AllocError>
         ensures { IfOk result (λ w. w ≡ opened out.items) }
     {
@@ -93,11 +87,7 @@ impl ObjectWriter {
         })
     }
 
-    /// Ends the object and returns the buffer.
-    ///
-    /// # Errors
-    ///
-    /// `AllocError` if memory runs out; the buffer is dropped.
+    /// Ends the object and returns the buffer, which is dropped if memory runs out.
     pub fn end(self) -> Result<Vec<u8>, AllocError>
         ensures { IfOk result (λ out. out.items ≡ closed self) }
     {
@@ -107,10 +97,6 @@ impl ObjectWriter {
     }
 
     /// Begins a nested object as the value of member `name`.
-    ///
-    /// # Errors
-    ///
-    /// `AllocError` if memory runs out; the member may be incomplete.
     pub fn open(&mut self, name: Name) -> Result<(), AllocError>
         ensures { OnOk result (self.new ≡ opened (with_name self.old (name_text name))) }
     {
@@ -121,10 +107,6 @@ impl ObjectWriter {
     }
 
     /// Ends the object that [`open`](Self::open) began, and returns to the outer one.
-    ///
-    /// # Errors
-    ///
-    /// `AllocError` if memory runs out; the nested object is not ended.
     pub fn close(&mut self) -> Result<(), AllocError>
         ensures { OnOk result (self.new ≡ resumed (closed self.old)) }
     {
@@ -134,10 +116,6 @@ impl ObjectWriter {
     }
 
     /// Appends member `name` with `json`, the text of a JSON value.
-    ///
-    /// # Errors
-    ///
-    /// `AllocError` if memory runs out; the member may be incomplete.
     pub fn raw(&mut self, name: Name, json: &str) -> Result<(), AllocError>
         ensures { OnOk result (self.new ≡ with_member self.old (member (name_text name) json.now)) }
     {
@@ -146,10 +124,6 @@ impl ObjectWriter {
     }
 
     /// Appends member `name` with the string `text`, with escapes if it needs them.
-    ///
-    /// # Errors
-    ///
-    /// `AllocError` if memory runs out; the member may be incomplete.
     pub fn text(&mut self, name: Name, text: &Text) -> Result<(), AllocError>
         ensures { OnOk result (self.new
             ≡ with_member self.old (member (name_text name) (quoted text.now))) }
@@ -163,10 +137,6 @@ impl ObjectWriter {
     }
 
     /// Appends member `name` with the string `word`, which must need no escapes.
-    ///
-    /// # Errors
-    ///
-    /// `AllocError` if memory runs out; the member may be incomplete.
     pub fn word(&mut self, name: Name, word: &str) -> Result<(), AllocError>
         requires { list_all is_plain word.now ≡ true }
         ensures { OnOk result (self.new
@@ -177,10 +147,6 @@ impl ObjectWriter {
     }
 
     /// Appends member `name` with the number `n`, in decimal digits.
-    ///
-    /// # Errors
-    ///
-    /// `AllocError` if memory runs out; the member may be incomplete.
     pub fn number(&mut self, name: Name, n: u64) -> Result<(), AllocError>
         ensures { OnOk result (self.new ≡ with_member self.old (member (name_text name) (decimal n))) }
     {
@@ -188,7 +154,7 @@ impl ObjectWriter {
         push_number(&mut self.out, n)
     }
 
-    // Appends `name`, quoted and with a colon. Before it comes a comma, except in an empty object.
+    // Appends a comma, except in an empty object, then `name`, quoted, and a colon.
     fn name(&mut self, name: Name) -> Result<(), AllocError>
         ensures { OnOk result (self.new ≡ resumed (with_name self.old (name_text name))) }
     {

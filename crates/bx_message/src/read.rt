@@ -1,4 +1,3 @@
-//! Parsing of a message from an object of a document.
 ghost use Rattle.std.specs.Prelude.{◌≡◌, IfOk, IfErr, Some, None, codes, option_map, option_and_then};
 ghost use Rattle.std.specs.List.{list_all};
 ghost use Rattle.bx_cut.specs.Pieces.{last_member, elements};
@@ -15,9 +14,8 @@ use std::alloc::{AllocError, AllocFailed, Global};
 /// Why a message cannot be parsed.
 #[derive(Clone, Copy, Debug, PartialEq, Eq)]
 pub enum MessageError {
-    /// The message has no `channel`, or one that is not a string.
+    /// There is no `channel`, or it is not a string.
     NoChannel,
-    /// Memory ran out.
     Memory,
 }
 
@@ -26,8 +24,7 @@ impl Message {
     ///
     /// # Errors
     ///
-    /// - `NoChannel`: there is no `channel`, or it is not a string.
-    /// - `Memory`: memory ran out.
+    /// `NoChannel`, or `Memory` if memory runs out.
     pub fn read(alloc: Global, piece: &Piece<'_>) -> Result<Message, MessageError>
         ensures fields { IfOk result (λ m. message_in piece.now.1 ≡ Some m) }
         ensures no_channel { IfErr result
@@ -85,7 +82,6 @@ fn text_member(alloc: Global, piece: &Piece<'_>, name: &str) -> Result<TextMembe
     }
 }
 
-// Copies the value of member `id` of `piece`, if it is a JSON string or number.
 fn id_member(alloc: Global, piece: &Piece<'_>) -> Result<Option<RawJson>, AllocError>
     ensures { IfOk result (λ id. id ≡ id_field (last_member (codes "id") piece.now.1)) }
 {
@@ -95,7 +91,7 @@ fn id_member(alloc: Global, piece: &Piece<'_>) -> Result<Option<RawJson>, AllocE
     }
 }
 
-// Returns `true` if the value begins as a string or number: with a quote, a minus or a digit.
+// Such a value begins with a quote, a minus or a digit.
 fn is_text_or_number(json: &str) -> bool
     ensures { result ≡ begins begins_text_or_number json.now }
 {
@@ -114,7 +110,7 @@ fn is_array(json: &str) -> bool
     }
 }
 
-// Parses the strings among the elements of `array`. There are none if it is not an array.
+// Parses the strings among the elements of `array`, if it is one.
 fn listed_texts(alloc: Global, array: Option<&str>) -> Result<Sequence<Text>, AllocError>
     ensures { IfOk result (λ texts. texts ≡ listed_texts (option_map (λ t. t.now) array.entry)) }
 {
@@ -126,7 +122,7 @@ fn listed_texts(alloc: Global, array: Option<&str>) -> Result<Sequence<Text>, Al
 
 // Parses the strings among the elements of `array`, and returns whether all elements are strings.
 //
-// If `array` is not an array, it has no elements, and the result is `true`.
+// A value that is not an array has no elements.
 fn texts_among(alloc: Global, array: &str) -> Result<(Sequence<Text>, bool), AllocError>
     ensures texts { IfOk result (λ r. r.0 ≡ texts_among (elements array.now)) }
     ensures all { IfOk result (λ r. r.1 ≡ list_all is_text (elements array.now)) }
@@ -142,10 +138,9 @@ fn texts_among(alloc: Global, array: &str) -> Result<(Sequence<Text>, bool), All
     Ok((texts, all_texts))
 }
 
-// Parses a subscription's strings, and returns whether it is a string or an array of strings only.
+// Returns the strings of a subscription, and whether it is a string or an array of strings only.
 //
 // The strings are the subscription itself, or the strings among the elements if it is an array.
-// There are none for any other value, or without a subscription.
 fn subscription_texts(
     alloc: Global,
     subscription: Option<&str>,
@@ -167,15 +162,12 @@ fn subscription_texts(
     Ok((texts, is_array(json) && all_texts))
 }
 
-// Returns the value of member `inner` in the object that is the value of member `outer`, if any.
 fn nested_member<'a>(piece: &Piece<'a>, outer: &str, inner: &str) -> Option<&'a str>
     ensures { option_map (λ t. t.now) result ≡ nested_in outer.now inner.now piece.now.1 }
 {
     member_of(piece.member(outer)?, inner)
 }
 
-// Parses member `ack` of the member `ext` of `piece`: `true`, a number in digits only, or neither.
-//
 // CometD's acknowledgement extension.
 fn ack_member(piece: &Piece<'_>) -> AckMember
     ensures { result ≡ ack_field (nested_in (codes "ext") (codes "ack") piece.now.1) }
@@ -190,9 +182,7 @@ fn ack_member(piece: &Piece<'_>) -> AckMember
     }
 }
 
-// Parses member `timeout` of the member `advice` of `piece`, if it is a number in digits only.
-//
-// Bayeux 1.0, the field `advice`.
+// Parses `timeout` in the member `advice` of `piece`, if it is a number in digits only.
 fn timeout_member(piece: &Piece<'_>) -> Option<u64>
     ensures { result ≡ option_and_then number_of
         (nested_in (codes "advice") (codes "timeout") piece.now.1) }

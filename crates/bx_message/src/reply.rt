@@ -1,4 +1,3 @@
-//! Replies and answers to messages.
 ghost use Rattle.std.specs.Prelude.{◌≡◌, IfOk};
 ghost use Rattle.std.specs.Option.{option_copied};
 ghost use Rattle.bx_message.specs.Replies.{reply_to, connect_reply, client_for, subscription_for};
@@ -11,16 +10,13 @@ use crate::text::{RawJson, Text};
 use bx_advice::{Advice, Config, Outcome, advice_for};
 use std::alloc::AllocError;
 
-/// The member `ack` of a reply's `ext`.
-///
-/// CometD's acknowledgement extension.
+/// The member `ack` of a reply's `ext`. CometD's acknowledgement extension.
 #[derive(Clone, Copy, Debug, PartialEq, Eq)]
 pub enum AckReply {
-    /// The reply has no `ext`.
     NoAck,
-    /// The reply is to a handshake that turned acknowledgement on, and its `ack` is `true`.
+    /// In the reply to a handshake that turned acknowledgement on.
     AckTrue,
-    /// The reply is to a connect, and its `ack` is this number, that of the last batch.
+    /// The number of the last batch, in the reply to a connect.
     AckNumber(u64),
 }
 
@@ -29,19 +25,15 @@ pub enum AckReply {
 pub struct Reply {
     /// The kind of the answered message. Replies to handshakes have more members.
     pub message_kind: MessageKind,
-    /// The channel of the answered message.
     pub channel: Text,
-    /// The client id of the message's session, if the reply carries it.
+    /// The client id, if the reply carries it.
     pub client: Option<Text>,
-    /// The answered message's `id`, if any, as the sender wrote it.
+    /// The answered message's `id`, as its sender wrote it.
     pub id: Option<RawJson>,
-    /// The message's `subscription`, as the sender wrote it, if the reply repeats it.
+    /// As the sender wrote it, if the reply repeats it.
     pub subscription: Option<RawJson>,
-    /// How the message succeeded, or its error.
     pub outcome: Outcome,
-    /// The advice for the client, if the reply has one.
     pub advice: Option<Advice>,
-    /// The member `ack` of the reply's `ext`, if the reply has one.
     pub ack: AckReply,
 }
 
@@ -50,15 +42,10 @@ impl Reply {
     ///
     /// For an accepted connect, use [`to_connect`](Self::to_connect), which does not allocate.
     ///
-    /// `client`: the client id of the message's session, if known. Only replies to the five meta
-    /// messages carry it. Replies to subscriptions and unsubscriptions repeat `subscription`, even
-    /// on failure.
+    /// `client`: the client id of the message's session. Only replies to the five meta messages
+    /// carry it. Replies to subscriptions and unsubscriptions always repeat `subscription`.
     ///
     /// Bayeux 1.0, the responses of meta messages and of publish.
-    ///
-    /// # Errors
-    ///
-    /// `AllocError` if memory runs out.
     pub fn to_message(
         config: &Config,
         message_kind: MessageKind,
@@ -82,9 +69,9 @@ impl Reply {
         })
     }
 
-    /// Creates the reply to an accepted connect, whether it was held or not.
+    /// Creates the reply to an accepted connect. Does not allocate.
     ///
-    /// `client`: the session's client id. `id`: the `id` of the connect. Does not allocate.
+    /// `client`: the session's client id. `id`: that of the connect.
     ///
     /// Bayeux 1.0, connect response.
     pub fn to_connect(
@@ -109,7 +96,6 @@ impl Reply {
     }
 }
 
-// Returns `client`, if the reply to a message of kind `message_kind` carries the client id.
 fn client_of(message_kind: MessageKind, client: Option<&Text>) -> Result<Option<Text>, AllocError>
     ensures { IfOk result (λ c. c ≡ client_for message_kind (option_copied client.entry)) }
 {
@@ -119,7 +105,6 @@ fn client_of(message_kind: MessageKind, client: Option<&Text>) -> Result<Option<
     }
 }
 
-// Returns `subscription`, if the reply to a message of kind `message_kind` repeats it.
 fn subscription_of(
     message_kind: MessageKind,
     subscription: Option<&RawJson>,
@@ -141,11 +126,7 @@ fn share_text(text: Option<&Text>) -> Result<Option<Text>, AllocError>
     }
 }
 
-/// Clones `json`, if there is one. The clone shares its bytes.
-///
-/// # Errors
-///
-/// `AllocError` if memory runs out.
+/// Clones `json`. The clone shares its bytes.
 pub fn share_json(json: Option<&RawJson>) -> Result<Option<RawJson>, AllocError>
     ensures { IfOk result (λ shared. shared ≡ option_copied json.entry) }
 {
@@ -155,20 +136,17 @@ pub fn share_json(json: Option<&RawJson>) -> Result<Option<RawJson>, AllocError>
     }
 }
 
-/// The answer to a connect or a rider: its events and its reply.
+/// The answer to a connect or a rider.
 #[derive(Drop)]
 pub struct Answer {
-    /// The events of the answer, oldest first. They precede the reply in the response.
+    /// Oldest first. They precede the reply in the response.
     pub events: Sequence<SharedEvent>,
-    /// The reply to the connect or the rider.
     pub reply: Reply,
 }
 
 /// An element of a response.
 #[derive(Drop)]
 pub enum Item {
-    /// An event that a connect or a rider gets.
     EventItem(SharedEvent),
-    /// The reply to a message of the request.
     ReplyItem(Reply),
 }

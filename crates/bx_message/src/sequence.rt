@@ -1,12 +1,9 @@
-//! A vector that contracts compare by its elements alone.
 ghost use Rattle.std.specs.Prelude.{◌≡◌, [], ◌∷◌, ◌++◌, length, OnOk, OnErr};
 
 use std::alloc::{AllocError, Global};
 use std::marker::Model;
 
 /// A vector that contracts compare by its elements, not by its capacity.
-///
-/// Model: the elements, in order.
 #[derive(Drop)]
 pub struct Sequence<T> {
     items: Vec<T>,
@@ -30,7 +27,7 @@ impl<T> Sequence<T> {
         }
     }
 
-    /// Converts the vector `items` to a sequence without copying its elements.
+    /// Converts the vector `items` without copying its elements.
     pub fn from_vec(items: Vec<T>) -> Sequence<T>
         ensures { result ≡ items.items }
     {
@@ -59,11 +56,7 @@ impl<T> Sequence<T> {
         self.items.len()
     }
 
-    /// Appends `item`.
-    ///
-    /// # Errors
-    ///
-    /// `AllocError` if memory runs out; `self` is unchanged and `item` is dropped.
+    /// Appends `item`, which is dropped if memory runs out.
     pub fn push(&mut self, item: T) -> Result<(), AllocError>
     where
         T: Drop,

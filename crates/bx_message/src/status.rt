@@ -1,36 +1,24 @@
-//! HTTP statuses of responses.
 ghost use Rattle.std.specs.Prelude.{◌≡◌};
 ghost use Rattle.bx_message.specs.Statuses.{code_of};
 
 /// An HTTP status that this server responds with.
 ///
-/// The error types of requests have a method `status`, which returns one of these.
-///
 /// The choice of statuses is a policy of this server.
 #[derive(Clone, Copy, Debug, PartialEq, Eq)]
 pub enum Status {
-    /// The HTTP status 200.
     Ok,
-    /// The HTTP status 400.
     BadRequest,
-    /// The HTTP status 403.
     Forbidden,
-    /// The HTTP status 404.
     NotFound,
-    /// The HTTP status 405.
     MethodNotAllowed,
-    /// The HTTP status 413.
     TooLarge,
-    /// The HTTP status 415.
     UnsupportedMediaType,
-    /// The HTTP status 501.
     NotImplemented,
-    /// The HTTP status 503.
     Unavailable,
 }
 
 impl Status {
-    /// Returns the status code as a number, such as 404.
+    /// Returns the code, such as 404.
     pub fn code(self) -> u16
         ensures { result ≡ code_of self }
     {

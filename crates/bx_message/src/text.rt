@@ -1,4 +1,3 @@
-//! Texts that messages, events and replies share.
 ghost use Rattle.std.specs.Prelude.{◌≡◌, IfOk, codes, string_bytes, true};
 ghost use Rattle.std.specs.List.{list_all};
 ghost use Rattle.json.specs.Run.{is_plain};
@@ -7,22 +6,19 @@ use std::alloc::{AllocError, Global};
 use std::marker::Model;
 use std::sync::ArcStr;
 
-// Where a text is stored.
 #[derive(Drop)]
 enum Stored {
-    // The text is in memory that it shares with its clones.
+    // In memory that the text shares with its clones.
     Shared(ArcStr),
-    // The text is `/meta/connect`, the channel of connects, and is stored in the program itself.
+    // `/meta/connect`, the channel of connects, which is stored in the program itself.
     Connect,
 }
 
-/// An immutable text that shares its bytes with its clones.
-///
-/// Model: the bytes of the text, in UTF-8.
+/// An immutable text in UTF-8 that shares its bytes with its clones.
 #[derive(Drop)]
 pub struct Text {
     stored: Stored,
-    // Whether the text needs no escapes in JSON. This is computed only once, because an event's
+    // Whether the text needs no escapes in JSON. It is computed only once, because an event's
     // channel is written for each session that gets the event.
     plain: bool,
 }
@@ -41,11 +37,7 @@ impl Model for Text {
 }
 
 impl Text {
-    /// Creates a text with a copy of the bytes of `text`.
-    ///
-    /// # Errors
-    ///
-    /// `AllocError` if memory runs out.
+    /// Creates a text with a copy of `text`.
     pub fn new(alloc: Global, text: &str) -> Result<Text, AllocError>
         ensures { IfOk result (λ t. t ≡ text.now) }
     {
@@ -55,7 +47,7 @@ impl Text {
         Ok(Text { stored, plain })
     }
 
-    // Creates a text with a copy of the bytes of `text`, which must need no escapes in JSON.
+    // Creates a text with a copy of `text`, which must need no escapes in JSON.
     pub(crate) fn plain(alloc: Global, text: &str) -> Result<Text, AllocError>
         requires { list_all is_plain text.now ≡ true }
         ensures { IfOk result (λ t. t ≡ text.now) }
@@ -69,8 +61,6 @@ impl Text {
     }
 
     /// Returns the channel of connects, `/meta/connect`, without allocating.
-    ///
-    /// Bayeux 1.0, the channel of connects.
     pub fn connect_channel() -> Text
         ensures { result ≡ codes "/meta/connect" }
     {
@@ -81,10 +71,6 @@ impl Text {
     }
 
     /// Converts a string without copying its bytes.
-    ///
-    /// # Errors
-    ///
-    /// `AllocError` if memory runs out.
     pub fn from_string(text: String) -> Result<Text, AllocError>
         ensures { IfOk result (λ t. t ≡ string_bytes text) }
     {
@@ -94,7 +80,7 @@ impl Text {
         Ok(Text { stored, plain })
     }
 
-    /// Returns the text as a string slice.
+    /// Returns the text.
     pub fn as_str(&self) -> &str
         ensures { result.now ≡ self.now }
     {
@@ -104,7 +90,6 @@ impl Text {
         }
     }
 
-    // Returns `true` if the text needs no escapes in JSON.
     pub(crate) fn is_plain(&self) -> bool
         ensures { result ≡ list_all is_plain self.now }
     {
@@ -112,7 +97,7 @@ impl Text {
     }
 }
 
-// Returns `true` if `text` has no quotation mark, no backslash and no byte below 32.
+// It needs none if it has no quotation mark, no backslash and no byte below 32.
 fn needs_no_escape(text: &str) -> bool
     ensures { result ≡ list_all is_plain text.now }
 {
@@ -138,9 +123,7 @@ impl Clone for Text {
 
 /// The text of a JSON value, as its sender wrote it.
 ///
-/// Its clones share its bytes. [`new`](Self::new) does not check that the text is JSON.
-///
-/// Model: the bytes of the text.
+/// Its clones share its bytes. It is not checked that the text is JSON.
 #[derive(Drop)]
 pub struct RawJson {
     json: ArcStr,
@@ -156,11 +139,7 @@ impl Model for RawJson {
 }
 
 impl RawJson {
-    /// Creates a copy of `json`, which should be the text of a JSON value. This is not checked.
-    ///
-    /// # Errors
-    ///
-    /// `AllocError` if memory runs out.
+    /// Creates a copy of `json`, which should be the text of a JSON value.
     pub fn new(alloc: Global, json: &str) -> Result<RawJson, AllocError>
         ensures { IfOk result (λ j. j ≡ json.now) }
     {
@@ -168,7 +147,7 @@ impl RawJson {
         Ok(RawJson { json })
     }
 
-    /// Returns the text as a string slice.
+    /// Returns the text.
     pub fn as_str(&self) -> &str
         ensures { result.now ≡ self.now }
     {

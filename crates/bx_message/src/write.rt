@@ -1,7 +1,6 @@
 //! The JSON text of replies, events and responses.
 //!
-//! The text has no whitespace. The members of each object are in ascending byte order of their
-//! names.
+//! The text has no whitespace. The members of objects are in ascending byte order of their names.
 ghost use Rattle.std.specs.Prelude.{◌≡◌, ◌++◌, IfOk, OnOk, Some, true};
 ghost use Rattle.std.specs.List.{list_all};
 ghost use Rattle.json.specs.Run.{is_plain};
@@ -16,15 +15,13 @@ use crate::text::{RawJson, Text};
 use bx_advice::{Advice, Outcome, Reconnect};
 use std::alloc::{AllocError, Global};
 
-// The supported connection types and the protocol version, in every reply to a handshake.
-//
-// Bayeux 1.0, handshake response.
+// In every reply to a handshake. Bayeux 1.0, handshake response.
 const SUPPORTED_TYPES: &str = "[\"long-polling\",\"callback-polling\"]";
 
 const VERSION: &str = "1.0";
 
-// Room for a reply and for an event in bytes, without the texts that they repeat. It is enough for
-// all member names, and for the longest advice, error and numbers.
+// Room in bytes for a reply or an event without the texts that they repeat: for all member names,
+// and the longest advice, error and numbers.
 const REPLY_ROOM: usize = 384;
 
 const EVENT_ROOM: usize = 64;
@@ -33,10 +30,6 @@ const EVENT_ROOM: usize = 64;
 ///
 /// Its members are, if present: `advice`, `channel`, `clientId`, `error`, `ext`, `id`,
 /// `subscription`, `successful`, `supportedConnectionTypes` and `version`.
-///
-/// # Errors
-///
-/// `AllocError` if memory runs out.
 pub fn reply_text(alloc: Global, reply: &Reply) -> Result<Vec<u8>, AllocError>
     ensures { IfOk result (λ out. out.items ≡ reply_text reply.now) }
 {
@@ -44,10 +37,6 @@ pub fn reply_text(alloc: Global, reply: &Reply) -> Result<Vec<u8>, AllocError>
 }
 
 /// Formats an event as a JSON object with `channel`, `data` and, if present, `id`.
-///
-/// # Errors
-///
-/// `AllocError` if memory runs out.
 pub fn event_text(alloc: Global, event: &Event) -> Result<Vec<u8>, AllocError>
     ensures { IfOk result (λ out. out.items ≡ event_text event.now) }
 {
@@ -55,10 +44,6 @@ pub fn event_text(alloc: Global, event: &Event) -> Result<Vec<u8>, AllocError>
 }
 
 /// Formats a response: the JSON array of `items` in order.
-///
-/// # Errors
-///
-/// `AllocError` if memory runs out.
 pub fn body_text(alloc: Global, items: &[Item]) -> Result<Vec<u8>, AllocError>
     ensures { IfOk result (λ out. out.items ≡ body_text items.now) }
 {
@@ -74,7 +59,7 @@ pub fn body_text(alloc: Global, items: &[Item]) -> Result<Vec<u8>, AllocError>
     Ok(out)
 }
 
-// Returns the room to allocate for a response, in bytes. Escapes may need more.
+// Returns the room to allocate for a response. Escapes may need more.
 fn body_room(items: &[Item]) -> usize {
     let mut room = 2usize;
     for item in items {
@@ -85,7 +70,7 @@ fn body_room(items: &[Item]) -> usize {
 
 /// Returns the room to reserve for an item's JSON text, in bytes.
 ///
-/// For an event this is the exact size. For a reply it suffices unless a text needs escapes.
+/// This is the exact size of an event. For a reply it suffices unless a text needs escapes.
 pub fn item_room(item: &Item) -> usize {
     match item {
         Item::EventItem(event) => event.size(),
@@ -119,11 +104,7 @@ fn raw_len(json: &Option<RawJson>) -> usize {
     }
 }
 
-/// Appends the JSON text of `item` to `out`, and returns `out`.
-///
-/// # Errors
-///
-/// `AllocError` if memory runs out; `out` is dropped.
+/// Appends the JSON text of `item` to `out`, which is dropped if memory runs out.
 pub fn write_item(out: Vec<u8>, item: &Item) -> Result<Vec<u8>, AllocError>
     ensures { IfOk result (λ text. text.items ≡ out.items ++ item_text item.now) }
 {
@@ -159,7 +140,6 @@ fn write_reply(out: Vec<u8>, reply: &Reply) -> Result<Vec<u8>, AllocError>
     object.end()
 }
 
-// Appends member `name` with the sender's text `json`, if there is one.
 fn write_raw(
     object: &mut ObjectWriter,
     name: Name,
@@ -174,7 +154,6 @@ fn write_raw(
     }
 }
 
-// Appends member `name` with the string `text`, if there is one.
 fn write_text(object: &mut ObjectWriter, name: Name, text: &Option<Text>) -> Result<(), AllocError>
     ensures { OnOk result (object.new
         ≡ with_members object.old (text_member (name_text name) text.now)) }
@@ -198,7 +177,6 @@ fn write_advice(object: &mut ObjectWriter, advice: Option<Advice>) -> Result<(),
     object.close()
 }
 
-// Appends member `name` with `number`, if there is one.
 fn write_number(
     object: &mut ObjectWriter,
     name: Name,
@@ -213,8 +191,6 @@ fn write_number(
     }
 }
 
-// Returns the value of `reconnect` in an advice, without quotation marks.
-//
 // Bayeux 1.0, the advice field `reconnect`.
 fn reconnect_text(reconnect: Reconnect) -> &'static str
     ensures text { result.now ≡ reconnect_text reconnect }
@@ -246,8 +222,6 @@ fn success_text(outcome: Outcome) -> &'static str
     }
 }
 
-// Appends member `ext` with the acknowledgement, if there is one.
-//
 // CometD's acknowledgement extension.
 fn write_ack(object: &mut ObjectWriter, ack: AckReply) -> Result<(), AllocError>
     ensures { OnOk result (object.new ≡ with_members object.old (ack_member ack)) }
@@ -263,7 +237,7 @@ fn write_ack(object: &mut ObjectWriter, ack: AckReply) -> Result<(), AllocError>
     }
 }
 
-// Appends the members that only replies to handshakes carry, even on failure.
+// Appends the members that replies to handshakes carry, even on failure.
 fn write_handshake(object: &mut ObjectWriter, message_kind: MessageKind) -> Result<(), AllocError>
     ensures { OnOk result (object.new ≡ with_members object.old (handshake_members message_kind)) }
 {

@@ -1,17 +1,16 @@
-//! The list of patterns with their subscriptions, in lines of JSON.
 use crate::session_lines::{MAX_LIST_BYTES, TRUNCATED};
 use bx_hub::SessionSurvey;
 use json::Writer;
 use std::alloc::{AllocError, Global};
 use std::collections::BTreeMap;
 
-// The maximum number of subscriptions that are counted. Policy of this server.
+// Up to this number, subscriptions are counted. Policy of this server.
 const MAX_SUBSCRIPTIONS: usize = 100_000;
 
 // The maximum number of patterns in the list. Policy of this server.
 const MAX_PATTERNS: usize = 10_000;
 
-/// The number of subscriptions to each pattern.
+/// Counts subscriptions by pattern, up to 100,000.
 #[derive(Drop)]
 pub struct ChannelLines {
     counts: BTreeMap<String, u64>,
@@ -31,12 +30,8 @@ impl ChannelLines {
 
     /// Counts the subscriptions of `session`.
     ///
-    /// Returns `false` if some are not counted, because the list has 100,000 subscriptions. Then
-    /// the last line says so, and further sessions need not be added.
-    ///
-    /// # Errors
-    ///
-    /// `AllocError` if memory runs out; some of the subscriptions may be counted.
+    /// Returns `false` if some are not counted, because there are 100,000. Then the last line says
+    /// so, and further sessions need not be added. On error, some may be counted.
     pub fn add(&mut self, alloc: Global, session: &SessionSurvey) -> Result<bool, AllocError> {
         for pattern in &session.patterns {
             if self.subscriptions >= MAX_SUBSCRIPTIONS {
@@ -56,10 +51,6 @@ impl ChannelLines {
     /// Returns the text of the list: a line of JSON for each pattern, in ascending byte order.
     ///
     /// After 10,000 patterns, or over a mebibyte, the list ends with a line that says so.
-    ///
-    /// # Errors
-    ///
-    /// `AllocError` if memory runs out.
     pub fn text(&self, alloc: Global) -> Result<Vec<u8>, AllocError> {
         let mut text = Vec::new(alloc);
         let mut is_truncated = self.is_truncated;
@@ -77,7 +68,6 @@ impl ChannelLines {
     }
 }
 
-// Formats the line about `pattern`, to which there are `count` subscriptions.
 fn pattern_line(alloc: Global, pattern: &str, count: u64) -> Result<Vec<u8>, AllocError> {
     let mut line = Writer::new(Vec::new(alloc));
     line.begin_object()?;

@@ -1,4 +1,3 @@
-//! The current values of the metrics, and copies of them.
 ghost use Rattle.std.specs.Prelude.{◌≡◌, slice_get, unwrap_or};
 
 use crate::histogram::{BUCKETS, bucket_of};
@@ -14,7 +13,7 @@ use std::time::Duration;
 pub struct Counts {
     counts: Vec<AtomicU64>,
     lags: Vec<AtomicU64>,
-    // The number of requests in each bucket of the histogram.
+    // The requests in each bucket of the histogram.
     times: Vec<AtomicU64>,
     // The time that all requests took, in nanoseconds.
     time: AtomicU64,
@@ -22,11 +21,7 @@ pub struct Counts {
 }
 
 impl Counts {
-    /// Creates metrics for `shards` shards, all 0, of a server that does not listen.
-    ///
-    /// # Errors
-    ///
-    /// `AllocError` if memory runs out.
+    /// Creates metrics of 0 for `shards` shards of a server that does not listen.
     pub fn new(alloc: Global, shards: usize) -> Result<Counts, AllocError> {
         Ok(Counts {
             counts: zeros(alloc, METRICS.len())?,
@@ -58,7 +53,7 @@ impl Counts {
         }
     }
 
-    /// Adds a request that took the time `passed` to the histogram.
+    /// Adds a request that took `passed` to the histogram.
     pub fn add_time(&self, passed: Duration) {
         let nanoseconds = u64::try_from(passed.as_nanos()).unwrap_or(u64::MAX);
         if let Some(count) = self.times.get(bucket_of(nanoseconds)) {
@@ -73,8 +68,6 @@ impl Counts {
     }
 
     /// Records that `shard` has applied the first `place` of the list's `entries` entries.
-    ///
-    /// Does nothing if there is no such shard.
     pub fn set_lag(&self, shard: usize, entries: u64, place: u64) {
         if let Some(lag) = self.lags.get(shard) {
             lag.store(entries.saturating_sub(place), Ordering::SeqCst);
@@ -89,23 +82,19 @@ impl Counts {
         }
     }
 
-    /// Records `listens`: whether the server listens.
+    /// Records whether the server listens.
     pub fn set_listens(&self, listens: bool) {
         self.listens.store(listens, Ordering::SeqCst);
     }
 
-    /// Returns `true` if the server listens, as [`set_listens`](Self::set_listens) recorded.
+    /// Returns `true` if the server listens.
     pub fn listens(&self) -> bool {
         self.listens.load(Ordering::SeqCst)
     }
 
     /// Returns a copy of all values.
     ///
-    /// The values are read one after the other, so some may change during the call.
-    ///
-    /// # Errors
-    ///
-    /// `AllocError` if memory runs out.
+    /// They are read one after the other, so some may change during the call.
     pub fn read(&self, alloc: Global) -> Result<MetricValues, AllocError> {
         Ok(MetricValues {
             values: loaded(alloc, &self.counts)?,
@@ -116,7 +105,6 @@ impl Counts {
     }
 }
 
-// Creates a list of `count` values, all 0.
 fn zeros(alloc: Global, count: usize) -> Result<Vec<AtomicU64>, AllocError> {
     let mut zeros = Vec::with_capacity(alloc, count)?;
     for _ in 0..count {
@@ -125,7 +113,6 @@ fn zeros(alloc: Global, count: usize) -> Result<Vec<AtomicU64>, AllocError> {
     Ok(zeros)
 }
 
-// Returns the current values of `counts`, in order.
 fn loaded(alloc: Global, counts: &Vec<AtomicU64>) -> Result<Vec<u64>, AllocError> {
     let mut values = Vec::with_capacity(alloc, counts.len())?;
     for count in counts {
@@ -138,20 +125,19 @@ fn loaded(alloc: Global, counts: &Vec<AtomicU64>) -> Result<Vec<u64>, AllocError
 #[derive(Drop)]
 pub struct MetricValues {
     values: Vec<u64>,
-    /// The number of entries that each shard lacks, by shard.
+    /// The entries that each shard lacks.
     pub(crate) lags: Vec<u64>,
-    /// The number of requests in each bucket of the histogram.
+    /// The requests in each bucket of the histogram.
     pub(crate) times: Vec<u64>,
     /// The time that all requests took, in nanoseconds.
     pub(crate) time: u64,
 }
 
 impl MetricValues {
-    /// Creates a copy of all metrics from their `values`, in the order of the page.
+    /// Creates a copy from `values`, in the order of the page. A missing value counts as 0.
     ///
-    /// `lags`: the number of entries that each shard lacks, by shard. `times`: the number of
-    /// requests in each bucket of the histogram. `time`: the time that all requests took, in
-    /// nanoseconds. A missing value counts as 0.
+    /// `lags`: the number of entries that each shard lacks. `times`: the number of requests in each
+    /// bucket of the histogram. `time`: the time that all requests took, in nanoseconds.
     pub fn of(values: Vec<u64>, lags: Vec<u64>, times: Vec<u64>, time: u64) -> MetricValues
         ensures counts { (result.values ≡ values) × (result.lags ≡ lags) }
         ensures times { (result.times ≡ times) × (result.time ≡ time) }
@@ -164,7 +150,7 @@ impl MetricValues {
         }
     }
 
-    /// Returns the value at index `place` in the order of the metrics page, or 0 if it is missing.
+    /// Returns the value at index `place` of the metrics page, or 0 if it is missing.
     pub(crate) fn value(&self, place: usize) -> u64
         ensures { result ≡ unwrap_or (slice_get self.now.values.items place) 0 }
     {

@@ -1,14 +1,13 @@
-//! The histogram of the time that the server takes to process requests.
 use crate::page::push_head;
 use std::alloc::{AllocError, Global};
+use std::time::Duration;
 
-// The name of the histogram.
 const NAME: &str = "bayeux_processing_seconds";
 
 const HELP: &str = "Time to process a request, without waiting for events.";
 
-// The upper bounds of all buckets but the last, in nanoseconds, and as labels in seconds. Policy of
-// this server.
+// The upper bounds of buckets except the last: nanoseconds, and labels in seconds. Policy of this
+// server.
 const BOUNDS: [(u64, &str); 10] = [
     (10_000, "0.00001"),
     (25_000, "0.000025"),
@@ -22,7 +21,7 @@ const BOUNDS: [(u64, &str); 10] = [
     (1_000_000_000, "1"),
 ];
 
-/// The number of buckets. The last one has no upper bound.
+/// The last bucket has no upper bound.
 pub(crate) const BUCKETS: usize = 11;
 
 /// Returns the index of the bucket for a time of `nanoseconds`.
@@ -36,10 +35,6 @@ pub(crate) fn bucket_of(nanoseconds: u64) -> usize {
 /// Appends the rows of the histogram.
 ///
 /// `counts`: the number of times in each bucket. `sum`: the sum of all times, in nanoseconds.
-///
-/// # Errors
-///
-/// `AllocError` if memory runs out.
 pub(crate) fn push_histogram(
     alloc: Global,
     page: &mut String,
@@ -56,7 +51,8 @@ pub(crate) fn push_histogram(
         };
         page.push_str(format!(in alloc; "{NAME}_bucket{{le=\"{bound}\"}} {total}\n")?.as_str())?;
     }
-    let (whole, part) = (sum / 1_000_000_000, sum % 1_000_000_000);
+    let sum = Duration::from_nanos(sum);
+    let (whole, part) = (sum.as_secs(), sum.subsec_nanos());
     let rows = format!(in alloc; "{NAME}_sum {whole}.{part:09}\n{NAME}_count {total}\n")?;
     page.push_str(rows.as_str())
 }

@@ -1,4 +1,3 @@
-//! The metrics of a hub's list, sessions and shards.
 ghost use Rattle.std.specs.Prelude.{◌≡◌, ◌-◌, ◌^◌, min};
 ghost use Rattle.bx_hub.specs.Faults.{count_of};
 
@@ -28,7 +27,6 @@ impl Counts {
     }
 }
 
-// Returns the number of shards that were stopped, for any fault.
 fn shards_in(behind: Lagging) -> u64
     ensures { result ≡ min (count_of behind) (2 ^ 64 - 1) }
 {

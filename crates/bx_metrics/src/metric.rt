@@ -1,6 +1,6 @@
-//! The metrics: their order, names, types and help texts.
-ghost use Rattle.std.specs.Prelude.{◌≡◌, Some, position};
-ghost use Rattle.bx_metrics.specs.Outcomes.{counts, place_of};
+ghost use Rattle.std.specs.Prelude.{◌≡◌, Some};
+ghost use Rattle.bx_metrics.specs.Outcomes.{place_of};
+ghost use Rattle.bx_metrics.specs.declared.metric.Metric.TheVariants.{ErrorReplies, Refused, Responses, SuccessfulReplies};
 
 use bx_advice::Error;
 use bx_entry::Refusal;
@@ -9,63 +9,54 @@ use bx_message::{MessageKind, Status};
 use bx_service::RequestError;
 use bx_transport::TransportError;
 
-/// A metric of the server: a number that the page of metrics shows.
-///
-/// Policy of this server.
+/// A number that the page of metrics shows. Policy of this server.
 #[derive(Clone, Copy, Debug, PartialEq, Eq)]
 pub enum Metric {
-    /// How long the program has run, in seconds.
+    /// In seconds.
     Uptime,
-    /// The number of connections that are open now.
     OpenConnections,
-    /// The number of connections accepted since the program started.
     AcceptedConnections,
-    /// The number of requests that have arrived and have not ended.
+    /// Requests that have arrived and have not ended.
     RequestsInProgress,
-    /// The number of admitted requests that have not ended, even if they wait for no answer.
+    /// Admitted requests that have not ended, even if they wait for no answer.
     AdmittedInProgress,
-    /// The number of requests admitted so far.
     AdmittedRequests,
-    /// The number of events in answers so far, counted before the response is created.
+    /// Events in answers, counted before the response is created.
     Events,
-    /// The number of requests that got no response because memory ran out.
+    /// Requests that got no response because memory ran out.
     MissingResponses,
-    /// Length of the list at the last tick, in entries.
     Entries,
-    /// The number of ticks appended to the list so far.
     Ticks,
-    /// The number of ticks that the hub did not append to the list.
+    /// Ticks that the hub did not append to the list.
     RefusedTicks,
-    /// The number of shards that had not applied the last tick when it was posted.
+    /// Shards that had not applied the last tick when it was posted.
     ShardsBehind,
-    /// The number of filed answers that were dropped because nobody took them.
+    /// Filed answers that were dropped because nobody took them.
     SweptAnswers,
-    /// The number of live sessions at the last tick.
+    /// Live sessions at the last tick.
     Sessions,
-    /// The number of sessions opened up to the last tick.
+    /// Sessions opened up to the last tick.
     OpenedSessions,
-    /// The number of batches in the window at the last tick.
+    /// Batches in the window at the last tick.
     Batches,
-    /// The number of held connects at the last tick.
+    /// Held connects at the last tick.
     HeldConnects,
-    /// The number of filed answers that nobody has taken, at the last tick.
+    /// Filed answers that nobody has taken, at the last tick.
     FiledAnswers,
-    /// The number of responses with this status.
+    /// Responses with this status.
     Responses(Status),
-    /// The number of responses without items, for this reason.
+    /// Responses without items, for this reason.
     Refused(RequestError),
-    /// The number of successful replies to messages of this kind.
+    /// Successful replies to messages of this kind.
     SuccessfulReplies(MessageKind),
-    /// The number of replies with this error.
+    /// Replies with this error.
     ErrorReplies(Error),
 }
 
-/// A row of the metrics page: a metric, its name, its type in Prometheus' format, and its help
-/// text.
+/// A metric, its name, its type in Prometheus' format, and its help text.
 pub(crate) type Row = (Metric, &'static str, &'static str, &'static str);
 
-// Expands to an array of rows: one for each metric, then for each metric with a label one for each
-// label.
+// Expands to rows: one for each metric, then for each metric with a label one for each label.
 macro_rules! rows {
     (
         $($name:literal, $type_name:literal, $help:literal: $metric:expr;)*
@@ -136,26 +127,73 @@ impl Metric {
     pub(crate) fn place(self) -> usize
         ensures { place_of self ≡ Some result }
     {
-        match place_in(METRICS.as_slice(), self) {
-            Some(place) => place,
-            None => unreachable!(),
-        }
-    }
-
-    // Returns `true` if this metric and `other` have the same row. Errors with the same reason do.
-    fn counts(self, other: Metric) -> bool
-        ensures { result ≡ counts self other }
-    {
-        match (self, other) {
-            (Metric::Refused(error), Metric::Refused(other)) => error.reason() == other.reason(),
-            (metric, other) => metric == other,
+        match self {
+            Metric::Uptime => 0,
+            Metric::OpenConnections => 1,
+            Metric::AcceptedConnections => 2,
+            Metric::RequestsInProgress => 3,
+            Metric::AdmittedInProgress => 4,
+            Metric::AdmittedRequests => 5,
+            Metric::Events => 6,
+            Metric::MissingResponses => 7,
+            Metric::Entries => 8,
+            Metric::Ticks => 9,
+            Metric::RefusedTicks => 10,
+            Metric::ShardsBehind => 11,
+            Metric::SweptAnswers => 12,
+            Metric::Sessions => 13,
+            Metric::OpenedSessions => 14,
+            Metric::Batches => 15,
+            Metric::HeldConnects => 16,
+            Metric::FiledAnswers => 17,
+            Metric::Responses(status) => place_of_status(status),
+            Metric::Refused(error) => place_of_refused(error),
+            Metric::SuccessfulReplies(kind) => place_of_kind(kind),
+            Metric::ErrorReplies(error) => place_of_error(error),
         }
     }
 }
 
-// Returns the index of the row of `metric` in `rows`, or `None` if it has no row.
-fn place_in(rows: &[Row], metric: Metric) -> Option<usize>
-    ensures { result ≡ position (λ row. counts row.0 metric) rows.now }
+fn place_of_status(status: Status) -> usize
+    ensures { place_of (Responses status) ≡ Some result }
 {
-    rows.iter().position(|row| row.0.counts(metric))
+    18 + status as usize
+}
+
+fn place_of_kind(kind: MessageKind) -> usize
+    ensures { place_of (SuccessfulReplies kind) ≡ Some result }
+{
+    49 + kind as usize
+}
+
+fn place_of_error(error: Error) -> usize
+    ensures { place_of (ErrorReplies error) ≡ Some result }
+{
+    56 + error as usize
+}
+
+// Errors with the same reason have the same row.
+fn place_of_refused(error: RequestError) -> usize
+    ensures { place_of (Refused error) ≡ Some result }
+{
+    match error {
+        RequestError::NotFound => 27,
+        RequestError::MethodNotAllowed => 28,
+        RequestError::TransferCoding => 29,
+        RequestError::CallbackPolling => 30,
+        RequestError::MediaType => 31,
+        RequestError::BodyFailed => 32,
+        RequestError::Unreadable(TransportError::TooLarge) => 33,
+        RequestError::Unreadable(TransportError::BadName) => 34,
+        RequestError::Unreadable(TransportError::NoMessage) => 35,
+        RequestError::Unreadable(TransportError::Memory)
+        | RequestError::NotAdmitted(PostFault::Memory)
+        | RequestError::Memory => 36,
+        RequestError::NotAdmitted(PostFault::Refused(refusal)) => 37 + refusal as usize,
+        RequestError::NotAdmitted(PostFault::Closed) => 44,
+        RequestError::NotAdmitted(PostFault::Behind { .. }) => 45,
+        RequestError::NotAdmitted(PostFault::Overrun { .. }) => 46,
+        RequestError::NotAdmitted(PostFault::WrongShard { .. }) => 47,
+        RequestError::Unanswered => 48,
+    }
 }

@@ -1,4 +1,3 @@
-//! The observer that counts connections, requests and answers.
 ghost use Rattle.std.specs.Prelude.{◌≡◌};
 ghost use Rattle.bx_metrics.specs.Outcomes.{metric_of};
 
@@ -35,7 +34,6 @@ impl Observer for Counts {
     }
 }
 
-// Counts the events and replies in `items`.
 fn count_all(counts: &Counts, items: &[Item]) {
     let mut events: u64 = 0;
     for item in items {
@@ -49,7 +47,6 @@ fn count_all(counts: &Counts, items: &[Item]) {
     }
 }
 
-// Returns the metric that counts `reply`: by its error, or by its kind if it succeeds.
 fn metric_of(reply: &Reply) -> Metric
     ensures { result ≡ metric_of reply.now }
 {

@@ -1,4 +1,3 @@
-//! The page of metrics, in Prometheus' text format 0.0.4.
 use crate::counts::MetricValues;
 use crate::histogram::push_histogram;
 use crate::metric::{METRICS, Metric};
@@ -7,26 +6,18 @@ use crate::settings::PageSettings;
 use bx_message::MessageKind;
 use std::alloc::{AllocError, Global};
 
-// Initial capacity of the metrics page in bytes: enough for 64 shards if each value has twenty
-// digits.
+// Room in bytes that is enough for 64 shards if each value has twenty digits.
 const ROOM: usize = 16384;
 
-// The name of the metric for the number of entries that a shard has not applied.
 const LAG: &str = "bayeux_shard_lag_entries";
 
 const LAG_HELP: &str = "Entries of the list that the shard has not applied.";
 
 /// Formats the page of metrics: rows of the server, of its shards and settings, and of the process.
 ///
-/// The row of a shard is the number of entries that it has not applied.
-///
 /// The lines `# HELP` and `# TYPE` precede the first row of each name.
 ///
 /// Prometheus' text format 0.0.4.
-///
-/// # Errors
-///
-/// `AllocError` if memory runs out.
 pub fn page_text(
     alloc: Global,
     metrics: &MetricValues,
@@ -56,15 +47,12 @@ pub fn page_text(
 /// The unit in which a number counts.
 #[derive(Clone, Copy)]
 pub(crate) enum Unit {
-    /// One.
     One,
-    /// A hundredth.
     Hundredth,
-    /// A thousandth.
     Thousandth,
 }
 
-/// Appends a row without labels: `value`, which counts in `unit`, as a decimal number.
+/// Appends a row without labels: `value`, which counts in `unit`.
 pub(crate) fn push_value(
     alloc: Global,
     page: &mut String,
@@ -86,7 +74,7 @@ pub(crate) fn push_value(
     page.push_str(row.as_str())
 }
 
-/// Appends the lines `# HELP` and `# TYPE` for the metrics with this name.
+/// Appends the lines `# HELP` and `# TYPE`.
 pub(crate) fn push_head(
     alloc: Global,
     page: &mut String,
@@ -98,8 +86,7 @@ pub(crate) fn push_head(
     page.push_str(head.as_str())
 }
 
-// Returns the label that distinguishes `metric` from other metrics with the same name. The text is
-// empty if there are no others.
+// Returns the label that distinguishes `metric` from others with the same name, if there are any.
 fn label_of(alloc: Global, metric: Metric) -> Result<String, AllocError> {
     match metric {
         Metric::Responses(status) => format!(in alloc; "{{status=\"{}\"}}", status.code()),
@@ -113,7 +100,6 @@ fn label_of(alloc: Global, metric: Metric) -> Result<String, AllocError> {
     }
 }
 
-// Returns the name of a kind of message, which is the label `kind` on the metrics page.
 fn kind_name(kind: MessageKind) -> &'static str {
     match kind {
         MessageKind::Handshake => "handshake",

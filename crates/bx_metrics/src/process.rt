@@ -1,11 +1,10 @@
-//! What Linux reports of this program: processor time, memory and file descriptors.
 use crate::page::{Unit, push_head, push_value};
 use std::alloc::{AllocError, Global};
 
 // Bytes of a page of memory. The server runs on x86-64 only.
 const PAGE_BYTES: u64 = 4096;
 
-// Clock ticks in a second, in which /proc counts times. Linux shows every program this value.
+// Linux shows every program this number of clock ticks in a second.
 const TICKS: u64 = 100;
 
 // Fields of /proc/self/stat, by their index from the state, which follows the program's name.
@@ -18,8 +17,7 @@ enum Stat {
     ResidentPages = 21,
 }
 
-// The names, types, help texts and units of the metrics of a process. The names are those of
-// Prometheus' client libraries.
+// Names, types, help texts and units. The names are those of Prometheus' client libraries.
 const ROWS: [(&str, &str, &str, Unit); 6] = [
     (
         "process_cpu_seconds_total",
@@ -62,35 +60,29 @@ const ROWS: [(&str, &str, &str, Unit); 6] = [
 /// The texts of files in /proc, or empty texts for files that cannot be read.
 #[derive(Clone, Copy)]
 pub struct ProcessTexts<'a> {
-    /// The text of `/proc/self/stat`.
+    /// `/proc/self/stat`.
     pub process: &'a str,
-    /// The text of `/proc/self/limits`.
+    /// `/proc/self/limits`.
     pub limits: &'a str,
-    /// The text of `/proc/stat`.
+    /// `/proc/stat`.
     pub system: &'a str,
 }
 
-/// The values of the metrics of this process, each `None` if it is unknown.
+/// The metrics of this process, as far as they are known.
 #[derive(Clone, Copy, Debug, PartialEq, Eq)]
 pub struct ProcessValues {
-    /// Processor time so far, in hundredths of a second.
+    /// In hundredths of a second.
     pub processor_time: Option<u64>,
-    /// Resident memory in bytes.
     pub resident_bytes: Option<u64>,
-    /// Virtual memory in bytes.
     pub virtual_bytes: Option<u64>,
-    /// The number of open file descriptors.
     pub open_files: Option<u64>,
-    /// The limit of open file descriptors.
     pub max_files: Option<u64>,
-    /// When the process started, in hundredths of a second since 1970.
+    /// In hundredths of a second since 1970.
     pub start_time: Option<u64>,
 }
 
 impl ProcessValues {
-    /// Parses the values in `texts`. `open_files`: the number of open file descriptors, if known.
-    ///
-    /// A value that is missing in `texts` or out of range is `None`.
+    /// Parses the values in `texts`. A value that is missing or out of range is unknown.
     ///
     /// Linux's manual page proc(5).
     pub fn of(texts: ProcessTexts<'_>, open_files: Option<u64>) -> ProcessValues {
@@ -112,10 +104,6 @@ impl ProcessValues {
     }
 
     /// Appends a row for each known value, with its `# HELP` and `# TYPE` lines.
-    ///
-    /// # Errors
-    ///
-    /// `AllocError` if memory runs out.
     pub(crate) fn push_rows(&self, alloc: Global, page: &mut String) -> Result<(), AllocError> {
         let values = [
             self.processor_time,
@@ -135,16 +123,14 @@ impl ProcessValues {
     }
 }
 
-// Returns the number in `wanted`, a field of /proc/self/stat.
-//
-// The name is in parentheses, and may itself have spaces and parentheses.
+// The program's name is in parentheses, and may itself have spaces and parentheses.
 fn field(process: &str, wanted: Stat) -> Option<u64> {
     let (_, fields) = process.rsplit_once(')')?;
     let number = fields.split_ascii_whitespace().nth(wanted as usize)?;
     number.parse().ok()
 }
 
-// Returns the first number after `name` in the first line of `text` that begins with `name`.
+// Returns the first number after `name` in the first line that begins with `name`.
 fn number_after(text: &str, name: &str) -> Option<u64> {
     for line in text.lines() {
         if let Some(rest) = line.strip_prefix(name) {
@@ -154,12 +140,10 @@ fn number_after(text: &str, name: &str) -> Option<u64> {
     None
 }
 
-// Returns the sum of two known numbers, or `None` if it is too large.
 fn sum_of(one: Option<u64>, other: Option<u64>) -> Option<u64> {
     one?.checked_add(other?)
 }
 
-// Returns the product of a known number and `factor`, or `None` if it is too large.
 fn product_of(number: Option<u64>, factor: u64) -> Option<u64> {
     number?.checked_mul(factor)
 }

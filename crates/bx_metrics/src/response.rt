@@ -1,4 +1,3 @@
-//! The responses of the metrics listener.
 ghost use Rattle.std.specs.Prelude.{◌≡◌, ◌++◌, IfOk, OnOk};
 ghost use Rattle.bx_metrics.specs.Responses.{asked_of, fields_text, message_text, response_text, with_number};
 
@@ -8,26 +7,24 @@ use std::alloc::{AllocError, Global};
 /// What a request to the metrics listener asks for.
 #[derive(Clone, Copy, Debug, PartialEq, Eq)]
 pub enum MetricsRequest {
-    /// A request for the status page: `GET /`.
+    /// `GET /`.
     StatusPage,
-    /// A request for the page of metrics: `GET /metrics`.
+    /// `GET /metrics`.
     Metrics,
-    /// A request for the list of sessions: `GET /sessions`.
+    /// `GET /sessions`.
     Sessions,
-    /// A request for the list of channels: `GET /channels`.
+    /// `GET /channels`.
     Channels,
-    /// A request for whether the server listens: `GET /healthz`.
+    /// `GET /healthz`.
     Health,
-    /// A GET of any other target.
+    /// A GET of another target.
     Other,
-    /// A request with a method other than GET, or without a method.
+    /// Another method than GET, or none.
     NoGet,
 }
 
 impl MetricsRequest {
-    /// Returns what the request with this `head` asks for.
-    ///
-    /// Only the method and the target matter.
+    /// Returns what the request with this `head` asks for, by its method and target.
     pub fn of(head: &[u8]) -> MetricsRequest
         ensures { result ≡ asked_of head.now }
     {
@@ -57,10 +54,6 @@ impl MetricsRequest {
 /// - `Health`: 200 if `listens`, otherwise 503
 /// - `Other`: 404
 /// - `NoGet`: 405
-///
-/// # Errors
-///
-/// `AllocError` if memory runs out.
 pub fn response_text(
     alloc: Global,
     asked: MetricsRequest,
@@ -92,8 +85,7 @@ pub fn response_text(
     }
 }
 
-// Creates a response with `body`. `status`: the code and reason phrase, optionally followed by a
-// line break and another field.
+// `status`: the code and reason phrase, optionally followed by a line break and another field.
 fn message(alloc: Global, status: &str, body: &[u8]) -> Result<Vec<u8>, AllocError>
     ensures { IfOk result (λ text. text.items ≡ message_text status.now body.now) }
 {
@@ -105,7 +97,6 @@ fn message(alloc: Global, status: &str, body: &[u8]) -> Result<Vec<u8>, AllocErr
     Ok(text)
 }
 
-// Appends the fields that end the head of every response. `length`: the body's length in bytes.
 fn push_fields(text: &mut Vec<u8>, length: usize) -> Result<(), AllocError>
     ensures { OnOk result (text.new.items ≡ text.old.items ++ fields_text length) }
 {
@@ -117,7 +108,6 @@ fn push_fields(text: &mut Vec<u8>, length: usize) -> Result<(), AllocError>
     )
 }
 
-// Appends two texts to `text`, with `number` in decimal between them.
 fn push_number(
     text: &mut Vec<u8>,
     before: &str,

@@ -1,11 +1,9 @@
-//! The list of sessions, in lines of JSON.
 use bx_hub::SessionSurvey;
 use json::{Token, Writer};
 use std::alloc::{AllocError, Global};
+use std::time::Duration;
 
-/// The maximum length of a list in bytes, after which it has at most two more lines.
-///
-/// Policy of this server.
+/// After this length in bytes, a list has at most two more lines. Policy of this server.
 pub(crate) const MAX_LIST_BYTES: usize = 1_048_576;
 
 /// The last line of a list that lacks something.
@@ -34,12 +32,8 @@ impl SessionLines {
 
     /// Appends a line about `session`. `now`: milliseconds since the server started.
     ///
-    /// Returns `false` if the list has no room for it: it has 1,000 sessions, or over a mebibyte.
-    /// Then the last line says so, and further sessions need not be pushed.
-    ///
-    /// # Errors
-    ///
-    /// `AllocError` if memory runs out; the list is unchanged.
+    /// Returns `false` if the list has 1,000 sessions, or over a mebibyte. Then the last line says
+    /// so, and further sessions need not be pushed.
     pub fn push(
         &mut self,
         alloc: Global,
@@ -57,10 +51,6 @@ impl SessionLines {
     }
 
     /// Returns the text of the list.
-    ///
-    /// # Errors
-    ///
-    /// `AllocError` if memory runs out.
     pub fn into_text(self) -> Result<Vec<u8>, AllocError> {
         let SessionLines {
             mut text,
@@ -74,14 +64,13 @@ impl SessionLines {
     }
 }
 
-// Formats the line about `session`. `now`: milliseconds since the server started.
 fn session_line(alloc: Global, session: &SessionSurvey, now: u64) -> Result<Vec<u8>, AllocError> {
     let mut line = Writer::new(Vec::new(alloc));
     line.begin_object()?;
     line.key("number")?;
     line.u64(session.number)?;
     line.key("age_seconds")?;
-    line.u64(now.saturating_sub(session.opened) / 1000)?;
+    line.u64(Duration::from_millis(now.saturating_sub(session.opened)).as_secs())?;
     line.key("acknowledges")?;
     line.token(Token::Bool(session.ack))?;
     line.key("held")?;

@@ -3,10 +3,8 @@ use crate::page::{Unit, push_head, push_value};
 use bx_advice::{BodyLimit, Config, Limit};
 use std::alloc::{AllocError, Global};
 
-// The name of the metric for limits.
 const LIMIT: &str = "bayeux_limit";
 
-// The names and help texts of the metrics for times.
 const TIMES: [(&str, &str); 3] = [
     ("bayeux_timeout_seconds", "The longest hold of a connect."),
     (
@@ -19,14 +17,11 @@ const TIMES: [(&str, &str); 3] = [
     ),
 ];
 
-/// The settings of a server that its metrics page shows.
+/// The settings that the metrics page shows.
 #[derive(Clone, Copy)]
 pub struct PageSettings {
-    /// The version of the server.
     pub version: &'static str,
-    /// The number of shards, the times and the limits.
     pub config: Config,
-    /// The size limit of bodies and queries.
     pub body: BodyLimit,
 }
 
@@ -34,10 +29,6 @@ impl PageSettings {
     /// Appends the rows for the version, the limits, the number of shards and the times.
     ///
     /// A limit that is not configured and has no default has no row.
-    ///
-    /// # Errors
-    ///
-    /// `AllocError` if memory runs out.
     pub(crate) fn push_rows(&self, alloc: Global, page: &mut String) -> Result<(), AllocError> {
         let (version, config) = (self.version, &self.config);
         push_head(
@@ -68,12 +59,10 @@ impl PageSettings {
     }
 }
 
-// Appends the row for the limit `value` of `name`.
 fn push_limit(alloc: Global, page: &mut String, name: &str, value: u64) -> Result<(), AllocError> {
     page.push_str(format!(in alloc; "{LIMIT}{{name=\"{name}\"}} {value}\n")?.as_str())
 }
 
-// Returns the name of `limit`, which is the label `name` on the metrics page.
 fn limit_name(limit: Limit) -> &'static str {
     match limit {
         Limit::Events => "events",

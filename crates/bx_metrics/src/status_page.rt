@@ -1,5 +1,3 @@
-//! The status page: HTML that plots the metrics.
-
 /// The status page, which reads `metrics` relative to itself every three seconds.
 pub const STATUS_PAGE: &str = r#"<!DOCTYPE html>
 <html lang="en">

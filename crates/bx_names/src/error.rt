@@ -1,4 +1,3 @@
-//! Errors of channel names and patterns.
 ghost use Rattle.std.specs.Prelude.{◌≡◌};
 ghost use Rattle.bx_names.specs.declared.error.NameError.TheVariants.{Memory};
 
@@ -13,26 +12,21 @@ pub enum NameError {
     /// The text does not begin with a slash.
     #[error("the name does not begin with a slash")]
     NoSlash,
-    /// A segment is empty: the text has two slashes in a row, or ends with one.
+    /// Two slashes follow each other, or the text ends with one.
     #[error("the name has an empty segment")]
     EmptySegment,
-    /// A byte is a control byte, a space or DEL.
-    ///
-    /// Policy of this server.
+    /// A control byte, a space or DEL. Policy of this server.
     #[error("the name has a control byte or a space")]
     BadByte,
-    /// The text has a star that is not a wildcard.
-    ///
-    /// A wildcard is `*` or `**` as the last segment of a pattern.
+    /// A star that is not a wildcard: `*` or `**` as the last segment of a pattern.
     #[error("the name has a star out of place")]
     Wild,
-    /// The text has more than `MAX_NAME_BYTES` bytes.
+    /// More than `MAX_NAME_BYTES` bytes.
     #[error("the name has too many bytes")]
     TooLong,
-    /// The text has more than `MAX_NAME_SEGMENTS` segments.
+    /// More than `MAX_NAME_SEGMENTS` segments.
     #[error("the name has too many segments")]
     TooDeep,
-    /// Memory ran out for a copy of the text.
     #[error("out of memory")]
     Memory,
 }

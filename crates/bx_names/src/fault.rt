@@ -1,4 +1,3 @@
-//! Validation of channel names and patterns.
 ghost use Rattle.std.specs.Prelude.{◌≡◌, ◌≢◌, ◌++◌, IsTrue, length};
 ghost use Rattle.std.specs.List.{list_any};
 ghost use Rattle.bx_names.specs.Segments.{is_absolute, is_empty, is_path, segments};
@@ -9,9 +8,7 @@ use crate::error::NameError;
 use crate::limits::{MAX_NAME_BYTES, MAX_NAME_SEGMENTS};
 use crate::tail::Tail;
 
-/// Returns why `text` is not a channel name, or `None` if it is one.
-///
-/// The result is the first error in the order of [`NameError`]. Does not allocate.
+/// Returns the first reason why `text` is not a channel name, if any. Does not allocate.
 pub fn name_fault(text: &str) -> Option<NameError>
     ensures fault { result ≡ name_fault text.now }
     ensures never_memory { result ≢ Some NameError.Memory }
@@ -19,9 +16,7 @@ pub fn name_fault(text: &str) -> Option<NameError>
     path_fault(text, text)
 }
 
-/// Returns why `text` is not a pattern, or `None` if it is one.
-///
-/// The result is the first error in the order of [`NameError`]. Does not allocate.
+/// Returns the first reason why `text` is not a pattern, if any. Does not allocate.
 pub fn pattern_fault(text: &str) -> Option<NameError>
     ensures fault { result ≡ pattern_fault text.now }
     ensures never_memory { result ≢ Some NameError.Memory }
@@ -32,8 +27,7 @@ pub fn pattern_fault(text: &str) -> Option<NameError>
 
 /// Splits the text of a pattern into its segments without the wildcard, and the wildcard.
 ///
-/// The slash before the wildcard is in neither: `/a/*` results in `/a` and `One`. Without a
-/// wildcard, the result is all of `text`, and `Exact`.
+/// The slash before the wildcard is in neither: `/a/*` results in `/a` and `One`.
 #[tactic(auto, using(crate::proofs::GlobLemmas::cut))]
 pub(crate) fn split_tail(text: &str) -> (&str, Tail)
     ensures parts { text.now ≡ result.0.now ++ ending_text result.1 }
@@ -52,8 +46,7 @@ pub(crate) fn split_tail(text: &str) -> (&str, Tail)
 
 /// Returns the first error of `path`, if any.
 ///
-/// `own`: the part of `path` that must have no stars. For a name, this is all of it. For a pattern,
-/// it is all except the wildcard.
+/// `own`: the part that must have no stars: all of a name, or all of a pattern except the wildcard.
 #[tactic(auto, using(crate::proofs::WalkLemmas::star_segments))]
 fn path_fault(path: &str, own: &str) -> Option<NameError>
     requires { IsTrue (is_absolute path.now) → IsTrue (is_path own.now) }
@@ -79,7 +72,7 @@ fn path_fault(path: &str, own: &str) -> Option<NameError>
     }
 }
 
-/// What one pass over a path's bytes finds: two kinds of errors, and the number of segments.
+/// What one pass over a path's bytes finds.
 #[derive(Drop)]
 struct Findings {
     has_empty_segment: bool,

@@ -1,19 +1,14 @@
-//! Kinds of channels.
 ghost use Rattle.std.specs.Prelude.{◌≡◌};
 ghost use Rattle.bx_names.specs.Kinds.{is_broadcast, is_meta, is_service, kind_of};
 
-/// The kind of a channel, by the beginning of its name.
-///
-/// Bayeux 1.0, channel names.
+/// The kind of a channel, by the beginning of its name. Bayeux 1.0, channel names.
 #[derive(Clone, Copy, Debug, PartialEq, Eq, Hash)]
 pub enum ChannelKind {
-    /// A channel `/meta/..`, for messages of the protocol.
+    /// `/meta/..`, for messages of the protocol.
     Meta,
-    /// A channel `/service/..`, for messages to the server, which no other client receives.
+    /// `/service/..`, for messages to the server, which no other client receives.
     Service,
-    /// Any other channel, including `/meta` and `/service` themselves.
-    ///
-    /// Policy of this server.
+    /// Any other channel, including `/meta` and `/service`, by a policy of this server.
     Broadcast,
 }
 
@@ -31,8 +26,6 @@ pub fn kind_of(text: &str) -> ChannelKind
 }
 
 /// Returns `true` if `text` begins with `/meta/`.
-///
-/// Bayeux 1.0, meta channels.
 pub fn is_meta(text: &str) -> bool
     ensures { result ≡ is_meta text.now }
 {
@@ -40,19 +33,15 @@ pub fn is_meta(text: &str) -> bool
 }
 
 /// Returns `true` if `text` begins with `/service/`.
-///
-/// Bayeux 1.0, service channels.
 pub fn is_service(text: &str) -> bool
     ensures { result ≡ is_service text.now }
 {
     text.starts_with("/service/")
 }
 
-/// Returns `true` if `text` begins with neither `/meta/` nor `/service/`.
+/// Returns `true` if messages to `text` are delivered to subscribers.
 ///
-/// Messages to a broadcast channel are delivered to its subscribers.
-///
-/// Bayeux 1.0, channel names.
+/// It begins with neither `/meta/` nor `/service/`.
 pub fn is_broadcast(text: &str) -> bool
     ensures { result ≡ is_broadcast text.now }
 {

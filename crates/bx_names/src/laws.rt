@@ -1,4 +1,3 @@
-//! Laws of channel names and patterns.
 ghost use Rattle.std.specs.Prelude.{◌≡◌, ◌+◌, ◌<◌, ◌↔◌, ◌++◌, List, ℕ, Ok, IsTrue, length, take};
 ghost use Rattle.bx_names.specs.Segments.{path_of};
 ghost use Rattle.bx_names.specs.Globs.{glob_text, matches};
@@ -17,7 +16,7 @@ pub fn exact_pattern_matches_one_name(pattern: &Pattern, name: &ChannelName)
 
 /// Proves that `/a/*` matches a name if and only if it is `/a` followed by one more segment.
 ///
-/// The same holds with any other segments in place of `/a`.
+/// The same holds with any other segments in place of `/a`, here and in the next two laws.
 #[tactic(auto, using(crate::proofs::MatchLemmas::one_decides))]
 pub fn star_matches_one_more_segment(pattern: &Pattern, name: &ChannelName)
     requires { pattern.now.tail ≡ One }
@@ -27,8 +26,6 @@ pub fn star_matches_one_more_segment(pattern: &Pattern, name: &ChannelName)
 {}
 
 /// Proves that `/a/**` matches a name if and only if it is `/a` followed by one or more segments.
-///
-/// The same holds with any other segments in place of `/a`.
 #[tactic(auto, using(crate::proofs::MatchLemmas::many_decides))]
 pub fn double_star_matches_any_longer_name(pattern: &Pattern, name: &ChannelName)
     requires { pattern.now.tail ≡ Many }
@@ -37,8 +34,6 @@ pub fn double_star_matches_any_longer_name(pattern: &Pattern, name: &ChannelName
 {}
 
 /// Proves that `/a/*` matches the names that `/a/**` matches and that have one segment after `/a`.
-///
-/// The same holds with any other segments in place of `/a`.
 pub fn stars_differ_on_depth(one: &Pattern, many: &Pattern, name: &ChannelName)
     requires one { one.now.tail ≡ One }
     requires many { many.now.tail ≡ Many }

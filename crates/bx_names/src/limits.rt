@@ -1,11 +1,5 @@
-//! Limits of channel names and patterns.
-
-/// The maximum length of a channel name or a pattern, in bytes.
-///
-/// Policy of this server.
+/// The maximum length of a channel name or a pattern, in bytes. Policy of this server.
 pub const MAX_NAME_BYTES: usize = 256;
 
-/// The maximum number of segments of a channel name or a pattern, including a wildcard.
-///
-/// Policy of this server.
+/// The maximum number of segments, including a wildcard. Policy of this server.
 pub const MAX_NAME_SEGMENTS: usize = 32;

@@ -1,4 +1,3 @@
-//! Matching of channel names against patterns.
 ghost use Rattle.std.specs.Prelude.{◌≡◌, ◌==◌, ◌&&◌, length};
 ghost use Rattle.bx_names.specs.Segments.{is_absolute, segments};
 ghost use Rattle.bx_names.specs.Globs.{matches};
@@ -27,7 +26,6 @@ pub fn matches(pattern: &Pattern, name: &ChannelName) -> bool
     }
 }
 
-/// Returns `true` if `text` begins with a slash and has no other.
 fn is_one_segment(text: &str) -> bool
     ensures { result ≡ (is_absolute text.now && (length (segments text.now) == 1)) }
 {

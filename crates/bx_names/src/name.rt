@@ -1,4 +1,3 @@
-//! Channel names.
 ghost use Rattle.std.specs.Prelude.{◌≡◌, ◌<◌, ◌≤◌, None, length, slice_get, IfOk, IfSome, OnOk, IsOkUnless};
 ghost use Rattle.bx_names.specs.Segments.{path_of, segments};
 ghost use Rattle.bx_names.specs.Faults.{name_fault, read_name};
@@ -12,11 +11,7 @@ use crate::segments::{Segments, segments_of};
 use std::alloc::{AllocError, Global};
 use std::marker::Model;
 
-/// A channel name such as `/a/b`: an absolute path of segments.
-///
-/// Model: the list of its segments, each as bytes.
-///
-/// Bayeux 1.0, channel names.
+/// A channel name such as `/a/b`: an absolute path of segments. Bayeux 1.0, channel names.
 #[derive(Debug, Drop)]
 pub struct ChannelName {
     text: String,
@@ -54,10 +49,6 @@ impl ChannelName {
     }
 
     /// Creates a channel name from a copy of `text`, which must be a valid name.
-    ///
-    /// # Errors
-    ///
-    /// `AllocError` if memory runs out.
     pub fn of_valid(alloc: Global, text: &str) -> Result<ChannelName, AllocError>
         requires valid { name_fault text.now ≡ None }
         ensures segments { IfOk result (λ name. name ≡ segments text.now) }
@@ -83,7 +74,7 @@ impl ChannelName {
         kind_of(self.as_str())
     }
 
-    /// Returns an iterator over the segments of the name, at most [`MAX_NAME_SEGMENTS`].
+    /// Returns its segments, at most [`MAX_NAME_SEGMENTS`].
     pub fn segments(&self) -> Segments<'_>
         ensures segments { result ≡ self.now }
         ensures limit { length self.now ≤ MAX_NAME_SEGMENTS }
@@ -91,14 +82,14 @@ impl ChannelName {
         segments_of(self.text.as_str())
     }
 
-    /// Returns the number of segments of the name.
+    /// Returns the number of segments.
     pub fn segment_count(&self) -> usize
         ensures { result ≡ length self.now }
     {
         self.segments().count()
     }
 
-    /// Returns segment `k`, counted from 0 and less than [`segment_count`](Self::segment_count).
+    /// Returns segment `k`, counted from 0.
     pub fn segment(&self, k: usize) -> &str
         requires { k < length self.now }
         ensures { slice_get self.now k ≡ Some result.now }

@@ -1,4 +1,3 @@
-//! Patterns of channel names.
 ghost use Rattle.std.specs.Prelude.{◌≡◌, ◌<◌, ◌≤◌, ◌↔◌, None, IsTrue, length, slice_get, IfOk, IfSome, OnOk, IsOkUnless};
 ghost use Rattle.bx_names.specs.Segments.{is_path, segments};
 ghost use Rattle.bx_names.specs.Globs.{glob_of, glob_text, same_glob};
@@ -15,8 +14,6 @@ use std::alloc::{AllocError, Global};
 use std::marker::Model;
 
 /// A pattern of channel names, such as `/a/b`, `/a/*` or `/a/**`.
-///
-/// Its last segment may be a wildcard, `*` or `**`.
 ///
 /// Model: its segments without the wildcard, and the wildcard.
 ///
@@ -88,9 +85,7 @@ impl Pattern {
         kind_of(self.as_str())
     }
 
-    /// Splits the pattern into its segments without the wildcard, as text, and the wildcard.
-    ///
-    /// The text is a path such as `/a`, or empty if the wildcard is the only segment.
+    /// Splits the text into the segments without the wildcard, and the wildcard.
     pub(crate) fn split(&self) -> (&str, Tail)
         ensures path { IsTrue (is_path result.0.now) }
         ensures own { segments result.0.now ≡ self.now.segments }
@@ -100,14 +95,14 @@ impl Pattern {
         split_tail(self.text.as_str())
     }
 
-    /// Returns the wildcard, or `Exact` if the pattern has none.
+    /// Returns the wildcard, or `Exact`.
     pub fn tail(&self) -> Tail
         ensures { result ≡ self.now.tail }
     {
         self.split().1
     }
 
-    /// Returns an iterator over the segments without the wildcard, at most [`MAX_NAME_SEGMENTS`].
+    /// Returns the segments without the wildcard, at most [`MAX_NAME_SEGMENTS`].
     pub fn segments(&self) -> Segments<'_>
         ensures segments { result ≡ self.now.segments }
         ensures limit { length self.now.segments ≤ MAX_NAME_SEGMENTS }
@@ -122,7 +117,7 @@ impl Pattern {
         self.segments().count()
     }
 
-    /// Returns segment `k`, counted from 0 and less than [`segment_count`](Self::segment_count).
+    /// Returns segment `k`, counted from 0.
     pub fn segment(&self, k: usize) -> &str
         requires { k < length self.now.segments }
         ensures { slice_get self.now.segments k ≡ Some result.now }

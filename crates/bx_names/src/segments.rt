@@ -1,4 +1,3 @@
-//! Segments of channel names and patterns.
 ghost use Rattle.std.specs.Prelude.{◌≡◌, IsTrue};
 ghost use Rattle.std.specs.Iterator.{YieldsFirstRef, item_count};
 ghost use Rattle.bx_names.specs.Segments.{is_path, segments};
@@ -6,8 +5,6 @@ ghost use Rattle.bx_names.specs.Segments.{is_path, segments};
 use std::marker::Model;
 
 /// An iterator over the segments of a channel name or a pattern.
-///
-/// Model: the remaining segments.
 #[derive(Debug, Drop)]
 pub struct Segments<'a> {
     rest: Option<&'a str>,
@@ -23,7 +20,7 @@ impl<'a> Model for Segments<'a> {
     ghost view = { λ s. option_map_or (λ rest. parts rest.now) s.rest [] };
 }
 
-/// Returns an iterator over the segments of `path`; the empty path has none.
+/// Iterates over the segments of `path`; the empty path has none.
 pub(crate) fn segments_of(path: &str) -> Segments<'_>
     requires { IsTrue (is_path path.now) }
     ensures { result ≡ segments path.now }

@@ -1,4 +1,3 @@
-//! Elements of a response's array.
 ghost use Rattle.std.specs.Prelude.{◌≡◌, ◌++◌, length, map, IfOk};
 ghost use Rattle.bx_message.specs.Texts.{item_text};
 ghost use Rattle.bx_pieces.specs.Elements.{element_text};
@@ -8,17 +7,16 @@ use std::alloc::{AllocError, Global};
 
 /// An element of a response's array.
 ///
-/// It takes far less memory than an [`Item`], since a response can have many elements.
+/// It takes far less memory than an [`Item`], of which a response can have many.
 #[derive(Drop)]
 pub(crate) enum Element {
-    /// An element that is an event, shared with the event's other receivers.
+    /// An event, shared with its other receivers.
     Shared(SharedEvent),
-    /// An element that is a reply, as its JSON text.
+    /// The JSON text of a reply.
     Written(Vec<u8>),
 }
 
 impl Element {
-    // Converts an item to an element with the same text.
     fn of(alloc: Global, item: &Item) -> Result<Element, AllocError>
         ensures { IfOk result (λ element. element_text element ≡ item_text item.now) }
     {
@@ -31,7 +29,7 @@ impl Element {
         Ok(Element::Written(text))
     }
 
-    /// Returns the length of the element's text, in bytes.
+    /// Returns the length of its text, in bytes.
     #[tactic(auto, unfolding(bx_message::specs::Events::event_size))]
     pub(crate) fn size(&self) -> usize
         ensures { result ≡ length (element_text self.now) }
@@ -42,7 +40,6 @@ impl Element {
         }
     }
 
-    /// Appends the element's text to `out`, and returns `out`.
     pub(crate) fn write(&self, out: Vec<u8>) -> Result<Vec<u8>, AllocError>
         ensures { IfOk result (λ text. text.items ≡ out.items ++ element_text self.now) }
     {
@@ -57,7 +54,6 @@ impl Element {
     }
 }
 
-/// Converts items to elements with the same texts.
 pub(crate) fn elements_of(alloc: Global, items: &[Item]) -> Result<Vec<Element>, AllocError>
     ensures { IfOk result (λ elements. map element_text elements.items ≡ map item_text items.now) }
 {

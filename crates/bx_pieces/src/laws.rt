@@ -1,4 +1,3 @@
-//! Laws of bodies that are sent in pieces.
 ghost use Rattle.bx_pieces.specs.Laws.{PiecesJoin};
 
 /// Proves that the frames of a body join to its text, if it was read to its end without errors.

@@ -1,4 +1,3 @@
-//! The body of a response, written on demand.
 ghost use Rattle.std.specs.Prelude.{◌≡◌, ◌<◌, ◌+◌, ◌++◌, [], Some, IfOk, IsTrue, MatchOption, OnErr, drop, length, option_map};
 ghost use Rattle.http_body.specs.SizeHint.{exact};
 ghost use Rattle.bx_pieces.specs.Givings.{InPieces};
@@ -18,20 +17,16 @@ use std::marker::{Model, PhantomData};
 ///
 /// It shares its events with their other receivers. A short body is written at once. `D` is the
 /// type of the frames' data.
-///
-/// Model: the remaining text, as bytes.
 #[derive(Drop)]
 pub struct Pieces<D> {
     alloc: Global,
     // A piece that is written but not returned yet.
     made: Option<Bytes>,
-    // The elements of the response. Unless `is_written`, those from `next` on and the end of the
-    // response are not written yet.
+    // Unless `is_written`, those from `next` on and the end of the response are not written yet.
     elements: Vec<Element>,
     next: usize,
     is_script: bool,
     is_written: bool,
-    // Length of the remaining text, in bytes.
     left: u64,
     data: PhantomData<D>,
 }
@@ -68,12 +63,7 @@ impl<D> Pieces<D> {
 
     /// Creates the body of a response with `items`.
     ///
-    /// `callback`: the name of a function. If given, the body is a script that calls the function
-    /// with the array of `items`. Otherwise, the body is this array as JSON.
-    ///
-    /// # Errors
-    ///
-    /// `AllocError` if memory runs out.
+    /// The body is the array of `items` as JSON, or a script that calls `callback` with it.
     pub fn answer(
         alloc: Global,
         callback: Option<&str>,
@@ -87,7 +77,6 @@ impl<D> Pieces<D> {
         Pieces::begun(alloc, callback, items)
     }
 
-    // Creates the body of a response, and writes all of it, as one piece.
     fn at_once(
         alloc: Global,
         callback: Option<&str>,
@@ -115,8 +104,7 @@ impl<D> Pieces<D> {
         })
     }
 
-    // Creates the body of a response, and writes only its beginning, through the first element.
-    // Without elements, writes all of it.
+    // Writes the beginning of the body, through the first element, or all of an empty one.
     fn begun(alloc: Global, callback: Option<&str>, items: &[Item]) -> Result<Pieces<D>, AllocError>
         ensures { IfOk result (λ pieces. pieces ≡ answer_text (option_map (λ name. name.now) callback.entry) items.now) }
     {
@@ -138,9 +126,7 @@ impl<D> Pieces<D> {
         })
     }
 
-    // Removes the next piece from the remaining text and returns it, or `None` at the end.
-    //
-    // No piece is empty. On error, no text remains.
+    // Removes and returns the next piece, which is not empty, if any. On error, no text remains.
     fn take_piece(&mut self) -> Result<Option<Bytes>, AllocError>
         ensures ok { IfOk result (λ given. MatchOption given ((self.old ≡ []) × (self.new ≡ [])) (λ piece. (0 < length piece) × (self.old ≡ piece ++ self.new))) }
         ensures err { OnErr result ((self.new ≡ []) × (0 < length self.old)) }
@@ -163,7 +149,6 @@ impl<D> Pieces<D> {
         Ok(Some(piece))
     }
 
-    // Drops the remaining text.
     fn break_off(&mut self)
         ensures { self.new ≡ [] }
     {
@@ -174,15 +159,13 @@ impl<D> Pieces<D> {
     }
 }
 
-// Returns `true` if the response is a script, because it has a callback.
 fn is_call(callback: Option<&str>) -> bool
     ensures { result ≡ is_call (option_map (λ name. name.now) callback.entry) }
 {
     callback.is_some()
 }
 
-// Writes the first piece of a response, through the first of `elements`, which must not be empty.
-// Returns the piece and the length of the whole body in bytes.
+// Writes the body through the first of `elements`, and returns this with the body's length.
 fn first_piece(
     alloc: Global,
     callback: Option<&str>,
@@ -205,7 +188,6 @@ fn first_piece(
     }
 }
 
-// Writes the beginning of a response, through its first element.
 fn beginning(
     alloc: Global,
     callback: Option<&str>,

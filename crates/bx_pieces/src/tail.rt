@@ -1,4 +1,3 @@
-//! The text of a response after its first element.
 ghost use Rattle.std.specs.Prelude.{◌≡◌, ◌<◌, ◌≤◌, ◌+◌, ◌==◌, ◌++◌, ◌∷◌, [], length, drop, IfOk, IfSome};
 ghost use Rattle.bx_pieces.specs.Elements.{element_text};
 ghost use Rattle.bx_pieces.specs.Tails.{end_text, led_text, left_text, part_text, rest_text, sent_as};
@@ -9,11 +8,10 @@ use bx_transport::push_script_safe;
 use bytes::Bytes;
 use std::alloc::{AllocError, Global};
 
-// The length in bytes, before escapes, up to which elements are combined. A larger element is sent
-// alone.
+// Up to this length in bytes, before escapes, elements are combined. A larger one is sent alone.
 const PIECE: usize = 65_536;
 
-// Converts a part of the array to the text that is sent, with escapes if the response is a script.
+// Escapes a part of the array if the response is a script.
 pub(crate) fn sent_as(alloc: Global, is_script: bool, text: Vec<u8>) -> Result<Vec<u8>, AllocError>
     ensures { IfOk result (λ out. out.items ≡ sent_as is_script text.items) }
 {
@@ -25,7 +23,7 @@ pub(crate) fn sent_as(alloc: Global, is_script: bool, text: Vec<u8>) -> Result<V
     Ok(out)
 }
 
-// Returns `true` if a response with `items` should be written at once.
+// Returns `true` if a response should be written at once.
 //
 // Its text then fits one piece, or takes no more memory than the list of its elements.
 pub(crate) fn are_short(items: &[Item]) -> bool {
@@ -36,8 +34,7 @@ pub(crate) fn are_short(items: &[Item]) -> bool {
     room <= PIECE || room <= items.len().saturating_mul(size_of::<Element>())
 }
 
-// Returns how many of `elements` the next piece takes. It takes those that fit, but at least the
-// first, if there is one.
+// Returns how many of `elements` the next piece takes: those that fit, but at least the first.
 pub(crate) fn fitting(elements: &[Element]) -> usize
     ensures within { result ≤ length elements.now }
     ensures some { 0 < length elements.now → 0 < result }
@@ -52,9 +49,7 @@ pub(crate) fn fitting(elements: &[Element]) -> usize
     elements.len()
 }
 
-// Returns the length of the texts of `elements`, each with a comma, in bytes.
-//
-// Escapes for a script are not counted.
+// Returns the length of the texts, each with a comma, without escapes for a script.
 fn room_of(elements: &[Element]) -> usize {
     let mut room = 0usize;
     for element in elements {
@@ -63,12 +58,10 @@ fn room_of(elements: &[Element]) -> usize {
     room
 }
 
-// Returns the length of an element's text with a comma, in bytes, without escapes for a script.
 fn led_room(element: &Element) -> usize {
     element.size().saturating_add(1)
 }
 
-// Appends a comma and the text of `element` to `out`, and returns `out`.
 fn push_led(out: Vec<u8>, element: &Element) -> Result<Vec<u8>, AllocError>
     ensures { IfOk result (λ text. text.items ≡ out.items ++ (44 ∷ element_text element.now)) }
 {
@@ -77,7 +70,7 @@ fn push_led(out: Vec<u8>, element: &Element) -> Result<Vec<u8>, AllocError>
     element.write(out)
 }
 
-// Writes the elements, each after a comma, and reserves room for the end of the response.
+// Writes the elements, each after a comma, with room for the end of the response.
 fn led_text(alloc: Global, elements: &[Element]) -> Result<Vec<u8>, AllocError>
     ensures { IfOk result (λ out. out.items ≡ led_text elements.now) }
 {
@@ -90,8 +83,7 @@ fn led_text(alloc: Global, elements: &[Element]) -> Result<Vec<u8>, AllocError>
 
 // Writes the next piece, and returns it with the number of its elements.
 //
-// `elements`: those that are not written yet. The piece with the last of them includes the end of
-// the response.
+// The piece with the last of `elements` includes the end of the response.
 pub(crate) fn piece_of(
     alloc: Global,
     elements: &[Element],
@@ -111,9 +103,7 @@ pub(crate) fn piece_of(
     }
 }
 
-// Writes a part of the response: `elements` as they are sent, each after a comma.
-//
-// If `is_last`, the end of the response follows.
+// Writes `elements` as they are sent, each after a comma, and the end of the response if `is_last`.
 fn part_of(
     alloc: Global,
     elements: &[Element],
@@ -130,7 +120,7 @@ fn part_of(
     }
 }
 
-// Closes the array, and returns it as it is sent, followed by the end of the response.
+// Closes the array, and adds the end of the response.
 fn ended(alloc: Global, is_script: bool, array: Vec<u8>) -> Result<Vec<u8>, AllocError>
     ensures { IfOk result (λ out. out.items ≡ sent_as is_script (array.items ++ 93 ∷ []) ++ end_text is_script) }
 {
@@ -143,9 +133,7 @@ fn ended(alloc: Global, is_script: bool, array: Vec<u8>) -> Result<Vec<u8>, Allo
     Ok(text)
 }
 
-// Returns the length of the rest of a response, in bytes.
-//
-// `elements`: the elements that are not written yet. The list can be empty.
+// Returns the length of the rest of a response, of which `elements` are not written yet.
 pub(crate) fn rest_size(
     alloc: Global,
     elements: &[Element],
@@ -160,14 +148,14 @@ pub(crate) fn rest_size(
     }
 }
 
-// Returns the length of the text after the array, in bytes: 1 for a script's parenthesis, or 0.
+// A script ends with a parenthesis.
 fn end_size(is_script: bool) -> u64
     ensures { result ≡ length (end_text is_script) }
 {
     if is_script { 1 } else { 0 }
 }
 
-// Returns the length of the elements as they are sent, each with a comma, in bytes.
+// Returns the length of the elements as they are sent, each with a comma.
 fn led_size(alloc: Global, elements: &[Element], is_script: bool) -> Result<u64, AllocError>
     ensures { IfOk result (λ size. size ≡ length (sent_as is_script (led_text elements.now))) }
 {
@@ -182,14 +170,13 @@ fn led_size(alloc: Global, elements: &[Element], is_script: bool) -> Result<u64,
     Ok(total)
 }
 
-// Returns `first + 1 + second`, or `None` on overflow.
 fn with_byte(first: u64, second: u64) -> Option<u64>
     ensures { IfSome result (λ sum. sum ≡ first + (1 + second)) }
 {
     first.checked_add(1)?.checked_add(second)
 }
 
-// Returns the length of an element as it is sent, in bytes. For a script, writes it to measure it.
+// Returns the length of an element as it is sent. For a script, writes it to measure it.
 fn sent_size(alloc: Global, element: &Element, is_script: bool) -> Result<u64, AllocError>
     ensures { IfOk result (λ size. size ≡ length (sent_as is_script (element_text element.now))) }
 {

@@ -1,4 +1,3 @@
-//! The line that records an answer, by its digest.
 ghost use Rattle.std.specs.Prelude.{◌≡◌, IfOk};
 ghost use Rattle.bx_message.specs.Texts.{body_text};
 ghost use Rattle.bx_record.specs.Answers.{answer_text};
@@ -9,18 +8,12 @@ use itoa::Buffer;
 use sha2::{Digest, Sha256};
 use std::alloc::{AllocError, Global};
 
-// The most bytes in the line of an answer. The line has a letter, a place of up to 20 digits, 64
-// digits of the digest, two spaces and a newline.
+// A letter, a place of up to 20 digits, 64 digits of the digest, two spaces and a newline.
 const ANSWER_LENGTH: usize = 1 + 20 + 64 + 2 + 1;
 
-/// Creates the line for an answered request: its place and the SHA-256 of its items.
+/// Creates the line for an answered request: its place and the SHA-256 of the array of `items`.
 ///
-/// `place`: the place of the request's first message. The digest is that of the JSON array of
-/// `items`.
-///
-/// # Errors
-///
-/// `AllocError` if memory runs out.
+/// `place`: that of the request's first message.
 pub(crate) fn answer_line(alloc: Global, place: u64, items: &[Item]) -> Result<Vec<u8>, AllocError>
     ensures { IfOk result (λ line. line.items ≡ answer_text place (sha256 (body_text items.now))) }
 {
@@ -29,13 +22,6 @@ pub(crate) fn answer_line(alloc: Global, place: u64, items: &[Item]) -> Result<V
     answer_text(alloc, place, &digest)
 }
 
-/// Formats the line of an answer with the SHA-256 `digest`.
-///
-/// `place`: the place of the request's first message.
-///
-/// # Errors
-///
-/// `AllocError` if memory runs out.
 pub(crate) fn answer_text(
     alloc: Global,
     place: u64,

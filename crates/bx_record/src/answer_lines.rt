@@ -1,4 +1,3 @@
-//! The lines of answers that wait to be written, without a lock.
 ghost use Rattle.std.specs.Prelude.{◌≡◌, ◌≤◌, [], length, ◌↔◌, IsTrue};
 ghost use Rattle.bx_record.specs.AnswerLog.{IsAdded, ended_by, fault_in, after_report};
 ghost use Rattle.bx_record.specs.declared.answer_lines.LogState.TheVariants.{Open, Closed};
@@ -10,27 +9,24 @@ use std::alloc::Global;
 /// Whether a log of answers accepts lines.
 #[derive(Clone, Copy, Debug, PartialEq, Eq)]
 pub(crate) enum LogState {
-    /// The log of answers accepts lines.
     Open,
-    /// The log of answers ended because of this fault, which is not reported yet.
+    /// Ended because of this fault, which is not reported yet.
     Ended(RecordFault),
-    /// The log of answers ended, and has no fault left to report.
+    /// Ended, without a fault left to report.
     Closed,
 }
 
-/// The lines taken from a log of answers, and the fault that ended the log, if any.
+/// Lines taken from a log of answers.
 #[derive(Drop)]
 pub struct TakenAnswerLines {
-    /// The lines taken from a log of answers, in the order in which they were added. They follow
-    /// all lines taken before.
+    /// In the order in which they were added, after all lines taken before.
     pub bytes: Vec<u8>,
-    /// The fault that ended the log of answers. `None` if the log has not ended, or the fault was
-    /// reported before.
+    /// The fault that ended the log, unless it was reported before.
     pub fault: Option<RecordFault>,
     pub ghost bounded: { length bytes.items ≤ MAX_WAITING_BYTES },
 }
 
-/// The waiting lines of a log of answers, and whether the log accepts more.
+/// The waiting lines of a log of answers.
 #[derive(Drop)]
 pub(crate) struct AnswerLines {
     waiting: WaitingBytes,
@@ -38,7 +34,7 @@ pub(crate) struct AnswerLines {
 }
 
 impl AnswerLines {
-    /// Creates a log of answers that has no lines and accepts them.
+    /// Creates a log without lines, which accepts them.
     pub(crate) fn new(alloc: Global) -> AnswerLines
         ensures lines { result.waiting ≡ [] }
         ensures state { result.state ≡ Open }
@@ -49,14 +45,13 @@ impl AnswerLines {
         }
     }
 
-    /// Returns `true` if the log of answers accepts lines.
     pub(crate) fn is_open(&self) -> bool
         ensures { IsTrue result ↔ (self.now.state ≡ Open) }
     {
         self.state == LogState::Open
     }
 
-    /// Appends `line` to the log of answers, unless the log has ended.
+    /// Appends `line`, unless the log has ended.
     ///
     /// If more than 64 MiB would wait, or memory runs out, the log ends without `line`.
     pub(crate) fn add(&mut self, line: &[u8])
@@ -70,7 +65,7 @@ impl AnswerLines {
         }
     }
 
-    /// Ends the log of answers because of `fault`, unless the log has ended.
+    /// Ends the log because of `fault`, unless it has ended.
     pub(crate) fn end(&mut self, fault: RecordFault)
         ensures lines { self.new.waiting ≡ self.old.waiting }
         ensures state { self.new.state ≡ ended_by fault self.old.state }
@@ -80,7 +75,7 @@ impl AnswerLines {
         }
     }
 
-    /// Ends the log of answers without a fault.
+    /// Ends the log without a fault.
     ///
     /// Drops the waiting lines, and a fault that is not reported yet.
     pub(crate) fn stop(&mut self, alloc: Global)
@@ -91,10 +86,9 @@ impl AnswerLines {
         self.state = LogState::Closed;
     }
 
-    /// Takes all waiting lines, and the fault that ended the log of answers, if it is not reported
-    /// yet.
+    /// Takes all waiting lines, and the fault that ended the log, if it is not reported yet.
     ///
-    /// The empty buffer `empty` replaces the lines. Does not allocate or copy.
+    /// `empty` replaces the lines. Does not allocate or copy.
     pub(crate) fn take(&mut self, empty: Vec<u8>) -> TakenAnswerLines
         requires { empty.items ≡ [] }
         ensures bytes { result.bytes.items ≡ self.old.waiting }

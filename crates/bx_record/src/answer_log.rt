@@ -1,4 +1,3 @@
-//! The log of answers, which threads share.
 ghost use Rattle.std.specs.Prelude.{◌≡◌, []};
 
 use crate::answer::answer_line;
@@ -8,17 +7,16 @@ use bx_message::Item;
 use std::alloc::Global;
 use std::sync::{Mutex, Wait};
 
-/// A log of answers: the lines that wait to be written.
+/// A log of answers: their lines that wait to be written.
 ///
-/// Any thread can add lines, and one thread takes them. At most 64 MiB wait. A log that has ended
-/// accepts no more lines.
+/// Any thread can add lines, and one thread takes them. At most 64 MiB wait.
 #[derive(Drop)]
 pub struct WaitingAnswerLines {
     lines: Mutex<AnswerLines>,
 }
 
 impl WaitingAnswerLines {
-    /// Creates a log of answers that has no lines and accepts them.
+    /// Creates a log without lines, which accepts them.
     pub fn new(alloc: Global) -> WaitingAnswerLines {
         WaitingAnswerLines {
             lines: Mutex::new(AnswerLines::new(alloc)),
@@ -27,8 +25,8 @@ impl WaitingAnswerLines {
 
     /// Appends the line for the items that answer a request, unless the log has ended.
     ///
-    /// `place`: the place of the request's first message. The log ends without the line if more
-    /// than 64 MiB would wait, or if memory runs out.
+    /// `place`: that of the request's first message. If more than 64 MiB would wait, or memory runs
+    /// out, the log ends without the line.
     ///
     /// # Blocking
     ///
@@ -43,18 +41,12 @@ impl WaitingAnswerLines {
         }
     }
 
-    /// Appends `line` to the log of answers, unless the log has ended.
-    ///
-    /// The log ends without `line` if more than 64 MiB would wait, or if memory runs out.
-    ///
-    /// # Blocking
-    ///
-    /// Locks the log.
+    /// Appends `line`, as [`log_answer`](Self::log_answer) does.
     pub(crate) fn add<R: Wait>(&self, rt: &R, line: &[u8]) {
         self.lines.lock(rt).add(line);
     }
 
-    /// Ends the log of answers because of `fault`, unless the log has ended.
+    /// Ends the log because of `fault`, unless it has ended.
     ///
     /// # Blocking
     ///
@@ -63,7 +55,7 @@ impl WaitingAnswerLines {
         self.lines.lock(rt).end(fault);
     }
 
-    /// Ends the log of answers without a fault.
+    /// Ends the log without a fault.
     ///
     /// Drops the waiting lines, and a fault that is not reported yet.
     ///
@@ -74,12 +66,10 @@ impl WaitingAnswerLines {
         self.lines.lock(rt).stop(alloc);
     }
 
-    /// Takes all waiting lines, and the fault that ended the log of answers, if it is not reported
-    /// yet.
+    /// Takes all waiting lines, and the fault that ended the log, if it is not reported yet.
     ///
-    /// The empty buffer `empty` replaces the lines. A request is in the list before its line is
-    /// added. To let each line follow its request, take the lines before the hub's record, and
-    /// write them after the record.
+    /// `empty` replaces the lines. To let each line follow its request, take the lines before the
+    /// hub's record, and write them after it.
     ///
     /// # Blocking
     ///

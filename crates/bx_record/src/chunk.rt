@@ -1,4 +1,3 @@
-//! Parts of a text that grows at its end.
 ghost use Rattle.std.specs.Prelude.{◌≡◌, ◌++◌, [], IsTrue};
 
 /// A position in a text that grows at its end.
@@ -18,7 +17,7 @@ pub trait TextPosition: Drop {
 
     /// Returns `true` only if the texts up to `self` and up to `other` are the same.
     ///
-    /// Always returns `true` if `other` is a copy of `self`.
+    /// It is `true` if `other` is a copy of `self`.
     fn is_same(&self, other: &Self) -> bool
         ensures text { IsTrue result → text self.now ≡ text other.now }
         ensures copy { is_copy self.now other.now → IsTrue result };
@@ -34,7 +33,7 @@ pub struct Chunk<F: TextPosition> {
 }
 
 impl<F: TextPosition> Chunk<F> {
-    /// Creates a chunk from `bytes`, which must be the text between `from` and `to`.
+    /// Creates a chunk from `bytes`, the text between `from` and `to`.
     pub fn new(from: F, to: F, bytes: Vec<u8>) -> Chunk<F>
         requires { F.text to ≡ F.text from ++ bytes.items }
         ensures { (result.from ≡ from) × (result.to ≡ to) × (result.bytes ≡ bytes) }
@@ -42,21 +41,21 @@ impl<F: TextPosition> Chunk<F> {
         Chunk { from, to, bytes }
     }
 
-    /// Returns the position at the end of the chunk.
+    /// Returns the position at its end.
     pub fn upto(&self) -> &F
         ensures { result.now ≡ self.now.to }
     {
         &self.to
     }
 
-    /// Returns the chunk's part of the text.
+    /// Returns the bytes.
     pub fn bytes(&self) -> &[u8]
         ensures { result.now ≡ self.now.bytes.items }
     {
         self.bytes.as_slice()
     }
 
-    /// Drops the bytes and returns their buffer, which is then empty.
+    /// Returns the buffer, which is then empty.
     pub(crate) fn into_empty(self) -> Vec<u8>
         ensures { result.items ≡ [] }
     {

@@ -1,4 +1,3 @@
-//! The first line of a record, which has the configuration of its server.
 ghost use Rattle.std.specs.Prelude.{◌≡◌, ◌∷◌, ◌++◌, IfOk, OnOk, decimal, map, option_map};
 ghost use Rattle.bx_advice.specs.Limits.{limit_name};
 ghost use Rattle.bx_record.specs.Configs.{config_in, config_text, first_in, limit_word, limits_in, options_at, options_word, setting, shards_in, time_at, value_in};
@@ -10,16 +9,12 @@ use std::alloc::{AllocError, Global};
 
 /// Formats `config` as the first line of a record.
 ///
-/// The line has words `name=value`, separated by single spaces. In order, they are:
+/// It has words `name=value`, separated by single spaces, in this order:
 ///
 /// - `shards`: the number of shards
 /// - `timeout`, `interval` and `max_interval`: times in milliseconds
 /// - `options`: `-`, `r` (ride), `a` (anonymous) or `ra`
 /// - each limit of [`Limit::ALL`], or `-` if it is beyond the limit's greatest value
-///
-/// # Errors
-///
-/// `AllocError` if memory runs out.
 pub fn config_text(alloc: Global, config: &Config) -> Result<Vec<u8>, AllocError>
     ensures { IfOk result (λ text. text.items ≡ config_text config.now) }
 {
@@ -41,7 +36,6 @@ pub fn config_text(alloc: Global, config: &Config) -> Result<Vec<u8>, AllocError
     Ok(text)
 }
 
-// Returns the value for the options: `-`, `r`, `a` or `ra`.
 fn options_word(ride: bool, anonymous: bool) -> &'static [u8]
     ensures { result.now ≡ options_word ride anonymous }
 {
@@ -53,7 +47,6 @@ fn options_word(ride: bool, anonymous: bool) -> &'static [u8]
     }
 }
 
-// Appends a space and the word for `limit` with the value `n`.
 fn push_limit(text: &mut Vec<u8>, limit: Limit, n: usize) -> Result<(), AllocError>
     ensures { OnOk result (text.new.items ≡ text.old.items ++ 32 ∷ setting (limit_name limit) (limit_word limit n)) }
 {
@@ -66,7 +59,6 @@ fn push_limit(text: &mut Vec<u8>, limit: Limit, n: usize) -> Result<(), AllocErr
     }
 }
 
-// Appends a space and the word for the time `name`, which is `time` milliseconds.
 fn push_time(text: &mut Vec<u8>, name: &[u8], time: u32) -> Result<(), AllocError>
     ensures { OnOk result (text.new.items ≡ text.old.items ++ 32 ∷ setting name.now (decimal time)) }
 {
@@ -74,7 +66,6 @@ fn push_time(text: &mut Vec<u8>, name: &[u8], time: u32) -> Result<(), AllocErro
     push_number(text, u64::from(time))
 }
 
-// Appends a space and the word `name=value`.
 fn push_setting(text: &mut Vec<u8>, name: &[u8], value: &[u8]) -> Result<(), AllocError>
     ensures { OnOk result (text.new.items ≡ text.old.items ++ 32 ∷ setting name.now value.now) }
 {
@@ -84,7 +75,6 @@ fn push_setting(text: &mut Vec<u8>, name: &[u8], value: &[u8]) -> Result<(), All
     text.extend_from_slice(value)
 }
 
-// Appends the decimal digits of `number`.
 fn push_number(text: &mut Vec<u8>, number: u64) -> Result<(), AllocError>
     ensures { OnOk result (text.new.items ≡ text.old.items ++ decimal number) }
 {
@@ -92,9 +82,7 @@ fn push_number(text: &mut Vec<u8>, number: u64) -> Result<(), AllocError>
     text.extend_from_slice(buffer.format(number).as_bytes())
 }
 
-/// Parses `words`, those of the first line of a record, or returns `None` if one is wrong.
-///
-/// [`config_text`] describes the words.
+/// Parses the words of the first line of a record, as [`config_text`] describes them.
 pub fn read_config(words: &[&[u8]]) -> Option<Config>
     ensures { result ≡ config_in (map (λ word. word.now) words.now) }
 {
@@ -114,7 +102,6 @@ pub fn read_config(words: &[&[u8]]) -> Option<Config>
     }
 }
 
-// Parses the words before those of the limits.
 fn read_first(
     shards: &[u8],
     timeout: &[u8],
@@ -132,30 +119,25 @@ fn read_first(
     Some(Config::new(shards, timeout, interval, max_interval)?.with(options))
 }
 
-// Parses the word for the number of shards.
 fn read_shards(word: &[u8]) -> Option<usize>
     ensures { result ≡ shards_in word.now }
 {
     usize::try_from(number_of(value_in(b"shards", word)?)?).ok()
 }
 
-// Parses the word for the time `name`.
 fn read_time(name: &[u8], word: &[u8]) -> Option<u32>
     ensures { result ≡ time_at name.now word.now }
 {
     time_in(value_in(name, word)?)
 }
 
-// Parses the word for the options.
 fn read_options(word: &[u8]) -> Option<Options>
     ensures { result ≡ options_at word.now }
 {
     Options::read(value_in(b"options", word)?)
 }
 
-// Sets `limits` to the values in `words`, which has one word for each limit.
-//
-// Returns `None` if a word is wrong.
+// Sets `limits` to the values in `words`, one for each.
 fn read_limits(config: Config, limits: &[Limit], words: &[&[u8]]) -> Option<Config>
     ensures { result ≡ limits_in limits.now (map (λ word. word.now) words.now) config }
 {

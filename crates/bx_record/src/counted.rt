@@ -1,4 +1,3 @@
-//! A file that counts the bytes written to it.
 ghost use Rattle.std.specs.Prelude.{◌≡◌, ◌+◌, ◌-◌, ◌^◌, min, IfOk, OnErr};
 ghost use Rattle.std.specs.Io.{WritesAtMost};
 ghost use Rattle.std.specs.Io.KnownBytes.{WriteAppends};
@@ -6,9 +5,7 @@ ghost use Rattle.std.specs.Io.KnownBytes.{WriteAppends};
 use std::io;
 use std::io::Write;
 
-/// A file, and a count of the bytes written to it.
-///
-/// The count stops at `u64::MAX`.
+/// A file, and a count of the bytes written to it, which stops at `u64::MAX`.
 #[derive(Drop)]
 pub struct CountedFile<W> {
     file: W,
@@ -16,15 +13,14 @@ pub struct CountedFile<W> {
 }
 
 impl<W> CountedFile<W> {
-    /// Creates a `CountedFile` that writes to `file`, with a count of 0.
+    /// Creates a `CountedFile` with a count of 0.
     pub fn new(file: W) -> CountedFile<W>
         ensures { result ≡ record { file = file; count = 0 } }
     {
         CountedFile { file, count: 0 }
     }
 
-    /// Returns how many bytes were written to the file since `self` was created, at most
-    /// `u64::MAX`.
+    /// Returns how many bytes were written, at most `u64::MAX`.
     pub fn count(&self) -> u64
         ensures { result ≡ self.now.count }
     {

@@ -1,4 +1,3 @@
-//! The URL-encoded form that carries a request's documents, each in a parameter `message`.
 ghost use Rattle.std.specs.Prelude.{◌≡◌, ◌+◌, ◌<◌, ◌≤◌, ◌++◌, MatchOption, OnOk, length};
 ghost use Rattle.form_urlencoded.specs.Form.{byte_serialize, is_unchanged, serialize_byte};
 ghost use Rattle.bx_advice.specs.declared.limit.TheConstants.{BODY_LIMIT};
@@ -13,9 +12,7 @@ use std::alloc::AllocError;
 // The length of `&message=` in bytes.
 const LEAD: usize = 9;
 
-/// Returns the length of the form that carries `bodies`, or `None` if it exceeds `BODY_LIMIT`.
-///
-/// The form is URL-encoded. Lengths are in bytes. `bodies` must not be empty.
+/// Returns the length of the form that carries `bodies`, if it is at most `BODY_LIMIT`.
 #[tactic(auto, using(crate::proofs::Forms::all_counted))]
 pub(crate) fn form_len(bodies: &Bodies) -> Option<usize>
     requires { 0 < length (texts_of bodies.now) }
@@ -30,9 +27,7 @@ pub(crate) fn form_len(bodies: &Bodies) -> Option<usize>
     Some(BODY_LIMIT - room)
 }
 
-// Returns `room` less the length of an `&` and of the parameter that carries `document`.
-//
-// Returns `None` if they do not fit.
+// Returns `room` less the length of an `&` and the parameter for `document`, if they fit.
 #[tactic(auto, using(crate::proofs::Forms::encoded_none, crate::proofs::Forms::encoded_more, crate::proofs::Forms::no_room))]
 fn room_after(room: usize, document: &[u8]) -> Option<usize>
     ensures { MatchOption result (room < 1 + length (parameter_of document.now))
@@ -45,7 +40,7 @@ fn room_after(room: usize, document: &[u8]) -> Option<usize>
     Some(left)
 }
 
-// Returns the length of `byte` in a URL-encoded form, in bytes: 1 or 3.
+// 1 or 3 bytes.
 #[tactic(auto, using(crate::proofs::Forms::serialized_len))]
 fn encoded_len(byte: u8) -> usize
     ensures { result ≡ length (serialize_byte byte) }
@@ -57,18 +52,13 @@ fn encoded_len(byte: u8) -> usize
     }
 }
 
-// Returns `true` if a URL-encoded form contains `byte` itself: a letter, a digit or one of `*-._`.
 fn is_unchanged(byte: u8) -> bool
     ensures { result ≡ is_unchanged byte }
 {
     byte.is_ascii_alphanumeric() || matches!(byte, b'*' | b'-' | b'.' | b'_')
 }
 
-/// Appends the URL-encoded form that carries `bodies`, each in a parameter `message`.
-///
-/// # Errors
-///
-/// `AllocError` if memory runs out.
+/// Appends the URL-encoded form that carries each of `bodies` in a parameter `message`.
 pub(crate) fn push_form(text: &mut Vec<u8>, bodies: &Bodies) -> Result<(), AllocError>
     ensures { OnOk result (text.new.items ≡ text.old.items ++ form_of (texts_of bodies.now)) }
 {
@@ -81,8 +71,6 @@ pub(crate) fn push_form(text: &mut Vec<u8>, bodies: &Bodies) -> Result<(), Alloc
     Ok(())
 }
 
-// Appends the parameter that carries `document`.
-//
 // Bayeux 1.0, long-polling.
 fn push_parameter(text: &mut Vec<u8>, document: &[u8]) -> Result<(), AllocError>
     ensures { OnOk result (text.new.items ≡ text.old.items ++ parameter_of document.now) }
@@ -91,7 +79,6 @@ fn push_parameter(text: &mut Vec<u8>, document: &[u8]) -> Result<(), AllocError>
     push_encoded(text, document)
 }
 
-// Appends the URL encoding of `bytes`.
 fn push_encoded(text: &mut Vec<u8>, bytes: &[u8]) -> Result<(), AllocError>
     ensures { OnOk result (text.new.items ≡ text.old.items ++ byte_serialize bytes.now) }
 {

@@ -5,16 +5,15 @@ ghost use Rattle.bx_record.specs.Laws.{AnswersAreSkipped, AnswersBreakOff, Answe
 
 /// Proves that reading a record gives the inputs that it was made from, in order.
 ///
-/// All other lines of the record are nonces. A request without a handshake uses no nonce, and is
-/// read with nonce 0.
+/// All other lines of the record are nonces. A request without a handshake is read with nonce 0.
 pub fn records_read_back()
     ensures { RecordsReadBack }
 {}
 
 /// Proves that the inputs read from a record have the same results as the original ones.
 ///
-/// For every configuration, the responses and rejections are the same, in the same order. The same
-/// inputs are not completely answered at the end.
+/// For every configuration, the responses and rejections are the same, and so are the inputs that
+/// are not completely answered at the end.
 pub fn records_answer_alike()
     ensures { RecordsAnswerAlike }
 {}
@@ -28,15 +27,14 @@ pub fn truncated_records_read_back()
 
 /// Proves that reading a record skips the line of an answer.
 ///
-/// This holds for every place below 2^64, every digest of 32 bytes and any text after the line.
+/// The place is below 2^64, the digest has 32 bytes, and any text may follow.
 pub fn answer_lines_are_skipped()
     ensures { AnswersAreSkipped }
 {}
 
 /// Proves that lines of answers between inputs do not change what a record gives.
 ///
-/// The inputs and, for every configuration, the results of the inputs are the same as without these
-/// lines. All lines that are not inputs are nonces or answers.
+/// The inputs and, for every configuration, their results are the same as without these lines.
 pub fn answer_lines_change_nothing()
     ensures { AnswersChangeNothing }
 {}

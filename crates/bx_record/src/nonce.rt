@@ -1,4 +1,3 @@
-//! The hexadecimal digits of a nonce.
 ghost use Rattle.std.specs.Prelude.{◌≡◌, ◌<◌, ◌++◌, OnOk};
 ghost use Rattle.std.specs.Char.{digit_char};
 ghost use Rattle.bx_entry.specs.Registry.{hex_digits};
@@ -6,14 +5,9 @@ ghost use Rattle.bx_record.specs.Record.{nonce_digits};
 
 use std::alloc::AllocError;
 
-// Number of digits of a nonce, which has 128 bits.
 const NONCE_DIGITS: usize = 32;
 
 /// Appends the 32 hexadecimal digits of `nonce`, in lower case.
-///
-/// # Errors
-///
-/// `AllocError` if memory runs out.
 #[tactic(auto, unfolding(crate::specs::Record::nonce_digits))]
 pub(crate) fn push_nonce_digits(text: &mut Vec<u8>, nonce: u128) -> Result<(), AllocError>
     ensures { OnOk result (text.new.items ≡ text.old.items ++ nonce_digits nonce) }
@@ -21,7 +15,6 @@ pub(crate) fn push_nonce_digits(text: &mut Vec<u8>, nonce: u128) -> Result<(), A
     push_hex(text, nonce, NONCE_DIGITS)
 }
 
-// Appends the last `width` hexadecimal digits of `number`, in lower case.
 fn push_hex(text: &mut Vec<u8>, number: u128, width: usize) -> Result<(), AllocError>
     ensures { OnOk result (text.new.items ≡ text.old.items ++ hex_digits width number) }
 {
@@ -33,7 +26,6 @@ fn push_hex(text: &mut Vec<u8>, number: u128, width: usize) -> Result<(), AllocE
     Ok(())
 }
 
-// Converts `number`, below 16, to its hexadecimal digit.
 fn hex_digit(number: u8) -> u8
     requires { number < 16 }
     ensures { result ≡ digit_char number }

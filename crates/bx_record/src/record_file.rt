@@ -1,4 +1,3 @@
-//! A file that gets each part of a text once, in order.
 ghost use Rattle.std.specs.Prelude.{◌≡◌, ◌++◌, [], IfErr, IfOk};
 ghost use Rattle.std.specs.Io.KnownBytes.{Appends};
 
@@ -11,9 +10,8 @@ use std::io::Write;
 /// The error of a failed write, and how far the file was written.
 #[derive(Debug, Drop)]
 pub struct FailedWrite {
-    /// Number of bytes written to the file, including what the failed write wrote.
+    /// Including what the failed write wrote.
     pub count: u64,
-    /// Why the write failed.
     pub error: io::Error,
 }
 
@@ -23,16 +21,13 @@ pub struct FailedWrite {
 #[derive(Drop)]
 pub struct RecordFile<F: TextPosition, W> {
     file: CountedFile<W>,
-    // Ghost: the text written so far.
     written: History<u8>,
     upto: F,
     ghost whole: { written ≡ F.text upto },
 }
 
 impl<F: TextPosition, W: Write + Drop> RecordFile<F, W> {
-    /// Creates a `RecordFile` for a text that begins at `start`.
-    ///
-    /// The text up to `start` must be empty. Writes nothing.
+    /// Creates a `RecordFile` for a text that begins at `start`. Writes nothing.
     pub fn new(file: CountedFile<W>, start: F) -> RecordFile<F, W>
         requires { F.text start ≡ [] }
         ensures { (result.file ≡ file) × (result.written ≡ []) × (result.upto ≡ start) }
@@ -44,7 +39,7 @@ impl<F: TextPosition, W: Write + Drop> RecordFile<F, W> {
         }
     }
 
-    /// Returns how many bytes were written to the file, including lines of answers.
+    /// Returns how many bytes were written, including lines of answers.
     pub fn count(&self) -> u64
         ensures { result ≡ self.now.file.count }
     {
@@ -55,7 +50,7 @@ impl<F: TextPosition, W: Write + Drop> RecordFile<F, W> {
     ///
     /// # Errors
     ///
-    /// - `InvalidInput`: `chunk` does not follow the text written so far; nothing is written.
+    /// - `InvalidInput`: `chunk` does not follow the text written so far.
     /// - Any error of the file, which may then have a prefix of `chunk`.
     pub fn write(self, chunk: &Chunk<F>) -> Result<RecordFile<F, W>, FailedWrite>
         ensures written { IfOk result (λ out. out.written ≡ self.written ++ chunk.now.bytes.items) }

@@ -1,4 +1,3 @@
-//! The source of a growing text and of answers, to be written to a file.
 ghost use Rattle.std.specs.Prelude.{◌≡◌, []};
 
 use crate::chunk::{Chunk, TextPosition};
@@ -6,9 +5,8 @@ use crate::chunk::{Chunk, TextPosition};
 /// The text taken from a [`Source`], and whether the text may grow further.
 #[derive(Drop)]
 pub struct TakenText<F: TextPosition, E> {
-    /// All text that waited to be written.
     pub chunk: Chunk<F>,
-    /// Why the text ends after `chunk`, or `None` if it may grow.
+    /// Why the text ends after `chunk`, unless it may grow.
     pub fault: Option<E>,
 }
 
@@ -20,16 +18,14 @@ pub trait Source {
     /// Why the text ends.
     type Fault: Drop;
 
-    /// Returns how many bytes of text wait to be written.
+    /// Returns how many bytes of text wait.
     fn waiting(&self) -> usize;
 
-    /// Takes all waiting text, or returns `None` if the text has ended.
-    ///
-    /// Leaves the empty buffer `empty` in place of the text.
+    /// Takes all waiting text, unless the text has ended, and leaves `empty` in its place.
     fn take(&mut self, empty: Vec<u8>) -> Option<TakenText<Self::TextPosition, Self::Fault>>
         requires empty { empty.items ≡ [] };
 
-    /// Takes all waiting lines of answers, and leaves the empty buffer `empty` in their place.
+    /// Takes all waiting lines of answers, and leaves `empty` in their place.
     ///
     /// The request of each answer is in text that was taken before, or that the next call of
     /// [`take`](Self::take) takes. If the text ends, it may lack the requests of some answers.

@@ -1,4 +1,3 @@
-//! The lines of a record for a request and for a tick.
 ghost use Rattle.std.specs.Prelude.{◌≡◌, ◌≤◌, ◌<◌, ◌∷◌, ◌++◌, [], IfOk, IfSome, MatchOption, OnOk, Ok, codes, decimal, is_some, length, option_map};
 ghost use Rattle.std.specs.List.{list_any};
 ghost use Rattle.bx_advice.specs.declared.limit.TheConstants.{BODY_LIMIT};
@@ -20,21 +19,15 @@ use itoa::Buffer;
 use memchr::memchr;
 use std::alloc::{AllocError, Global};
 
-// The most bytes in a request's lines, without its documents. Each of two lines has a moment of up
-// to 20 digits, a letter, two spaces and a newline. A nonce has 32 digits.
+// The most bytes in a request's two lines without its documents. Each has a moment of up to 20
+// digits, a letter, two spaces and a newline. A nonce has 32 digits.
 const BESIDE: usize = 2 * (20 + 4) + 32;
 
 /// Formats the request `arrival` as lines of a record, or returns `None` if no line can express it.
 ///
-/// `messages` must be the messages of `arrival`. If one of them is a handshake, there are two
-/// lines: one with the nonce, and one with the documents. Otherwise there is only the second.
+/// If one of its `messages` is a handshake, a line with the nonce precedes that of the documents.
 ///
-/// No line can express a request without documents, or documents that need a body of more than
-/// [`BODY_LIMIT`] bytes.
-///
-/// # Errors
-///
-/// `AllocError` if memory runs out.
+/// No line can express a request without documents, or one that needs more than [`BODY_LIMIT`].
 pub fn request_text(
     alloc: Global,
     arrival: &Arrival,
@@ -73,10 +66,6 @@ fn nonce_of(arrival: &Arrival) -> u128
 /// Formats a tick as a line of a record.
 ///
 /// `moment`: milliseconds since the server started.
-///
-/// # Errors
-///
-/// `AllocError` if memory runs out.
 pub fn tick_text(alloc: Global, moment: u64) -> Result<Vec<u8>, AllocError>
     ensures text { IfOk result (λ text. text.items ≡ input_text (inputs.Tick moment)) }
     ensures recordable { OnOk result (CanRecord (inputs.Tick moment)) }
@@ -87,7 +76,6 @@ pub fn tick_text(alloc: Global, moment: u64) -> Result<Vec<u8>, AllocError>
     Ok(text)
 }
 
-// Returns `true` if one of `messages` is a handshake.
 fn asks_for_session(messages: &[Message]) -> bool
     ensures { result ≡ list_any is_handshake messages.now }
 {
@@ -96,9 +84,7 @@ fn asks_for_session(messages: &[Message]) -> bool
         .any(|message| message.channel.as_str() == "/meta/handshake")
 }
 
-// Returns the document that a line can contain unchanged: the only one, without a newline.
-//
-// Returns `None` if there is not exactly one document, or if it has a newline.
+// Returns the only document, if it has no newline, so that a line can contain it unchanged.
 fn plain_document(bodies: &Bodies) -> Option<&[u8]>
     ensures { option_map (λ d. d.now) result ≡ plain_document (texts_of bodies.now) }
 {
@@ -120,7 +106,7 @@ fn has_newline(document: &[u8]) -> bool
     memchr(b'\n', document).is_some()
 }
 
-// Returns how many bytes a line needs for `bodies`, or `None` if no line can express them.
+// Returns how many bytes a line needs for `bodies`, if a line can express them.
 //
 // `plain`: the document that a line can contain unchanged, if any.
 fn carrier_len(plain: Option<&[u8]>, bodies: &Bodies) -> Option<usize>
@@ -146,9 +132,7 @@ fn push_nonce(text: &mut Vec<u8>, moment: u64, nonce: u128) -> Result<(), AllocE
     Ok(())
 }
 
-// Appends the line of a request with `bodies`: the document itself (`P`) or a form (`F`).
-//
-// `plain`: the document that a line can contain unchanged, if any.
+// Appends the line `moment P plain` if `plain` is given, and otherwise `moment F form`.
 fn push_documents(
     text: &mut Vec<u8>,
     moment: u64,
@@ -172,7 +156,6 @@ fn push_documents(
     Ok(())
 }
 
-// Appends `moment` in decimal digits, a space and `command`.
 fn push_head(text: &mut Vec<u8>, moment: u64, command: &[u8]) -> Result<(), AllocError>
     ensures { OnOk result (text.new.items ≡ text.old.items ++ decimal moment ++ 32 ∷ command.now) }
 {

@@ -1,4 +1,3 @@
-//! A bounded buffer of bytes that wait to be written, and the faults that end a record.
 ghost use Rattle.std.specs.Prelude.{◌≡◌, ◌≢◌, ◌+◌, ◌<◌, ◌≤◌, ◌++◌, [], length, IfErr, OnErr, OnOk};
 ghost use Rattle.bx_record.specs.declared.waiting.RecordFault.TheVariants.{Full, Memory, Unrecordable};
 ghost use Rattle.bx_record.specs.declared.waiting.TheConstants.{MAX_WAITING_BYTES};
@@ -8,27 +7,21 @@ use std::alloc::{AllocError, Global};
 use std::marker::Model;
 use std::mem;
 
-/// The most bytes that may wait to be written: 64 MiB.
-///
-/// Policy of this server.
+/// The most bytes that may wait to be written: 64 MiB. Policy of this server.
 pub const MAX_WAITING_BYTES: usize = 64 << 20;
 
-/// Why a record ended, or why it has no further lines for answers.
+/// Why a record, or its lines of answers, ended.
 #[derive(Clone, Copy, Debug, PartialEq, Eq)]
 pub enum RecordFault {
-    /// More than 64 MiB of the record would wait to be written.
+    /// More than 64 MiB would wait.
     Full,
-    /// No line of a record can express a request, since its documents need a body that is too
-    /// large.
+    /// No line can express a request, since its documents need a body that is too large.
     Unrecordable,
-    /// Memory ran out for a line of the record.
     Memory,
 }
 
 impl RecordFault {
-    /// Returns the reason in words, such as "out of memory".
-    ///
-    /// Policy of this server.
+    /// Returns the reason in words. Policy of this server.
     pub fn reason(self) -> &'static str
         ensures { result.now ≡ fault_reason self }
     {
@@ -75,7 +68,7 @@ impl WaitingBytes {
         }
     }
 
-    /// Returns the number of bytes in the buffer, at most [`MAX_WAITING_BYTES`].
+    /// Returns the number of bytes.
     pub fn len(&self) -> usize
         ensures count { result ≡ length self.now }
         ensures bound { result ≤ MAX_WAITING_BYTES }
@@ -87,10 +80,7 @@ impl WaitingBytes {
     ///
     /// # Errors
     ///
-    /// - `Full`: more than [`MAX_WAITING_BYTES`] bytes would wait.
-    /// - `Memory`: memory ran out.
-    ///
-    /// On error `self` is unchanged.
+    /// `Full` if more than [`MAX_WAITING_BYTES`] bytes would wait, or `Memory`.
     pub fn push(&mut self, bytes: &[u8]) -> Result<(), RecordFault>
         ensures added { OnOk result (self.new ≡ self.old ++ bytes.now) }
         ensures same { OnErr result (self.new ≡ self.old) }
@@ -104,9 +94,7 @@ impl WaitingBytes {
         Ok(())
     }
 
-    /// Takes all waiting bytes, and leaves the empty buffer `empty` in their place.
-    ///
-    /// Does not allocate or copy.
+    /// Takes all bytes, and leaves the empty buffer `empty`. Does not allocate or copy.
     pub fn take(&mut self, empty: Vec<u8>) -> Vec<u8>
         requires { empty.items ≡ [] }
         ensures taken { result.items ≡ self.old }

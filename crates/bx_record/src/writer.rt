@@ -1,4 +1,3 @@
-//! The loop that writes a growing text and its answers to a file.
 ghost use Rattle.std.specs.Prelude.{◌≡◌, [], IfOk};
 
 use crate::record_file::{FailedWrite, RecordFile};
@@ -22,32 +21,30 @@ pub(crate) const SOON: usize = 64 << 10;
 /// Why [`write_until_stopped`] ended.
 #[derive(Debug, Drop)]
 pub enum WriterEnd<E> {
-    /// Writing ended because `stop` was set; everything that waited is written.
+    /// `stop` was set; everything that waited is written.
     StopRequested,
-    /// Writing ended because the text ended, for this reason; the last part of the text is written.
+    /// The text ended, for this reason; its last part is written.
     Ended(E),
-    /// Writing ended because the source returned no text; the text had ended before.
+    /// The source returned no text; it had ended before.
     AlreadyEnded,
-    /// Writing ended because a write failed, or a chunk does not follow the text written so far.
+    /// A write failed, or a chunk does not follow the text written so far.
     WriteFailed(io::Error),
 }
 
-/// How many bytes were written to a record's file, and why writing ended.
+/// How far a record's file was written.
 #[derive(Debug, Drop)]
 pub struct WriteSummary<E> {
-    /// Number of bytes written to the file, including what a failed write wrote.
+    /// Including what a failed write wrote.
     pub count: u64,
-    /// Why writing ended.
     pub end: WriterEnd<E>,
 }
 
 /// Writes what waits in `source` to `out`, until `stop` is set.
 ///
-/// Writes at once, then every 100 ms, or within 10 ms if 64 KiB of text wait. After `stop` is
-/// set, writes a last time and does not stop the source.
+/// Writes at once, then every 100 ms, or within 10 ms if 64 KiB of text wait. After `stop` is set,
+/// writes a last time and does not stop the source.
 ///
-/// Ends earlier if the text ends or cannot be written, and then stops the source. Returns how much
-/// was written, and why writing ended.
+/// Ends earlier if the text ends or cannot be written, and then stops the source.
 ///
 /// # Blocking
 ///
@@ -93,8 +90,7 @@ where
     }
 }
 
-// Writes all that waits. Returns the file and the buffers for text and answers, which are then
-// empty.
+// Writes all that waits. Returns the file and the two empty buffers.
 //
 // If the text has ended or a write fails, stops the source and returns why writing ended.
 //

@@ -1,10 +1,7 @@
-//! The planned change to the registry.
 use bx_roster::Edits;
 use std::marker::Model;
 
-/// The change to the registry that a planned request or tick makes.
-///
-/// Model: the edits of the sessions, and the clock and the list's length after them.
+/// What a planned request or tick changes in the registry.
 #[derive(Drop)]
 pub struct Change {
     pub(crate) edits: Edits,

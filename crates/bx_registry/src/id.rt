@@ -1,4 +1,3 @@
-//! Client ids: a nonce and a session's number, in hexadecimal digits.
 ghost use Rattle.std.specs.Prelude.{◌≡◌, ◌++◌, ◌<◌, ◌-◌, string_bytes, IfOk, OnOk, fold, drop};
 ghost use Rattle.std.specs.Char.{digit_char};
 ghost use Rattle.bx_entry.specs.Registry.{client_id, hex_digits};
@@ -7,17 +6,11 @@ ghost use Rattle.bx_registry.specs.Ids.{digit_value, hex_value, number_in, with_
 use bx_message::Text;
 use std::alloc::{AllocError, Global};
 
-// Number of hexadecimal digits of the nonce in a client id.
 const NONCE_DIGITS: usize = 32;
 
-// Number of hexadecimal digits of the session's number in a client id.
 const NUMBER_DIGITS: usize = 16;
 
 /// Creates a client id: 32 lower-case digits of `nonce`, then 16 of `number`.
-///
-/// # Errors
-///
-/// `AllocError` if memory runs out.
 pub(crate) fn client_id(alloc: Global, nonce: u128, number: u64) -> Result<Text, AllocError>
     ensures { IfOk result (λ id. id ≡ client_id nonce number) }
 {
@@ -27,9 +20,7 @@ pub(crate) fn client_id(alloc: Global, nonce: u128, number: u64) -> Result<Text,
     Text::from_string(id)
 }
 
-// Appends the last `width` hexadecimal digits of `number`, in lower case.
-//
-// On error, some of them may have been appended.
+// Appends the last `width` hexadecimal digits of `number`. On error, some of them may be appended.
 fn push_hex(text: &mut String, number: u128, width: usize) -> Result<(), AllocError>
     ensures { OnOk result (string_bytes text.new ≡ string_bytes text.old ++ hex_digits width number) }
 {
@@ -40,7 +31,6 @@ fn push_hex(text: &mut String, number: u128, width: usize) -> Result<(), AllocEr
     text.push(hex_digit((number % 16) as u8))
 }
 
-// Returns the lower-case hexadecimal digit for `number`, which is below 16.
 fn hex_digit(number: u8) -> char
     requires { number < 16 }
     ensures { result ≡ digit_char number }
@@ -52,9 +42,9 @@ fn hex_digit(number: u8) -> char
     }
 }
 
-/// Returns the session's number in a client id: the digits after the nonce, modulo 2^64.
+/// Returns the number in a client id: the digits after the nonce, modulo 2^64.
 ///
-/// If `client` is not a client id, the result has no meaning.
+/// Of other texts, the result has no meaning.
 pub(crate) fn number_in(client: &str) -> u64
     ensures { result ≡ number_in client.now }
 {

@@ -1,4 +1,3 @@
-//! The outcome of one message: what it changes, its entry and its reply.
 ghost use Rattle.std.specs.Prelude.{◌≡◌, ◌+◌, ◌<◌, ◌≤◌, ◌^◌, ◌∷◌, [], ℕ, Some, None, List, false, length, min, unwrap_or, map, filter, not, if◌then◌else◌, is_some, IfOk, Option, option_map};
 ghost use Rattle.std.specs.Option.{option_copied};
 ghost use Rattle.bx_names.specs.Faults.{name_fault, pattern_fault};
@@ -38,31 +37,22 @@ use bx_names::{ChannelName, NameError, Pattern, is_service};
 use bx_roster::{Edit, LiveSession};
 use std::alloc::{AllocError, AllocFailed, Global};
 
-/// The result of judging a message: what it changes, its entry, and how it is answered.
+/// The result of judging a message.
 #[derive(Drop)]
 pub(crate) struct MessageOutcome {
-    /// The change that the judged message makes to the sessions, if any.
     pub(crate) edit: Option<Edit>,
-    /// The kind of the judged message's entry.
     pub(crate) kind: EntryKind,
-    /// The judged message as a rider, with its reply, if it is one.
+    /// The message with its reply, if it is a rider.
     pub(crate) rides: Option<Rider>,
-    /// How the judged message is answered: by a reply at once, or later under a ticket.
+    /// How the message is answered: by a reply at once, or later under a ticket.
     pub(crate) slot: Slot,
-    /// Who sent the messages of the request so far, for judging the next message.
-    ///
-    /// After the last message of a request, there are none.
+    /// Who sent the messages so far; no one after the request's last message.
     pub(crate) senders: Senders,
 }
 
 /// Judges the message at `place`, given the sessions after the request's earlier messages.
 ///
-/// `senders`: who sent those messages. `moment`: the clock, in milliseconds since the server
-/// started.
-///
-/// # Errors
-///
-/// `AllocError` if memory runs out.
+/// `senders`: who sent those. `moment`: the clock, in milliseconds since the server started.
 pub(crate) fn judge<P: Placing>(
     alloc: Global,
     setup: &Setup<'_, P>,
@@ -97,9 +87,7 @@ pub(crate) fn judge<P: Placing>(
     }
 }
 
-// Rejects a message with `error`, and replies at once.
-//
-// No session changes. The request can then have no rider.
+// Rejects a message with `error`. The request can then have no rider.
 fn refuse(
     config: &Config,
     posted: Posted<'_>,
@@ -133,9 +121,7 @@ fn refuse(
     })
 }
 
-// Accepts a publish without a session, which succeeds at once.
-//
-// No session changes. The request can then have no rider.
+// Accepts a publish without a session. The request can then have no rider.
 fn accept_sessionless(
     alloc: Global,
     config: &Config,
@@ -168,9 +154,9 @@ fn accept_sessionless(
     })
 }
 
-// Returns the kind of entry for an accepted message without a session, always a publish.
+// Returns the kind of entry for an accepted message without a session.
 //
-// Other kinds of messages do not occur here.
+// Only a publish occurs here.
 fn sessionless_kind(
     alloc: Global,
     message_kind: MessageKind,
@@ -185,10 +171,9 @@ fn sessionless_kind(
     })
 }
 
-// Accepts a message of a live session, and sets the due moment of the session.
+// Accepts a message of a live session, and sets the session's due moment.
 //
-// A disconnect closes the session instead. A connect or a rider waits; any other message succeeds
-// at once.
+// A disconnect closes the session instead.
 fn serve<P: Placing>(
     alloc: Global,
     setup: &Setup<'_, P>,
@@ -227,9 +212,6 @@ fn serve<P: Placing>(
     })
 }
 
-// Returns the senders with which the next message is judged.
-//
-// They are `NoneYet` if `posted` is the last message of its request, and otherwise `senders`.
 fn senders_after(posted: Posted<'_>, senders: Senders) -> Senders
     ensures { result ≡ senders_after (posted_of posted.entry) senders }
 {
@@ -243,8 +225,8 @@ fn senders_after(posted: Posted<'_>, senders: Senders) -> Senders
 // Returns `true` if an accepted message of session `sender` is a rider.
 //
 // `config.ride` must be set, and the session must not acknowledge. The message must be a
-// subscription, an unsubscription or a publish, and the last one of its request. All messages of
-// the request must be accepted and come from the session, and none may be a handshake.
+// subscription, an unsubscription or a publish, and the last one of its request. All messages must
+// be accepted and come from the session, and none may be a handshake.
 fn is_rider(config: &Config, senders: Senders, posted: Posted<'_>, sender: &Sender<'_>) -> bool
     ensures { result ≡ is_rider config.now senders posted.entry.message_kind (posted_of posted.entry) (named sender.now) }
 {
@@ -255,7 +237,6 @@ fn is_rider(config: &Config, senders: Senders, posted: Posted<'_>, sender: &Send
         && may_ride(posted.message_kind)
 }
 
-// Returns `true` for a subscription, an unsubscription or a publish, which may be a rider.
 fn may_ride(message_kind: MessageKind) -> bool
     ensures { result ≡ may_ride message_kind }
 {
@@ -267,9 +248,7 @@ fn may_ride(message_kind: MessageKind) -> bool
 
 // Returns the rider, if the message at `place` is one, and the slot of the message.
 //
-// A rider takes the reply out of `slot`, and gets a ticket for the answer of `session` instead. If
-// `is_rider` is `false`, or `slot` has no reply, there is no rider, and `slot` is returned as it
-// is.
+// A rider takes the reply out of `slot`, and gets a ticket for the answer of `session` instead.
 fn ridden<P: Placing>(
     setup: &Setup<'_, P>,
     is_rider: bool,
@@ -291,8 +270,7 @@ fn ridden<P: Placing>(
 
 // Returns the kind of entry for an accepted message of a live session.
 //
-// `hold`: how long a connect may be held, in milliseconds. Handshakes and unknown meta channels do
-// not occur here.
+// `hold`: in milliseconds. Handshakes and unknown meta channels do not occur here.
 fn kind_for(
     alloc: Global,
     message_kind: MessageKind,
@@ -328,8 +306,6 @@ fn kind_for(
 }
 
 // Returns how an accepted message of a live session is answered, unless it is a rider.
-//
-// A connect gets a ticket. Any other message gets a reply, and succeeds at once.
 fn slot_for<P: Placing>(
     setup: &Setup<'_, P>,
     message_kind: MessageKind,
@@ -357,7 +333,6 @@ fn slot_for<P: Placing>(
     }
 }
 
-// Returns the number of the batch that a connect acknowledges, if any.
 fn acked_by(ack: AckMember) -> Option<u64>
     ensures { result ≡ acked_by ack }
 {
@@ -367,10 +342,7 @@ fn acked_by(ack: AckMember) -> Option<u64>
     }
 }
 
-// Accepts a handshake, which opens session `number` and succeeds at once.
-//
-// The due moment of the session is `config.max_interval` after `moment`. The request can then have
-// no rider.
+// Accepts a handshake, which opens session `number`. The request can then have no rider.
 fn open(
     alloc: Global,
     config: &Config,
@@ -410,9 +382,7 @@ fn open(
     })
 }
 
-// Creates the reply to a handshake that opens a session with client id `client`.
-//
-// The reply confirms acknowledgement if the handshake turns it on.
+// Creates the reply to a handshake, which confirms acknowledgement if the client asked for it.
 fn opened_reply(config: &Config, message: &Message, client: &Text) -> Result<Reply, AllocError>
     ensures { IfOk result (λ reply. reply ≡ reply_to config.now message_kinds.Handshake message.now
         (Some client.now) advice.Opened (if is_ack message.now.ack then replies.AckTrue else replies.NoAck)) }
@@ -432,7 +402,6 @@ fn opened_reply(config: &Config, message: &Message, client: &Text) -> Result<Rep
     )
 }
 
-// Returns `true` if a handshake with this `ack` opens an acknowledging session.
 fn is_ack(ack: AckMember) -> bool
     ensures { result ≡ is_ack ack }
 {
@@ -442,10 +411,10 @@ fn is_ack(ack: AckMember) -> bool
     }
 }
 
-// Returns how long a message may be held, in milliseconds.
+// Returns how many milliseconds a message may be held.
 //
-// A connect that is its request's only message may be held for `config.timeout` or, if smaller, for
-// the timeout in the message. Other messages are not held.
+// A connect that is its request's only message may be held for `config.timeout` or for the
+// message's own timeout, whichever is smaller.
 //
 // Bayeux 1.0, connect request. Holding no other connects is a policy of this server.
 fn hold_of(config: &Config, posted: Posted<'_>) -> u64
@@ -461,9 +430,6 @@ fn hold_of(config: &Config, posted: Posted<'_>) -> u64
     }
 }
 
-// Returns the due moment that a message at `moment` sets, if it may be held for `hold`.
-//
-// All times are in milliseconds.
 fn due_after(config: &Config, moment: u64, hold: u64) -> u64
     requires moment { moment ≤ greatest_moment }
     requires hold { hold < 2 ^ 32 }
@@ -473,9 +439,6 @@ fn due_after(config: &Config, moment: u64, hold: u64) -> u64
     moment + hold + u64::from(interval)
 }
 
-// Returns the edit of an accepted message of session `number`.
-//
-// A disconnect closes the session. Any other message extends its due moment to `due`.
 fn edit_for(message_kind: MessageKind, number: u64, due: u64) -> Edit
     ensures { result ≡ edit_for message_kind number due }
 {
@@ -485,7 +448,7 @@ fn edit_for(message_kind: MessageKind, number: u64, due: u64) -> Edit
     }
 }
 
-// Parses the patterns of a subscription or an unsubscription, except those of service channels.
+// Parses the patterns of the message, except those of service channels.
 #[tactic(auto, using(crate::proofs::Judging::reading))]
 fn patterns_of(alloc: Global, message: &Message) -> Result<Sequence<Pattern>, AllocError>
     requires { has_fault message.now.texts ≡ false }
@@ -500,7 +463,6 @@ fn patterns_of(alloc: Global, message: &Message) -> Result<Sequence<Pattern>, Al
     Ok(patterns)
 }
 
-// Parses a valid pattern. Fails only if memory runs out.
 fn pattern_of(alloc: Global, text: &str) -> Result<Pattern, AllocError>
     requires { pattern_fault text.now ≡ None }
     ensures { IfOk result (λ p. p ≡ glob_of (segments text.now)) }

@@ -1,17 +1,15 @@
-//! Laws that relate the program's live sessions to the definitions' registry.
 ghost use Rattle.bx_registry.specs.Laws.{StepsAgree, RunsAgree};
 
-/// Proves that a registry and its roll judge one element alike, and agree after it.
+/// Proves that a registry and its roll, which the program stores, judge one element alike.
 ///
-/// The roll is the part of a registry that the program stores.
+/// They agree after it, too.
 pub fn roll_judges_element_as_registry()
     ensures { StepsAgree }
 {}
 
-/// Proves that a registry and its roll judge any list alike, for example a request.
+/// Proves that a registry and its roll, which the program stores, judge any list alike.
 ///
-/// The roll is the part of a registry that the program stores. Registry and roll agree after the
-/// list, too.
+/// They agree after it, too.
 pub fn roll_judges_list_as_registry()
     ensures { RunsAgree }
 {}

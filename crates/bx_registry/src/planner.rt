@@ -1,4 +1,3 @@
-//! The judgement of a request, message by message.
 ghost use Rattle.std.specs.Prelude.{◌≡◌, ◌+◌, ◌<◌, ◌≤◌, ◌&&◌, ◌==◌, max, Some, List, length, IfOk};
 ghost use Rattle.bx_advice.specs.Limits.{greatest_length, greatest_moment};
 ghost use Rattle.bx_message.specs.MessageKinds.{is_handshake};
@@ -25,26 +24,24 @@ use std::alloc::{AllocError, AllocFailed, Global};
 pub(crate) struct Planning {
     pub(crate) entries: Sequence<Entry>,
     pub(crate) slots: Sequence<Slot>,
-    /// The clock after a request's messages, in milliseconds since the server started.
+    /// In milliseconds since the server started.
     pub(crate) clock: u64,
 }
 
-/// A request's moment and nonce, and the list's length and the clock before the request.
+/// A request's moment and nonce, and the list's length and clock before the request.
 #[derive(Clone, Copy)]
 pub(crate) struct Start {
     pub(crate) moment: u64,
     pub(crate) nonce: u128,
     /// The place of the request's first entry.
     pub(crate) place: u64,
-    /// The greatest moment before the request, in milliseconds since the server started.
+    /// The greatest moment so far, in milliseconds since the server started.
     pub(crate) clock: u64,
 }
 
 /// Judges the messages of a request in order, and appends their edits to `overlay`.
 ///
-/// # Errors
-///
-/// `AllocError` if memory runs out. `overlay` may then have some of the edits.
+/// On error, `overlay` may have some of the edits.
 pub(crate) fn plan_all<P: Placing>(
     alloc: Global,
     setup: &Setup<'_, P>,
@@ -87,10 +84,7 @@ pub(crate) fn plan_all<P: Placing>(
     })
 }
 
-// Pairs `message` with its request's data.
-//
-// `sole`, `last`: whether it is the request's only or last message. `seen`: whether an earlier
-// message is a handshake.
+// Pairs `message` with its request's data. `seen`: whether an earlier message is a handshake.
 fn posted_at(start: Start, message: &Message, sole: bool, last: bool, seen: bool) -> Posted<'_>
     ensures { posted_of result ≡ record {
       message = message.now;
@@ -115,8 +109,7 @@ fn posted_at(start: Start, message: &Message, sole: bool, last: bool, seen: bool
 
 // Judges the message at `place`, and returns its entry, its slot and the senders after it.
 //
-// Appends its edit, if any, to `overlay`. `senders`: who sent the earlier messages of the request.
-// On error, `overlay` is unchanged.
+// Appends its edit, if any, to `overlay`, unless memory runs out.
 fn plan_next<P: Placing>(
     alloc: Global,
     setup: &Setup<'_, P>,

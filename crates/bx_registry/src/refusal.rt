@@ -1,4 +1,3 @@
-//! Which messages are rejected, and why.
 ghost use Rattle.std.specs.Prelude.{◌≡◌, List, None, length, nat_lt, nat_le, not, is_some, is_none};
 ghost use Rattle.std.specs.List.{list_any};
 ghost use Rattle.bx_names.specs.Faults.{name_fault, pattern_fault};
@@ -60,8 +59,8 @@ pub(crate) fn refusal(
     }
 }
 
-// Returns `true` if a message, other than a handshake, must name a live session. A publish without
-// a client id need not if `config.anonymous` is set.
+// Returns `true` if a message, other than a handshake, must name a live session. A publish need not
+// if `config.anonymous` is set.
 fn is_needed(config: &Config, message_kind: MessageKind, client: &TextMember) -> bool
     ensures { result ≡ is_needed config.now message_kind client.now }
 {
@@ -74,8 +73,6 @@ fn is_needed(config: &Config, message_kind: MessageKind, client: &TextMember) ->
     }
 }
 
-// Returns `true` if a version is the string `1`, or begins with `1.`.
-//
 // Bayeux 1.0, version.
 fn is_version(version: &TextMember) -> bool
     ensures { result ≡ is_version version.now }
@@ -86,9 +83,9 @@ fn is_version(version: &TextMember) -> bool
     }
 }
 
-// Returns `true` if a handshake offers a supported connection type.
+// Returns `true` if a handshake offers `long-polling` or `callback-polling`.
 //
-// Those are `long-polling` and `callback-polling`. Bayeux 1.0, connection types.
+// Bayeux 1.0, connection types.
 fn has_polling(message: &Message) -> bool
     ensures { result ≡ list_any is_polling message.now.supported }
 {
@@ -114,9 +111,7 @@ fn is_text(member: &TextMember) -> bool
     }
 }
 
-// Returns `true` if a connect's connection type is supported or absent.
-//
-// Supported are `long-polling` and `callback-polling`.
+// Returns `true` if a connect's connection type is absent, `long-polling` or `callback-polling`.
 fn is_connection(member: &TextMember) -> bool
     ensures { result ≡ is_connection member.now }
 {
@@ -127,14 +122,12 @@ fn is_connection(member: &TextMember) -> bool
     }
 }
 
-// Returns `true` if the channel of `message` is a valid channel name.
 fn is_name(message: &Message) -> bool
     ensures { result ≡ not (is_some (name_fault message.now.channel)) }
 {
     name_fault(message.channel.as_str()).is_none()
 }
 
-// Returns `true` if one of the subscription's texts is not a valid pattern.
 fn has_no_pattern(message: &Message) -> bool
     ensures { result ≡ list_any (λ text. is_some (pattern_fault text)) message.now.texts }
 {
@@ -145,7 +138,6 @@ fn has_no_pattern(message: &Message) -> bool
         .any(|text| pattern_fault(text.as_str()).is_some())
 }
 
-// Returns `true` if one of the subscription's texts names a meta channel.
 fn has_meta(message: &Message) -> bool
     ensures { result ≡ list_any is_meta message.now.texts }
 {

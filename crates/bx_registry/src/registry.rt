@@ -1,4 +1,3 @@
-//! The registry: plans requests and ticks, and commits the plans.
 ghost use Rattle.std.specs.Prelude.{◌≡◌, ◌+◌, ◌≤◌, ◌==◌, ◌++◌, Err, None, [], ◌∷◌, length, IfOk, IfSome, IsOkUnless};
 ghost use Rattle.std.specs.List.{list_any};
 ghost use Rattle.bx_advice.specs.Limits.{greatest_length};
@@ -60,10 +59,6 @@ impl Registry {
     /// Creates a registry with an empty list and `config.shards` shards.
     ///
     /// Allocates the queue of due moments for `config.limits.sessions` live sessions.
-    ///
-    /// # Errors
-    ///
-    /// `AllocError` if memory runs out.
     pub fn new(alloc: Global, config: Config) -> Result<Registry, AllocError>
         ensures { IfOk result (λ r. (r.config ≡ config) × (r.shards ≡ config.shards) × (r.list ≡ [])) }
     {
@@ -108,15 +103,12 @@ impl Registry {
 
     /// Plans a request: judges its messages in order, each after the effects of the earlier ones.
     ///
-    /// If a session is opened, its record is reserved for [`commit`](Self::commit). The ticket of a
-    /// connect or a rider names its session's shard.
-    ///
-    /// `placing`: assigns sessions to shards. `moment`: milliseconds since the server started.
-    /// `nonce`: random bits for the client id of a session that is opened.
+    /// `moment`: milliseconds since the server started. `nonce`: for the client id of an opened
+    /// session.
     ///
     /// # Errors
     ///
-    /// The first of these that applies; nothing has changed:
+    /// The first of these that applies:
     ///
     /// - `Refused(BadMoment)`: the moment is too large.
     /// - `Refused(Ended)`: the list would become too long.
@@ -173,16 +165,12 @@ impl Registry {
 
     /// Plans a tick, which closes the live sessions that are due before the clock.
     ///
-    /// `moment`: milliseconds since the server started. The clock is the greatest moment so far,
-    /// including `moment`. Takes O(c * log n) amortized time to close c sessions, if n may be live.
+    /// `moment`: milliseconds since the server started. The clock is the greatest moment so far.
+    /// Takes O(c * log n) amortized time to close c sessions, if n may be live.
     ///
     /// # Errors
     ///
-    /// The first of these that applies; nothing has changed:
-    ///
-    /// - `Refused(BadMoment)`: the moment is too large.
-    /// - `Refused(Ended)`: the list would become too long.
-    /// - `Memory`: memory ran out.
+    /// `Refused(BadMoment)`, `Refused(Ended)` or `Memory`, as for [`plan`](Self::plan).
     pub fn plan_tick(&mut self, alloc: Global, moment: u64) -> Result<Plan, AdmitFault>
         ensures same { self.new ≡ self.old }
         ensures refused { IfSome (refused_beyond moment (length self.old.list + 1)) (λ refusal. result ≡ Err (Refused refusal)) }
@@ -217,7 +205,6 @@ impl Registry {
         })
     }
 
-    // Returns an error if `moment` is too large, or the list has no room for `count` more elements.
     fn check(&self, moment: u64, count: usize) -> Result<(), AdmitFault>
         ensures { result ≡ checked (refused_beyond moment (length self.now.list + count)) }
     {
@@ -230,9 +217,9 @@ impl Registry {
         Ok(())
     }
 
-    /// Applies a planned change, and appends its `elements` to the list.
+    /// Applies a planned change, and appends its `elements` to the list. Does not allocate.
     ///
-    /// The plan must come from this registry, with nothing committed since. Does not allocate.
+    /// The plan must come from this registry, with nothing committed since.
     #[tactic(auto, using(crate::proofs::Planning::committing))]
     pub fn commit(&mut self, change: Change, elements: &Listing)
         requires { LeadsTo self.old change elements.now }

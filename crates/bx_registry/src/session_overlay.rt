@@ -1,4 +1,3 @@
-//! The sessions as they change while a request is judged.
 ghost use Rattle.std.specs.Prelude.{◌≡◌, ◌+◌, ◌<◌, ◌≤◌, ◌++◌, ◌∷◌, [], ℕ, length, option_map, IfOk, OnOk, OnErr, MatchOption};
 ghost use Rattle.bx_entry.specs.Registry.{count_live, live_with_id, named_by};
 ghost use Rattle.bx_roster.specs.Tables.{AllLive, IsTable, client_and_ack_of};
@@ -16,14 +15,12 @@ use std::marker::Model;
 pub(crate) struct Sender<'m> {
     pub(crate) number: u64,
     pub(crate) client: &'m Text,
-    /// Whether the session that a message names acknowledges batches.
     pub(crate) ack: bool,
 }
 
 /// The sessions after the messages of a request that are judged so far.
 ///
-/// They are stored as the table before the request, and the edits so far. The table is unchanged
-/// until these are committed.
+/// The table is unchanged until the edits are committed.
 #[derive(Drop)]
 pub(crate) struct SessionOverlay<'a> {
     table: &'a Table,
@@ -43,7 +40,6 @@ impl<'a> Model for SessionOverlay<'a> {
 }
 
 impl<'a> SessionOverlay<'a> {
-    /// Creates an overlay of the sessions in `table`, without edits.
     pub(crate) fn new(alloc: Global, table: &'a Table) -> SessionOverlay<'a>
         ensures { result ≡ record { base = table.now.members; edits = [] } }
     {
@@ -56,7 +52,7 @@ impl<'a> SessionOverlay<'a> {
         }
     }
 
-    /// Returns how many sessions are live after the edits, and how many were ever opened.
+    /// Returns how many sessions are live, and how many were ever opened.
     #[tactic(auto, using(crate::proofs::Overlays::counting))]
     pub(crate) fn counts(&self) -> (usize, u64)
         ensures live { result.0 ≡ count_live (members_of self.now).live }
@@ -84,9 +80,7 @@ impl<'a> SessionOverlay<'a> {
         }
     }
 
-    // Returns the live session with client id `client`, if any.
-    //
-    // The last digits are the number of the only candidate.
+    // Returns the live session with client id `client`, whose last digits name the only candidate.
     fn live_with_id<'m>(&self, client: &'m Text) -> Option<Sender<'m>>
         ensures { MatchOption result (live_with_id (members_of self.now).live client.now ≡ None)
             (λ s. IsSender (live_with_id (members_of self.now).live client.now) s.number s.client.now s.ack) }
@@ -106,7 +100,6 @@ impl<'a> SessionOverlay<'a> {
         }
     }
 
-    // Returns the client id and `ack` of session `number`, if it is live after the edits.
     #[tactic(auto, using(crate::proofs::Overlays::knowing))]
     fn client_and_ack_of(&self, number: u64) -> Option<ClientAndAck<'_>>
         ensures { option_map (λ k. (k.client.now, k.ack)) result ≡ client_and_ack_of number (members_of self.now).live }
@@ -119,10 +112,6 @@ impl<'a> SessionOverlay<'a> {
     }
 
     /// Appends an edit, which must be possible after the earlier ones.
-    ///
-    /// # Errors
-    ///
-    /// `AllocError` if memory runs out; nothing has changed.
     pub(crate) fn push(&mut self, edit: Edit) -> Result<(), AllocError>
         requires { CanEdit (members_of self.old) edit }
         ensures base { self.new.base ≡ self.old.base }
@@ -139,7 +128,6 @@ impl<'a> SessionOverlay<'a> {
         Ok(())
     }
 
-    /// Converts the overlay into its edits, in order.
     pub(crate) fn into_edits(self) -> Sequence<Edit>
         ensures edits { result ≡ self.entry.edits }
         ensures can { CanEditEach self.entry.base self.entry.edits }

@@ -1,10 +1,9 @@
-//! The settings under which messages are judged.
 ghost use Rattle.std.specs.Prelude.{◌≡◌, ◌≤◌};
 
 use bx_advice::Config;
 use bx_entry::{Placing, Ticket};
 
-/// The configuration, the number of shards and the placing of sessions in them.
+/// The settings under which messages are judged.
 #[derive(Drop)]
 pub(crate) struct Setup<'a, P> {
     pub(crate) config: &'a Config,
@@ -15,7 +14,6 @@ pub(crate) struct Setup<'a, P> {
 }
 
 impl<'a, P: Placing> Setup<'a, P> {
-    /// Returns the ticket for the message at `place`, which the shard of `session` answers.
     pub(crate) fn ticket(&self, place: u64, session: u64) -> Ticket
         ensures { result ≡ record { place = place; shard = P.place_of self.now.placing.now session self.now.shards } }
     {

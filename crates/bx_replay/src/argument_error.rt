@@ -1,33 +1,25 @@
-//! The errors for wrong arguments of a replay, and for a wrong first line of a record.
 use bx_advice::Limit;
 use std::fmt::{self, Display, Formatter, Write};
 
-/// What is wrong with the arguments: their number, or the value of one.
+/// The first wrong argument, or a wrong number of them.
 #[derive(Clone, Copy, Debug, PartialEq, Eq)]
 pub enum ArgumentError {
-    /// There are fewer than five or more than seven positional arguments.
+    /// Fewer than five or more than seven positional arguments.
     Count,
-    /// The number of shards is not 1 to 64.
     Shards,
-    /// The number of workers is not 1 to 16.
     Workers,
-    /// The timeout (how long a connect is held) is not a number of milliseconds below 2^32.
+    /// How long a connect is held is not a number of milliseconds below 2^32.
     Timeout,
-    /// The interval (how long clients wait between two connects) is not a number of milliseconds
-    /// below 2^32.
+    /// How long clients wait between connects is not a number of milliseconds below 2^32.
     Interval,
-    /// The longest interval is not a number of milliseconds below 2^32.
-    ///
-    /// The longest interval is how long a message keeps its session alive.
+    /// How long a message keeps its session alive is not a number of milliseconds below 2^32.
     MaxInterval,
-    /// The options are not `-`, `r`, `a` or `ra`.
+    /// Not `-`, `r`, `a` or `ra`.
     Options,
-    /// The limit has no such value.
     Limit(Limit),
 }
 
 impl Display for ArgumentError {
-    /// Writes which arguments are valid instead.
     fn fmt<W: Write>(&self, f: &mut Formatter<W>) -> fmt::Result {
         f.write_str(match self {
             ArgumentError::Count =>
@@ -43,7 +35,6 @@ impl Display for ArgumentError {
     }
 }
 
-// Writes which values `limit` has.
 fn write_limit<W: Write>(limit: Limit, f: &mut Formatter<W>) -> fmt::Result {
     let or_none = if limit.greatest() < limit.standard() {
         "- or "
@@ -61,14 +52,14 @@ fn write_limit<W: Write>(limit: Limit, f: &mut Formatter<W>) -> fmt::Result {
 /// What is wrong with the first line of a record.
 #[derive(Clone, Copy, Debug, PartialEq, Eq)]
 pub enum FirstLineError {
-    /// The line is that of version 0.1.0, which has another form.
+    /// The line of version 0.1.0, which has another form.
     Old,
-    /// The line is not that of a configuration.
+    /// Not the line of a configuration.
     Wrong,
 }
 
 impl Display for FirstLineError {
-    /// Writes what to do, or which line is valid instead.
+    /// Writes what to do, or which line is valid.
     fn fmt<W: Write>(&self, f: &mut Formatter<W>) -> fmt::Result {
         match self {
             FirstLineError::Old => f.write_str(

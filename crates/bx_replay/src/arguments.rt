@@ -1,4 +1,3 @@
-//! The arguments of a replay.
 ghost use Rattle.std.specs.Prelude.{◌≡◌, map, option_map};
 ghost use Rattle.bx_advice.specs.Limits.{limit_name};
 ghost use Rattle.bx_message.specs.Numbers.{count_in};
@@ -9,25 +8,19 @@ use bx_advice::{Config, Limit, MAX_SHARDS, MAX_WORKERS, Options, WorkerCount};
 use bx_message::{count_in, limit_in, time_in};
 
 /// The limits that have a name before the positional arguments, in their order.
-///
-/// The limit of waiting events is positional.
 pub const NAMED: [Limit; 3] = [Limit::Bytes, Limit::Sessions, Limit::Patterns];
 
 /// The configuration of a replay and its number of workers.
 #[derive(Clone, Copy)]
 pub struct Arguments {
-    /// The configuration of the replay.
-    ///
-    /// It has the number of shards, the times in milliseconds, the limits and the options.
     pub config: Config,
-    /// The number of workers, from 1 to 16.
     pub workers: WorkerCount,
 }
 
 impl Arguments {
     /// Parses the arguments of a replay.
     ///
-    /// `args`: the arguments. Limits come first, in this order; each may be missing:
+    /// Limits come first, in this order; each may be missing:
     ///
     /// - `--bytes N`: bytes of a session's waiting events, 1 to 4,294,967,295, or `-` for no limit
     /// - `--sessions N`: live sessions, 1 to 65,536
@@ -38,15 +31,14 @@ impl Arguments {
     /// - the number of shards, 1 to 64
     /// - the number of workers, 1 to 16
     /// - the timeout, the interval and the longest interval, in milliseconds, each of 32 bits
-    /// - the options, as for [`Options::read`]; `-` if missing
-    /// - the number of events that may wait for a session, 1 to 65,536; 1,024 if missing
+    /// - the options, as for [`Options::read`], by default `-`
+    /// - the number of events that may wait for a session, 1 to 65,536, by default 1,024
     ///
     /// Numbers are decimal digits only.
     ///
     /// # Errors
     ///
-    /// `Count` if there are fewer than five or more than seven positional arguments. Otherwise the
-    /// first wrong positional argument or, if all of these are valid, the first wrong limit.
+    /// `Count`, then the first wrong positional argument, then the first wrong limit.
     pub fn read(args: &[&[u8]]) -> Result<Arguments, ArgumentError>
         ensures { given result ≡ arguments_in (map (λ arg. arg.now) args.now) }
     {
@@ -58,7 +50,7 @@ impl Arguments {
         })
     }
 
-    // Parses the positional arguments. All limits except that of events are the default ones.
+    // Limits except that of events are the default ones.
     fn parse_positional(args: &[&[u8]]) -> Result<Arguments, ArgumentError>
         ensures { given result ≡ positional_in (map (λ arg. arg.now) args.now) }
     {
@@ -77,7 +69,6 @@ impl Arguments {
         )
     }
 
-    // Parses seven positional arguments. Returns the error of the first one that is invalid.
     fn parse_seven(
         shards: &[u8],
         workers: &[u8],
@@ -103,8 +94,7 @@ impl Arguments {
     }
 }
 
-// Returns the options and the limit of events, which default to `-` and `1024`. Returns `None` if
-// there are more than two arguments.
+// Returns the options and the limit of events, by default `-` and `1024`, if there are no more.
 fn optional_in<'a>(args: &[&'a [u8]]) -> Option<(&'a [u8], &'a [u8])>
     ensures { option_map (λ words. (words.0.now, words.1.now)) result ≡ optional_in (map (λ arg. arg.now) args.now) }
 {
@@ -126,7 +116,6 @@ fn after_named<'a, 'b>(limits: &[Limit], args: &'a [&'b [u8]]) -> &'a [&'b [u8]]
     }
 }
 
-// Sets those of `limits` that `args` name. Returns the error of the first one that is invalid.
 fn with_named(config: Config, limits: &[Limit], args: &[&[u8]]) -> Result<Config, ArgumentError>
     ensures { given_config result ≡ with_named limits.now (map (λ arg. arg.now) args.now) config }
 {
@@ -143,7 +132,6 @@ fn with_named(config: Config, limits: &[Limit], args: &[&[u8]]) -> Result<Config
     }
 }
 
-// Sets `limit` to the value that `word` gives, or returns the error for a wrong value.
 fn with_word(config: Config, limit: Limit, word: &[u8]) -> Result<Config, ArgumentError>
     ensures { given_config result ≡ with_word limit word.now config }
 {
@@ -162,7 +150,6 @@ fn named_in<'a, 'b>(limit: Limit, args: &'a [&'b [u8]]) -> (Option<&'b [u8]>, &'
     }
 }
 
-// Returns `true` if `arg` is `--` and the name of `limit`.
 fn is_named(limit: Limit, arg: &[u8]) -> bool
     ensures { result ≡ is_named limit arg.now }
 {
@@ -172,7 +159,6 @@ fn is_named(limit: Limit, arg: &[u8]) -> bool
     }
 }
 
-// Parses a number of workers. Returns `None` if `digits` are not a number from 1 to 16.
 fn workers_in(digits: &[u8]) -> Option<WorkerCount>
     ensures { result ≡ count_in MAX_WORKERS digits.now }
 {

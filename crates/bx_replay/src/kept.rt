@@ -1,4 +1,3 @@
-//! What is kept of inputs until their outs are printed.
 ghost use Rattle.std.specs.Prelude.{◌≡◌, ◌++◌, ℕ, [], ◌∷◌, List, IsSome, map, if◌then◌else◌, IfErr, OnErr, OnOk};
 ghost use Rattle.std.specs.BTreeMap.{get, is_at};
 ghost use Rattle.std.specs.Ordering.{nat_cmp};
@@ -18,9 +17,9 @@ use std::io::Write;
 /// What is kept of an input until its out is printed.
 #[derive(Drop)]
 pub struct PendingLine {
-    /// The number of the input's line, from 1.
+    /// From 1.
     pub line: u64,
-    /// The name of the function that a callback-polling response calls, or `None` for other inputs.
+    /// The name of the function that a callback-polling response calls.
     pub callback: Option<String>,
     /// Whether the input is a tick, which prints nothing unless it is rejected.
     pub tick: bool,
@@ -30,10 +29,7 @@ pub struct PendingLine {
 ///
 /// # Errors
 ///
-/// - `Memory`: memory ran out.
-/// - `Write`: a write failed.
-///
-/// On error, a prefix of the output may be written.
+/// `Memory` or `Write`; a prefix of the output may be written.
 pub fn print_outs<W: Write>(
     alloc: Global,
     kept: &mut BTreeMap<usize, PendingLine>,
@@ -54,7 +50,6 @@ pub fn print_outs<W: Write>(
     Ok(())
 }
 
-// Prints `out`, and drops what `kept` has of its input.
 fn print_out<W: Write>(
     alloc: Global,
     kept: &mut BTreeMap<usize, PendingLine>,
@@ -86,10 +81,7 @@ fn print_out<W: Write>(
 ///
 /// # Errors
 ///
-/// - `Memory`: memory ran out.
-/// - `Write`: a write failed.
-///
-/// On error, a prefix of the output may be written.
+/// `Memory` or `Write`; a prefix of the output may be written.
 pub fn print_held<W: Write>(
     kept: &BTreeMap<usize, PendingLine>,
     numbers: &[usize],

@@ -1,4 +1,3 @@
-//! The first line of a record, which has the configuration of its server.
 ghost use Rattle.std.specs.List.{slice_split};
 ghost use Rattle.std.specs.Prelude.{◌≡◌, IfOk, IfSome, OnOk, Some, map, option_map, position};
 ghost use Rattle.bx_record.specs.Configs.{config_in};
@@ -19,8 +18,7 @@ use std::io::BufRead;
 ///
 /// # Errors
 ///
-/// - `Read`: a read failed.
-/// - `Memory`: memory ran out, in a read or later.
+/// `Read` if a read failed, or `Memory`.
 pub fn read_settings<R: BufRead>(
     alloc: Global,
     reader: &mut R,
@@ -33,7 +31,6 @@ pub fn read_settings<R: BufRead>(
     Ok(parse_words(&words))
 }
 
-// Parses the words of the first line.
 fn parse_words(words: &[&[u8]]) -> Result<Arguments, FirstLineError>
     ensures { recorded result ≡ option_map (λ c. (c, 1)) (config_in (map (λ word. word.now) words.now)) }
 {
@@ -46,7 +43,7 @@ fn parse_words(words: &[&[u8]]) -> Result<Arguments, FirstLineError>
     }
 }
 
-// Returns what is wrong with a first line. That of version 0.1.0 begins with `--bytes`.
+// The line of version 0.1.0 begins with `--bytes`.
 fn what_is_wrong(words: &[&[u8]]) -> FirstLineError {
     match words {
         [first, ..] if *first == b"--bytes".as_slice() => FirstLineError::Old,
@@ -54,7 +51,6 @@ fn what_is_wrong(words: &[&[u8]]) -> FirstLineError {
     }
 }
 
-// Reads the first line, with its newline if it has one.
 fn read_line<R: BufRead>(alloc: Global, reader: &mut R) -> Result<Vec<u8>, ScriptFault>
     ensures line { IfOk result (λ line. IfSome (R.remaining reader.old) (λ text. first_of line.items ≡ first_of text)) }
     ensures left { OnOk result (IfSome (R.remaining reader.old) (λ text. R.remaining reader.new ≡ Some (rest_of text))) }
@@ -66,7 +62,6 @@ fn read_line<R: BufRead>(alloc: Global, reader: &mut R) -> Result<Vec<u8>, Scrip
     }
 }
 
-// Returns the text before the first newline, or all of it if there is none.
 fn first_line(text: &[u8]) -> &[u8]
     ensures { result.now ≡ first_of text.now }
 {
@@ -76,14 +71,12 @@ fn first_line(text: &[u8]) -> &[u8]
     }
 }
 
-// Returns the index of the first newline, if any.
 fn end_in(text: &[u8]) -> Option<usize>
     ensures { result ≡ position is_newline text.now }
 {
     text.iter().position(|byte| *byte == b'\n')
 }
 
-// Splits `line` at each space.
 fn words_of(alloc: Global, line: &[u8]) -> Result<Vec<&[u8]>, AllocError>
     ensures { IfOk result (λ words. map (λ word. word.now) words.items ≡ slice_split is_space line.now) }
 {

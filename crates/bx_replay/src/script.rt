@@ -1,4 +1,3 @@
-//! Replaying a script or a record.
 ghost use Rattle.std.specs.Prelude.{◌≡◌, [], IfErr, IfOk, IfSome, OnErr};
 ghost use Rattle.bx_replay.specs.Serving.{IsAll, Prints, Serves, held_lines};
 ghost use Rattle.bx_script.specs.Replay.{replay_text};
@@ -26,11 +25,7 @@ use std::thread::Threads;
 ///
 /// # Errors
 ///
-/// - `Memory`: memory ran out.
-/// - `Read`: a read failed, or there were [`MAX_READS`](bx_script::MAX_READS) reads.
-/// - `Write`: a write failed.
-///
-/// On error, a prefix of the output may be written.
+/// `Memory`, `Read` or `Write`; a prefix of the output may be written.
 pub fn replay<T: Threads + Sync, P: Placing + Drop + Send + Sync, R: BufRead, W: Write>(
     rt: &T,
     alloc: Global,
@@ -50,7 +45,7 @@ pub fn replay<T: Threads + Sync, P: Placing + Drop + Send + Sync, R: BufRead, W:
     finish(alloc, &server, writer)
 }
 
-// Processes all lines that are left in `lines`, and returns the server after them.
+// Processes all lines that are left, and returns the server after them.
 fn answer_all<T: Threads + Sync, P: Placing + Drop + Send + Sync, R: BufRead, W: Write>(
     rt: &T,
     alloc: Global,

@@ -1,4 +1,3 @@
-//! The server of a replay, which processes one line at a time.
 ghost use Rattle.std.specs.Prelude.{◌≡◌, ◌+◌, ◌++◌, ◌≤◌, ◌<◌, ◌^◌, [], ◌∷◌, length, option_map, string_bytes, IfErr, IfOk, OnErr, OnOk};
 ghost use Rattle.std.specs.BTreeMap.{get};
 ghost use Rattle.std.specs.Ordering.{nat_cmp};
@@ -27,23 +26,17 @@ use std::thread::Threads;
 /// The state of a replay between two lines.
 #[derive(Drop)]
 pub struct ReplayServer<P: Placing> {
-    /// The round that answers the inputs.
     pub round: Round<P>,
     /// What is kept of inputs until their outs are printed, by the input's number.
     pub kept: BTreeMap<usize, PendingLine>,
-    /// Number of lines processed so far.
+    /// Number of lines processed.
     pub number: u64,
     /// The nonce of the next request, or 0 if no line gave one.
     pub nonce: u128,
-    /// Ghost: the lines processed so far.
     pub lines: History<Line>,
 }
 
 /// Creates a server that has processed no lines.
-///
-/// # Errors
-///
-/// `Memory` if memory runs out.
 pub fn new_server<P: Placing + Drop>(
     alloc: Global,
     config: Config,
@@ -67,14 +60,11 @@ pub fn new_server<P: Placing + Drop>(
 
 /// Processes `line`, prints the outs that result, and returns the server after it.
 ///
-/// `placing`: the placing to use if `line` changes the number of shards.
+/// `placing`: for a change of the number of shards.
 ///
 /// # Errors
 ///
-/// - `Memory`: memory ran out.
-/// - `Write`: a write failed.
-///
-/// On error `server` is dropped, and a prefix of the output may be written.
+/// `Memory` or `Write`; `server` is dropped, and a prefix of the output may be written.
 pub fn answer<T: Threads + Sync, P: Placing + Drop + Send + Sync, W: Write>(
     rt: &T,
     alloc: Global,
@@ -137,8 +127,8 @@ pub fn answer<T: Threads + Sync, P: Placing + Drop + Send + Sync, W: Write>(
     }
 }
 
-// Sets the nonce of `input` to `nonce` if it is a request. Returns the input, and the nonce of the
-// next request: 0 after a request, otherwise `nonce`.
+// Gives `nonce` to `input` if it is a request. Returns it with the next request's nonce: 0 after a
+// request, otherwise `nonce`.
 fn take_nonce(nonce: u128, input: Input) -> (Input, u128)
     ensures input { read_input result.0 ≡ with_nonce nonce (read_input input) }
     ensures left { result.1 ≡ nonce_left nonce (read_input input) }
@@ -149,8 +139,8 @@ fn take_nonce(nonce: u128, input: Input) -> (Input, u128)
     }
 }
 
-// Runs one more input, which is at line `line`, and prints the outs that result. Keeps in `kept`
-// what the out of each unanswered input needs.
+// Runs the input of line `line`, and prints the outs that result. Keeps in `kept` what the out of
+// an unanswered input needs.
 fn hand<T: Threads + Sync, P: Placing + Send + Sync, W: Write>(
     rt: &T,
     alloc: Global,
@@ -191,7 +181,6 @@ fn ticks(input: &Input) -> bool
     matches!(input, Input::Tick(_))
 }
 
-// Redistributes the sessions among `shards` shards, by `placing`.
 fn reshard<T: Threads + Sync, P: Placing + Drop + Send + Sync>(
     rt: &T,
     alloc: Global,

@@ -1,4 +1,3 @@
-//! The sessions of the new shards, while the shards are built.
 ghost use Rattle.std.specs.Prelude.{◌≡◌, ◌<◌, ℕ, nat_eq, not, ◌&&◌, ◌||◌, length, option_map, is_some, if◌then◌else◌, OnOk, IfOk};
 ghost use Rattle.std.specs.List.{All};
 ghost use Rattle.std.specs.Option.{option_or};
@@ -18,7 +17,6 @@ pub(crate) struct Heirs {
 }
 
 impl Heirs {
-    /// Creates `count` empty collections of sessions, one for each new shard.
     pub(crate) fn new(alloc: Global, config: Config, count: usize) -> Result<Heirs, AllocError>
         ensures many { IfOk result (λ heirs. length heirs.shards.items ≡ count) }
         ensures empty { IfOk result (λ heirs. All (IsEmptyOf config) heirs.shards.items) }
@@ -31,10 +29,9 @@ impl Heirs {
         Ok(Heirs { shards })
     }
 
-    /// Reserves session `number` in shard `slot`, and copies its patterns from `from`.
+    /// Reserves session `number` in shard `slot`, counted from 0, unless it is there already.
     ///
-    /// `slot`: the index of the shard, counted from 0. Does nothing if the shard already has
-    /// session `number`.
+    /// Copies its patterns from `from`.
     pub(crate) fn reserve_session(
         &mut self,
         alloc: Global,
@@ -60,9 +57,7 @@ impl Heirs {
 
     /// Reserves in shard `slot` the connect that `session` holds at `place` until `deadline`.
     ///
-    /// `slot`: the index of the shard, counted from 0. `deadline`: milliseconds since the server
-    /// started. Without one, no tick ends the hold. Does nothing if a connect is already reserved
-    /// at `place`.
+    /// `deadline`: milliseconds since the server started, or `None` if no tick ends the hold.
     pub(crate) fn reserve_connect(
         &mut self,
         slot: usize,
@@ -83,8 +78,6 @@ impl Heirs {
     }
 
     /// Stores `session` in shard `slot` as session `number`, if that number is reserved there.
-    ///
-    /// `slot`: the index of the shard, counted from 0.
     pub(crate) fn settle(&mut self, slot: usize, number: u64, session: Session)
         requires within { slot < length self.old.shards.items }
         ensures sessions { (k n : ℕ) → kept_of self.new.shards.items k n
@@ -100,7 +93,7 @@ impl Heirs {
 
     /// Files the answer to a connect in shard `slot`, if the connect is reserved there.
     ///
-    /// `place`: the place of the entry that gave the answer. Moves the connect's waker to `wakers`.
+    /// `place`: that of the entry that gave the answer. Moves the connect's waker to `wakers`.
     pub(crate) fn file(&mut self, slot: usize, place: u64, answered: Answered, wakers: &mut Wakers)
         requires within { slot < length self.old.shards.items }
         ensures connects { (k p : ℕ) → connect_of self.new.shards.items k p

@@ -1,16 +1,15 @@
-//! Laws of shards before and after redistribution.
 ghost use Rattle.bx_reshard.specs.Redistribution.{HoldersAreApart, RefinesRedistributed};
 
-/// Proves that shards that agree with their definition `shard_at` share no session or connect.
+/// Proves that shards that agree with their definition share no session or connect.
 ///
-/// Also proves that these shards have the same configuration and the same place.
+/// They also have the same configuration and the same place.
 pub fn shards_are_disjoint()
     ensures { HoldersAreApart }
 {}
 
-/// Proves that shards still agree with their definition `shard_at` after redistribution.
+/// Proves that shards still agree with their definition after redistribution.
 ///
-/// The new shards agree with it for the new number of shards and the new placing.
+/// They agree with it for the new number of shards and the new placing.
 pub fn refines_redistributed()
     ensures { RefinesRedistributed }
 {}

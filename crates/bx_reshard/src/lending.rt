@@ -1,4 +1,3 @@
-//! Reserves sessions and connects in the new shards, so that moving them does not allocate.
 ghost use Rattle.std.specs.Prelude.{◌≡◌, ◌≤◌, ℕ, nat_eq, not, ◌&&◌, ◌||◌, length, map, is_some, if◌then◌else◌, OnOk, IfOk};
 ghost use Rattle.std.specs.List.{list_any};
 ghost use Rattle.std.specs.Option.{option_or};
@@ -14,8 +13,6 @@ use bx_shard::{Sessions, Shard};
 use std::alloc::{AllocError, Global};
 
 /// Reserves in `heirs` the sessions `numbers` of the old shard `old`, with their patterns.
-///
-/// Each is reserved in the one of `count` shards that `placing` chooses.
 pub(crate) fn lend_sessions<P: Placing>(
     alloc: Global,
     heirs: &mut Heirs,
@@ -43,8 +40,6 @@ pub(crate) fn lend_sessions<P: Placing>(
 }
 
 /// Reserves in `heirs` the connects of `old`, held or answered, that are at `places`.
-///
-/// Each is reserved in the one of `count` shards that `placing` chooses for its session.
 pub(crate) fn lend_connects<P: Placing>(
     heirs: &mut Heirs,
     old: &Connects,
@@ -69,8 +64,6 @@ pub(crate) fn lend_connects<P: Placing>(
 }
 
 /// Reserves in `heirs` all sessions and connects of the old shard `old`.
-///
-/// Each is reserved in the one of `count` shards that `placing` chooses for the session.
 pub(crate) fn lend_from<P: Placing>(
     alloc: Global,
     heirs: &mut Heirs,
@@ -101,8 +94,7 @@ pub(crate) fn lend_from<P: Placing>(
 
 /// Reserves all sessions and connects of the old `shards` in `count` new shards.
 ///
-/// Each is reserved in the shard that `placing` chooses for its session. Returns the contents of
-/// the new shards, which have the configuration `config`.
+/// Each is reserved in the shard that `placing` chooses for its session.
 pub(crate) fn lend_all<P: Placing>(
     alloc: Global,
     config: Config,

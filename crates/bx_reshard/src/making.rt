@@ -1,4 +1,3 @@
-//! Creates the new shards from their sessions.
 ghost use Rattle.std.specs.Prelude.{◌≡◌, ◌≤◌, ◌<◌, [], length, map, vec_capacity, IfOk};
 ghost use Rattle.std.specs.Arc.{arc_value};
 ghost use Rattle.std.specs.List.{All};
@@ -14,9 +13,8 @@ use std::sync::Arc;
 
 /// Everything that the new shards need, before anything moves into them.
 ///
-/// `heirs` has room for all sessions and connects. `handles` has a handle to the placing for each
-/// shard. `shards` is empty, with room for all new shards. `place` and `is_closed_to_wakers` are
-/// those of each new shard.
+/// `heirs` has room for all sessions and connects, and `shards` for all new shards. `place` and
+/// `is_closed_to_wakers` are those of each new shard.
 #[derive(Drop)]
 pub(crate) struct Room<P> {
     pub(crate) heirs: Heirs,
@@ -26,7 +24,6 @@ pub(crate) struct Room<P> {
     pub(crate) is_closed_to_wakers: bool,
 }
 
-/// Returns `count` clones of the handle to the placing.
 pub(crate) fn copy_handle<P: Drop>(
     alloc: Global,
     placing: &Arc<P>,
@@ -43,9 +40,7 @@ pub(crate) fn copy_handle<P: Drop>(
     Ok(handles)
 }
 
-/// Returns the new shards, in order, made from what is in `room`. Does not allocate.
-///
-/// `count`: the number of shards among which sessions are placed.
+/// Makes the new shards, in order, from what is in `room`. Does not allocate.
 pub(crate) fn finish<P: Placing + Drop>(room: Room<P>, count: ShardCount) -> Vec<Shard<P>>
     requires empty { room.shards.items ≡ [] }
     requires capacity { length room.heirs.shards.items ≤ vec_capacity room.shards }

@@ -1,4 +1,3 @@
-//! Moves sessions and answers into the room reserved for them. Nothing here allocates.
 ghost use Rattle.std.specs.Prelude.{◌≡◌, ◌≤◌, ℕ, length, map};
 ghost use Rattle.bx_connects.specs.Connects.{filing_at};
 ghost use Rattle.bx_reshard.specs.Heirs.{AreMoved, SameConnects, SameSessions, answered_with, connect_of, patterns_at, kept_by, kept_of, settled};
@@ -13,8 +12,7 @@ use indexmap::IndexMap;
 
 /// Moves the sessions of an old shard to the new shards in which they are placed.
 ///
-/// `by_number`: the sessions, by number. A session that is not reserved in its new shard is
-/// dropped.
+/// Drops a session that is not reserved there.
 pub(crate) fn move_sessions<P: Placing>(
     heirs: &mut Heirs,
     mut by_number: IndexMap<u64, Session>,
@@ -32,10 +30,10 @@ pub(crate) fn move_sessions<P: Placing>(
     }
 }
 
-/// Moves the filed answers of an old shard to the new shards in which their sessions are placed.
+/// Moves the filed answers of an old shard to the new shards of their sessions.
 ///
-/// Drops the wakers in `connects`, which wakes their tasks. Moves the wakers of the reserved
-/// connects, if any, to `wakers`. An answer to a connect that is not reserved is dropped.
+/// Drops the wakers in `connects`, which wakes their tasks, and an answer to a connect that is not
+/// reserved. Moves the wakers of the reserved connects, if any, to `wakers`.
 pub(crate) fn move_answers<P: Placing>(
     heirs: &mut Heirs,
     mut connects: Connects,

@@ -1,4 +1,3 @@
-//! The redistribution of all sessions among another number of shards.
 ghost use Rattle.std.specs.Prelude.{◌≡◌, ◌≤◌, length, map, IfOk, IfErr};
 ghost use Rattle.std.specs.Arc.{arc_value};
 ghost use Rattle.bx_reshard.specs.Redistribution.{AreAlike, AreApart, Redistributed};
@@ -19,12 +18,11 @@ use std::sync::Arc;
 /// A session keeps its patterns, its held connect and its filed answers. Wakers are dropped, which
 /// wakes their tasks. The new shards are shut if the first old one is.
 ///
-/// There must be at least one shard. All must have the same configuration and place, and no two may
-/// share a session or a connect.
+/// All shards must have one configuration and one place, and share no session and no connect.
 ///
 /// # Errors
 ///
-/// `shards`, unchanged, and `AllocError` if memory runs out.
+/// `shards`, unchanged, if memory runs out.
 pub fn redistribute<P: Placing + Drop>(
     alloc: Global,
     shards: Vec<Shard<P>>,
@@ -46,7 +44,6 @@ pub fn redistribute<P: Placing + Drop>(
     }
 }
 
-// Allocates and returns everything that the new shards need for what `shards` hold.
 fn make_room<P: Placing + Drop>(
     alloc: Global,
     shards: &[Shard<P>],
@@ -69,7 +66,6 @@ fn make_room<P: Placing + Drop>(
     })
 }
 
-// Moves everything in `shards` to the new shards, and returns the new shards. Does not allocate.
 fn move_in<P: Placing + Drop>(
     mut room: Room<P>,
     shards: Vec<Shard<P>>,

@@ -1,4 +1,3 @@
-//! The queue of sessions by due moment.
 ghost use Rattle.std.specs.Prelude.{◌≡◌, ◌+◌, ◌<◌, ◌≤◌, ◌++◌, ◌∷◌, [], length, nat_lt, vec_capacity, vec_len, IfOk, IfNone, IfSome, IsPermutation, MatchOption};
 ghost use Rattle.std.specs.BinaryHeap.{IsHeap, heap_capacity, heap_items, heap_len};
 ghost use Rattle.bx_roster.specs.Queues.{IsFrom, IsLateBy, Queue, due_order, entries};
@@ -8,14 +7,12 @@ use std::cmp::Reverse;
 use std::collections::BinaryHeap;
 use std::marker::Model;
 
-/// An entry of the queue: a session, and a moment at or before the session's due moment.
+/// An entry of the queue: a session, and a moment at or before its due moment.
 ///
 /// The earliest entry compares as the greatest, so that the heap returns it first.
 #[derive(Clone, Copy, PartialEq, Eq, PartialOrd, Ord)]
 pub(crate) struct Due {
-    /// The moment at which the session may be due: milliseconds since the server started.
-    ///
-    /// A tick looks at the entry if the tick's moment is later.
+    /// In milliseconds since the server started. A later tick looks at the entry.
     pub(crate) moment: Reverse<u64>,
     pub(crate) number: u64,
 }
@@ -23,8 +20,6 @@ pub(crate) struct Due {
 /// A queue of sessions by due moment: a heap of waiting entries, and a list of late ones.
 ///
 /// [`expire`](Self::expire) makes waiting entries late. All memory is allocated at creation.
-///
-/// Model: for how many entries there is room, the late entries and the waiting ones.
 #[derive(Drop)]
 pub(crate) struct DueQueue {
     waiting: BinaryHeap<Due>,
@@ -46,10 +41,6 @@ impl Model for DueQueue {
 
 impl DueQueue {
     /// Creates an empty queue with room for `room` entries.
-    ///
-    /// # Errors
-    ///
-    /// `AllocError` if memory runs out.
     pub(crate) fn new(alloc: Global, room: usize) -> Result<DueQueue, AllocError>
         ensures { IfOk result (λ q. q ≡ record { room = room; late = []; waiting = [] }) }
     {
@@ -60,16 +51,15 @@ impl DueQueue {
         })
     }
 
-    /// Returns `true` if there is room for one more entry.
     pub(crate) fn has_room(&self) -> bool
         ensures { result ≡ nat_lt (length (entries self.now)) self.now.room }
     {
         self.late.len() + self.waiting.len() < self.room
     }
 
-    /// Adds session `number` to the queue, for ticks after `moment` to look at.
+    /// Adds session `number`, for ticks after `moment` to look at. There must be room.
     ///
-    /// `moment`: in milliseconds. There must be room. Takes logarithmic time.
+    /// Takes logarithmic time.
     pub(crate) fn file(&mut self, moment: u64, number: u64)
         requires { length (entries self.old) < self.old.room }
         ensures room { self.new.room ≡ self.old.room }
@@ -80,7 +70,6 @@ impl DueQueue {
         let _ = self.waiting.push(Due { moment, number });
     }
 
-    /// Removes all entries, waiting and late. The room stays.
     pub(crate) fn clear(&mut self)
         ensures { self.new ≡ record { room = self.old.room; late = []; waiting = [] } }
     {
@@ -88,9 +77,9 @@ impl DueQueue {
         self.late.clear();
     }
 
-    /// Moves the waiting entries before `moment`, in milliseconds, to the late ones.
+    /// Moves the waiting entries before `moment` to the late ones.
     ///
-    /// Takes logarithmic time for each moved entry.
+    /// Takes logarithmic time for each.
     pub(crate) fn expire(&mut self, moment: u64)
         ensures room { self.new.room ≡ self.old.room }
         ensures same { IsPermutation (entries self.old) (entries self.new) }
@@ -100,14 +89,13 @@ impl DueQueue {
         move_before(&mut self.waiting, &mut self.late, moment);
     }
 
-    /// Returns the late entries, in the order in which they became late.
     pub(crate) fn late(&self) -> &[Due]
         ensures { result.now ≡ self.now.late }
     {
         self.late.as_slice()
     }
 
-    /// Removes and returns the late entry that became late last, if any.
+    /// Removes and returns the entry that became late last.
     pub(crate) fn take_late(&mut self) -> Option<Due>
         ensures waiting { self.new.waiting ≡ self.old.waiting }
         ensures room { self.new.room ≡ self.old.room }
@@ -119,9 +107,6 @@ impl DueQueue {
     }
 }
 
-// Moves the entries before `moment` from the heap to the end of `late`.
-//
-// The list must have room for all entries of the heap.
 fn move_before(waiting: &mut BinaryHeap<Due>, late: &mut Vec<Due>, moment: u64)
     requires heap { IsHeap due_order (heap_items waiting.old) }
     requires room { vec_len late.old + heap_len waiting.old ≤ vec_capacity late.old }
@@ -137,7 +122,6 @@ fn move_before(waiting: &mut BinaryHeap<Due>, late: &mut Vec<Due>, moment: u64)
     }
 }
 
-// Removes and returns the earliest entry of the heap, if it is before `moment`.
 fn pop_before(waiting: &mut BinaryHeap<Due>, moment: u64) -> Option<Due>
     requires { IsHeap due_order (heap_items waiting.old) }
     ensures heap { IsHeap due_order (heap_items waiting.new) }

@@ -1,4 +1,3 @@
-//! The live sessions by number, without the queue of due moments.
 ghost use Rattle.std.specs.Prelude.{◌≡◌, ◌+◌, ◌<◌, ◌≤◌, ◌^◌, ◌++◌, ◌∷◌, [], length, true, false, option_map, OnOk, OnErr};
 ghost use Rattle.indexmap.specs.IndexMap.{values};
 ghost use Rattle.bx_entry.specs.Registry.{closed, extended};
@@ -15,10 +14,6 @@ use std::alloc::{AllocFailed, Global};
 use std::marker::Model;
 
 /// The live sessions by number, and possibly a vacant record for the next one.
-///
-/// There are no other records.
-///
-/// Model: the live sessions in ascending order of number, and whether there is a vacant record.
 #[derive(Drop)]
 pub(crate) struct Roster {
     records: IndexMap<u64, Option<LiveSession>>,
@@ -44,7 +39,6 @@ impl Model for Roster {
 }
 
 impl Roster {
-    /// Creates an empty roster for at most `limit` live sessions.
     pub(crate) fn new(alloc: Global, limit: usize) -> Roster
         ensures { result ≡ record { members = record { limit = limit; opened = 0; live = [] }; ready = false } }
     {
@@ -68,7 +62,6 @@ impl Roster {
         (self.count, self.opened)
     }
 
-    /// Returns session `number`, if it is live.
     pub(crate) fn find(&self, number: u64) -> Option<&LiveSession>
         ensures known { option_map (λ s. known_of s.now) result ≡ client_and_ack_of number self.now.members.live }
         ensures due { option_map (λ s. s.now.due) result ≡ due_at number self.now.members.live }
@@ -79,14 +72,13 @@ impl Roster {
         }
     }
 
-    /// Returns the due moment of session `number`, in milliseconds, if it is live.
     pub(crate) fn due_of(&self, number: u64) -> Option<u64>
         ensures { result ≡ due_at number self.now.members.live }
     {
         Some(self.find(number)?.due)
     }
 
-    /// Adds an entry for every session to `queue`, which must be empty and have room for all.
+    /// Adds an entry for every session to `queue`, which must be empty and have room.
     pub(crate) fn file_all(&self, queue: &mut DueQueue)
         requires empty { entries queue.old ≡ [] }
         requires few { length self.now.members.live ≤ queue.old.room }
@@ -98,10 +90,6 @@ impl Roster {
     }
 
     /// Adds a vacant record for the next session, if there is none.
-    ///
-    /// # Errors
-    ///
-    /// `AllocFailed` if memory runs out; nothing has changed.
     pub(crate) fn prepare(&mut self) -> Result<(), AllocFailed<(u64, Option<LiveSession>)>>
         requires { self.old.members.opened + 1 < 2 ^ 64 }
         ensures members { self.new.members ≡ self.old.members }
@@ -133,9 +121,7 @@ impl Roster {
         *vacant = Some(session);
     }
 
-    /// Moves the due moment of session `number` to `due`, in milliseconds, but never back.
-    ///
-    /// Does nothing if the session is not live. Does not allocate.
+    /// Moves the due moment of a live session to `due`, in milliseconds, but never back.
     pub(crate) fn extend(&mut self, number: u64, due: u64)
         ensures extended { self.new ≡ record self.old {
           members = with_live self.old.members (live_in (extended number due self.old.members.live));
@@ -148,7 +134,6 @@ impl Roster {
         move_on(session, due);
     }
 
-    /// Removes session `number`, if it is live. Does not allocate.
     pub(crate) fn close(&mut self, number: u64)
         ensures closed { self.new ≡ record self.old {
           members = with_live self.old.members (live_in (closed number self.old.members.live));
@@ -165,9 +150,6 @@ impl Roster {
     }
 }
 
-// Adds an entry to `queue` for each session in `records`.
-//
-// The queue must be empty and have room for all of them.
 fn file_each(queue: &mut DueQueue, records: &IndexMap<u64, Option<LiveSession>>)
     requires empty { entries queue.old ≡ [] }
     requires few { length (sessions_in (values records.now)) ≤ queue.old.room }
@@ -182,7 +164,6 @@ fn file_each(queue: &mut DueQueue, records: &IndexMap<u64, Option<LiveSession>>)
     }
 }
 
-// Moves the due moment of `session`, if any, to `due`, but never back.
 fn move_on(session: &mut Option<LiveSession>, due: u64)
     ensures { session.new ≡ option_map (later due) session.old }
 {

@@ -1,4 +1,3 @@
-//! The table of live sessions: its edits, and the expiry that closes silent ones.
 ghost use Rattle.std.specs.Prelude.{◌≡◌, ◌+◌, ◌<◌, ◌≤◌, ◌^◌, ◌++◌, ◌∷◌, [], length, fold, nat_lt, option_map, true, false, IfOk, OnOk, OnErr};
 ghost use Rattle.std.specs.List.{list_any};
 ghost use Rattle.bx_entry.specs.Registry.{closed, extended, overdue, overdue_closed};
@@ -17,19 +16,14 @@ use std::marker::Model;
 
 /// The live sessions, with a queue of their due moments.
 ///
-/// Each live session has an entry in the queue, at its due moment or before. Extending a session
-/// does not move its entry. The first tick after the moment of an entry closes the session if it is
-/// overdue. Otherwise the tick moves the entry to the due moment.
-///
-/// So a tick looks only at the entries before its moment. It takes logarithmic time for each
-/// session that it closes, and for each entry of a session that was closed or extended in the
-/// meantime.
+/// Each has an entry in the queue, at its due moment or before. Extending a session does not move
+/// its entry. The first tick after the moment of an entry closes the session if it is overdue, and
+/// otherwise moves the entry to the due moment. So a tick looks only at the entries before its
+/// moment. It takes logarithmic time for each session that it closes, and for each entry of a
+/// session that was closed or extended in the meantime.
 ///
 /// If the queue is full when a session is opened, its entries are replaced by one for each live
 /// session. This takes logarithmic time for each opening, on average.
-///
-/// Model: the limit of live sessions, the number of sessions ever opened, and the live ones in
-/// ascending order of number. Also whether one more can be opened without allocating.
 #[derive(Drop)]
 pub struct Table {
     roster: Roster,
@@ -49,10 +43,6 @@ impl Model for Table {
 
 impl Table {
     /// Creates an empty table for at most `limit` live sessions.
-    ///
-    /// # Errors
-    ///
-    /// `AllocError` if memory runs out for the queue, which gets room for `2 * limit` entries.
     pub fn new(alloc: Global, limit: usize) -> Result<Table, AllocError>
         ensures { IfOk result (λ t. t ≡ record { members = record { limit = limit; opened = 0; live = [] }; ready = false }) }
     {
@@ -74,20 +64,14 @@ impl Table {
         self.roster.counts()
     }
 
-    /// Returns the client id of session `number`, if it is live, and whether it acknowledges.
+    /// Returns what is needed to judge the messages of session `number`, if it is live.
     pub fn client_and_ack_of(&self, number: u64) -> Option<ClientAndAck<'_>>
         ensures { option_map (λ k. (k.client.now, k.ack)) result ≡ client_and_ack_of number self.now.members.live }
     {
         Some(self.roster.find(number)?.known())
     }
 
-    /// Reserves a record for the session that `edits` open, if any.
-    ///
-    /// Does nothing if a record is already reserved.
-    ///
-    /// # Errors
-    ///
-    /// `AllocError` if memory runs out; nothing has changed.
+    /// Reserves a record for the session that `edits` open, unless one is reserved.
     pub fn prepare(&mut self, edits: &[Edit]) -> Result<(), AllocError>
         requires { self.old.members.opened + 1 < 2 ^ 64 }
         ensures members { self.new.members ≡ self.old.members }
@@ -100,7 +84,6 @@ impl Table {
         Ok(())
     }
 
-    // Adds the next session, for which a record is reserved.
     fn open(&mut self, session: LiveSession)
         requires next { IsNext self.old.members session }
         requires ready { self.old.ready ≡ true }
@@ -117,9 +100,7 @@ impl Table {
         self.roster.open(session);
     }
 
-    // Moves the due moment of session `number` to `due`, in milliseconds, but never back.
-    //
-    // Does nothing if the session is not live.
+    // Moves the due moment of a live session to `due`, but never back.
     fn extend(&mut self, number: u64, due: u64)
         ensures { self.new ≡ record self.old {
           members = with_live self.old.members (live_in (extended number due self.old.members.live));
@@ -138,8 +119,8 @@ impl Table {
 
     /// Applies `edits`. Does not allocate.
     ///
-    /// They may open one session, which must have the next number. [`prepare`](Self::prepare) must
-    /// have reserved its record. A session that they close must be live.
+    /// They may open one session, with the next number, for which [`prepare`](Self::prepare)
+    /// reserved a record. A session that they close must be live.
     pub fn apply(&mut self, edits: Edits)
         requires can { CanEditBy self.old.members edits }
         requires room { opens edits ≤ room_of self.old.ready }
@@ -151,7 +132,6 @@ impl Table {
         }
     }
 
-    // Applies `edits` in order, under the conditions of [`apply`](Self::apply).
     fn edit(&mut self, edits: Sequence<Edit>)
         requires can { CanEditEach self.old.members edits }
         requires room { opened_by_each edits ≤ room_of self.old.ready }
@@ -177,12 +157,7 @@ impl Table {
 
     /// Returns the numbers of the live sessions due before `moment`, in ascending order.
     ///
-    /// `moment`: milliseconds since the server started. Looks only at the queue's entries before
-    /// `moment`.
-    ///
-    /// # Errors
-    ///
-    /// `AllocError` if memory runs out; no session has changed.
+    /// `moment`: milliseconds since the server started.
     pub fn overdue(&mut self, alloc: Global, moment: u64) -> Result<Sequence<u64>, AllocError>
         ensures same { self.new ≡ self.old }
         ensures overdue { IfOk result (λ numbers. numbers ≡ overdue moment self.old.members.live) }
@@ -195,7 +170,6 @@ impl Table {
         Ok(Sequence::from_vec(numbers))
     }
 
-    // Closes the sessions due before `moment`.
     fn expire(&mut self, moment: u64)
         ensures { self.new.members ≡ with_live self.old.members (live_in (overdue_closed moment self.old.members.live)) }
     {
@@ -204,14 +178,13 @@ impl Table {
     }
 }
 
-// Returns `true` if one of `edits` opens a session.
 fn opens_one(edits: &[Edit]) -> bool
     ensures { result ≡ list_any is_open edits.now }
 {
     edits.iter().any(|edit| matches!(edit, Edit::Open(_)))
 }
 
-// Returns the numbers in `late` of the live sessions due before `moment`, with repetitions.
+// Returns the overdue sessions in `late`, with repetitions.
 fn past_numbers(
     alloc: Global,
     roster: &Roster,
@@ -238,9 +211,7 @@ fn is_past(due: Option<u64>, moment: u64) -> bool
     }
 }
 
-// Removes the late entries of `queue`, and closes their sessions that are due before `moment`.
-//
-// Their other live sessions get new entries, at their due moments.
+// Closes the overdue sessions of the late entries, and gives their other ones new entries.
 fn settle_late(roster: &mut Roster, queue: &mut DueQueue, moment: u64)
     requires roster { IsRoster roster.old.members }
     requires filed { AllFiled (entries queue.old) roster.old.members.live }
@@ -255,9 +226,7 @@ fn settle_late(roster: &mut Roster, queue: &mut DueQueue, moment: u64)
     }
 }
 
-// Closes the session of the removed entry `due`, if the session is due before `moment`.
-//
-// If the session is live and due at `moment` or later, it gets a new entry, at its due moment.
+// Closes the session of the removed entry `due`, or gives it a new entry if it is not overdue.
 fn settle(roster: &mut Roster, queue: &mut DueQueue, due: Due, moment: u64)
     requires roster { IsRoster roster.old.members }
     requires filed { AllFiled (due ∷ entries queue.old) roster.old.members.live }
@@ -278,7 +247,7 @@ fn settle(roster: &mut Roster, queue: &mut DueQueue, due: Due, moment: u64)
 
 // Replaces the entries of a full `queue` by one for each live session.
 //
-// The queue is then at most half full, so this is rare. Does nothing if there is room.
+// The queue is then at most half full, so this is rare.
 fn make_room(queue: &mut DueQueue, roster: &Roster)
     requires filed { AllFiled (entries queue.old) roster.now.members.live }
     requires few { length roster.now.members.live < queue.old.room }

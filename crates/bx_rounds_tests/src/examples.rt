@@ -1,6 +1,6 @@
 //! Tests that run the examples in the doc comments of `World::run_schedule` and `Round::run`.
 //!
-//! `tests/documents/run` checks that a test has the lines of each example.
+//! `tests/test_documents.py` checks that a test has the lines of each example.
 use bx_advice::{Config, WorkerCount};
 use bx_cut::Bodies;
 use bx_entry::{Access, Arrival, ByRemainder, Input};

@@ -1,5 +1,4 @@
-//! Tests of `bx_script`, `bx_world`, `bx_fanout` and `bx_replay`: scripts, worlds, rounds and
-//! replays.
+//! Tests of `bx_script`, `bx_world`, `bx_fanout` and `bx_replay`.
 //!
 //! They are a separate crate because `.ci/run` proves a crate with tests twice.
 #![tactic(auto)]
@@ -9,6 +8,8 @@ mod examples;
 #[cfg(test)]
 mod fanout;
 #[cfg(test)]
+mod gates;
+#[cfg(test)]
 mod replays;
 #[cfg(test)]
 mod requests;
@@ -17,6 +18,4 @@ mod same;
 #[cfg(test)]
 mod script;
 #[cfg(test)]
-mod streams;
-#[cfg(test)]
-mod world;
+mod workers;

@@ -1,10 +1,8 @@
-//! The dialects of a script.
-
-/// Which kinds of lines are allowed: those of a script, or those of a record.
+/// Which kinds of lines are allowed.
 #[derive(Clone, Copy, Debug, PartialEq, Eq)]
 pub enum Dialect {
-    /// The lines of a script: requests, ticks and changes of the number of shards.
+    /// Those of a script: requests, ticks and changes of the number of shards.
     Script,
-    /// The lines of a record of what a server admitted: also forms, nonces and notes of answers.
+    /// Those of a record of what a server admitted: also forms, nonces and notes of answers.
     Recorded,
 }

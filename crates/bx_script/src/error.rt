@@ -1,4 +1,3 @@
-//! Errors of reading a script and of writing its results.
 ghost use Rattle.std.specs.Prelude.{◌≡◌, ◌≢◌};
 ghost use Rattle.std.specs.IoError.{error_kind};
 ghost use Rattle.bx_script.specs.declared.error.ScriptFault.TheVariants.{Memory};
@@ -11,21 +10,19 @@ use thiserror::Error;
 /// Why a script cannot be read, or its results cannot be written.
 #[derive(Clone, Copy, Debug, PartialEq, Eq, Error)]
 pub enum ScriptFault {
-    /// Memory ran out while a script was read or its results were written.
     #[error("out of memory")]
     Memory,
-    /// A read of the script failed, or there were [`MAX_READS`](crate::MAX_READS) reads.
+    /// A read failed, or there were [`MAX_READS`](crate::MAX_READS) reads.
     #[error("read fault")]
     Read,
-    /// A write of results failed, wrote nothing, or was interrupted too often.
-    ///
-    /// [`MAX_INTERRUPTIONS`](crate::MAX_INTERRUPTIONS) interruptions are allowed.
+    /// A write failed, wrote nothing, or was interrupted more than
+    /// [`MAX_INTERRUPTIONS`](crate::MAX_INTERRUPTIONS) times.
     #[error("write fault")]
     Write,
 }
 
 impl ScriptFault {
-    /// Converts the error of a read: `OutOfMemory` to `Memory`, any other to `Read`.
+    /// Converts `OutOfMemory` to `Memory`, and any other error to `Read`.
     pub fn of_read(error: &io::Error) -> ScriptFault
         ensures memory { error_kind error.now ≡ ErrorKind.OutOfMemory → result ≡ ScriptFault.Memory }
         ensures other { error_kind error.now ≢ ErrorKind.OutOfMemory → result ≡ ScriptFault.Read }
@@ -36,7 +33,7 @@ impl ScriptFault {
         }
     }
 
-    /// Converts the error of a write: `OutOfMemory` to `Memory`, any other to `Write`.
+    /// Converts `OutOfMemory` to `Memory`, and any other error to `Write`.
     pub fn of_write(error: &io::Error) -> ScriptFault
         ensures memory { error_kind error.now ≡ ErrorKind.OutOfMemory → result ≡ ScriptFault.Memory }
         ensures other { error_kind error.now ≢ ErrorKind.OutOfMemory → result ≡ ScriptFault.Write }

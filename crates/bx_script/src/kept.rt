@@ -1,4 +1,3 @@
-//! The part of a line that is kept in memory.
 ghost use Rattle.std.specs.Prelude.{◌≡◌, ◌<◌, OnOk, vec_len, if◌then◌else◌};
 ghost use Rattle.bx_script.specs.Kept.{is_lone_zero, kept_with, without_zeros};
 
@@ -7,12 +6,12 @@ use std::alloc::AllocError;
 
 /// The most bytes of a line that are kept.
 ///
-/// The body or query of a longer line is too large in any case. Before the body or query, at most a
-/// zero, 20 digits, a letter and two spaces are kept.
+/// The body or query of a longer line is too large in any case. Before it, at most a zero, 20
+/// digits, a letter and two spaces are kept.
 pub(crate) const KEPT_LIMIT: usize = BODY_LIMIT + 32;
 
-// Appends `part`, the next part of a line, to `kept`, up to `KEPT_LIMIT` bytes in all. If the line
-// begins with several zeros, only the first is kept.
+// Appends the next part of a line to `kept`, up to `KEPT_LIMIT` bytes in all. Of several zeros at
+// the line's beginning, only the first is kept.
 pub(crate) fn keep(kept: &mut Vec<u8>, part: &[u8]) -> Result<(), AllocError>
     ensures { OnOk result (kept.new.items ≡ kept_with kept.old.items part.now) }
 {
@@ -26,8 +25,7 @@ pub(crate) fn keep(kept: &mut Vec<u8>, part: &[u8]) -> Result<(), AllocError>
     keep_on(kept, rest)
 }
 
-// Appends `part` to `kept`, up to `KEPT_LIMIT` bytes in all. `kept` must not be empty. If `kept` is
-// a single zero, leading zeros of `part` are dropped.
+// Appends `part` to `kept`, which is not empty. Drops leading zeros if `kept` is a single zero.
 fn keep_on(kept: &mut Vec<u8>, part: &[u8]) -> Result<(), AllocError>
     requires { 0 < vec_len kept.old }
     ensures { OnOk result (kept.new.items ≡ kept_with kept.old.items part.now) }
@@ -37,8 +35,7 @@ fn keep_on(kept: &mut Vec<u8>, part: &[u8]) -> Result<(), AllocError>
     kept.extend_from_slice(&part[..room])
 }
 
-// Returns `part`, without its leading zeros if `kept` is a single zero. Leading zeros change no
-// number.
+// Leading zeros change no number.
 fn significant_part<'a>(kept: &[u8], part: &'a [u8]) -> &'a [u8]
     ensures { result.now ≡ (if is_lone_zero kept.now then without_zeros part.now else part.now) }
 {

@@ -1,4 +1,3 @@
-//! Parsing a line of a script or a record.
 ghost use Rattle.std.specs.Prelude.{◌≡◌, ◌≢◌, IfOk, OnOk, option_map, position, string_bytes};
 ghost use Rattle.std.specs.List.{after_first, before_first};
 ghost use Rattle.bx_cut.specs.Bodies.{texts_of};
@@ -18,37 +17,32 @@ use bx_message::{Status, number_of};
 use bx_transport::{TransportError, read_get, read_post};
 use std::alloc::{AllocError, Global};
 
-// The media type of an HTML form.
 const FORM_TYPE: &[u8] = b"application/x-www-form-urlencoded";
 
 /// The meaning of a line.
 #[derive(Drop)]
 pub enum Line {
-    /// The line is malformed.
     Bad,
-    /// The line is a request with a body or query that is rejected.
+    /// A request with a body or query that is rejected.
     Rejected {
-        /// The HTTP status with which the request is rejected.
         status: Status,
     },
-    /// The line is a request or a tick.
+    /// A request or a tick.
     Accepted {
-        /// The name of the callback, if the line is a GET.
+        /// The name of the callback of a GET.
         callback: Option<String>,
-        /// The request, with the nonce 0, or the tick.
+        /// A request has the nonce 0.
         input: Input,
     },
-    /// The line changes the number of shards.
+    /// A new number of shards.
     Resharded {
-        /// The new number of shards, from 1 to 64.
         shards: ShardCount,
     },
-    /// The line has the nonce of the next request.
+    /// The nonce of the next request.
     Announced {
-        /// The nonce of the next request.
         nonce: u128,
     },
-    /// The line is a note that an answer was given, which has no effect.
+    /// A note that an answer was given, which has no effect.
     Noted,
 }
 
@@ -75,10 +69,6 @@ impl Line {
     /// A line is [`Rejected`](Line::Rejected) if no documents can be read from its body or query,
     /// for example because it is too large. A line that has none of the forms above is
     /// [`Bad`](Line::Bad). Documents are not parsed, and a body is copied once.
-    ///
-    /// # Errors
-    ///
-    /// `AllocError` if memory runs out.
     pub fn read(alloc: Global, dialect: Dialect, text: &[u8]) -> Result<Line, AllocError>
         ensures meaning { IfOk result (λ line. meaning_of line ≡ line_of (dialect_of dialect) text.now) }
     {
@@ -89,7 +79,7 @@ impl Line {
     }
 }
 
-// Parses a line of a moment, a space and a command. Any other text is `Bad`.
+// Parses a line of a moment, a space and a command.
 fn read_timed(alloc: Global, dialect: Dialect, text: &[u8]) -> Result<Line, AllocError>
     ensures { IfOk result (λ line. meaning_of line ≡ timed_line (dialect_of dialect) text.now) }
 {
@@ -100,7 +90,7 @@ fn read_timed(alloc: Global, dialect: Dialect, text: &[u8]) -> Result<Line, Allo
     }
 }
 
-// Splits `text` at its first space. Without a space, the second part is empty.
+// Without a space, the second part is empty.
 fn cut_at_space(text: &[u8]) -> (&[u8], &[u8])
     ensures before { result.0.now ≡ before_first is_space text.now }
     ensures rest { result.1.now ≡ after_first is_space text.now }
@@ -111,15 +101,13 @@ fn cut_at_space(text: &[u8]) -> (&[u8], &[u8])
     }
 }
 
-// Returns the index of the first space in `text`, if any.
 fn space_in(text: &[u8]) -> Option<usize>
     ensures { result ≡ position is_space text.now }
 {
     text.iter().position(|byte| *byte == b' ')
 }
 
-// Parses the command `rest`, which follows the moment and a space. If `dialect` has no such
-// command, the line is `Bad`.
+// A command that `dialect` does not have is `Bad`.
 fn read_command(
     alloc: Global,
     dialect: Dialect,
@@ -149,10 +137,7 @@ fn read_command(
     }
 }
 
-// Parses the command `rest` as one that only a record can have.
-//
-// It is a request with a form as its body (`F`), or the nonce of the next request (`N`). Any other
-// text is `Bad`.
+// Parses a command that only a record can have: a form (`F`) or a nonce (`N`).
 fn read_recorded(alloc: Global, moment: u64, rest: &[u8]) -> Result<Line, AllocError>
     ensures { IfOk result (λ line. meaning_of line ≡ recorded_command Recorded moment rest.now) }
 {
@@ -165,7 +150,6 @@ fn read_recorded(alloc: Global, moment: u64, rest: &[u8]) -> Result<Line, AllocE
     }
 }
 
-// Parses the body of a POST into the request at `moment`, or into `Rejected`.
 fn read_body(
     alloc: Global,
     moment: u64,
@@ -181,7 +165,6 @@ fn read_body(
     }
 }
 
-// Parses the query of a GET into the request at `moment`, or into `Rejected`.
 fn read_query(alloc: Global, moment: u64, query: &[u8]) -> Result<Line, AllocError>
     ensures { IfOk result (λ line. meaning_of line ≡ handed_by moment (query_taken query.now)) }
 {
@@ -191,7 +174,7 @@ fn read_query(alloc: Global, moment: u64, query: &[u8]) -> Result<Line, AllocErr
     }
 }
 
-// Converts `error` to a rejected line. Fails if it is `Memory`.
+// Converts `error` to a rejected line, unless it is `Memory`.
 fn turned(error: TransportError) -> Result<Line, AllocError>
     ensures status { IfOk result (λ line. meaning_of line ≡ Rejected (code_of (transport_status error))) }
     ensures reason { OnOk result (error ≢ TransportError.Memory) }
@@ -248,8 +231,7 @@ fn read_nonce(digits: &[u8]) -> Line
     }
 }
 
-// Parses what follows `A` and a space: a place and a digest, in at most `BODY_LIMIT` bytes. Any
-// other text is `Bad`.
+// Parses what follows `A` and a space: a place and a digest, in at most `BODY_LIMIT` bytes.
 fn read_note(note: &[u8]) -> Line
     ensures { meaning_of result ≡ noted_by note.now }
 {

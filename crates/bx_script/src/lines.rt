@@ -1,4 +1,3 @@
-//! Reading a script line by line.
 ghost use Rattle.std.specs.Prelude.{◌≡◌, ◌<◌, ◌^◌, IfErr, IfOk, IfSome, OnOk};
 ghost use Rattle.bx_script.specs.Lines.{CannotRead, IsFault, IsNext, dialect_of, read_as, reads_left, unread};
 
@@ -21,10 +20,9 @@ pub struct Lines<R> {
 }
 
 impl<R: BufRead> Lines<R> {
-    /// Creates a reader of the lines that `reader` gives.
+    /// Creates a reader of the lines that `reader` gives. Does not allocate.
     ///
-    /// It reads from `reader` at most [`MAX_READS`](crate::MAX_READS) times. `dialect`: whether the
-    /// lines are those of a script or of a record. Does not allocate.
+    /// It reads from `reader` at most [`MAX_READS`](crate::MAX_READS) times.
     pub fn new(alloc: Global, dialect: Dialect, reader: R) -> Lines<R>
         ensures dialect { read_as result ≡ dialect_of dialect }
         ensures script { unread R.remaining result ≡ R.remaining reader }
@@ -39,17 +37,13 @@ impl<R: BufRead> Lines<R> {
         }
     }
 
-    /// Reads and parses the next line, or returns `None` at the end of the script.
+    /// Reads and parses the next line, up to a line feed or the end of the script.
     ///
-    /// A line ends at a line feed, which is not part of it, or at the end of the script.
-    /// Interrupted reads are repeated.
+    /// Returns `None` at the end. Interrupted reads are repeated.
     ///
     /// # Errors
     ///
-    /// - `Read`: a read failed, or there were [`MAX_READS`](crate::MAX_READS) reads.
-    /// - `Memory`: memory ran out, at any step.
-    ///
-    /// On error, a part of the script may be lost.
+    /// `Read` or `Memory`; a part of the script may be lost then.
     pub fn next_line(&mut self, alloc: Global) -> Result<Option<Line>, ScriptFault>
         ensures next { IfOk result (λ next. IfSome (unread R.remaining self.old)
             (λ script. IsNext (read_as self.old) next script (unread R.remaining self.new))) }

@@ -1,13 +1,11 @@
-//! The nonce in a line.
 ghost use Rattle.std.specs.Prelude.{◌≡◌};
 ghost use Rattle.std.specs.Char.{is_ascii_hexdigit};
 ghost use Rattle.std.specs.List.{list_all};
 ghost use Rattle.bx_script.specs.Replay.{nonce_of};
 
-// Number of hexadecimal digits in a nonce of 128 bits.
 const NONCE_DIGITS: usize = 32;
 
-// Parses 32 hexadecimal digits of either case. Returns `None` for any other text.
+// Parses 32 hexadecimal digits of either case.
 pub(crate) fn nonce_of(digits: &[u8]) -> Option<u128>
     ensures { result ≡ nonce_of digits.now }
 {

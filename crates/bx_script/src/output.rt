@@ -1,4 +1,3 @@
-//! The writer that results are printed to.
 ghost use Rattle.std.specs.Prelude.{◌≡◌, ◌≢◌, ◌+◌, ◌<◌, ◌^◌, ◌↔◌, IfErr, IfOk, IsTrue, OnErr};
 ghost use Rattle.std.specs.Io.{WritesAtMost};
 ghost use Rattle.std.specs.Io.KnownBytes.{Keeps, WriteAppends};
@@ -20,7 +19,7 @@ pub struct Output<W> {
 }
 
 impl<W: Write> Output<W> {
-    /// Creates an output to `writer` that allows [`MAX_INTERRUPTIONS`] interrupted writes in all.
+    /// Creates an output to `writer`.
     pub fn new(writer: W) -> Output<W>
         ensures written { written W.contents result ≡ W.contents writer }
         ensures interruptions { interruptions_left result ≡ 2 ^ 40 }
@@ -37,7 +36,7 @@ impl<W: Write> Output<W> {
     ///
     /// # Errors
     ///
-    /// If the writer fails: `Memory` if it is out of memory, and otherwise `Write`.
+    /// `Memory` if the writer is out of memory, and otherwise `Write`.
     pub fn flush(&mut self) -> Result<(), ScriptFault>
         ensures bytes { Keeps (written W.contents self.old) (written W.contents self.new) }
         ensures fault { IfErr result (λ e. e ≢ ScriptFault.Read) }
@@ -49,8 +48,7 @@ impl<W: Write> Output<W> {
         }
     }
 
-    // Writes a prefix of `text` and returns its length in bytes. The length is 0 if the write was
-    // interrupted. `text` must not be empty.
+    // Writes a prefix of `text`, which is not empty, and returns its length, or 0 if interrupted.
     pub(crate) fn write_some(&mut self, text: &[u8]) -> Result<usize, ScriptFault>
         ensures within { WritesAtMost result text.now }
         ensures bytes { WriteAppends (written W.contents self.old) (written W.contents self.new) result text.now }
@@ -69,7 +67,6 @@ impl<W: Write> Output<W> {
         }
     }
 
-    // Returns `true` if `error` is an interruption that is still allowed.
     fn may_go_on(&self, error: &Error) -> bool
         ensures { IsTrue result
             ↔ ((error_kind error.now ≡ ErrorKind.Interrupted) × (0 < interruptions_left self.now)) }
@@ -77,7 +74,6 @@ impl<W: Write> Output<W> {
         error.kind() == ErrorKind::Interrupted && self.interruptions_left > 0
     }
 
-    // Records that a write failed, and converts `error` to a fault.
     fn fail(&mut self, error: &Error) -> ScriptFault
         ensures failed { HasFailed self.new }
         ensures bytes { written W.contents self.new ≡ written W.contents self.old }

@@ -1,4 +1,3 @@
-//! Reading a line in parts.
 ghost use Rattle.std.specs.Prelude.{◌≡◌, ◌<◌, ◌^◌, IfOk, ◌≤◌, OnOk, IfErr, length, position};
 ghost use Rattle.bx_script.specs.Reading.{IsCut, ReadsLine, ReadsPart};
 ghost use Rattle.bx_script.specs.Replay.{is_newline};
@@ -8,23 +7,22 @@ use crate::kept::keep;
 use memchr::memchr;
 use std::io::{BufRead, ErrorKind};
 
-// The outcome of one read of a part of a line.
 #[derive(Clone, Copy)]
 enum ReadOutcome {
     // The read was interrupted.
     Again,
-    // The read gave a part of a line that continues.
+    // A part of a line that continues.
     More,
-    // The read gave the end of a line.
+    // The end of a line.
     Line,
-    // The read found the end of the script.
+    // The end of the script.
     End,
 }
 
 /// The most reads of a script, 2^40. Interrupted reads count.
 pub const MAX_READS: u64 = 1_099_511_627_776;
 
-/// The number of reads of a script that are left, and whether one has failed.
+/// The reads that are left, and whether one has failed.
 #[derive(Drop)]
 pub struct Reads {
     left: u64,
@@ -35,7 +33,6 @@ pub struct Reads {
 impl Reads {
     ghost use Rattle.bx_script.specs.Reads.{HasEnded, IsReadFault};
 
-    // Creates a count that allows [`MAX_READS`] reads.
     pub(crate) fn new() -> Reads
         ensures left { result.left ≡ 2 ^ 40 }
         ensures sound { ¬ HasEnded result }
@@ -47,7 +44,7 @@ impl Reads {
     }
 
     // Reads a line, and stores at most `KEPT_LIMIT` bytes of it in `kept`. Returns `false` if the
-    // script has no more lines. Fails if a read fails, no reads are left, or memory runs out.
+    // script has no more lines.
     pub(crate) fn read_text<R: BufRead>(
         &mut self,
         reader: &mut R,
@@ -71,8 +68,7 @@ impl Reads {
         Err(ScriptFault::Read)
     }
 
-    // Reads what `reader` has buffered, at most up to the end of the line. Appends the bytes that
-    // must be kept to `kept`.
+    // Reads what `reader` has buffered, up to the end of the line. Appends what must be kept.
     fn read_part<R: BufRead>(
         &mut self,
         reader: &mut R,
@@ -98,8 +94,7 @@ impl Reads {
     }
 }
 
-// Returns how many bytes of `shown` belong to the line, how many to consume, and the outcome. If
-// `shown` is empty, the script is at its end.
+// Returns how many bytes of `shown` belong to the line, how many to consume, and the outcome.
 fn cut(shown: &[u8]) -> (usize, usize, ReadOutcome)
     ensures parts { IsCut shown.now result.0 result.1 result.2 }
     ensures before { result.0 ≤ length shown.now }
@@ -114,7 +109,6 @@ fn cut(shown: &[u8]) -> (usize, usize, ReadOutcome)
     }
 }
 
-// Returns the index of the first line feed in `shown`, if any.
 fn newline_in(shown: &[u8]) -> Option<usize>
     ensures { result ≡ position is_newline shown.now }
 {

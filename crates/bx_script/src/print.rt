@@ -1,4 +1,3 @@
-//! Printing the results of lines.
 ghost use Rattle.std.specs.Prelude.{◌≡◌, ◌≢◌, ◌++◌, IfErr, IfOk, OnErr, codes, decimal, option_map, string_bytes};
 ghost use Rattle.bx_entry.specs.Inputs.{ReadInput};
 ghost use Rattle.bx_message.specs.Statuses.{code_of};
@@ -19,7 +18,7 @@ use std::io::Write;
 ///
 /// # Errors
 ///
-/// `Memory` or `Write` if a write fails. A prefix of the line may have been written.
+/// `Memory` or `Write`. A prefix of the line may have been written.
 pub fn write_bad<W: Write>(writer: &mut Output<W>, number: u64) -> Result<(), ScriptFault>
     ensures text { Writes (written W.contents writer.old) (written W.contents writer.new) result
         (line_text number (codes "bad")) }
@@ -33,7 +32,7 @@ pub fn write_bad<W: Write>(writer: &mut Output<W>, number: u64) -> Result<(), Sc
 ///
 /// # Errors
 ///
-/// `Memory` or `Write` if a write fails. A prefix of the line may have been written.
+/// As [`write_bad`].
 pub fn write_held<W: Write>(writer: &mut Output<W>, number: u64) -> Result<(), ScriptFault>
     ensures text { Writes (written W.contents writer.old) (written W.contents writer.new) result
         (line_text number (codes "held")) }
@@ -48,7 +47,7 @@ pub fn write_held<W: Write>(writer: &mut Output<W>, number: u64) -> Result<(), S
 ///
 /// # Errors
 ///
-/// `Memory` or `Write` if a write fails. A prefix of the line may have been written.
+/// As [`write_bad`].
 pub fn write_status<W: Write>(
     writer: &mut Output<W>,
     number: u64,
@@ -65,17 +64,13 @@ pub fn write_status<W: Write>(
 
 /// Writes the result of the input in line `number`.
 ///
-/// `tick`: whether the input is a tick. `answer`: the items of the response, or why the input is
-/// rejected.
-///
 /// Writes `number`, a space and, for a rejected input, its status, or otherwise 200 and the
 /// response. The response is an array, or a call of `callback` with the array. Writes nothing for a
 /// tick that is not rejected.
 ///
 /// # Errors
 ///
-/// `Memory` if memory runs out; `Memory` or `Write` if a write fails. A prefix of the line may
-/// have been written.
+/// As [`write_bad`].
 pub fn write_result<W: Write>(
     alloc: Global,
     writer: &mut Output<W>,
@@ -111,7 +106,6 @@ fn write_response<W: Write>(
     write_line(writer, number, b"200 ", body.as_slice())
 }
 
-// Formats the body of a response: the array of `items`, or a call of `callback` with the array.
 fn body_of(alloc: Global, callback: &Option<String>, items: &[Item]) -> Result<Vec<u8>, AllocError>
     ensures { IfOk result (λ body. body.items
         ≡ response_text (option_map string_bytes callback.now) items.now) }
@@ -122,7 +116,6 @@ fn body_of(alloc: Global, callback: &Option<String>, items: &[Item]) -> Result<V
     }
 }
 
-// Writes a line: `number`, a space, `lead`, `text` and a line feed.
 fn write_line<W: Write>(
     writer: &mut Output<W>,
     number: u64,
@@ -142,7 +135,6 @@ fn write_line<W: Write>(
     put(writer, b"\n")
 }
 
-// Writes all of `text`.
 fn put<W: Write>(writer: &mut Output<W>, text: &[u8]) -> Result<(), ScriptFault>
     ensures text { Writes (written W.contents writer.old) (written W.contents writer.new) result text.now }
     ensures fault { IfErr result (λ e. e ≢ ScriptFault.Read) }

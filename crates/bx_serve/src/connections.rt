@@ -1,4 +1,3 @@
-//! Accepted connections as a stream of tasks.
 ghost use Rattle.std.specs.Prelude.{◌≡◌, ◌==◌, if◌then◌else◌, IfSome, false};
 ghost use Rattle.futures.specs.Poll.{IfReady, OnPending};
 ghost use Rattle.futures.specs.Task.{Covers, Keeps};
@@ -26,7 +25,7 @@ pub struct Connections<R, M> {
     is_paused: bool,
 }
 
-/// Returns `count` as a limit on connections. A `count` of 0 is no limit, and gives `usize::MAX`.
+/// Returns `count` as a limit on connections; 0 is no limit.
 pub fn accept_limit(count: u64) -> usize
     ensures { result ≡ (if count == 0 then 18446744073709551615 else count) }
 {
@@ -40,7 +39,7 @@ pub fn accept_limit(count: u64) -> usize
 impl<R, M> Connections<R, M> {
     /// Creates the stream of the tasks that `maker` makes for `incoming`.
     ///
-    /// A pause after a failed accept lasts one period of `pause`.
+    /// A pause lasts one period of `pause`.
     pub fn new(clock: R, incoming: Incoming, maker: M, pause: Interval) -> Connections<R, M>
         ensures { result.maker ≡ maker }
     {
@@ -55,8 +54,7 @@ impl<R, M> Connections<R, M> {
 }
 
 impl<R: Clock, M> Connections<R, M> {
-    // Waits until the pause, if any, is over. Then returns `true`, or `false` if the timers have
-    // been shut down.
+    // Waits until the pause, if any, is over. Returns `false` if the timers have been shut down.
     fn poll_pause(&mut self, cx: &mut Context<'_>) -> Poll<bool>
         ensures maker { self.new.maker ≡ self.old.maker }
         ensures over { IfReady result (λ _. self.new.is_paused ≡ false) }

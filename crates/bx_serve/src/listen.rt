@@ -1,4 +1,3 @@
-//! Serves the connections of one listener or two.
 use crate::connections::{Connections, accept_limit};
 use crate::make_task::{RequestBody, Server};
 use crate::spawn_each::run_until;
@@ -26,12 +25,11 @@ pub type Endpoint<S> = (TcpListener, S);
 /// Serves up to `count` connections over HTTP, each as a task, until `end` is ready.
 ///
 /// The connections come from `first` and, if given, `other`. A `count` of 0 is no limit. After the
-/// last accept, the open connections are still served, up to the runtime's shutdown timeout.
+/// last accept, the open connections are served up to the runtime's shutdown timeout.
 ///
 /// A connection ends if the head of a request takes more than 30 seconds, or if the peer takes no
 /// data for 30 seconds. A body fails if no data arrives for 30 seconds, or if it is not complete in
-/// five minutes. If memory runs out for a connection, the connection is dropped and the next one is
-/// served.
+/// five minutes. If memory runs out for a connection, it is dropped.
 ///
 /// # Errors
 ///
@@ -68,7 +66,6 @@ where
     run_until(&rt, runtime, first, other, accept_limit(count), end)
 }
 
-// Creates the stream of the tasks that serve an endpoint's connections.
 fn connections_of<R, S, E>(
     rt: &R,
     runtime: &Runtime,

@@ -1,4 +1,3 @@
-//! The task that serves one connection, and how it is made.
 ghost use Rattle.std.specs.Prelude.{⊤, IfSome};
 
 use crate::timeout_body::{TimeoutBody, TimeoutService};
@@ -20,7 +19,6 @@ use tokio::net::TcpStream;
 /// A future that runs another future and drops its output.
 #[derive(Drop)]
 pub struct IgnoreOutput<F> {
-    /// The future to run.
     pub inner: F,
 }
 
@@ -46,7 +44,7 @@ pub trait MakeTask: Drop {
     // Ghost: what must be true for `make` to be called.
     ghost can_make: { Self → Type 0 } = { λ _. ⊤ };
 
-    /// Creates the task that serves `socket`, or returns `None` if memory runs out.
+    /// Creates the task that serves `socket`, if memory suffices.
     fn make(&self, socket: TcpStream) -> Option<Self::Task>
         requires { can_make self.now }
         ensures { IfSome result Self.Task.can_poll };
@@ -63,13 +61,12 @@ pub type RequestBody<R> = TimeoutBody<Incoming<Served<R>>, Option<TokioTimer<R>>
 /// A [`MakeTask`] that serves each connection over HTTP with a clone of a service.
 #[derive(Drop)]
 pub struct Server<R, S> {
-    /// The HTTP settings, with a timer for the heads of requests.
+    /// With a timer for the heads of requests.
     pub http: http1::Builder<TokioTimer<R>>,
-    /// The service, cloned for each connection.
+    /// Cloned for each connection.
     pub service: S,
-    /// The timer for the limits on bodies and on writes to peers.
+    /// For the limits on bodies and on writes to peers.
     pub timer: TokioTimer<R>,
-    /// The limits on bodies and on writes to peers.
     pub limits: TimeLimits,
 }
 

@@ -1,4 +1,3 @@
-//! Runs each future of a stream as a task.
 ghost use Rattle.std.specs.Prelude.{◌≡◌, IfErr, IfOk, IfSome, false};
 ghost use Rattle.futures.specs.Runs.{AllItems};
 
@@ -20,7 +19,7 @@ const BUDGET: u32 = 128;
 /// Runs up to `count` futures of `first` and `other` as tasks, until `end` is ready.
 ///
 /// Then waits for the tasks to end, up to the runtime's shutdown timeout. If memory runs out for a
-/// task, its future is dropped and the next one is run.
+/// task, its future is dropped.
 ///
 /// # Errors
 ///
@@ -54,7 +53,7 @@ where
     }
 }
 
-// Runs the futures of one stream as tasks, until `end` is ready. Then waits for the tasks.
+// Runs a stream's futures as tasks, until `end` is ready or the stream ends. Waits for the tasks.
 fn run<R, S, F, A, T>(rt: &R, runtime: &mut Runtime, futures: S, end: A) -> io::Result<()>
 where
     R: Wait + Threads + Clock + RandomSource + AllocGlobal + Sync,
@@ -89,8 +88,7 @@ impl<'a, F: Future, S> SpawnEach<'a, F, S> {
     }
 }
 
-// Returns whether `spawned` failed because the set of tasks is shut down. If memory ran out for the
-// task, returns `false`. Drops the future of a failed spawn.
+// Returns whether the set of tasks is shut down. Drops the future of a failed spawn.
 fn is_shut_down<F: Drop>(spawned: Result<(), SpawnError<F>>) -> bool
     ensures spawned { IfOk spawned (λ _. result ≡ false) }
     ensures refused { IfErr spawned (λ refused. result ≡ refused.1) }

@@ -1,4 +1,3 @@
-//! Bodies with a time limit.
 ghost use Rattle.std.specs.Prelude.{◌≡◌, Option};
 ghost use Rattle.http.specs.declared.request.Request.{Request};
 ghost use Rattle.bx_serve.specs.Handing.{IsWithTimeouts};
@@ -16,9 +15,8 @@ use hyper::service::Service;
 /// Why a body failed.
 #[derive(Drop)]
 pub enum TimeoutBodyFault<E> {
-    /// The inner body failed, with this error.
     Body(E),
-    /// The body failed, because no frame arrived in time or because it was not complete in time.
+    /// No frame arrived in time, or the body was not complete in time.
     Late,
 }
 
@@ -33,7 +31,7 @@ pub struct TimeoutBody<B, T> {
 }
 
 impl<B, T> TimeoutBody<B, T> {
-    /// Creates a body with the time limits of `timeouts`, which start with the first wait.
+    /// Creates a body with the limits of `timeouts`, which start with the first wait.
     pub fn new(body: B, timeouts: ProgressTimeout<T>) -> TimeoutBody<B, T>
         ensures body { result.body ≡ body }
         ensures timeouts { result.timeouts ≡ timeouts }
@@ -79,11 +77,9 @@ impl<B: Body, T: Timer> Body for TimeoutBody<B, T> {
 /// A service that calls another, with time limits on each request's body.
 #[derive(Drop)]
 pub struct TimeoutService<S, T> {
-    /// The service that is called with each request, with time limits on its body.
     pub service: S,
-    /// The timer for the limits on bodies.
     pub timer: T,
-    /// The limits on the wait for each frame, and on the time for a complete body.
+    /// The limits on the wait for each frame, and for a complete body.
     pub limits: TimeLimits,
 }
 
@@ -101,8 +97,7 @@ where
 
     ghost can_call = { λ p. S.can_call p.service };
 
-    // Ghost: a future that the inner service may return for the request with time limits on its
-    // body.
+    // Ghost: a future that the inner service may return for a request whose body has time limits.
     ghost calls = { λ p came future. (handed : Request (TimeoutBody B (Option T))) × (IsWithTimeouts p.limits came handed × S.calls p.service handed future) };
 
     fn call(&self, request: Request<B>) -> S::Future {

@@ -1,4 +1,3 @@
-//! A connection that fails if its peer stops taking data.
 ghost use Rattle.std.specs.Prelude.{◌≡◌, None, false};
 ghost use Rattle.futures.specs.Poll.{IfReady, OnPending};
 ghost use Rattle.futures.specs.Task.{Covers, Keeps};
@@ -24,8 +23,6 @@ pub struct TimeoutIo<I, T> {
 
 impl<I, T> TimeoutIo<I, T> {
     /// Creates a connection on which a write, flush or shutdown may wait for `limits.idle`.
-    ///
-    /// The time of all waits together has no limit.
     pub fn new(io: I, timer: T, limits: TimeLimits) -> TimeoutIo<I, T>
         ensures io { result.io ≡ io }
         ensures limit { result.timeouts.limit ≡ limits.idle }
@@ -39,8 +36,7 @@ impl<I, T> TimeoutIo<I, T> {
 }
 
 impl<I: AsyncWrite, T: Timer> TimeoutIo<I, T> {
-    // Returns `written`, the result of a write, flush or shutdown. If `written` is pending for too
-    // long, returns the error `TimedOut`.
+    // Returns `written`, or the error `TimedOut` if it is pending for too long.
     fn poll_taken<O>(
         &mut self,
         cx: &mut Context<'_>,

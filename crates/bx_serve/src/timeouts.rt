@@ -1,4 +1,3 @@
-//! Time limits on waits.
 ghost use Rattle.std.specs.Prelude.{◌≡◌, ◌≤◌, IfSome, Some, false};
 ghost use Rattle.std.specs.Duration.{as_nanos};
 ghost use Rattle.std.specs.Time.{instant_nanos};
@@ -12,10 +11,9 @@ use hyper::rt::Timer;
 use std::time::{Duration, Instant};
 use tokio::time::Sleep;
 
-/// Time limits on connections and on the bodies of requests.
+/// Times of the HTTP server: two limits, and the pause after a failed accept.
 #[derive(Clone, Copy)]
 pub struct TimeLimits {
-    /// The pause after a failed accept.
     pub pause: Duration,
     /// The longest wait for more of a body, or for the peer to take more data.
     pub idle: Duration,
@@ -24,10 +22,9 @@ pub struct TimeLimits {
 }
 
 impl TimeLimits {
-    /// Returns the time limits of this server.
+    /// Returns a pause of 20 milliseconds, and limits of 30 seconds and five minutes.
     ///
-    /// A wait may last 30 seconds, and a complete body may take five minutes. A pause lasts 20
-    /// milliseconds. Policy of this server.
+    /// Policy of this server.
     pub fn standard() -> TimeLimits
         ensures pause { as_nanos result.pause ≡ 20_000_000 }
         ensures idle { as_nanos result.idle ≡ 30_000_000_000 }
@@ -41,16 +38,16 @@ impl TimeLimits {
     }
 }
 
-/// A time limit on each wait for progress, and optionally on the time from the first wait.
+/// A limit on each wait for progress, and optionally on the time from the first wait.
 ///
 /// Progress restarts the first limit, but not the second.
 #[derive(Drop)]
 pub struct ProgressTimeout<T> {
     timer: T,
     limit: Duration,
-    // The longest time from the first wait. `None` is no limit.
+    // The longest time from the first wait.
     whole: Option<Duration>,
-    // The instant at which `whole` is over. `None` before the first wait, or if `whole` is `None`.
+    // When `whole` is over, once the first wait began.
     end: Option<Instant>,
     sleep: Option<Sleep>,
     // Whether `sleep` runs for the current wait.
@@ -61,7 +58,6 @@ impl<T> ProgressTimeout<T> {
     /// Creates limits that start with the first wait.
     ///
     /// `limit`: the longest wait for progress. `whole`: the longest time from the first wait.
-    /// `None` is no limit.
     pub fn new(timer: T, limit: Duration, whole: Option<Duration>) -> ProgressTimeout<T>
         ensures limit { result.limit ≡ limit }
         ensures whole { result.whole ≡ whole }
@@ -76,7 +72,7 @@ impl<T> ProgressTimeout<T> {
         }
     }
 
-    /// Records progress, so that the next wait may again last for the full limit on a wait.
+    /// Records progress, so that the next wait may again last for the full `limit`.
     pub fn renew(&mut self)
         ensures renewed { self.new.is_timed ≡ false }
         ensures limit { self.new.limit ≡ self.old.limit }
@@ -89,8 +85,8 @@ impl<T> ProgressTimeout<T> {
 }
 
 impl<T: Timer> ProgressTimeout<T> {
-    // Returns the instant at which a wait that begins now must end. It is `None` if the clock
-    // cannot be read or the instant is too large. The first wait sets `end`, if `whole` is given.
+    // Returns when a wait that begins now must end, unless the clock cannot be read or the instant
+    // is too large. The first wait sets `end`.
     fn deadline(&mut self) -> Option<Instant>
         ensures in_time { IfSome result (λ d. IfSome self.new.end (λ e. instant_nanos d ≤ instant_nanos e)) }
         ensures sleep { self.new.sleep ≡ self.old.sleep }
@@ -109,8 +105,7 @@ impl<T: Timer> ProgressTimeout<T> {
         }
     }
 
-    // Starts the timer unless it runs, and returns `true`. Returns `false` if there is no deadline
-    // or no timer.
+    // Starts the timer unless it runs. Returns `false` if there is no deadline or no timer.
     fn is_begun(&mut self) -> bool
         ensures { IfSome self.old.end (λ e. self.new.end ≡ Some e) }
     {
@@ -133,7 +128,7 @@ impl<T: Timer> ProgressTimeout<T> {
 
     /// Waits until the current wait has reached one of the limits.
     ///
-    /// It is ready at once if the clock cannot be read, or if memory runs out for a timer.
+    /// Does not wait if the clock cannot be read, or if memory runs out for a timer.
     pub fn poll_expired(&mut self, cx: &mut Context<'_>) -> Poll<()>
         ensures waits { OnPending result (Covers cx.new (TimerNeeds self.new.sleep)) }
         ensures kept { Keeps cx.old cx.new }

@@ -5,7 +5,7 @@ use Rattle.bx_message.specs.declared.status.Status.{Status}
 use Rattle.bx_message.specs.declared.status.Status.TheVariants as statuses
 use Rattle.bx_service.specs.declared.{collect.CollectError.CollectError, error.RequestError.RequestError}
 use Rattle.bx_service.specs.declared.collect.CollectError.TheVariants as bodies
-use Rattle.bx_service.specs.declared.error.RequestError.TheVariants.{NotFound, MethodNotAllowed, TransferCoding, CallbackPolling, MediaType, BodyFailed, Unreadable, NotAdmitted, Unanswered}
+use Rattle.bx_service.specs.declared.error.RequestError.TheVariants.{NotFound, MethodNotAllowed, TransferCoding, CallbackPolling, MediaType, BodyFailed, Unreadable, NotAdmitted, Unanswered, Memory}
 use Rattle.bx_transport.specs.Statuses.{transport_reason, transport_status}
 use Rattle.bx_transport.specs.declared.error.TransportError.TheVariants as transports
 
@@ -20,6 +20,7 @@ error_reason BodyFailed = codes "the body ended early"
 error_reason (Unreadable error) = transport_reason error
 error_reason (NotAdmitted fault) = fault_reason fault
 error_reason Unanswered = codes "the answer is unavailable"
+error_reason Memory = codes "out of memory"
 
 -- The status of the response to a request with an error.
 abbrev pub error_status : RequestError → Status
@@ -32,6 +33,7 @@ error_status BodyFailed = statuses.BadRequest
 error_status (Unreadable error) = transport_status error
 error_status (NotAdmitted fault) = fault_status fault
 error_status Unanswered = statuses.Unavailable
+error_status Memory = statuses.Unavailable
 
 -- The error of a request, by the reason for which its body was not collected.
 abbrev pub of_collect : CollectError → RequestError

@@ -1,4 +1,3 @@
-//! An observer that logs answers.
 ghost use Rattle.std.specs.Prelude.{◌≡◌};
 
 use crate::observer::{Observer, ServiceEvent};
@@ -17,7 +16,7 @@ pub struct AnswerLogger<R> {
 }
 
 impl<R> AnswerLogger<R> {
-    /// Creates an observer that appends to `log`, or one that does nothing if `log` is `None`.
+    /// Creates an observer that appends to `log`, if given.
     pub fn new(
         rt: R,
         alloc: Global,

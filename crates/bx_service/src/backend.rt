@@ -1,20 +1,18 @@
-//! The server that a service posts to: the trait [`Backend`], and its implementation over a hub.
-ghost use Rattle.std.specs.Prelude.{⊤, ◌≡◌, ◌⊎◌, ℕ, [], None, Option, Result, IfOk, IfErr};
+ghost use Rattle.std.specs.Prelude.{⊤, ◌≡◌, ℕ, List, Option, Result, IfOk, IfErr};
 ghost use Rattle.std.specs.Arc.{arc_value};
-ghost use Rattle.std.specs.Vec.Iter.{into_iter_items};
 ghost use Rattle.bx_window.specs.Steps.{setup_of};
 ghost use Rattle.bx_cut.specs.Bodies.{texts_of};
-ghost use Rattle.bx_service.specs.Gatherings.{AreSlotsFor, IsRefusedWith};
-ghost use Rattle.bx_cut.specs.declared.bodies.Bodies.{Bodies};
-ghost use Rattle.bx_hub.specs.declared.fault.PostFault.TheVariants as faults;
-ghost use Rattle.bx_service.specs.declared.backend.Declined.{Declined};
+ghost use Rattle.bx_service.specs.Gatherings.{IsAnsweredBy, IsRejectedBy};
+ghost use Rattle.bx_hub.specs.declared.fault.PostFault.{PostFault};
+ghost use Rattle.bx_service.specs.declared.backend.{Answered.Answered, Unanswered.Unanswered};
+ghost use Rattle.bx_service.specs.declared.backend.Unanswered.TheVariants.{Memory};
 
 use crate::gathering::ItemsFuture;
+use crate::witness::{HubWitness, Stamp};
 use bx_cut::Bodies;
 use bx_entry::{Access, Arrival};
-use bx_hub::{Hub, HubKind, NoAnswer, PostFault};
+use bx_hub::{Hub, HubKind, PostFault};
 use bx_message::Item;
-use bx_window::LogId;
 use futures::Future;
 use std::alloc::{AllocError, Global};
 use std::sync::{Arc, Wait};
@@ -29,7 +27,7 @@ pub trait Clock {
         ensures { tells self.now result };
 }
 
-/// A source of nonces, from which client ids are made.
+/// A source of nonces for client ids.
 pub trait Nonces {
     // Ghost: which nonces a source may return.
     ghost draws: { Self → ℕ → Type 0 } = { λ _ _. ⊤ };
@@ -39,56 +37,72 @@ pub trait Nonces {
         ensures { draws self.now result };
 }
 
-/// The error of a response's items: an answer is unavailable, or memory ran out.
-#[derive(Clone, Copy, Debug, PartialEq, Eq)]
-pub struct Unanswered;
-
-impl From<AllocError> for Unanswered {
-    fn from(_error: AllocError) -> Unanswered {
-        Unanswered
-    }
-}
-
-impl<L: LogId> From<NoAnswer<L>> for Unanswered {
-    fn from(_no_answer: NoAnswer<L>) -> Unanswered {
-        Unanswered
-    }
-}
-
-/// A request that was not admitted: its JSON documents, and the reason.
+/// Why an admitted request has no items.
 #[derive(Drop)]
-pub struct Declined {
-    /// Why the request was not admitted.
-    pub fault: PostFault,
-    /// The JSON documents of the request that was not admitted, unchanged.
-    pub bodies: Bodies,
+pub enum Unanswered<W> {
+    /// The server gives no answer, as the witness shows.
+    Unavailable(W),
+    Memory,
 }
 
-/// A server that answers requests, given the JSON documents with their messages.
+impl<W> From<AllocError> for Unanswered<W> {
+    ghost from_gives = { λ _ given. given ≡ Memory };
+
+    fn from(_error: AllocError) -> Unanswered<W> {
+        Unanswered::Memory
+    }
+}
+
+/// The items of a response, and what shows that they are the server's.
+#[derive(Drop)]
+pub struct Answered<W> {
+    /// Events and replies, in order.
+    pub items: Vec<Item>,
+    pub witness: W,
+}
+
+/// A request that was not admitted.
+#[derive(Drop)]
+pub struct Declined<W> {
+    pub fault: PostFault,
+    /// The documents of the request, unchanged.
+    pub bodies: Bodies,
+    /// `None` if memory ran out before the server could reject it.
+    pub witness: Option<W>,
+}
+
+/// A server that answers requests, given their JSON documents.
 ///
 /// A service depends only on this trait, so its types do not name the parts of a hub.
 pub trait Backend: Drop {
-    /// The future of a response's items: events and replies.
-    type Items: Future<Output = Result<Vec<Item>, Unanswered>>;
+    /// What shows that a response is the server's. Only the server can create it.
+    type Witness: Drop;
 
-    // Ghost: what `admit` may return for the documents of a request.
-    ghost admits: { Self → Bodies → Result Self.Items Declined → Type 0 } = { λ _ _ _. ⊤ };
+    type Items: Future<Output = Result<Answered<Self::Witness>, Unanswered<Self::Witness>>>;
+
+    // Ghost: which outputs of the items' future answer a request with these documents, as their
+    // witness shows.
+    ghost answers: { Self → List (List ℕ) → Result (Answered Self.Witness) (Unanswered Self.Witness) → Type 0 } = { λ _ _ _. ⊤ };
+
+    // Ghost: for which fault the witness shows that a request with these documents was rejected.
+    ghost rejects: { Self → List (List ℕ) → PostFault → Option Self.Witness → Type 0 } = { λ _ _ _ _. ⊤ };
 
     // Ghost: what `place` may return for the items of a response.
     ghost stands: { Self.Items → Option ℕ → Type 0 } = { λ _ _. ⊤ };
 
-    /// Admits a request with `bodies`, its JSON documents, and returns the future of its response.
+    /// Admits a request with the documents `bodies`, and returns the future of its response.
     ///
     /// # Errors
     ///
-    /// [`Declined`], with the unchanged documents and the reason, if the request is not admitted.
-    fn admit(&self, bodies: Bodies) -> Result<Self::Items, Declined>
+    /// [`Declined`], with the unchanged documents and the reason.
+    fn admit(&self, bodies: Bodies) -> Result<Self::Items, Declined<Self::Witness>>
         ensures can_poll { IfOk result Self.Items.can_poll }
         ensures back { IfErr result (λ d. d.bodies ≡ bodies) }
-        ensures admitted { admits self.now bodies result };
+        ensures admitted { IfOk result (λ future. (output : Result (Answered Self.Witness) (Unanswered Self.Witness))
+            → Self.Items.gives future output → answers self.now (texts_of bodies) output) }
+        ensures declined { IfErr result (λ d. rejects self.now (texts_of bodies) d.fault d.witness) };
 
-    /// Returns the place of the first message that `items` answer, or `None` if there is no
-    /// message.
+    /// Returns the place of the first message that `items` answer, if any.
     fn place(&self, items: &Self::Items) -> Option<u64>
         ensures { stands items.now result };
 }
@@ -107,8 +121,7 @@ pub struct HubBackend<L: HubKind, R: Wait + Drop, C, N> {
 impl<L: HubKind, R: Wait + Drop, C, N> HubBackend<L, R, C, N> {
     /// Creates a backend that posts to `hub`.
     ///
-    /// `access`: what the requests' listener allows. `clock` and `nonces`: the sources of each
-    /// request's moment and nonce.
+    /// `access`: what the requests' listener allows.
     pub fn new(
         rt: R,
         alloc: Global,
@@ -138,33 +151,37 @@ where
     C: Clock + Drop,
     N: Nonces + Drop,
 {
+    type Witness = HubWitness<L>;
+
     type Items = ItemsFuture<L, R>;
 
-    // Ghost: on success there are no items yet, and the slots and the place are those that a
-    // single-threaded server gives. On error the documents are unchanged, and the hub rejected them
-    // or memory ran out.
-    ghost admits = { λ backend bodies outcome.
-        IfOk outcome (λ g. (g.items.items ≡ []) × (g.held ≡ None)
-        × AreSlotsFor (C.tells backend.clock) (N.draws backend.nonces) backend.access (setup_of L.config L.placing) (texts_of bodies)
-        g.pass g.first (into_iter_items g.slots))
-        × IfErr outcome (λ d. (d.bodies ≡ bodies)
-        × ((d.fault ≡ faults.Memory) ⊎ IsRefusedWith (C.tells backend.clock) (N.draws backend.nonces) backend.access
-        (texts_of bodies) d.fault)) };
+    // Ghost: the hub admitted the request, and a server with one thread gives these items. Or the
+    // hub gave no answer, or memory ran out.
+    ghost answers = { λ backend documents output.
+        IsAnsweredBy (C.tells backend.clock) (N.draws backend.nonces) backend.access (setup_of L.config L.placing) documents output };
+
+    // Ghost: the hub rejected the request, or memory ran out before the post.
+    ghost rejects = { λ backend documents fault witness.
+        IsRejectedBy (C.tells backend.clock) (N.draws backend.nonces) backend.access documents fault witness };
 
     ghost stands = { λ items place. place ≡ items.first };
 
-    // Clones the handles before the post, so that no error follows an admission. Locks as
-    // `Hub::post` does.
-    fn admit(&self, bodies: Bodies) -> Result<ItemsFuture<L, R>, Declined> {
+    // Clones the handles before the post, so that no error follows an admission.
+    fn admit(&self, bodies: Bodies) -> Result<ItemsFuture<L, R>, Declined<HubWitness<L>>> {
         let (Ok(hub), Ok(access)) = (Arc::try_clone(&self.hub), copy_of(&self.access)) else {
             return Err(Declined {
                 fault: PostFault::Memory,
                 bodies,
+                witness: None,
             });
         };
-        let arrival = Arrival {
+        let stamp = Stamp {
             moment: self.clock.now(),
             nonce: self.nonces.next(),
+        };
+        let arrival = Arrival {
+            moment: stamp.moment,
+            nonce: stamp.nonce,
             access,
             bodies,
         };
@@ -175,12 +192,18 @@ where
                 self.alloc,
                 hub,
                 pass,
+                stamp,
                 posted.first,
                 posted.slots,
             )),
-            Err((arrival, why)) => Err(Declined {
-                fault: why.fault(),
+            Err((arrival, rejection)) => Err(Declined {
+                fault: rejection.fault(),
                 bodies: arrival.bodies,
+                witness: Some(HubWitness::Rejecting {
+                    stamp,
+                    seen: pass,
+                    rejection,
+                }),
             }),
         }
     }
@@ -190,7 +213,6 @@ where
     }
 }
 
-// Returns a copy of `access`, which shares its patterns.
 fn copy_of(access: &Access) -> Result<Access, AllocError>
     ensures { IfOk result (λ copy. copy ≡ access.now) }
 {

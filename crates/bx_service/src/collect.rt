@@ -1,4 +1,3 @@
-//! A future that collects a body into one buffer.
 ghost use Rattle.std.specs.Prelude.{◌≡◌, ◌++◌, ◌≤◌, [], OnOk, IfErr, vec_len};
 ghost use Rattle.bx_service.specs.Bodies.{Gives, Refuses, data_bytes};
 
@@ -15,12 +14,10 @@ const BUDGET: usize = 64;
 /// Why a body was not collected.
 #[derive(Clone, Copy, Debug, PartialEq, Eq)]
 pub enum CollectError {
-    /// The body was not collected, because it has more bytes than the limit allows.
+    /// The body has more bytes than the limit allows.
     TooLarge,
-    /// The body was not collected, because reading it failed, for example at the end of its
-    /// connection.
+    /// Reading the body failed, for example because its connection ended.
     Failed,
-    /// The body was not collected, because memory ran out.
     Memory,
 }
 
@@ -36,11 +33,7 @@ impl From<AllocError> for CollectError {
 
 /// A future of all the data of a body, in one buffer.
 ///
-/// The data of each frame is appended to the buffer, and the frame is dropped. Trailers are
-/// dropped. The output is an error if the data exceeds the limit, the body fails or memory runs
-/// out.
-///
-/// The buffer never has more bytes than the limit, even if the body has many small frames.
+/// Trailers are dropped. Many small frames do not make the buffer larger than the limit.
 #[derive(Drop)]
 pub struct Collect<B> {
     alloc: Global,
@@ -95,8 +88,7 @@ where
     }
 }
 
-// Appends the data of `frame`, if any, to `bytes`. Fails with `TooLarge`, and appends no data, if
-// `bytes` would exceed `limit`. Fails with `Memory` if memory runs out.
+// Appends the data of `frame`, if any, to `bytes`, unless `bytes` would exceed `limit`.
 fn add<D: Buf + Drop>(
     bytes: &mut Vec<u8>,
     limit: usize,

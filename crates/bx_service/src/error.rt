@@ -1,4 +1,3 @@
-//! Why requests get a response without items, and the statuses of such responses.
 ghost use Rattle.std.specs.Prelude.{◌≡◌};
 ghost use Rattle.bx_message.specs.Statuses.{code_of};
 ghost use Rattle.bx_service.specs.Errors.{error_reason, error_status, of_collect};
@@ -9,9 +8,7 @@ use bx_message::Status;
 use bx_transport::TransportError;
 use http::StatusCode;
 
-/// Why the response to a request has no items.
-///
-/// Policy of this server.
+/// Why the response to a request has no items. Policy of this server.
 #[derive(Clone, Copy, Debug, PartialEq, Eq)]
 pub enum RequestError {
     /// The path is neither `/cometd` nor below it.
@@ -20,11 +17,9 @@ pub enum RequestError {
     MethodNotAllowed,
     /// The request has a `Transfer-Encoding` other than one `chunked`.
     TransferCoding,
-    /// The request is a GET, and the service accepts only [`Transports::JsonPosts`].
+    /// A GET, although the service accepts only [`Transports::JsonPosts`].
     CallbackPolling,
-    /// The request is a POST of another media type than `application/json`.
-    ///
-    /// The service accepts only [`Transports::JsonPosts`].
+    /// A POST of another media type than `application/json`, with the same setting.
     MediaType,
     /// The body of a POST ended early, for example with its connection.
     BodyFailed,
@@ -32,14 +27,14 @@ pub enum RequestError {
     Unreadable(TransportError),
     /// The request was not admitted.
     NotAdmitted(PostFault),
-    /// The request was admitted, but its answer is unavailable or memory ran out for the response.
+    /// The request was admitted, but the server gives no answer.
     Unanswered,
+    /// The request was admitted, but memory ran out for its response.
+    Memory,
 }
 
 impl RequestError {
-    /// Returns the reason in words, such as "the messages are not JSON".
-    ///
-    /// Policy of this server.
+    /// Returns the reason in words. Policy of this server.
     pub fn reason(self) -> &'static str
         ensures { result.now ≡ error_reason self }
     {
@@ -53,12 +48,11 @@ impl RequestError {
             RequestError::Unreadable(error) => error.reason(),
             RequestError::NotAdmitted(fault) => fault.reason(),
             RequestError::Unanswered => "the answer is unavailable",
+            RequestError::Memory => "out of memory",
         }
     }
 
-    /// Returns the HTTP status of the response.
-    ///
-    /// Policy of this server.
+    /// Returns the HTTP status of the response. Policy of this server.
     pub fn status(self) -> Status
         ensures { result ≡ error_status self }
     {
@@ -71,7 +65,7 @@ impl RequestError {
             RequestError::BodyFailed => Status::BadRequest,
             RequestError::Unreadable(error) => error.status(),
             RequestError::NotAdmitted(fault) => fault.status(),
-            RequestError::Unanswered => Status::Unavailable,
+            RequestError::Unanswered | RequestError::Memory => Status::Unavailable,
         }
     }
 }
@@ -88,7 +82,6 @@ impl From<CollectError> for RequestError {
     }
 }
 
-/// Converts `status` to a `StatusCode` of the `http` crate.
 pub(crate) fn code_of(status: Status) -> StatusCode
     ensures { result ≡ code_of status }
 {

@@ -1,5 +1,4 @@
-//! One request over HTTP, up to its response.
-ghost use Rattle.std.specs.Prelude.{◌≡◌, [], Err, IfOk, None, MatchOption, option_copied, option_map, string_bytes, unwrap_or, Result};
+ghost use Rattle.std.specs.Prelude.{◌≡◌, [], Err, IfOk, None, MatchOption, Option, option_copied, option_map, string_bytes, unwrap_or, Result};
 ghost use Rattle.std.specs.Arc.{arc_value};
 ghost use Rattle.futures.specs.Poll.{IfReady, OnPending};
 ghost use Rattle.futures.specs.declared.task.Poll.TheVariants.{Ready};
@@ -14,9 +13,9 @@ ghost use Rattle.bx_transport.specs.declared.error.TransportError.TheVariants.{T
 ghost use Rattle.bx_service.specs.Responses.{IsRefusal};
 ghost use Rattle.bx_service.specs.declared.service.ServiceFault.{ServiceFault};
 ghost use Rattle.bx_service.specs.declared.service.ServiceFault.TheVariants.{Memory};
-ghost use Rattle.bx_service.specs.Exchanges.{ForAsked, ForCollected, ForDocuments, ForItems, MayAnswer, Sent};
+ghost use Rattle.bx_service.specs.Exchanges.{ForAsked, ForCollected, ForDocuments, ForItems, MayAnswer, Sent, kept_in};
 
-use crate::backend::{Backend, Unanswered};
+use crate::backend::{Answered, Backend, Unanswered};
 use crate::collect::{Collect, CollectError};
 use crate::error::RequestError;
 use crate::observer::Observer;
@@ -26,7 +25,8 @@ use crate::route::{Route, Transports};
 use crate::service::ServiceFault;
 use bx_advice::BodyLimit;
 use bx_cut::Bodies;
-use bx_message::{Item, Status, number_of};
+use bx_hub::PostFault;
+use bx_message::{Status, number_of};
 use bx_pieces::Pieces;
 use bx_transport::{TransportError, read_get, read_post};
 use bytes::{Buf, Bytes};
@@ -42,49 +42,53 @@ use std::sync::Arc;
 
 /// The future of a request's response.
 #[derive(Drop)]
-pub struct Exchange<S, I, B, O: Observer> {
+pub struct Exchange<S, I, B, W, O: Observer> {
     pub(crate) alloc: Global,
-    // The backend. `None` once the response or an error was returned, or if memory ran out for a
-    // handle on the backend or the observer.
+    // `None` once the response or an error was returned, or if memory ran out for a handle.
     pub(crate) backend: Option<Arc<S, Global>>,
-    pub(crate) state: State<I, B>,
+    pub(crate) state: State<I, B, W>,
     pub(crate) probe: RequestProbe<O>,
 }
 
 /// The progress of a request.
 #[derive(Drop)]
-pub(crate) enum State<I, B> {
-    /// The request is a POST, and its body is being collected.
+pub(crate) enum State<I, B, W> {
+    /// The body of a POST is being collected.
     Collecting {
         content_type: Option<HeaderValue>,
         body: Collect<B>,
     },
-    /// The request is a GET that is not read yet. The query of this target has its messages.
+    /// A GET that is not read yet. The query of this target has its messages.
     Asked(Uri),
-    /// The request was admitted, and waits for the items of its response: events and replies.
+    /// The request was admitted, and waits for the items of its response.
     ///
     /// With a `callback` the response is a script that calls it.
     Held {
         callback: Option<String>,
         items: I,
     },
-    /// The response has this error and no body.
+    /// The request was not admitted.
+    Declined {
+        fault: PostFault,
+        witness: Option<W>,
+    },
     Refused(RequestError),
+    /// The response was given, with its witness, if it depends on the backend.
+    Done(Option<W>),
 }
 
-impl<I: Future, B: Body> State<I, B> {
+impl<I: Future, B: Body, W> State<I, B, W> {
     /// Creates the state of a new request, from its body and the parts of its head.
     ///
-    /// The state is `Refused` if the path, the method, the transport or `Transfer-Encoding` is not
-    /// served. It is also `Refused` if the query of a GET or the `Content-Length` of a POST exceeds
-    /// `limit`. Otherwise it is `Asked` for a GET and `Collecting` for a POST.
+    /// It is `Refused` if the path, the method, the transport or `Transfer-Encoding` is not served,
+    /// or if the query of a GET or the `Content-Length` of a POST exceeds `limit`.
     pub(crate) fn new(
         alloc: Global,
         limit: BodyLimit,
         transports: Transports,
         parts: Parts,
         body: B,
-    ) -> State<I, B>
+    ) -> State<I, B, W>
         requires { B.can_poll body }
         ensures again { CanPoll I.can_poll B.can_poll result }
         ensures begins { Begins limit transports parts body result }
@@ -107,8 +111,7 @@ impl<I: Future, B: Body> State<I, B> {
         }
     }
 
-    // Returns the state of a request that exceeds the limit: `Refused` as too large.
-    fn too_large() -> State<I, B>
+    fn too_large() -> State<I, B, W>
         ensures again { CanPoll I.can_poll B.can_poll result }
         ensures refused { result ≡ Refused (Unreadable TooLarge) }
     {
@@ -116,14 +119,13 @@ impl<I: Future, B: Body> State<I, B> {
     }
 }
 
-// Returns the query of `uri`, or an empty text if there is none.
 fn query_of(uri: &Uri) -> &str
     ensures { result.now ≡ query_of uri.now }
 {
     uri.query().unwrap_or("")
 }
 
-// Returns `true` if `length`, the `Content-Length`, is a number that exceeds `limit`.
+// Returns `true` if the `Content-Length` is a number that exceeds `limit`.
 fn says_more(limit: BodyLimit, length: Option<&HeaderValue>) -> bool
     ensures { result ≡ says_more limit (option_map (λ value. value.bytes) (option_copied length.entry)) }
 {
@@ -136,8 +138,7 @@ fn says_more(limit: BodyLimit, length: Option<&HeaderValue>) -> bool
     }
 }
 
-// Creates a response with `error` and no body, and reports both to the observer. If memory runs
-// out, reports this and returns `ServiceFault::Memory`.
+// Creates a response with `error` and no body, and reports both, or that memory runs out.
 fn refused<O: Observer>(
     alloc: Global,
     probe: &RequestProbe<O>,
@@ -155,72 +156,80 @@ fn refused<O: Observer>(
     }
 }
 
-// Creates the response to an admitted request, and reports its items and the response to the
-// observer. The error is `Unanswered` if the items are unavailable or memory runs out. If memory
-// runs out for that response too, returns `ServiceFault::Memory`.
-fn answered<O: Observer>(
+// Creates the response to an admitted request, and reports it to the observer. It is an error if
+// there are no items or memory runs out. The second value is the witness, if any.
+fn answered<W: Drop, O: Observer>(
     alloc: Global,
     probe: &RequestProbe<O>,
     callback: Option<&str>,
-    gathered: Result<Vec<Item>, Unanswered>,
-) -> Result<Response<Pieces<Bytes>>, ServiceFault>
-    ensures { IfOk result (ForItems (option_map (λ name. name.now) callback.entry) gathered) }
+    gathered: Result<Answered<W>, Unanswered<W>>,
+) -> (Result<Response<Pieces<Bytes>>, ServiceFault>, Option<W>)
+    ensures { IfOk result.0 (ForItems (option_map (λ name. name.now) callback.entry) gathered result.1) }
 {
-    let Ok(items) = gathered else {
-        return refused(alloc, probe, RequestError::Unanswered);
+    let Answered { items, witness } = match gathered {
+        Ok(answered) => answered,
+        Err(Unanswered::Unavailable(witness)) => {
+            return (
+                refused(alloc, probe, RequestError::Unanswered),
+                Some(witness),
+            );
+        }
+        Err(Unanswered::Memory) => return (refused(alloc, probe, RequestError::Memory), None),
     };
     probe.answer(items.as_slice());
-    match answer(alloc, callback, items.as_slice()) {
+    let response = match answer(alloc, callback, items.as_slice()) {
         Ok(response) => {
             probe.respond(Status::Ok);
             Ok(response)
         }
-        Err(_) => refused(alloc, probe, RequestError::Unanswered),
-    }
+        Err(_) => refused(alloc, probe, RequestError::Memory),
+    };
+    (response, Some(witness))
 }
 
-impl<S, I, B, D, O> Exchange<S, I, B, O>
+impl<S, I, B, D, O> Exchange<S, I, B, S::Witness, O>
 where
     S: Backend<Items = I>,
-    I: Future<Output = Result<Vec<Item>, Unanswered>> + Drop,
+    I: Future<Output = Result<Answered<S::Witness>, Unanswered<S::Witness>>> + Drop,
     B: Body<Data = D>,
     D: Buf + Drop,
     O: Observer,
 {
-    // Posts the messages in `bodies` to `backend`, and reports an admission to `probe`. Returns the
-    // next state of the request: `Held` if it is admitted, otherwise `Refused`.
+    // Posts the messages in `bodies`, and reports an admission to `probe`.
     fn admitted(
         backend: &S,
         probe: &mut RequestProbe<O>,
         callback: Option<String>,
         bodies: Bodies,
-    ) -> State<I, B>
+    ) -> State<I, B, S::Witness>
         ensures again { CanPoll I.can_poll B.can_poll result }
         ensures place { IsPlaced S.stands probe.new.place result }
-        ensures value { (sent : Sent) → MayAnswer I.gives (S.admits backend.now) D.unread B.yields result sent
-            → ForDocuments I.gives (S.admits backend.now) (option_map string_bytes callback) (texts_of bodies) sent }
+        ensures value { (kept : Option S.Witness) (sent : Sent) → MayAnswer (S.answers backend.now) (S.rejects backend.now) I.gives D.unread B.yields result kept sent
+            → ForDocuments (S.answers backend.now) (S.rejects backend.now) (option_map string_bytes callback) (texts_of bodies) kept sent }
     {
         match backend.admit(bodies) {
             Ok(items) => {
                 probe.admit(backend.place(&items));
                 State::Held { callback, items }
             }
-            Err(declined) => State::Refused(RequestError::NotAdmitted(declined.fault)),
+            Err(declined) => State::Declined {
+                fault: declined.fault,
+                witness: declined.witness,
+            },
         }
     }
 
-    // Returns the next state of a POST: `Held` if its messages are admitted, otherwise `Refused`.
-    // Posts the messages to `backend` if the body was collected and can be read.
+    // Posts the messages of a POST if its body was collected and can be read.
     fn posted(
         alloc: Global,
         backend: &S,
         probe: &mut RequestProbe<O>,
         content_type: Option<&HeaderValue>,
         collected: Result<Vec<u8>, CollectError>,
-    ) -> State<I, B>
+    ) -> State<I, B, S::Witness>
         ensures again { CanPoll I.can_poll B.can_poll result }
-        ensures value { (sent : Sent) → MayAnswer I.gives (S.admits backend.now) D.unread B.yields result sent
-            → ForCollected I.gives (S.admits backend.now) (option_map (λ value. value.now.bytes) content_type.entry) collected sent }
+        ensures value { (kept : Option S.Witness) (sent : Sent) → MayAnswer (S.answers backend.now) (S.rejects backend.now) I.gives D.unread B.yields result kept sent
+            → ForCollected (S.answers backend.now) (S.rejects backend.now) (option_map (λ value. value.now.bytes) content_type.entry) collected kept sent }
     {
         let body = match collected {
             Ok(body) => body,
@@ -233,12 +242,16 @@ where
         }
     }
 
-    // Returns the next state of a GET: `Held` if its messages are admitted, otherwise `Refused`.
-    // Posts the messages to `backend` if the query can be read.
-    fn asked(alloc: Global, backend: &S, probe: &mut RequestProbe<O>, uri: &Uri) -> State<I, B>
+    // Posts the messages of a GET if its query can be read.
+    fn asked(
+        alloc: Global,
+        backend: &S,
+        probe: &mut RequestProbe<O>,
+        uri: &Uri,
+    ) -> State<I, B, S::Witness>
         ensures again { CanPoll I.can_poll B.can_poll result }
-        ensures value { (sent : Sent) → MayAnswer I.gives (S.admits backend.now) D.unread B.yields result sent
-            → ForAsked I.gives (S.admits backend.now) (query_of uri.now) sent }
+        ensures value { (kept : Option S.Witness) (sent : Sent) → MayAnswer (S.answers backend.now) (S.rejects backend.now) I.gives D.unread B.yields result kept sent
+            → ForAsked (S.answers backend.now) (S.rejects backend.now) (query_of uri.now) kept sent }
     {
         match read_get(alloc, query_of(uri).as_bytes()) {
             Ok((name, bodies)) => Self::admitted(backend, probe, Some(name), bodies),
@@ -246,12 +259,12 @@ where
         }
     }
 
-    // Polls the request until it is `Held` or `Refused`. Pending while its body is being collected.
+    // Takes the request from `Collecting` or `Asked` to its next state. Ready in other states.
     fn poll_admitted(&mut self, backend: &S, cx: &mut Context<'_>) -> Poll<()>
         requires { CanPoll I.can_poll B.can_poll self.old.state }
         ensures again { CanPoll I.can_poll B.can_poll self.new.state }
-        ensures same { (sent : Sent) → MayAnswer I.gives (S.admits backend.now) D.unread B.yields self.new.state sent
-            → MayAnswer I.gives (S.admits backend.now) D.unread B.yields self.old.state sent }
+        ensures same { (kept : Option S.Witness) (sent : Sent) → MayAnswer (S.answers backend.now) (S.rejects backend.now) I.gives D.unread B.yields self.new.state kept sent
+            → MayAnswer (S.answers backend.now) (S.rejects backend.now) I.gives D.unread B.yields self.old.state kept sent }
         ensures registered { OnPending result (IsArmed cx.new) }
         ensures kept { Keeps cx.old cx.new }
         ensures backend { self.new.backend ≡ self.old.backend }
@@ -277,40 +290,47 @@ where
         }
     }
 
-    // Polls for the response of a request that is `Held` or `Refused`. In other states, reports
-    // that memory ran out for the response, and returns `ServiceFault::Memory`.
+    // Polls for the response, after which the state is `Done`, with the response's witness. While
+    // the request is being collected, and once it is `Done`, reports that memory ran out.
     fn poll_answered(
         &mut self,
         cx: &mut Context<'_>,
     ) -> Poll<Result<Response<Pieces<Bytes>>, ServiceFault>>
         requires { CanPoll I.can_poll B.can_poll self.old.state }
-        ensures value { IfReady result (λ given. IfOk given (λ sent. (backend : S) → MayAnswer I.gives (S.admits backend) D.unread B.yields self.old.state sent)) }
+        ensures value { IfReady result (λ given. IfOk given (λ sent. (backend : S)
+            → MayAnswer (S.answers backend) (S.rejects backend) I.gives D.unread B.yields self.old.state (kept_in self.new.state) sent)) }
         ensures again { OnPending result (CanPoll I.can_poll B.can_poll self.new.state) }
-        ensures same { OnPending result ((backend : S) (sent : Sent) → MayAnswer I.gives (S.admits backend) D.unread B.yields self.new.state sent
-            → MayAnswer I.gives (S.admits backend) D.unread B.yields self.old.state sent) }
+        ensures same { OnPending result ((backend : S) (kept : Option S.Witness) (sent : Sent) → MayAnswer (S.answers backend) (S.rejects backend) I.gives D.unread B.yields self.new.state kept sent
+            → MayAnswer (S.answers backend) (S.rejects backend) I.gives D.unread B.yields self.old.state kept sent) }
         ensures registered { OnPending result (IsArmed cx.new) }
         ensures kept { Keeps cx.old cx.new }
         ensures backend { self.new.backend ≡ self.old.backend }
     {
         let alloc = self.alloc;
-        match &mut self.state {
+        let (response, witness) = match &mut self.state {
             State::Held { callback, items } => match items.poll(cx) {
-                Poll::Pending => Poll::Pending,
+                Poll::Pending => return Poll::Pending,
                 Poll::Ready(gathered) => {
                     let callback = callback.as_ref().map(|it| it.as_str());
-                    Poll::Ready(answered(alloc, &self.probe, callback, gathered))
+                    answered(alloc, &self.probe, callback, gathered)
                 }
             },
-            State::Refused(error) => Poll::Ready(refused(alloc, &self.probe, *error)),
-            _ => Poll::Ready(Err(self.probe.give_up())),
-        }
+            State::Declined { fault, witness } => {
+                let error = RequestError::NotAdmitted(*fault);
+                (refused(alloc, &self.probe, error), witness.take())
+            }
+            State::Refused(error) => (refused(alloc, &self.probe, *error), None),
+            _ => (Err(self.probe.give_up()), None),
+        };
+        drop(mem::replace(&mut self.state, State::Done(witness)));
+        Poll::Ready(response)
     }
 }
 
-impl<S, I, B, D, O> Future for Exchange<S, I, B, O>
+impl<S, I, B, D, O> Future for Exchange<S, I, B, S::Witness, O>
 where
     S: Backend<Items = I> + Drop,
-    I: Future<Output = Result<Vec<Item>, Unanswered>> + Drop,
+    I: Future<Output = Result<Answered<S::Witness>, Unanswered<S::Witness>>> + Drop,
     B: Body<Data = D>,
     D: Buf + Drop,
     O: Observer,
@@ -319,21 +339,26 @@ where
 
     ghost can_poll = { λ e. CanPoll I.can_poll B.can_poll e.state };
 
-    // Ghost: a response is one that the state allows. Without a backend there is no response.
+    // Ghost: a response is one that the state allows, with some witness. The clause `shown` of
+    // `poll` names the witness.
     ghost gives = { λ e given. IfOk given (λ sent. MatchOption e.backend ⊥
-        (λ backend. MayAnswer I.gives (S.admits (arc_value backend)) D.unread B.yields e.state sent)) };
+        (λ backend. (kept : Option S.Witness) × MayAnswer (S.answers (arc_value backend)) (S.rejects (arc_value backend)) I.gives D.unread B.yields e.state kept sent)) };
 
-    // Polls for the response, and drops the backend when it is ready. A later poll posts no
-    // messages. It reports that memory ran out for the response, and returns
-    // `ServiceFault::Memory`.
+    // Drops the backend when the response is ready. A later poll posts no messages, and reports
+    // that memory ran out.
     fn poll(&mut self, cx: &mut Context<'_>) -> Poll<Self::Output>
         requires { CanPoll I.can_poll B.can_poll self.old.state }
+        ensures shown { IfReady result (λ given. IfOk given (λ sent. MatchOption self.old.backend ⊥
+            (λ backend. MayAnswer (S.answers (arc_value backend)) (S.rejects (arc_value backend)) I.gives D.unread B.yields self.old.state (kept_in self.new.state) sent))) }
+        ensures carries { OnPending result ((kept : Option S.Witness) (sent : Sent)
+            → MatchOption self.new.backend ⊥ (λ backend. MayAnswer (S.answers (arc_value backend)) (S.rejects (arc_value backend)) I.gives D.unread B.yields self.new.state kept sent)
+            → MatchOption self.old.backend ⊥ (λ backend. MayAnswer (S.answers (arc_value backend)) (S.rejects (arc_value backend)) I.gives D.unread B.yields self.old.state kept sent)) }
         ensures value { IfReady result (λ given. IfOk given (λ sent. MatchOption self.old.backend ⊥
-            (λ backend. MayAnswer I.gives (S.admits (arc_value backend)) D.unread B.yields self.old.state sent))) }
+            (λ backend. (kept : Option S.Witness) × MayAnswer (S.answers (arc_value backend)) (S.rejects (arc_value backend)) I.gives D.unread B.yields self.old.state kept sent))) }
         ensures again { OnPending result (CanPoll I.can_poll B.can_poll self.new.state) }
         ensures same { OnPending result ((given : Result Sent ServiceFault)
-            → IfOk given (λ sent. MatchOption self.new.backend ⊥ (λ backend. MayAnswer I.gives (S.admits (arc_value backend)) D.unread B.yields self.new.state sent))
-            → IfOk given (λ sent. MatchOption self.old.backend ⊥ (λ backend. MayAnswer I.gives (S.admits (arc_value backend)) D.unread B.yields self.old.state sent))) }
+            → IfOk given (λ sent. MatchOption self.new.backend ⊥ (λ backend. (kept : Option S.Witness) × MayAnswer (S.answers (arc_value backend)) (S.rejects (arc_value backend)) I.gives D.unread B.yields self.new.state kept sent))
+            → IfOk given (λ sent. MatchOption self.old.backend ⊥ (λ backend. (kept : Option S.Witness) × MayAnswer (S.answers (arc_value backend)) (S.rejects (arc_value backend)) I.gives D.unread B.yields self.old.state kept sent))) }
         ensures registered { OnPending result (IsArmed cx.new) }
         ensures kept { Keeps cx.old cx.new }
         ensures waits { OnPending result (self.new.backend ≡ self.old.backend) }

@@ -1,24 +1,42 @@
-//! The items of a response (events and replies), collected as the answers arrive.
-ghost use Rattle.std.specs.Prelude.{◌≡◌, ◌++◌, ◌∷◌, ◌<◌, List, Result, [], None, Some, false, IfOk, OnOk, MatchOption, length};
+ghost use Rattle.std.specs.Prelude.{◌≡◌, ◌++◌, ◌∷◌, ◌<◌, [], None, IfErr, IfOk, OnOk, MatchOption, length};
 ghost use Rattle.std.specs.Vec.Iter.{into_iter_items};
 ghost use Rattle.futures.specs.Poll.{IfReady, OnPending};
 ghost use Rattle.futures.specs.Task.{Covers, Keeps};
-ghost use Rattle.bx_message.specs.declared.reply.Item.{Item};
+ghost use Rattle.bx_entry.specs.declared.entry.Slot.TheVariants.{Waiting};
 ghost use Rattle.bx_message.specs.declared.reply.Item.TheVariants.{ReplyItem};
-ghost use Rattle.bx_service.specs.Gatherings.{AreAll, AreBelow, IsBelow, are_below-prop, awaited, awaited_as, items_of, place_of};
-ghost use Rattle.bx_window.specs.Steps.{list_of, setup_of};
+ghost use Rattle.bx_service.specs.Gatherings.{AreBelow, Gathers, IsBelow, IsMissing, IsOnWay, IsUnfinished, are_below-prop, is_unfinished-prop, items_of, left_in, place_of};
+ghost use Rattle.bx_window.specs.Steps.{list_of};
+ghost use Rattle.bx_service.specs.declared.gathering.Missing.TheVariants.{Memory};
 
-use crate::backend::Unanswered;
+use crate::backend::{Answered, Unanswered};
+use crate::witness::{HubWitness, Lack, Stamp};
 use bx_entry::{Slot, Ticket};
 use bx_held::PendingAnswer;
 use bx_hub::{Hub, HubKind, Pass};
 use bx_message::{Answer, Item, Reply, Sequence};
+use bx_window::LogId;
 use futures::Future;
 use futures::task::{Context, Poll};
 use std::alloc::{AllocError, Global};
 use std::mem;
 use std::sync::{Arc, Wait};
 use std::vec::IntoIter;
+
+// Why an item is missing.
+#[derive(Drop)]
+enum Missing<L: LogId> {
+    // The hub gave no answer under the ticket. The pass is that after the poll for it.
+    Answer(Ticket, Pass<L>, Lack<L>),
+    Memory,
+}
+
+impl<L: LogId> From<AllocError> for Missing<L> {
+    ghost from_gives = { λ _ given. given ≡ Memory };
+
+    fn from(_error: AllocError) -> Missing<L> {
+        Missing::Memory
+    }
+}
 
 /// The future of the events and replies that answer an admitted request.
 ///
@@ -29,38 +47,50 @@ pub struct ItemsFuture<L: HubKind, R: Wait + Drop> {
     rt: R,
     alloc: Global,
     hub: Arc<Hub<L, R>, Global>,
+    // The pass after the post.
     pass: Pass<L>,
+    // The longest pass with which an answer was taken, or `pass`.
+    seen: Pass<L>,
+    stamp: Stamp,
+    // The place of the first message, or the list's length if the request has no messages.
+    start: u64,
     items: Vec<Item>,
     held: Option<PendingAnswer<L>>,
     slots: IntoIter<Slot>,
-    // The place of the request's first message. `None` if the request has no messages.
+    // The place of the request's first message, if it has any.
     first: Option<u64>,
     ghost within: { AreBelow (length (list_of pass)) (into_iter_items slots) } by { are_below-prop (length (list_of pass)) (into_iter_items slots) },
+    ghost unfinished: { IsUnfinished held } by { is_unfinished-prop held },
 }
 
 impl<L: HubKind, R: Wait + Copy + Drop> ItemsFuture<L, R> {
     /// Creates the future for `slots`, which the hub returned for a post that updated `pass`.
     ///
-    /// `first`: the place of the request's first message.
+    /// `start`: the place of the request's first message.
     pub(crate) fn new(
         rt: R,
         alloc: Global,
         hub: Arc<Hub<L, R>, Global>,
         pass: Pass<L>,
-        first: u64,
+        stamp: Stamp,
+        start: u64,
         slots: Sequence<Slot>,
     ) -> ItemsFuture<L, R>
         requires { AreBelow (length (list_of pass)) slots }
         ensures begins { (result.items.items ≡ []) × (result.held ≡ None) }
-        ensures slots { (result.pass ≡ pass) × (into_iter_items result.slots ≡ slots) }
-        ensures place { result.first ≡ place_of first slots }
+        ensures slots { (result.pass ≡ pass) × (result.seen ≡ pass) × (into_iter_items result.slots ≡ slots) }
+        ensures stamp { (result.stamp ≡ stamp) × (result.start ≡ start) }
+        ensures place { result.first ≡ place_of start slots }
     {
-        let first = place_of(first, slots.as_slice());
+        let first = place_of(start, slots.as_slice());
         ItemsFuture {
             rt,
             alloc,
             hub,
+            seen: pass.again(),
             pass,
+            stamp,
+            start,
             items: Vec::new(alloc),
             held: None,
             slots: slots.into_vec().into_iter(),
@@ -68,63 +98,72 @@ impl<L: HubKind, R: Wait + Copy + Drop> ItemsFuture<L, R> {
         }
     }
 
-    /// Returns the place of the request's first message, or `None` if the request has no messages.
     pub(crate) fn place(&self) -> Option<u64>
         ensures { result ≡ self.now.first }
     {
         self.first
     }
 
-    // Starts to wait for the answer under `ticket`.
     fn wait_for(&mut self, ticket: Ticket)
         requires { ticket.place < length (list_of self.old.pass) }
-        ensures waits { awaited self.new.held ≡ Some (awaited_as ticket self.old.pass false) }
-        ensures same { (self.new.items ≡ self.old.items) × (self.new.pass ≡ self.old.pass) × (self.new.slots ≡ self.old.slots) }
+        ensures waits { left_in self.new.held (into_iter_items self.new.slots) ≡ Waiting ticket ∷ into_iter_items self.old.slots }
+        ensures same { (self.new.items ≡ self.old.items) × (self.new.seen ≡ self.old.seen) }
+        ensures fixed { (self.new.pass ≡ self.old.pass) × (self.new.stamp ≡ self.old.stamp) × (self.new.start ≡ self.old.start) }
+        ensures slots { self.new.slots ≡ self.old.slots }
     {
         self.held = Some(PendingAnswer::new(self.pass.again(), ticket));
     }
 
-    // Polls the awaited answer, and appends its events and its reply to `items`. Ready at once if
-    // no answer is awaited, and pending until the answer is given. Fails if the answer is
-    // unavailable or memory runs out.
-    fn poll_held(&mut self, cx: &mut Context<'_>) -> Result<Poll<()>, Unanswered>
-        ensures same { OnOk result ((all : List Item)
-            → AreAll (setup_of L.config L.placing) self.new.pass self.new.items.items (awaited self.new.held)
-            (into_iter_items self.new.slots) all
-            → AreAll (setup_of L.config L.placing) self.old.pass self.old.items.items (awaited self.old.held)
-            (into_iter_items self.old.slots) all) }
+    // Polls the awaited answer, if any, and appends its items.
+    fn poll_held(&mut self, cx: &mut Context<'_>) -> Result<Poll<()>, Missing<L>>
+        ensures same { OnOk result (IsOnWay L.config self.old.seen self.old.items.items
+            (left_in self.old.held (into_iter_items self.old.slots)) self.new.seen self.new.items.items
+            (left_in self.new.held (into_iter_items self.new.slots))) }
+        ensures missing { IfErr result (IsMissing L.config.shards (left_in self.old.held (into_iter_items self.old.slots))) }
         ensures done { IfOk result (λ polled. IfReady polled (λ _. self.new.held ≡ None)) }
-        ensures slots { (self.new.pass ≡ self.old.pass) × (self.new.slots ≡ self.old.slots) }
+        ensures fixed { (self.new.pass ≡ self.old.pass) × (self.new.stamp ≡ self.old.stamp) × (self.new.start ≡ self.old.start) }
+        ensures slots { self.new.slots ≡ self.old.slots }
         ensures registered { IfOk result (λ polled. OnPending polled (Covers cx.new (λ s. MatchOption self.new.held ⊥ (λ h. s ≡ h.source.id)))) }
         ensures kept { Keeps cx.old cx.new }
     {
-        let Some(held) = &mut self.held else {
+        let Some(mut held) = self.held.take() else {
             return Ok(Poll::Ready(()));
         };
-        let (polled, _watching) = held.poll(&self.rt, self.alloc, &*self.hub, cx);
+        let (polled, evidence) = held.poll(&self.rt, self.alloc, &*self.hub, cx);
         let Poll::Ready(given) = polled else {
+            self.held = Some(held);
             return Ok(Poll::Pending);
         };
-        self.held = None;
-        let Some(answer) = given? else {
-            return Err(Unanswered);
-        };
-        add_answer(&mut self.items, answer)?;
-        Ok(Poll::Ready(()))
+        match given {
+            Ok(Some(answer)) => {
+                self.seen = self.seen.longer(held.pass());
+                add_answer(&mut self.items, answer)?;
+                Ok(Poll::Ready(()))
+            }
+            Ok(None) => Err(Missing::Answer(
+                held.ticket(),
+                held.pass().again(),
+                Lack::Unknown(evidence),
+            )),
+            Err(stopped) => Err(Missing::Answer(
+                held.ticket(),
+                held.pass().again(),
+                Lack::Stopped(stopped),
+            )),
+        }
     }
 
-    // Handles `slot`: appends its reply, or waits for its answer and appends the answer's items.
-    // Pending until the answer is given. Fails if the answer is unavailable or memory runs out.
-    fn take(&mut self, slot: Slot, cx: &mut Context<'_>) -> Result<Poll<()>, Unanswered>
+    // Appends the reply in `slot`, or waits for its answer and appends the answer's items.
+    fn take(&mut self, slot: Slot, cx: &mut Context<'_>) -> Result<Poll<()>, Missing<L>>
         requires below { IsBelow (length (list_of self.old.pass)) slot }
         requires free { self.old.held ≡ None }
-        ensures same { OnOk result ((all : List Item)
-            → AreAll (setup_of L.config L.placing) self.new.pass self.new.items.items (awaited self.new.held)
-            (into_iter_items self.new.slots) all
-            → AreAll (setup_of L.config L.placing) self.old.pass self.old.items.items None
-            (slot ∷ into_iter_items self.old.slots) all) }
+        ensures same { OnOk result (IsOnWay L.config self.old.seen self.old.items.items
+            (slot ∷ into_iter_items self.old.slots) self.new.seen self.new.items.items
+            (left_in self.new.held (into_iter_items self.new.slots))) }
+        ensures missing { IfErr result (IsMissing L.config.shards (slot ∷ into_iter_items self.old.slots)) }
         ensures done { IfOk result (λ polled. IfReady polled (λ _. self.new.held ≡ None)) }
-        ensures slots { (self.new.pass ≡ self.old.pass) × (self.new.slots ≡ self.old.slots) }
+        ensures fixed { (self.new.pass ≡ self.old.pass) × (self.new.stamp ≡ self.old.stamp) × (self.new.start ≡ self.old.start) }
+        ensures slots { self.new.slots ≡ self.old.slots }
         ensures registered { IfOk result (λ polled. OnPending polled (Covers cx.new (λ s. MatchOption self.new.held ⊥ (λ h. s ≡ h.source.id)))) }
         ensures kept { Keeps cx.old cx.new }
     {
@@ -140,15 +179,13 @@ impl<L: HubKind, R: Wait + Copy + Drop> ItemsFuture<L, R> {
         }
     }
 
-    // Polls until all items are appended. Pending while an answer is not given. Fails if an answer
-    // is unavailable or memory runs out.
-    fn gather(&mut self, cx: &mut Context<'_>) -> Result<Poll<()>, Unanswered>
-        ensures same { OnOk result ((all : List Item)
-            → AreAll (setup_of L.config L.placing) self.new.pass self.new.items.items (awaited self.new.held)
-            (into_iter_items self.new.slots) all
-            → AreAll (setup_of L.config L.placing) self.old.pass self.old.items.items (awaited self.old.held)
-            (into_iter_items self.old.slots) all) }
+    fn gather(&mut self, cx: &mut Context<'_>) -> Result<Poll<()>, Missing<L>>
+        ensures same { OnOk result (IsOnWay L.config self.old.seen self.old.items.items
+            (left_in self.old.held (into_iter_items self.old.slots)) self.new.seen self.new.items.items
+            (left_in self.new.held (into_iter_items self.new.slots))) }
+        ensures missing { IfErr result (IsMissing L.config.shards (left_in self.old.held (into_iter_items self.old.slots))) }
         ensures done { IfOk result (λ polled. IfReady polled (λ _. (self.new.held ≡ None) × (into_iter_items self.new.slots ≡ []))) }
+        ensures fixed { (self.new.pass ≡ self.old.pass) × (self.new.stamp ≡ self.old.stamp) × (self.new.start ≡ self.old.start) }
         ensures registered { IfOk result (λ polled. OnPending polled (Covers cx.new (λ s. MatchOption self.new.held ⊥ (λ h. s ≡ h.source.id)))) }
         ensures kept { Keeps cx.old cx.new }
     {
@@ -165,27 +202,44 @@ impl<L: HubKind, R: Wait + Copy + Drop> ItemsFuture<L, R> {
 }
 
 impl<L: HubKind, R: Wait + Copy + Drop> Future for ItemsFuture<L, R> {
-    type Output = Result<Vec<Item>, Unanswered>;
+    type Output = Result<Answered<HubWitness<L>>, Unanswered<HubWitness<L>>>;
 
     // Ghost: what wakes the future is the source of the awaited answer.
     ghost needs = { λ g s. MatchOption g.held ⊥ (λ h. s ≡ h.source.id) };
 
-    ghost gives = { λ g gathered. IfOk gathered (λ items. AreAll (setup_of L.config L.placing) g.pass g.items.items
-        (awaited g.held) (into_iter_items g.slots) items.items) };
+    // Ghost: the items are those that the witness shows, or it shows that an answer is missing.
+    ghost gives = { λ f gathered. Gathers L.config f.stamp f.start f.pass f.seen f.items.items
+        (left_in f.held (into_iter_items f.slots)) gathered };
 
-    fn poll(&mut self, cx: &mut Context<'_>) -> Poll<Result<Vec<Item>, Unanswered>> {
+    fn poll(&mut self, cx: &mut Context<'_>) -> Poll<Self::Output> {
         match self.gather(cx) {
             Ok(Poll::Pending) => Poll::Pending,
             Ok(Poll::Ready(())) => {
                 let items = mem::replace(&mut self.items, Vec::new(self.alloc));
-                Poll::Ready(Ok(items))
+                let witness = HubWitness::Answering {
+                    stamp: self.stamp,
+                    first: self.start,
+                    posted: self.pass.again(),
+                    seen: self.seen.again(),
+                };
+                Poll::Ready(Ok(Answered { items, witness }))
             }
-            Err(fault) => Poll::Ready(Err(fault)),
+            Err(Missing::Answer(ticket, seen, lack)) => {
+                let witness = HubWitness::Lacking {
+                    stamp: self.stamp,
+                    first: self.start,
+                    posted: self.pass.again(),
+                    seen,
+                    ticket,
+                    lack,
+                };
+                Poll::Ready(Err(Unanswered::Unavailable(witness)))
+            }
+            Err(Missing::Memory) => Poll::Ready(Err(Unanswered::Memory)),
         }
     }
 }
 
-// Returns `first`, the place of a request's first message, or `None` if `slots` is empty.
 fn place_of(first: u64, slots: &[Slot]) -> Option<u64>
     ensures { result ≡ place_of first slots.now }
 {
@@ -195,7 +249,7 @@ fn place_of(first: u64, slots: &[Slot]) -> Option<u64>
     }
 }
 
-// Appends an answer's events and then its reply to `items`. On error some may be appended.
+// Appends an answer's events and then its reply. On error some may be appended.
 fn add_answer(items: &mut Vec<Item>, answer: Answer) -> Result<(), AllocError>
     ensures { OnOk result (items.new.items ≡ items.old.items ++ items_of answer) }
 {
@@ -206,7 +260,6 @@ fn add_answer(items: &mut Vec<Item>, answer: Answer) -> Result<(), AllocError>
     add_reply(items, reply)
 }
 
-// Appends a reply to `items`. Fails if memory runs out.
 fn add_reply(items: &mut Vec<Item>, reply: Reply) -> Result<(), AllocError>
     ensures { OnOk result (items.new.items ≡ items.old.items ++ ReplyItem reply ∷ []) }
 {

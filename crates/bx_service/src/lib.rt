@@ -12,9 +12,10 @@ mod probe;
 mod response;
 mod route;
 mod service;
+mod witness;
 
 pub use answer_logger::AnswerLogger;
-pub use backend::{Backend, Clock, Declined, HubBackend, Nonces, Unanswered};
+pub use backend::{Answered, Backend, Clock, Declined, HubBackend, Nonces, Unanswered};
 pub use collect::{Collect, CollectError};
 pub use error::RequestError;
 pub use exchange::Exchange;
@@ -22,3 +23,4 @@ pub use gathering::ItemsFuture;
 pub use observer::{Observer, ServiceEvent};
 pub use route::Transports;
 pub use service::{BayeuxService, ServiceFault};
+pub use witness::{HubWitness, Lack, Stamp};

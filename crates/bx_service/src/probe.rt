@@ -1,4 +1,3 @@
-//! Handles on an observer that report the events of connections and requests.
 ghost use Rattle.std.specs.Prelude.{◌≡◌};
 ghost use Rattle.bx_service.specs.declared.service.ServiceFault.TheVariants.{Memory};
 
@@ -19,10 +18,6 @@ pub(crate) struct ConnectionProbe<O: Observer> {
 
 impl<O: Observer> ConnectionProbe<O> {
     /// Creates a handle that belongs to no connection.
-    ///
-    /// # Errors
-    ///
-    /// `AllocError` if memory runs out.
     pub(crate) fn new(alloc: Global, observer: O) -> Result<ConnectionProbe<O>, AllocError> {
         Ok(ConnectionProbe {
             observer: Arc::new(alloc, observer)?,
@@ -31,10 +26,6 @@ impl<O: Observer> ConnectionProbe<O> {
     }
 
     /// Reports a new connection and returns its handle.
-    ///
-    /// # Errors
-    ///
-    /// `AllocError` if memory runs out; nothing is reported.
     pub(crate) fn open(&self) -> Result<ConnectionProbe<O>, AllocError> {
         let observer = Arc::try_clone(&self.observer)?;
         observer.see(ServiceEvent::ConnectionOpened);
@@ -46,8 +37,7 @@ impl<O: Observer> ConnectionProbe<O> {
 
     /// Reports a new request and returns its handle.
     ///
-    /// If memory runs out for the handle, reports at once that the request ended without a
-    /// response. The caller then must not answer the request.
+    /// If memory runs out, reports that the request ended. The caller then must not answer it.
     pub(crate) fn ask(&self) -> RequestProbe<O> {
         self.observer.see(ServiceEvent::RequestArrived);
         let observer = Arc::try_clone(&self.observer).ok();
@@ -84,25 +74,22 @@ pub(crate) struct RequestProbe<O: Observer> {
     // `None` if memory ran out for the handle.
     observer: Option<Arc<O, Global>>,
     is_admitted: bool,
-    // The place of the request's first message. `None` before admission, or if the request has no
-    // messages.
+    // The place of the request's first message, if it was admitted and has one.
     place: Option<u64>,
 }
 
 impl<O: Observer> RequestProbe<O> {
-    /// Returns `true` if the handle reports to an observer.
     pub(crate) fn is_told(&self) -> bool {
         self.observer.is_some()
     }
 
-    // Reports `event` to the observer, if any.
     fn tell(&self, event: ServiceEvent<'_>) {
         if let Some(observer) = &self.observer {
             observer.see(event);
         }
     }
 
-    /// Reports that the request was admitted. `place`: the place of its first message, if any.
+    /// Reports that the request was admitted. `place`: that of its first message, if any.
     pub(crate) fn admit(&mut self, place: Option<u64>)
         ensures { self.new.place ≡ place }
     {
@@ -111,23 +98,20 @@ impl<O: Observer> RequestProbe<O> {
         self.tell(ServiceEvent::Admitted(place));
     }
 
-    /// Reports that the response has no items, because of `error`.
     pub(crate) fn refuse(&self, error: RequestError) {
         self.tell(ServiceEvent::Refused(error));
     }
 
-    /// Reports the items of the response.
     pub(crate) fn answer(&self, items: &[Item]) {
         let place = self.place;
         self.tell(ServiceEvent::Answered { place, items });
     }
 
-    /// Reports that a response with `status` was created.
     pub(crate) fn respond(&self, status: Status) {
         self.tell(ServiceEvent::Responded(Some(status)));
     }
 
-    /// Reports that memory ran out for a response, and returns `ServiceFault::Memory`.
+    /// Reports that memory ran out for a response.
     pub(crate) fn give_up(&self) -> ServiceFault
         ensures { result ≡ Memory }
     {

@@ -1,4 +1,3 @@
-//! The responses over HTTP: an error, or the items of an admitted request.
 ghost use Rattle.std.specs.Prelude.{◌≡◌, ◌⊎◌, IfOk, option_map};
 ghost use Rattle.bx_service.specs.Responses.{IsAnswer, IsRefusal, needed_fields, refusal_fields};
 
@@ -12,12 +11,8 @@ use std::alloc::{AllocError, Global};
 
 /// Creates a response with the status of `error` and no body.
 ///
-/// The response has a field `Allow` if the status is 405, and a field `bayeux-error` with the
-/// reason. If memory runs out for the reason, the response lacks this field.
-///
-/// # Errors
-///
-/// `AllocError` if memory runs out for the field `Allow`.
+/// It has a field `Allow` if the status is 405, and a field `bayeux-error` with the reason, which
+/// is missing if memory runs out for it.
 pub(crate) fn refusal(
     alloc: Global,
     error: RequestError,
@@ -31,7 +26,6 @@ pub(crate) fn refusal(
     Ok(response)
 }
 
-// Returns the fields of a response with `error`. If memory runs out for the reason, it is missing.
 fn refusal_fields(alloc: Global, error: RequestError) -> Result<HeaderMap, AllocError>
     ensures { IfOk result (λ fields. (fields ≡ refusal_fields error) ⊎ (fields ≡ needed_fields error)) }
 {
@@ -44,7 +38,6 @@ fn refusal_fields(alloc: Global, error: RequestError) -> Result<HeaderMap, Alloc
     }
 }
 
-// Returns the fields that a response with `error` needs: `Allow` if the status is 405.
 fn needed_fields(alloc: Global, error: RequestError) -> Result<HeaderMap, AllocError>
     ensures { IfOk result (λ fields. fields ≡ needed_fields error) }
 {
@@ -58,13 +51,7 @@ fn needed_fields(alloc: Global, error: RequestError) -> Result<HeaderMap, AllocE
     Ok(fields)
 }
 
-/// Creates a response with status 200 and `items`, as a script that calls `callback`, or as JSON.
-///
-/// It is JSON if there is no `callback`.
-///
-/// # Errors
-///
-/// `AllocError` if memory runs out.
+/// Creates a response with status 200 and `items`, as JSON, or as a script that calls `callback`.
 pub(crate) fn answer(
     alloc: Global,
     callback: Option<&str>,

@@ -1,4 +1,3 @@
-//! Which requests are served, and whether their messages are in the body or in the query.
 ghost use Rattle.std.specs.Prelude.{◌≡◌, codes};
 ghost use Rattle.http_header.specs.HeaderMap.{get_all};
 ghost use Rattle.bx_service.specs.Statuses.{are_plain, get_route, is_json, is_served, post_route, route_of, unless_coded};
@@ -20,7 +19,6 @@ pub enum Transports {
 }
 
 impl Transports {
-    // Returns the route of a POST with these fields at a path that is served.
     fn post_route(self, fields: &HeaderMap) -> Route
         ensures { result ≡ post_route self fields.now }
     {
@@ -30,7 +28,6 @@ impl Transports {
         }
     }
 
-    // Returns the route of a GET at a path that is served.
     fn get_route(self) -> Route
         ensures { result ≡ get_route self }
     {
@@ -41,7 +38,6 @@ impl Transports {
     }
 }
 
-// Returns `true` if the content type has the media type `application/json`.
 fn is_json(fields: &HeaderMap) -> bool
     ensures { result ≡ is_json fields.now }
 {
@@ -52,18 +48,15 @@ fn is_json(fields: &HeaderMap) -> bool
 /// Where the messages of a request are, or why it is rejected.
 #[derive(Clone, Copy, Debug, PartialEq, Eq)]
 pub(crate) enum Route {
-    /// The request is a POST, with its messages in the body.
+    /// A POST, with its messages in the body.
     Post,
-    /// The request is a GET, with its messages in the query.
+    /// A GET, with its messages in the query.
     Get,
-    /// The request is rejected with this error.
     Refused(RequestError),
 }
 
 impl Route {
-    /// Returns where a request with this method, path and fields has its messages.
-    ///
-    /// The request is rejected for the first of these reasons that applies:
+    /// Returns where a request has its messages, or the first of these reasons to reject it:
     ///
     /// - 404: the path is not served.
     /// - 405: the method is neither POST nor GET.
@@ -92,8 +85,7 @@ impl Route {
         }
     }
 
-    // Returns `self`, or a rejection.
-    // The rejection is for `fields` with a `Transfer-Encoding` other than one `chunked`.
+    // Rejects `fields` with a `Transfer-Encoding` other than one `chunked`.
     fn unless_coded(self, fields: &HeaderMap) -> Route
         ensures { result ≡ unless_coded fields.now self }
     {
@@ -116,7 +108,7 @@ fn are_plain(fields: &HeaderMap) -> bool
     }
 }
 
-// Returns `true` for `/cometd` and the paths below it. Policy of this server.
+// The paths are a policy of this server.
 fn is_served(path: &str) -> bool
     ensures { result ≡ is_served path.now }
 {

@@ -1,4 +1,3 @@
-//! The HTTP service of each connection, for `hyper`.
 ghost use Rattle.std.specs.Prelude.{◌≡◌, IfOk, IfSome};
 ghost use Rattle.http.specs.Request.{head_of, body_of};
 ghost use Rattle.bx_advice.specs.declared.limit.TheConstants.{BODY_LIMIT};
@@ -6,13 +5,12 @@ ghost use Rattle.bx_service.specs.Beginnings.{Begins};
 ghost use Rattle.bx_service.specs.declared.route.Transports.TheVariants.{All};
 ghost use Rattle.std.specs.Arc.{arc_value};
 
-use crate::backend::{Backend, Unanswered};
+use crate::backend::{Answered, Backend, Unanswered};
 use crate::exchange::{Exchange, State};
 use crate::observer::Observer;
 use crate::probe::ConnectionProbe;
 use crate::route::Transports;
 use bx_advice::BodyLimit;
-use bx_message::Item;
 use bx_pieces::Pieces;
 use bytes::{Buf, Bytes};
 use futures::Future;
@@ -26,7 +24,7 @@ use thiserror::Error;
 /// Why a connection ends without a response.
 #[derive(Clone, Copy, Debug, PartialEq, Eq, Error)]
 pub enum ServiceFault {
-    /// The connection ends, because memory ran out even for a response without a body.
+    /// Memory ran out even for a response without a body.
     #[error("out of memory")]
     Memory,
 }
@@ -44,23 +42,18 @@ pub struct BayeuxService<S, O: Observer = ()> {
 impl<S: Drop> BayeuxService<S, ()> {
     /// Creates a service over `backend`.
     ///
-    /// The service accepts all transports, and reads bodies and queries of up to
-    /// [`bx_advice::BODY_LIMIT`] bytes.
-    ///
-    /// # Errors
-    ///
-    /// `AllocError` if memory runs out.
+    /// It accepts all transports, and bodies and queries of up to [`bx_advice::BODY_LIMIT`] bytes.
     ///
     /// # Examples
     ///
     /// ```
     /// let backend = HubBackend::new(
-    ///     rt,
-    ///     alloc,
-    ///     Arc::try_clone(hub)?,
-    ///     Access::ReadWrite,
-    ///     Still,
-    ///     Zeros,
+    ///  rt,
+    ///  alloc,
+    ///  Arc::try_clone(hub)?,
+    ///  Access::ReadWrite,
+    ///  Still,
+    ///  Zeros,
     /// );
     /// let service = BayeuxService::new(alloc, backend)?;
     /// ```
@@ -76,12 +69,8 @@ impl<S: Drop> BayeuxService<S, ()> {
 impl<S: Drop, O: Observer> BayeuxService<S, O> {
     /// Creates a service as [`new`](Self::new) does, with an observer.
     ///
-    /// The observer sees each clone of the service as a connection, which closes when the clone is
-    /// dropped. The returned service itself is no connection.
-    ///
-    /// # Errors
-    ///
-    /// `AllocError` if memory runs out.
+    /// The observer sees each clone of the service as a connection, which closes when it is
+    /// dropped.
     pub fn with_observer(
         alloc: Global,
         backend: S,
@@ -100,7 +89,7 @@ impl<S: Drop, O: Observer> BayeuxService<S, O> {
         })
     }
 
-    /// Returns the service with `limit` as the size limit of bodies and queries.
+    /// Returns the service with another size limit of bodies and queries.
     pub fn with_limit(self, limit: BodyLimit) -> BayeuxService<S, O>
         ensures { result ≡ record self { limit = limit } }
     {
@@ -109,7 +98,7 @@ impl<S: Drop, O: Observer> BayeuxService<S, O> {
         service
     }
 
-    /// Returns the service with `transports` as the accepted transports.
+    /// Returns the service with other transports.
     pub fn with_transports(self, transports: Transports) -> BayeuxService<S, O>
         ensures { result ≡ record self { transports = transports } }
     {
@@ -136,7 +125,7 @@ impl<S: Drop, O: Observer> Clone for BayeuxService<S, O> {
 impl<S, I, B, D, O> Service<Request<B>> for BayeuxService<S, O>
 where
     S: Backend<Items = I> + Drop,
-    I: Future<Output = Result<Vec<Item>, Unanswered>> + Drop,
+    I: Future<Output = Result<Answered<S::Witness>, Unanswered<S::Witness>>> + Drop,
     B: Body<Data = D>,
     D: Buf + Drop,
     O: Observer,
@@ -145,7 +134,7 @@ where
 
     type Error = ServiceFault;
 
-    type Future = Exchange<S, I, B, O>;
+    type Future = Exchange<S, I, B, S::Witness, O>;
 
     // Ghost: every body of this type can be polled.
     ghost can_call = { λ _. (body : B) → B.can_poll body };

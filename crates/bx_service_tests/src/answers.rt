@@ -1,4 +1,5 @@
 //! Tests of responses that are written in several frames.
+use crate::same::same;
 use bx_calls::json_string;
 use bx_message::Item;
 use bx_pieces::Pieces;
@@ -73,8 +74,8 @@ fn next_data(task: &MockTask, body: &mut Pieces<Bytes>) -> Result<Option<Bytes>,
 // Checks that a response with `items` has three frames with the text `wanted`, at most 64 KiB each.
 // Also checks that its body always reports how many bytes are left. `callback`: the function that a
 // script calls with the array. `None`: the response is the array.
-fn check_pieces<R: Abort>(
-    rt: &R,
+fn check_pieces(
+    rt: &impl Abort,
     alloc: Global,
     task: &MockTask,
     callback: Option<&str>,
@@ -86,21 +87,21 @@ fn check_pieces<R: Abort>(
     for _ in 0..FRAMES {
         check_left(rt, &body, wanted.len(), text.len());
         let data = next_data(task, &mut body)?.ok_or("no frame")?;
-        assert!(rt; data.len() <= 65_536);
+        same(rt, data.len() <= 65_536, true, "a frame of 64 KiB");
         text.extend_from_slice(data.chunk())?;
     }
     check_left(rt, &body, wanted.len(), text.len());
-    assert!(rt; next_data(task, &mut body)?.is_none());
-    assert!(rt; text.as_slice() == wanted.as_bytes());
+    same(rt, next_data(task, &mut body)?.is_none(), true, "the end");
+    same(rt, text.as_slice() == wanted.as_bytes(), true, "the text");
     Ok(())
 }
 
 // Checks that `body` reports how many bytes are left, and its end only if none are. `whole`: its
 // length in bytes. `given`: how many of them were taken.
-fn check_left<R: Abort>(rt: &R, body: &Pieces<Bytes>, whole: usize, given: usize) {
+fn check_left(rt: &impl Abort, body: &Pieces<Bytes>, whole: usize, given: usize) {
     let left = whole.saturating_sub(given) as u64;
-    assert_eq!(rt; body.size_hint().exact(), Some(left));
-    assert_eq!(rt; body.is_end_stream(), left == 0);
+    same(rt, body.size_hint().exact(), Some(left), given);
+    same(rt, body.is_end_stream(), left == 0, given);
 }
 
 // Checks that a long array and a long script are written in three frames.
@@ -125,6 +126,6 @@ fn response_of_256_megabytes(rt: HostRuntime) -> Result<(), Fail> {
         items.push(Item::EventItem(event.clone()?))?;
     }
     let body = Pieces::<Bytes>::answer(alloc, None, items.as_slice())?;
-    assert_eq!(rt; body.size_hint().exact(), Some(LARGEST));
+    same(&rt, body.size_hint().exact(), Some(LARGEST), "all");
     Ok(())
 }

@@ -1,4 +1,5 @@
 //! Tests of held connects: what they return, and which tasks they wake.
+use crate::same::same;
 use bx_calls::{
     HubWork, Stage, Task, Tasks, config_of, hold, post_all, text_of, texts, tick, work_in_open_hub,
 };
@@ -15,7 +16,7 @@ use std::test::*;
 const TICKET: Ticket = Ticket { place: 2, shard: 1 };
 
 // What a poll of a held connect must return.
-#[derive(Clone, Copy, Debug)]
+#[derive(Clone, Copy)]
 enum Want {
     // A poll must be pending: there is no answer yet.
     Pending,
@@ -39,7 +40,7 @@ struct Bench<'a, L: HubKind, H: Wait + Drop, R> {
 }
 
 // A step of a run, and what it checks.
-#[derive(Clone, Copy, Debug)]
+#[derive(Clone, Copy)]
 enum Step {
     // Checks that a poll of the held connect in this task is pending and does not wake the task.
     Waits(Task),
@@ -161,14 +162,11 @@ impl<L: HubKind, H: Wait + Drop, R: Wait + Abort> Bench<'_, L, H, R> {
             (Poll::Pending, Want::Pending) | (Poll::Ready(Ok(None)), Want::None) => Ok(()),
             (Poll::Ready(Ok(Some(answer))), Want::Answer(text)) => {
                 let found = text_of(self.alloc, answer)?;
-                assert!(rt;
-                    found.as_slice() == text.as_bytes(),
-                    "another answer than {text}"
-                );
+                same(rt, found.as_slice(), text.as_bytes(), text);
                 Ok(())
             }
             (Poll::Ready(Err(stopped)), Want::Fault(fault)) => {
-                assert_eq!(rt; stopped.fault(), fault);
+                same(rt, stopped.fault(), fault, "a fault");
                 Ok(())
             }
             _ => Err(Fail::from("a poll gave something else")),
@@ -188,24 +186,23 @@ impl<L: HubKind, H: Wait + Drop, R: Wait + Abort> Bench<'_, L, H, R> {
         match step {
             Step::Waits(task) => {
                 self.check_poll(task, held, Want::Pending)?;
-                assert!(rt; !self.tasks.task(task).is_woken(), "{step:?}");
+                same(rt, self.tasks.task(task).is_woken(), false, task);
             }
             Step::Gives(task, want) => self.gives(task, held, want)?,
             Step::Other(ticket, want) => {
                 self.check_poll(Task::First, &mut self.wait(ticket)?, want)?;
             }
-            Step::Woken(task, want) => assert_eq!(rt;
-                self.tasks.task(task).is_woken(),
-                want,
-                "{step:?}"
-            ),
+            Step::Woken(task, want) => same(rt, self.tasks.task(task).is_woken(), want, task),
             Step::Post(bodies) => post_all(rt, alloc, &self.hub, &mut self.pass, bodies)?,
             Step::Tick(moment) => {
                 tick(rt, alloc, &self.hub, &mut self.pass, moment)?;
             }
             Step::Close => drop(self.hub.close(rt)),
-            Step::Pause => assert!(rt; self.hub.pause(rt, TICKET.shard).is_some()),
-            Step::Sweep => assert_eq!(rt; self.hub.sweep(rt, 1_000).dropped(), 1),
+            Step::Pause => {
+                let paused = self.hub.pause(rt, TICKET.shard);
+                same(rt, paused.is_some(), true, "a pause");
+            }
+            Step::Sweep => same(rt, self.hub.sweep(rt, 1_000).dropped(), 1, "a sweep"),
         }
         Ok(())
     }

@@ -1,6 +1,7 @@
 //! Tests of HTTP exchanges: one thread polls them, step by step.
 use crate::requests::{Ask, Given, Want, check_given, check_pending};
 use crate::runs::{COUNT, Held, SMALL, Step, run_at};
+use crate::same::same;
 use bx_advice::{BodyLimit, Options};
 use bx_calls::{HubWork, Stage, Tasks, config_of, tick, work_in_open_hub};
 use bx_entry::{Access, SharedPatterns};
@@ -88,8 +89,8 @@ impl<L: HubKind, S: Backend<Items: Drop>, H: Wait + Drop, R: Wait + Abort> Bench
                 tick(rt, self.alloc, &self.hub, &mut self.pass, moment)?;
             }
             Step::Close => drop(self.hub.close(rt)),
-            Step::Pause => assert!(rt; self.hub.pause(rt, 1).is_some()),
-            Step::Sweep(count) => assert_eq!(rt; self.hub.sweep(rt, 5).dropped(), count),
+            Step::Pause => same(rt, self.hub.pause(rt, 1).is_some(), true, "a pause"),
+            Step::Sweep(count) => same(rt, self.hub.sweep(rt, 5).dropped(), count, "a sweep"),
         }
         Ok(())
     }
@@ -118,7 +119,7 @@ impl<L: HubKind, S: Backend<Items: Drop>, H: Wait + Drop, R: Wait + Abort> Bench
         }
         self.take_all(held.then)?;
         if let Some((is_woken, want)) = held.gives {
-            assert_eq!(self.rt; self.tasks.first.is_woken(), is_woken);
+            same(self.rt, self.tasks.first.is_woken(), is_woken, "a wake");
             check_given(self.rt, self.alloc, exchange, &self.tasks.first, want)?;
         }
         Ok(())

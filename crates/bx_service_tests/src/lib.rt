@@ -15,3 +15,5 @@ mod observers;
 mod requests;
 #[cfg(test)]
 mod runs;
+#[cfg(test)]
+mod same;

@@ -4,10 +4,10 @@ use crate::requests::Ask;
 use bx_cut::Bodies;
 use bx_entry::Refusal;
 use bx_hub::PostFault;
-use bx_message::{Item, Status};
+use bx_message::Status;
 use bx_record::WaitingAnswerLines;
 use bx_service::{
-    AnswerLogger, Backend, BayeuxService, Declined, Observer, RequestError, ServiceEvent,
+    AnswerLogger, Answered, Backend, BayeuxService, Declined, Observer, RequestError, ServiceEvent,
     Unanswered,
 };
 use futures::Future;
@@ -71,13 +71,16 @@ struct Saying {
 }
 
 impl Backend for Saying {
+    type Witness = ();
+
     type Items = Given;
 
-    fn admit(&self, bodies: Bodies) -> Result<Given, Declined> {
+    fn admit(&self, bodies: Bodies) -> Result<Given, Declined<()>> {
         if let Said::Refusal = self.said {
             return Err(Declined {
                 fault: PostFault::Refused(Refusal::BadMoment),
                 bodies,
+                witness: None,
             });
         }
         Ok(Given {
@@ -101,13 +104,16 @@ struct Given {
 }
 
 impl Future for Given {
-    type Output = Result<Vec<Item>, Unanswered>;
+    type Output = Result<Answered<()>, Unanswered<()>>;
 
-    fn poll(&mut self, cx: &mut Context<'_>) -> Poll<Result<Vec<Item>, Unanswered>> {
+    fn poll(&mut self, cx: &mut Context<'_>) -> Poll<Result<Answered<()>, Unanswered<()>>> {
         self.turns = self.turns.saturating_add(1);
         match self.said {
-            Said::Items if self.turns > 1 => Poll::Ready(Ok(Vec::new(self.alloc))),
-            Said::NoItems if self.turns > 1 => Poll::Ready(Err(Unanswered)),
+            Said::Items if self.turns > 1 => Poll::Ready(Ok(Answered {
+                items: Vec::new(self.alloc),
+                witness: (),
+            })),
+            Said::NoItems if self.turns > 1 => Poll::Ready(Err(Unanswered::Unavailable(()))),
             _ => cx.yield_now(),
         }
     }

@@ -1,4 +1,5 @@
 //! Requests of the runs, and checks of their responses.
+use crate::same::same;
 use bx_service::{Collect, ServiceFault};
 use bytes::Bytes;
 use futures::Future;
@@ -21,7 +22,7 @@ pub const FORM: &str = "application/x-www-form-urlencoded";
 pub type Given = Result<Response<bx_pieces::Pieces<Bytes>>, ServiceFault>;
 
 /// The error of a body that breaks off.
-#[derive(Clone, Copy, Debug)]
+#[derive(Clone, Copy)]
 pub struct Broken;
 
 /// A body of one frame, followed by its end or an error.
@@ -56,7 +57,7 @@ impl Body for Pieces {
 /// A request to the service, as the tests describe it.
 ///
 /// Its target is `/cometd` and its content is JSON, unless a variant says otherwise.
-#[derive(Clone, Copy, Debug)]
+#[derive(Clone, Copy)]
 pub enum Ask {
     /// A POST of this media type and text.
     Body(&'static str, &'static str),
@@ -163,7 +164,7 @@ impl Ask {
 }
 
 /// The response that a request must get.
-#[derive(Clone, Copy, Debug)]
+#[derive(Clone, Copy)]
 pub enum Want {
     /// A response with status 200 and this JSON.
     Json(&'static str),
@@ -215,7 +216,7 @@ pub fn check_pending<F: Future<Output = Given>, R: Abort>(
     ensures { F.can_poll exchange.new }
 {
     match task.poll(exchange) {
-        Poll::Pending => assert_eq!(rt; task.is_woken(), is_woken),
+        Poll::Pending => same(rt, task.is_woken(), is_woken, "a wake"),
         Poll::Ready(_) => panic!(rt; "it does not wait"),
     }
 }
@@ -240,16 +241,13 @@ pub fn check_given<F: Future<Output = Given>, R: Abort>(
         return Err(Fail::from("it waits"));
     };
     let response = given.map_err(|_| "no memory")?;
-    assert_eq!(rt; response.status().as_u16(), want.status());
+    same(rt, response.status().as_u16(), want.status(), want.text());
     check_fields(rt, &response, want);
     let mut body = Collect::new(alloc, response.into_body(), usize::MAX);
     let Poll::Ready(Ok(text)) = task.poll(&mut body) else {
         return Err(Fail::from("no body"));
     };
-    assert_eq!(rt;
-        String::from_utf8_lossy(alloc, text.as_slice())?.as_str(),
-        want.text()
-    );
+    same(rt, text.as_slice(), want.text().as_bytes(), want.text());
     Ok(())
 }
 
@@ -258,6 +256,6 @@ fn check_fields<R: Abort>(rt: &R, response: &Response<bx_pieces::Pieces<Bytes>>,
     for (name, value) in [(CONTENT_TYPE, want.kind()), (ALLOW, want.allow())] {
         let field = response.headers().get(name);
         let found = field.map(|field| field.as_bytes());
-        assert_eq!(rt; found, value.map(|text| text.as_bytes()));
+        same(rt, found, value.map(|text| text.as_bytes()), value);
     }
 }

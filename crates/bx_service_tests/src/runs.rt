@@ -6,7 +6,7 @@ use bx_advice::BODY_LIMIT;
 use bx_calls::texts;
 
 /// A step of a run. If it sends a request, the second task polls the exchange.
-#[derive(Clone, Copy, Debug)]
+#[derive(Clone, Copy)]
 pub enum Step {
     /// Checks that a POST of the first JSON gets status 200 with the second.
     Post(&'static str, &'static str),
@@ -35,7 +35,7 @@ pub enum Step {
 }
 
 /// An exchange that waits during other steps. The first task polls it.
-#[derive(Clone, Copy, Debug)]
+#[derive(Clone, Copy)]
 pub struct Held {
     pub ask: Ask,
     /// Whether the exchange's first poll waits for the request's body, and so wakes the task.
@@ -49,7 +49,7 @@ pub struct Held {
 }
 
 /// A run over its own hub: steps, then an exchange that waits, if there is one, then more steps.
-#[derive(Clone, Copy, Debug)]
+#[derive(Clone, Copy)]
 pub struct Run {
     pub first: &'static [Step],
     pub held: Option<Held>,

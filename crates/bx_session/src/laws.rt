@@ -1,4 +1,3 @@
-//! Laws of sessions, for every configuration and every state of a session.
 ghost use Rattle.bx_session.specs.Filing.{FilesAlike};
 ghost use Rattle.bx_session.specs.Numbers.{NumbersCount, NumbersStep};
 

@@ -1,18 +1,16 @@
-//! Ghost: the active patterns of a session.
 ghost use Rattle.std.specs.Prelude.{◌≡◌, fold};
 ghost use Rattle.bx_names.specs.InForce.{with_pattern, without_pattern};
 
 use bx_history::{History, Lists};
 use bx_names::Pattern;
 
-/// Returns the active patterns `in_force`, followed by those of `patterns` that are new.
+/// Returns `in_force`, followed by those of `patterns` that are new.
 pub(crate) fn with_all(in_force: &History<Pattern>, patterns: &[Pattern]) -> History<Pattern>
     ensures { result ≡ fold with_pattern in_force.now patterns.now }
 {
     History::of::<(&History<Pattern>, &[Pattern]), Subscribed>(&(in_force, patterns))
 }
 
-/// Returns the active patterns `in_force` without those in `patterns`.
 pub(crate) fn without_all(in_force: &History<Pattern>, patterns: &[Pattern]) -> History<Pattern>
     ensures { result ≡ fold without_pattern in_force.now patterns.now }
 {

@@ -1,4 +1,3 @@
-//! A connect that is not answered yet.
 ghost use Rattle.std.specs.Prelude.{◌≡◌, ◌==◌, IfOk, [], ◌∷◌, not};
 ghost use Rattle.std.specs.Option.{option_copied};
 ghost use Rattle.bx_advice.specs.declared.advice.Outcome.TheVariants.{Connected};
@@ -14,8 +13,6 @@ use std::marker::Model;
 /// A connect that is not answered yet.
 ///
 /// It has all that its answer needs, including room for one event, so answering does not allocate.
-///
-/// Model: its place, client id, message id, moment and hold.
 #[derive(Drop)]
 pub struct PendingConnect {
     place: u64,
@@ -44,12 +41,7 @@ impl PendingConnect {
     /// Creates the connect at `place` in the list, sent by the session with client id `client`.
     ///
     /// `id`: the message's `id`, which the reply repeats. `moment`: milliseconds since the server
-    /// started. `hold`: how long the connect may be held from `moment` on, in milliseconds. With 0,
-    /// the connect is answered at once.
-    ///
-    /// # Errors
-    ///
-    /// `AllocError` if memory runs out.
+    /// started. `hold`: how many milliseconds it may be held; 0: it is answered at once.
     pub fn new(
         alloc: Global,
         place: u64,
@@ -71,32 +63,26 @@ impl PendingConnect {
         })
     }
 
-    /// Returns `true` if the connect is answered at once, with or without events.
     pub(crate) fn is_answered_at_once(&self) -> bool
         ensures { result ≡ (self.now.hold == 0) }
     {
         self.hold == 0
     }
 
-    /// Returns the connect's place in the list.
+    /// Returns its place in the list.
     pub fn place(&self) -> u64
         ensures { result ≡ self.now.place }
     {
         self.place
     }
 
-    /// Returns the moment at which the hold ends, in milliseconds since the server started.
-    ///
-    /// Returns `None` if that does not fit in 64 bits.
+    /// Returns the hold's end in milliseconds since the server started, if it fits in 64 bits.
     pub fn deadline(&self) -> Option<u64>
         ensures { result ≡ deadline_of self.now }
     {
         self.moment.checked_add(self.hold)
     }
 
-    /// Returns `true` if the hold has ended by `moment`, in milliseconds.
-    ///
-    /// Returns `false` if the end of the hold does not fit in 64 bits.
     pub(crate) fn is_due(&self, moment: u64) -> bool
         ensures { result ≡ ends_by moment self.now }
     {
@@ -106,7 +92,6 @@ impl PendingConnect {
         }
     }
 
-    /// Answers the connect without events, and with a reply for `outcome` and `ack`.
     pub(crate) fn answer_empty(self, config: &Config, outcome: Outcome, ack: AckReply) -> Answered
         ensures { result ≡ answer_to config.now self [] outcome ack }
     {
@@ -124,7 +109,6 @@ impl PendingConnect {
         )
     }
 
-    /// Answers the connect with success and one event.
     pub(crate) fn answer_one(self, config: &Config, event: SharedEvent, ack: AckReply) -> Answered
         ensures { result ≡ answer_to config.now self (event ∷ []) Connected ack }
     {
@@ -143,7 +127,6 @@ impl PendingConnect {
         )
     }
 
-    /// Answers the connect with success and `events`.
     pub(crate) fn answer_all(
         self,
         config: &Config,
@@ -166,7 +149,6 @@ impl PendingConnect {
     }
 }
 
-// Creates the answer to the connect at `place` from its events and its reply.
 fn answer_of(place: u64, events: Vec<SharedEvent>, reply: Reply) -> Answered
     ensures { result ≡ answered place events.items reply }
 {

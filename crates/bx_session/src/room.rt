@@ -1,4 +1,3 @@
-//! Reserved room for the answer to a rider.
 ghost use Rattle.std.specs.Prelude.{◌≡◌, ◌≤◌, [], IfOk};
 ghost use Rattle.std.specs.Vec.{vec_capacity};
 
@@ -7,8 +6,6 @@ use std::alloc::{AllocError, Global};
 use std::marker::Model;
 
 /// Room for the events of the answer to a rider, so that sending them does not allocate.
-///
-/// Model: for how many events there is room.
 #[derive(Drop)]
 pub struct RideRoom {
     events: Vec<SharedEvent>,
@@ -27,10 +24,6 @@ impl Model for RideRoom {
 
 impl RideRoom {
     /// Creates room for at least `count` events.
-    ///
-    /// # Errors
-    ///
-    /// `AllocError` if memory runs out.
     pub fn new(alloc: Global, count: usize) -> Result<RideRoom, AllocError>
         ensures { IfOk result (λ room. count ≤ room) }
     {
@@ -38,7 +31,6 @@ impl RideRoom {
         Ok(RideRoom { events })
     }
 
-    /// Converts the room into an empty list with room for the same number of events.
     pub(crate) fn into_list(self) -> Vec<SharedEvent>
         ensures empty { result.items ≡ [] }
         ensures room { vec_capacity result ≡ self }

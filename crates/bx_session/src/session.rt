@@ -1,4 +1,3 @@
-//! One session: its subscriptions, connects, deliveries and riders.
 ghost use Rattle.std.specs.Prelude.{◌≡◌, ◌<◌, ◌≤◌, ◌+◌, ◌&&◌, not, ℕ, [], IfOk, IsOk, OnOk, OnErr, true, false, length, map, take, drop, fold, nat_lt, is_some, if◌then◌else◌, Option, None, Some, option_map, IsTrue, ◌^◌};
 ghost use Rattle.std.specs.Option.{option_to_list};
 ghost use Rattle.std.specs.VecDeque.Iter.{deque_iter_rest};
@@ -26,23 +25,21 @@ use std::marker::Model;
 
 /// One session: its queued events, its held connect and its number of patterns.
 ///
-/// A connect asks for events, and is held if there are none. An acknowledging session keeps the
-/// events that it sends until its client acknowledges them. Any other session drops them at once.
+/// A connect is held if there are no events. An acknowledging session keeps the events that it
+/// sends until its client acknowledges them. Any other session drops them at once.
 ///
-/// With too many patterns or events a session overflows. It drops its events, and later connects
-/// fail. The caller, which stores the patterns, must then remove them. A held connect stays held.
+/// With too many patterns or events a session overflows: it drops its events, and later connects
+/// fail, but a held one stays held. The caller, which stores the patterns, must then remove them.
 /// Overflow is a policy of this server.
 #[derive(Drop)]
 pub struct Session {
     number: u64,
-    // The moment at which the session was opened, in milliseconds since the server started.
+    // In milliseconds since the server started.
     opened: u64,
     ack: bool,
     has_overflowed: bool,
     held: Option<PendingConnect>,
-    // Number of active patterns.
     patterns: usize,
-    // Ghost: the active patterns.
     in_force: History<Pattern>,
     window: Window,
 }
@@ -77,12 +74,10 @@ impl Model for Session {
 }
 
 impl Session {
-    /// Creates live session `number`, without patterns or events.
+    /// Creates live session `number`, without patterns or events. Does not allocate.
     ///
-    /// `ack`: whether the session acknowledges batches. `moment`: milliseconds since the server
-    /// started. Does not allocate.
-    ///
-    /// CometD's acknowledgement extension.
+    /// `ack`: whether it acknowledges batches (CometD's acknowledgement extension). `moment`:
+    /// milliseconds since the server started.
     pub fn open(alloc: Global, number: u64, ack: bool, moment: u64) -> Session
         ensures kept { result.kept ≡ after (λ s. begun ack s s.stage) (kept (unopened number)) }
         ensures opened { result.opened ≡ moment }
@@ -99,7 +94,7 @@ impl Session {
         }
     }
 
-    /// Returns the number with which the session was opened.
+    /// Returns the session's number.
     pub fn number(&self) -> u64
         ensures { result ≡ self.now.kept.number }
     {
@@ -127,21 +122,21 @@ impl Session {
         self.patterns
     }
 
-    /// Returns the number of queued events: the outstanding batch and the waiting events.
+    /// Returns the number of outstanding and waiting events.
     pub fn queued_events(&self) -> usize
         ensures { result ≡ length self.now.kept.queue }
     {
         self.window.len()
     }
 
-    /// Returns the length in bytes of the JSON texts of the queued events.
+    /// Returns the length in bytes of the JSON texts of these events.
     pub fn queued_bytes(&self) -> usize
         ensures { result ≡ bytes_of self.now.kept.queue }
     {
         self.window.bytes()
     }
 
-    /// Returns the number of events in the outstanding batch: sent, but not acknowledged.
+    /// Returns the number of events that were sent but not acknowledged.
     pub fn outstanding(&self) -> usize
         ensures { result ≡ self.now.kept.out }
     {
@@ -176,13 +171,12 @@ impl Session {
         self.held.as_ref().map(|held| held.place())
     }
 
-    /// Adds `patterns` and returns `true` if the session overflows.
+    /// Adds `patterns`, and returns `true` if the session overflows.
     ///
-    /// It overflows if it would have more than `config.limits.patterns` active patterns. All its
-    /// patterns and events are then dropped. If it has overflowed before, changes nothing and
-    /// returns `false`.
+    /// With more than `config.limits.patterns` active patterns, it drops all patterns and events.
+    /// If it has overflowed before, returns `false` and changes nothing.
     ///
-    /// `fresh`: by how many `patterns` would increase the number of active patterns.
+    /// `fresh`: how many of `patterns` are not active yet.
     pub fn subscribe(&mut self, config: &Config, patterns: &[Pattern], fresh: usize) -> bool
         requires fresh { length self.old.kept.patterns + fresh ≡ length (fold with_pattern self.old.kept.patterns patterns.now) }
         ensures overflows { result ≡ (not self.old.kept.overflow && self.new.kept.overflow) }
@@ -200,9 +194,7 @@ impl Session {
         false
     }
 
-    /// Removes `patterns`.
-    ///
-    /// `gone`: by how many this reduces the number of active patterns.
+    /// Removes `patterns`, of which `gone` were active.
     pub fn unsubscribe(&mut self, patterns: &[Pattern], gone: usize)
         requires gone { length (fold without_pattern self.old.kept.patterns patterns.now) + gone ≡ length self.old.kept.patterns }
         ensures kept { self.new.kept ≡ after (unsubscribed patterns.now) self.old.kept }
@@ -212,10 +204,6 @@ impl Session {
     }
 
     /// Reserves room to deliver one event.
-    ///
-    /// # Errors
-    ///
-    /// `AllocError` if memory runs out; nothing has changed.
     pub fn reserve(&mut self) -> Result<(), AllocError>
         ensures ok { OnOk result (0 < self.new.spare) }
         ensures refused { OnErr result (self.old.spare ≡ 0) }
@@ -224,7 +212,6 @@ impl Session {
         self.window.reserve(1)
     }
 
-    // Drops all events and patterns, and marks the session as overflowed.
     fn overflow(&mut self)
         ensures { self.new.kept ≡ after overflowed self.old.kept }
     {
@@ -234,10 +221,9 @@ impl Session {
         self.has_overflowed = true;
     }
 
-    // Returns the acknowledgement for the reply to a connect with `outcome`.
+    // Returns the acknowledgement in the reply to a connect: the number of the last batch.
     //
-    // It is the number of the last batch, if the connect succeeds and the session acknowledges.
-    // Otherwise there is none.
+    // There is none if the connect fails or the session does not acknowledge.
     fn ack_for(&self, outcome: Outcome) -> AckReply
         ensures { result ≡ ack_given self.now.kept.ack self.now.kept.num outcome }
     {
@@ -249,9 +235,7 @@ impl Session {
         }
     }
 
-    // Answers the held connect, if any, without events and with `outcome`.
-    //
-    // No connect is held afterwards.
+    // Answers the held connect, if any, without events.
     fn release(&mut self, config: &Config, outcome: Outcome) -> Option<Answered>
         ensures answer { (place : ℕ) → option_to_list result ≡ map answered_of (answers_of (released config.now place outcome) self.old.kept) }
         ensures kept { self.new.kept ≡ after unheld self.old.kept }
@@ -263,7 +247,7 @@ impl Session {
         }
     }
 
-    // Returns how many events a connect acknowledges, and how many of the following ones it gets.
+    // Returns how many events a connect acknowledges, and how many of the next ones it gets.
     fn look_ahead(&self, config: &Config, acked: Option<u64>) -> (usize, usize)
         ensures part { take result.1 (drop result.0 self.now.kept.queue) ≡ given config.now (acknowledged acked (resumed self.now.kept)) }
         ensures none { given config.now (acknowledged acked (resumed self.now.kept)) ≡ [] → result.1 ≡ 0 }
@@ -275,7 +259,7 @@ impl Session {
         (done, self.window.portion(done, config.limits.batch))
     }
 
-    // Clones the events that a connect gets if it acknowledges batch `acked`, if any.
+    // Clones the events that a connect gets if it acknowledges batch `acked`.
     fn events_for(
         &self,
         alloc: Global,
@@ -292,7 +276,7 @@ impl Session {
         clone_part(alloc, self.window.events(), done, count)
     }
 
-    // Drops the outstanding batch if `acked` is at least its number, and the session acknowledges.
+    // Drops the outstanding batch of an acknowledging session if `acked` is at least its number.
     fn acknowledge(&mut self, acked: Option<u64>)
         ensures { self.new.kept ≡ after (acknowledged acked) self.old.kept }
     {
@@ -303,8 +287,6 @@ impl Session {
     }
 
     // Answers `connect` with `events`, or holds it if there are none and it may be held.
-    //
-    // If there are none and it may not be held, answers it without events.
     fn settle(
         &mut self,
         config: &Config,
@@ -331,9 +313,10 @@ impl Session {
         None
     }
 
-    // Marks the `count` events just sent as the outstanding batch, if none is outstanding yet.
+    // Records that the first `count` events were sent.
     //
-    // If the session does not acknowledge, drops these events instead.
+    // They become the outstanding batch, unless one is outstanding. A session that does not
+    // acknowledge drops them.
     fn give(&mut self, config: &Config, count: usize)
         requires given { count ≡ length (given config.now (resumed self.old.kept)) }
         requires countable { Countable self.old.kept }
@@ -350,20 +333,13 @@ impl Session {
     ///
     /// A connect that was held is answered as superseded. After an overflow, the new one fails.
     ///
-    /// An acknowledging session drops the outstanding batch if `acked` is at least its number. If a
-    /// batch is still outstanding, the session sends it again. If not, it forms the next one.
+    /// An acknowledging session drops the outstanding batch if `acked` is at least its number, and
+    /// then forms the next one. Otherwise it sends the batch again. A session that does not
+    /// acknowledge sends its first events, at most one batch, and drops them. Without events to
+    /// send, the connect is held, if it may be.
     ///
-    /// If the session does not acknowledge, it sends its first events, at most one batch, and drops
-    /// them.
-    ///
-    /// If there are no events to send, the connect is held if it may be, and otherwise answered.
-    ///
-    /// Bayeux 1.0, connect; CometD's acknowledgement extension. Superseding is a policy of this
-    /// server.
-    ///
-    /// # Errors
-    ///
-    /// `AllocError` if memory runs out for the events to send; nothing has changed.
+    /// Bayeux 1.0, connect. CometD's acknowledgement extension. Superseding is this server's
+    /// policy.
     pub fn connect(
         &mut self,
         alloc: Global,
@@ -386,9 +362,9 @@ impl Session {
         })
     }
 
-    // Acknowledges `acked`, and answers or holds `connect`, which gets `events`, if any.
+    // Acknowledges `acked`, and answers `connect` with `events` or holds it.
     //
-    // After an overflow, answers it with an error instead. No other connect may be held.
+    // After an overflow, answers it with an error. No other connect may be held.
     fn admit(
         &mut self,
         config: &Config,
@@ -412,11 +388,7 @@ impl Session {
 
     /// Clones `event` for [`deliver`](Self::deliver) if it is to be both sent and kept.
     ///
-    /// This is so if the session acknowledges and holds a connect. Otherwise returns `None`.
-    ///
-    /// # Errors
-    ///
-    /// `AllocError` if memory runs out.
+    /// This is so if an acknowledging session holds a connect.
     pub fn further(&self, event: &SharedEvent) -> Result<Option<SharedEvent>, AllocError>
         ensures { IfOk result (λ further. further ≡ (if wants_two self.now.kept then Some event.now else None)) }
     {
@@ -427,7 +399,6 @@ impl Session {
         }
     }
 
-    // Returns `true` if the queue can take `event` within the limits.
     fn has_room(&self, config: &Config, event: &SharedEvent) -> bool
         ensures room { result ≡ has_room config.now event.now (resumed self.now.kept) }
         ensures fits { IsTrue result → bytes_of self.now.kept.queue + event_size event.now < 2 ^ 64 }
@@ -438,12 +409,12 @@ impl Session {
 
     /// Delivers the event published at `place`.
     ///
-    /// Sends it to the held connect, or queues it if no connect is held. An acknowledging session
-    /// that sends it also keeps `further`, from [`further`](Self::further), as its next batch. If
-    /// the event would exceed a limit of `config`, the session overflows instead.
+    /// Sends it to the held connect, or queues it. An acknowledging session that sends it also
+    /// keeps `further`, from [`further`](Self::further), as its next batch. If the event would
+    /// exceed a limit of `config`, the session overflows.
     ///
-    /// Call [`reserve`](Self::reserve) first. The session must not have overflowed. Does not
-    /// allocate.
+    /// Does not allocate: call [`reserve`](Self::reserve) first. The session must not have
+    /// overflowed.
     ///
     /// Bayeux 1.0, delivery of events.
     pub fn deliver(
@@ -484,12 +455,7 @@ impl Session {
 
     /// Reserves room for the events sent with the reply to a rider, a request's last message.
     ///
-    /// These are the queued events and one that the rider may publish, at most one batch. An
-    /// acknowledging session sends none.
-    ///
-    /// # Errors
-    ///
-    /// `AllocError` if memory runs out.
+    /// These are the queued events and one that the rider may publish, at most one batch.
     pub fn reserve_ride(&self, alloc: Global, config: &Config) -> Result<RideRoom, AllocError>
         ensures { IfOk result (λ room. ride_most config.now self.now.kept ≤ room) }
     {
@@ -503,8 +469,8 @@ impl Session {
 
     /// Removes the events to send with the reply to a rider, and returns them in `room`.
     ///
-    /// These are the first queued events, at most one batch; none if the session acknowledges.
-    /// Does not allocate.
+    /// They are the first ones, at most one batch; none if the session acknowledges. Does not
+    /// allocate.
     ///
     /// Policy of this server.
     pub fn ride(&mut self, config: &Config, room: RideRoom) -> Vec<SharedEvent>
@@ -520,7 +486,7 @@ impl Session {
         self.window.hand_over(count, room)
     }
 
-    /// Answers the held connect, with success and no events, if its hold has ended by `moment`.
+    /// Answers the held connect without events if its hold has ended by `moment`.
     ///
     /// `moment`: milliseconds since the server started. Does not allocate.
     pub fn tick(&mut self, config: &Config, moment: u64) -> Option<Answered>
@@ -533,7 +499,7 @@ impl Session {
         }
     }
 
-    /// Answers the held connect, with success and no events, when its client disconnects.
+    /// Answers the held connect without events when its client disconnects.
     ///
     /// The reply advises the client not to reconnect. Does not allocate.
     ///
@@ -546,7 +512,6 @@ impl Session {
     }
 }
 
-// Clones at most `count` of `events`, after the first `skipped`.
 fn clone_part(
     alloc: Global,
     events: Iter<'_, SharedEvent>,
@@ -562,7 +527,7 @@ fn clone_part(
     Ok(part)
 }
 
-// Returns `true` if `count + more` exceeds `limit`.
+// Returns `true` if `count + more` exceeds `limit`, even if that sum does not fit in 64 bits.
 fn passes(count: usize, more: usize, limit: usize) -> bool
     ensures { result ≡ nat_lt limit (count + more) }
 {

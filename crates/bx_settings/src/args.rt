@@ -1,4 +1,3 @@
-//! Positional arguments of `bayeuxd`.
 ghost use Rattle.std.specs.Prelude.{◌≡◌, ◌↔◌, IfNone, IfSome, IsTrue, map, option_map, string_bytes};
 ghost use Rattle.bx_settings.specs.Settings.{config_in, Give, IsAddress, optional_in, plain, PlainSettings, settings_in};
 
@@ -9,9 +8,7 @@ use bx_message::{count_in, limit_in, number_of, time_in};
 use std::alloc::Global;
 use std::net::SocketAddr;
 
-/// Parses the positional arguments of `bayeuxd`, or returns `None` if they are wrong.
-///
-/// The arguments are, in this order:
+/// Parses the positional arguments of `bayeuxd`, in this order:
 ///
 /// - an IP address and a port to listen on
 /// - the number of shards: 1 to 64
@@ -21,7 +18,7 @@ use std::net::SocketAddr;
 /// - optionally the options: `r` for `ride`, `a` for `anonymous`, `ra` for both, `-` for neither
 /// - optionally the number of events that may wait for a session: 1 to 65,536, by default 1,024
 ///
-/// Numbers are decimal digits only. Other settings have their default values.
+/// Returns `None` if one is wrong. Numbers are decimal digits only. Other settings are defaults.
 pub fn parse_args(alloc: Global, args: &[String]) -> Option<Settings<'_>>
     ensures some { IfSome result (λ s. Give (map string_bytes args.now) (plain s)) }
     ensures none { IfNone result ((s : PlainSettings) → ¬ (Give (map string_bytes args.now) s)) }
@@ -38,16 +35,13 @@ pub fn parse_args(alloc: Global, args: &[String]) -> Option<Settings<'_>>
     }
 }
 
-// Returns `true` if `text` is an IP address and a port.
 fn is_address(text: &str) -> bool
     ensures { IsTrue result ↔ IsAddress text.now }
 {
     text.parse::<SocketAddr>().is_ok()
 }
 
-// Returns the settings that the positional arguments `args` give, or `None` if they are wrong.
-//
-// The first argument, the address to listen on, is not checked: any text is accepted.
+// Returns the settings that `args` give. The first argument is not checked.
 fn settings_in(alloc: Global, args: &[String]) -> Option<Settings<'_>>
     ensures { option_map plain result ≡ settings_in (map string_bytes args.now) }
 {
@@ -91,10 +85,7 @@ fn settings_in(alloc: Global, args: &[String]) -> Option<Settings<'_>>
     })
 }
 
-// Returns the options and the limit of events in `args`, the arguments after the seventh.
-//
-// A missing argument has its default, `-` or `1024`. Returns `None` if there are more than two
-// arguments.
+// Returns the options and the limit of events that `args` give, by default `-` and `1024`.
 fn optional_in(args: &[String]) -> Option<(&[u8], &[u8])>
     ensures { option_map (λ o. (o.0.now, o.1.now)) result
         ≡ optional_in (map string_bytes args.now) }
@@ -107,9 +98,7 @@ fn optional_in(args: &[String]) -> Option<(&[u8], &[u8])>
     }
 }
 
-// Creates the configuration that these positional arguments give.
-//
-// Returns `None` if one of them is wrong. Limits other than `limit` have their default values.
+// Limits other than `limit` have their default values.
 fn config_in(
     shards: &[u8],
     timeout: &[u8],

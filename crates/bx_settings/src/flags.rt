@@ -1,4 +1,3 @@
-//! Command-line flags of `bayeuxd`.
 ghost use Rattle.std.specs.Prelude.{◌≡◌, max, min};
 
 use crate::settings::{LogFormat, LogLevel, Seed, Settings};
@@ -11,23 +10,22 @@ use clap::{Arg, ArgAction, ArgMatches, Command, Error};
 use std::alloc::{AllocError, Global};
 
 /// The version that `--version` prints.
-pub const VERSION: &str = "0.2.0";
+pub const VERSION: &str = "0.3.0";
 
-// What a flag for an address accepts, in words for an error message.
+// What flags accept, in words for an error message.
 const ADDRESS: &str = "a host and a port such as 127.0.0.1:8087";
 
-// What a flag for a time accepts, in words for an error message.
-const TIME: &str = "a number of milliseconds up to 4294967295, or of seconds such as 30s";
+const TIME: &str = "a time such as 500ms or 30s, up to 4294967295ms";
 
-// What a flag for a pattern accepts, in words for an error message.
 const PATTERN: &str = "a pattern of channels such as /chat/*";
+
+// The times that need a unit are below this one, in milliseconds: the user may have meant seconds.
+const SECOND: u32 = 1000;
 
 /// Parses the command-line flags of `bayeuxd`.
 ///
-/// `args`: the arguments without the program's name.
-///
-/// `processors`: the number of processors. Without `--shards`, there is one shard for each of them,
-/// but at least 1 and at most 64.
+/// `args`: without the program's name. `processors`: their number. Without `--shards`, there is one
+/// shard for each of them, from 1 to 64.
 ///
 /// # Errors
 ///
@@ -45,6 +43,9 @@ pub fn read_flags<'a>(
     let listen = read_address(alloc, &mut command, &matches, "listen")?;
     let read_only_listen = read_address(alloc, &mut command, &matches, "readers")?;
     let metrics = read_address(alloc, &mut command, &matches, "metrics")?;
+    expect_another(alloc, &mut command, &matches, "readers", "listen")?;
+    expect_another(alloc, &mut command, &matches, "metrics", "listen")?;
+    expect_another(alloc, &mut command, &matches, "metrics", "readers")?;
     let readers_publish = read_patterns(alloc, &mut command, &matches, "readers-publish")?;
     let log = read_log_format(alloc, &mut command, &matches)?;
     let log_level = read_log_level(alloc, &mut command, &matches)?;
@@ -70,9 +71,6 @@ pub fn read_flags<'a>(
     })
 }
 
-// Returns the configuration that the flags give: shards, times, options and limits.
-//
-// Returns the error for the user if a value is wrong, or memory runs out.
 fn read_config(
     alloc: Global,
     command: &mut Command<'_>,
@@ -104,16 +102,14 @@ fn read_config(
     }
 }
 
-// Returns the number of shards without `--shards`: one for each processor, but 1 to 64.
+// One for each processor, from 1 to 64.
 fn standard_shards(processors: usize) -> usize
     ensures { result ≡ min (max processors 1) 64 }
 {
     processors.clamp(1, MAX_SHARDS)
 }
 
-// Returns the address that flag `name` gives, or `None` without the flag and a default.
-//
-// Returns the error for the user if the value has no port.
+// Returns the address that flag `name` gives, if any.
 fn read_address<'a>(
     alloc: Global,
     command: &mut Command<'_>,
@@ -121,23 +117,42 @@ fn read_address<'a>(
     name: &str,
 ) -> Result<Option<&'a str>, Error> {
     match matches.get_str(name) {
-        Some(address) if !has_port(address) => Err(wrong(alloc, command, name, ADDRESS, address)?),
+        Some(address) if !is_address(address) => Err(wrong(
+            alloc, command, name, ADDRESS, address,
+        )?),
         address => Ok(address),
     }
 }
 
-// Returns `true` if `address` ends with a colon and a port.
-fn has_port(address: &str) -> bool {
-    match address.rsplit_once(":") {
-        Some((_, port)) => count_in(u16::MAX as usize, port.as_bytes()).is_some() || port == "0",
+// Returns `true` if `text` has a host and a port, and is no URL.
+fn is_address(text: &str) -> bool {
+    match text.rsplit_once(":") {
+        Some((host, port)) => !host.is_empty()
+            && !host.contains("/")
+            && (port == "0" || count_in(u16::MAX as usize, port.as_bytes()).is_some()),
         None => false,
     }
 }
 
-// Returns the number that flag `name` gives, from 1 to `greatest`. Without the flag, it is
-// `standard`. The value may have a unit: `k` for 1,024 and `m` for 1,048,576.
-//
-// Returns the error for the user if the value is wrong.
+// Returns an error if flags `name` and `other` give the same address, with another port than 0.
+fn expect_another(
+    alloc: Global,
+    command: &mut Command<'_>,
+    matches: &ArgMatches<'_>,
+    name: &str,
+    other: &str,
+) -> Result<(), Error> {
+    match matches.get_str(name) {
+        Some(address) if matches.get_str(other) == Some(address) && !address.ends_with(":0") => {
+            let right = format!(in alloc; "an address other than that of --{other}")?;
+            Err(wrong(alloc, command, name, right.as_str(), address)?)
+        }
+        _ => Ok(()),
+    }
+}
+
+// Returns the number that flag `name` gives, from 1 to `greatest`, or `standard` without the flag.
+// The value may have a unit: `k` for 1,024 and `m` for 1,048,576.
 fn read_number(
     alloc: Global,
     command: &mut Command<'_>,
@@ -152,15 +167,18 @@ fn read_number(
     match count_with_unit(greatest, text) {
         Some(number) => Ok(number),
         None => {
-            let right = format!(in alloc; "a number from 1 to {greatest}")?;
+            let units = if greatest < 1024 {
+                ""
+            } else {
+                " (units: k, m)"
+            };
+            let right = format!(in alloc; "a number from 1 to {greatest}{units}")?;
             Err(wrong(alloc, command, name, right.as_str(), text)?)
         }
     }
 }
 
 // Returns the time that flag `name` gives, in milliseconds.
-//
-// Returns the error for the user if the value is wrong.
 fn read_time(
     alloc: Global,
     command: &mut Command<'_>,
@@ -169,14 +187,21 @@ fn read_time(
 ) -> Result<u32, Error> {
     let text = value_of(matches, name);
     match milliseconds(text) {
+        Some(time) if needs_unit(text, time) => {
+            let right = format!(in alloc; "a unit (write {text}s or {text}ms)")?;
+            Err(wrong(alloc, command, name, right.as_str(), text)?)
+        }
         Some(time) => Ok(time),
         None => Err(wrong(alloc, command, name, TIME, text)?),
     }
 }
 
+// Returns `true` if `text`, the time `time` in milliseconds, has no unit and is below a second.
+fn needs_unit(text: &str, time: u32) -> bool {
+    time > 0 && time < SECOND && !text.ends_with("s")
+}
+
 // Returns the patterns that the uses of flag `name` give, in order.
-//
-// Returns the error for the user if a value is not a pattern, or memory runs out.
 fn read_patterns(
     alloc: Global,
     command: &mut Command<'_>,
@@ -194,7 +219,6 @@ fn read_patterns(
     Ok(patterns)
 }
 
-// Returns the limit that `--body` gives, or the error for the user if the value is wrong.
 fn read_body(
     alloc: Global,
     command: &mut Command<'_>,
@@ -204,7 +228,6 @@ fn read_body(
     Ok(BodyLimit::new(body).unwrap_or(BodyLimit::greatest()))
 }
 
-// Returns the number that `--connections` gives, or the error for the user if the value is wrong.
 fn read_connections(
     alloc: Global,
     command: &mut Command<'_>,
@@ -213,11 +236,16 @@ fn read_connections(
     let text = value_of(matches, "connections");
     match number_of(text.as_bytes()) {
         Some(connections) => Ok(connections),
-        None => Err(wrong(alloc, command, "connections", "a number", text)?),
+        None => Err(wrong(
+            alloc,
+            command,
+            "connections",
+            "a number without a unit",
+            text,
+        )?),
     }
 }
 
-// Returns the format that `--log` gives, or the error for the user if the value is wrong.
 fn read_log_format(
     alloc: Global,
     command: &mut Command<'_>,
@@ -230,7 +258,6 @@ fn read_log_format(
     }
 }
 
-// Returns the level that `--log-level` gives, or the error for the user if the value is wrong.
 fn read_log_level(
     alloc: Global,
     command: &mut Command<'_>,
@@ -249,7 +276,7 @@ fn value_of<'a>(matches: &ArgMatches<'a>, name: &str) -> &'a str {
     matches.get_str(name).unwrap_or("")
 }
 
-// Creates the error for a wrong `value` of flag `name`. `right`: what is accepted, in words.
+// Creates the error for a wrong `value` of flag `name`. `right`: what is accepted.
 fn wrong(
     alloc: Global,
     command: &mut Command<'_>,
@@ -271,7 +298,6 @@ fn command<'a>(alloc: Global) -> Result<Command<'a>, AllocError> {
     with_log(alloc, with_running(alloc, command)?)
 }
 
-// Adds `--listen`, `--readers`, `--readers-publish`, `--shards` and `--seed-file` to `command`.
 fn with_server<'a>(alloc: Global, command: Command<'a>) -> Result<Command<'a>, AllocError> {
     let allowed = value(
         alloc,
@@ -310,14 +336,13 @@ fn with_server<'a>(alloc: Global, command: Command<'a>) -> Result<Command<'a>, A
         ))
 }
 
-// Adds the flags for times to `command`: `--timeout`, `--interval` and `--max-interval`.
 fn with_times<'a>(alloc: Global, command: Command<'a>) -> Result<Command<'a>, AllocError> {
     command
         .arg(value(
             alloc,
             "timeout",
             "TIME",
-            "Hold a connect for at most TIME, in milliseconds, or in seconds such as 30s",
+            "Hold a connect for at most TIME, such as 500ms or 30s",
         )
         .default_value("30s"))?
         .arg(value(
@@ -336,7 +361,6 @@ fn with_times<'a>(alloc: Global, command: Command<'a>) -> Result<Command<'a>, Al
         .default_value("10s"))
 }
 
-// Adds the flags for limits to `command`: those of [`Limit::ALL`], and `--body`.
 fn with_limits<'a>(alloc: Global, command: Command<'a>) -> Result<Command<'a>, AllocError> {
     let mut command = command;
     for limit in &Limit::ALL {
@@ -350,7 +374,6 @@ fn with_limits<'a>(alloc: Global, command: Command<'a>) -> Result<Command<'a>, A
     ))
 }
 
-// Adds the flag for `limit` to `command`.
 fn with_limit<'a>(
     alloc: Global,
     command: Command<'a>,
@@ -359,12 +382,10 @@ fn with_limit<'a>(
     command.arg(value(alloc, name_of(limit), "N", help_of(limit)))
 }
 
-// Returns the name of the flag for `limit`.
 fn name_of<'a>(limit: Limit) -> &'a str {
     limit.name()
 }
 
-// Returns the help text of the flag for `limit`.
 fn help_of<'a>(limit: Limit) -> &'a str {
     match limit {
         Limit::Bytes =>
@@ -375,9 +396,6 @@ fn help_of<'a>(limit: Limit) -> &'a str {
     }
 }
 
-// Adds the flags for options of the protocol to `command`.
-//
-// They are `--ride`, `--anonymous` and `--no-callback-polling`.
 fn with_options<'a>(alloc: Global, command: Command<'a>) -> Result<Command<'a>, AllocError> {
     command
         .arg(switch(
@@ -393,9 +411,6 @@ fn with_options<'a>(alloc: Global, command: Command<'a>) -> Result<Command<'a>, 
         ))
 }
 
-// Adds the flags for operating the server to `command`.
-//
-// They are `--connections`, `--metrics`, `--record`, `--record-answers` and `--until-eof`.
 fn with_running<'a>(alloc: Global, command: Command<'a>) -> Result<Command<'a>, AllocError> {
     let answers = switch(
         alloc,
@@ -430,7 +445,6 @@ fn with_running<'a>(alloc: Global, command: Command<'a>) -> Result<Command<'a>, 
         .arg(switch(alloc, "until-eof", "Exit when standard input closes"))
 }
 
-// Adds the flags for the log to `command`: `--log` and `--log-level`.
 fn with_log<'a>(alloc: Global, command: Command<'a>) -> Result<Command<'a>, AllocError> {
     command
         .arg(value(
@@ -449,14 +463,11 @@ fn with_log<'a>(alloc: Global, command: Command<'a>) -> Result<Command<'a>, Allo
         .default_value("info"))
 }
 
-// Creates the flag `--name`, which takes a value.
-//
 // `kind`: the word for the value in the help, such as `FILE`.
 fn value<'a>(alloc: Global, name: &'a str, kind: &'a str, help: &'a str) -> Arg<'a> {
     Arg::new(alloc, name).long(name).value_name(kind).help(help)
 }
 
-// Creates the flag `--name`, which takes no value.
 fn switch<'a>(alloc: Global, name: &'a str, help: &'a str) -> Arg<'a> {
     Arg::new(alloc, name)
         .long(name)

@@ -1,4 +1,3 @@
-//! The seed of the generator of nonces.
 ghost use Rattle.std.specs.Prelude.{◌≡◌};
 ghost use Rattle.bx_settings.specs.Seed.{seed_in};
 
@@ -11,7 +10,7 @@ use std::{fs, io};
 // The greatest length of a seed file in bytes.
 const MAX_FILE_BYTES: u64 = 1024;
 
-/// Parses a seed of 64 hexadecimal digits, or returns `None` if `digits` are anything else.
+/// Parses a seed of 64 hexadecimal digits.
 ///
 /// The first two digits are the first byte, the more significant digit first.
 pub fn read_digits(digits: &[u8]) -> Option<[u8; 32]>
@@ -24,8 +23,7 @@ pub fn read_digits(digits: &[u8]) -> Option<[u8; 32]>
 ///
 /// # Errors
 ///
-/// The error of the file if it cannot be opened or read; `InvalidData` if it has anything else, or
-/// more than 1024 bytes.
+/// The error of the file, or `InvalidData` if it has anything else, or more than 1024 bytes.
 pub fn read_seed<R: Files + Alloc>(rt: &R, path: &str) -> io::Result<[u8; 32]> {
     let mut text = Vec::new(rt.alloc());
     fs::open(rt, path)?
@@ -41,10 +39,6 @@ pub fn read_seed<R: Files + Alloc>(rt: &R, path: &str) -> io::Result<[u8; 32]> {
 }
 
 /// Returns a seed of random bytes from the operating system.
-///
-/// # Errors
-///
-/// The error of the system call.
 pub fn draw_seed<R: RandomSource>(rt: &R) -> io::Result<[u8; 32]> {
     let mut seed = [0; 32];
     rt.fill_bytes(&mut seed)?;

@@ -1,9 +1,6 @@
-//! Values with a unit, such as `30s` and `64k`.
 use bx_message::{count_in, time_in};
 
-/// Converts a text such as `30s`, `500ms` or `500` to milliseconds.
-///
-/// Returns `None` for any other text, or if the result exceeds 32 bits.
+/// Converts a text such as `30s`, `500ms` or `500` to milliseconds of at most 32 bits.
 pub(crate) fn milliseconds(text: &str) -> Option<u32> {
     match text.strip_suffix("s") {
         Some(front) => match front.strip_suffix("m") {
@@ -16,7 +13,7 @@ pub(crate) fn milliseconds(text: &str) -> Option<u32> {
 
 /// Converts a text such as `64k`, `1m` or `500` to a number from 1 to `greatest`.
 ///
-/// The unit `k` is 1,024, and `m` is 1,048,576. Returns `None` for any other text or number.
+/// The unit `k` is 1,024, and `m` is 1,048,576.
 pub(crate) fn count_with_unit(greatest: usize, text: &str) -> Option<usize> {
     let (digits, unit) = match (text.strip_suffix("k"), text.strip_suffix("m")) {
         (Some(digits), _) => (digits, 1024),

@@ -1,4 +1,3 @@
-//! How the sessions of a shard apply an entry.
 ghost use Rattle.std.specs.Prelude.{◌≡◌, ◌≤◌, ◌<◌, ℕ, true, None, OnOk, OnErr, IsOk};
 ghost use Rattle.bx_connects.specs.Connects.{connect_at};
 ghost use Rattle.bx_connects.specs.Waking.{AreWoken};
@@ -13,11 +12,10 @@ use bx_session::PendingConnect;
 use std::alloc::{AllocError, Global};
 
 impl Sessions {
-    /// Applies `entry`, and answers its rider last.
+    /// Applies `entry`, and answers its rider last. On error, nothing has changed.
     ///
-    /// `belongs`: whether a session that `entry` opens belongs to this shard. If `entry` answers or
-    /// removes held connects, their wakers move to `wakers`. On error, no session or connect has
-    /// changed.
+    /// `belongs`: whether a session that `entry` opens belongs to this shard. The wakers of
+    /// answered and removed connects move to `wakers`.
     pub(crate) fn follow(
         &mut self,
         alloc: Global,
@@ -50,9 +48,7 @@ impl Sessions {
         Ok(())
     }
 
-    // Applies `entry` without its rider. `belongs`: whether a session that `entry` opens belongs to
-    // this shard. If `entry` answers or removes held connects, their wakers move to `wakers`. On
-    // error, no session or connect has changed.
+    // Applies `entry` without its rider, as `follow` does.
     fn follow_alone(
         &mut self,
         alloc: Global,

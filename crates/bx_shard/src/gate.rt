@@ -1,14 +1,9 @@
-//! Gates: points where tests can stop a worker.
-
-/// Calls that a worker makes before and after it advances its shards.
+/// Calls of a worker before and after it advances its shards, where a test can stop it.
 ///
-/// `worker`: its number, counted from 0. In `before`, a test can stop one worker until another
-/// has advanced its shards.
+/// `worker`: its number, counted from 0.
 pub trait Gate {
-    /// Runs before the worker advances its shards.
     fn before(&self, worker: usize);
 
-    /// Runs after the worker has advanced its shards.
     fn after(&self, worker: usize);
 }
 

@@ -1,4 +1,3 @@
-//! Subscriptions, unsubscriptions and deliveries of a shard's sessions.
 ghost use Rattle.std.specs.Prelude.{◌≡◌, ℕ, nat_eq, option_map, if◌then◌else◌, OnOk, OnErr, IfSome, false};
 ghost use Rattle.bx_entry.specs.Keeping.{Kept, after};
 ghost use Rattle.bx_entry.specs.Sessions.{received, subscribed, unsubscribed};
@@ -17,12 +16,10 @@ use bx_session::Delivery;
 use std::alloc::{AllocError, Global};
 
 impl Sessions {
-    /// Adds `patterns` to the active patterns of session `number`.
+    /// Adds `patterns` to session `number`. On error, nothing has changed.
     ///
-    /// Does nothing if the session is not in this shard or has overflowed already. If it then has
-    /// more patterns than it may have, it overflows, and all its patterns are removed.
-    ///
-    /// On error, no session has changed.
+    /// Does nothing if it is not in this shard or has overflowed. If it overflows, removes all
+    /// patterns.
     pub(crate) fn subscribe(
         &mut self,
         alloc: Global,
@@ -68,10 +65,10 @@ impl Sessions {
         session.unsubscribe(patterns, gone);
     }
 
-    /// Delivers `parcel` to its session, which must not have overflowed.
+    /// Delivers `parcel` of the publish at `place` to its session, which must not have overflowed.
     ///
-    /// `place`: the publish's place. If the session overflows, removes all its patterns. Moves the
-    /// waker of an answered connect to `wakers`. Does nothing if the session is not in this shard.
+    /// If the session overflows, removes all its patterns. Moves the waker of an answered connect
+    /// to `wakers`. Does nothing if the session is not in this shard.
     #[tactic(auto, using(crate::proofs::Receiving::received_patterns, crate::proofs::Receiving::received_hold))]
     pub(crate) fn receive(&mut self, place: u64, parcel: Parcel, wakers: &mut Wakers)
         requires here { IfSome (kept_in self.old parcel.number) (λ (k : Kept). (k.overflow ≡ false) × Countable k) }

@@ -1,4 +1,3 @@
-//! How the sessions of a shard receive a publish.
 ghost use Rattle.std.specs.Prelude.{◌≡◌, ◌≢◌, ◌↔◌, Some, option_map, ℕ, IsTrue, Contains, OnOk, OnErr, IfOk};
 ghost use Rattle.std.specs.List.{All};
 ghost use Rattle.std.specs.List.Sorted.{IsStrictlyIncreasing};
@@ -19,8 +18,7 @@ use bx_message::SharedEvent;
 use bx_names::is_broadcast;
 use std::alloc::{AllocError, Global};
 
-/// An event for session `number`, with a clone of it if the session will both send and keep the
-/// event.
+/// An event for session `number`, with a clone if the session will both send and keep it.
 #[derive(Drop)]
 pub(crate) struct Parcel {
     pub(crate) number: u64,
@@ -29,9 +27,9 @@ pub(crate) struct Parcel {
 }
 
 impl Sessions {
-    /// Returns the numbers of the sessions with a pattern that matches `event`, in ascending order.
+    /// Returns the sessions with a pattern that matches `event`, in ascending order.
     ///
-    /// Returns no numbers if the event's channel is not a broadcast channel.
+    /// Only the events of broadcast channels have receivers.
     pub(crate) fn receivers(
         &self,
         alloc: Global,
@@ -49,8 +47,8 @@ impl Sessions {
         Ok(found.numbers)
     }
 
-    // Reserves room for `event` in each session of `numbers`, and returns a parcel for each, in
-    // order. On error, no session has received the event.
+    // Reserves room for `event` in each of the sessions, and returns their parcels in order. On
+    // error, no session has received it.
     fn pack(
         &mut self,
         alloc: Global,
@@ -77,8 +75,7 @@ impl Sessions {
         Ok(parcels)
     }
 
-    // Delivers the parcels of the publish at `place`, in order. Moves the wakers of answered
-    // connects to `wakers`.
+    // Delivers the parcels, and moves the wakers of answered connects to `wakers`.
     fn hand_out(&mut self, place: u64, parcels: Vec<Parcel>, wakers: &mut Wakers)
         requires ready { AllReady self.old parcels.items }
         requires tied { AreHeld self.old }
@@ -92,10 +89,9 @@ impl Sessions {
         }
     }
 
-    /// Delivers the event published at `place` to each session with a pattern that matches.
+    /// Delivers the event published at `place` to its receivers.
     ///
-    /// Moves the wakers of answered connects to `wakers`. On error, no session has received the
-    /// event.
+    /// Moves the wakers of answered connects to `wakers`. On error, no session has the event.
     pub(crate) fn publish(
         &mut self,
         alloc: Global,

@@ -1,4 +1,3 @@
-//! How the sessions of a shard answer riders.
 ghost use Rattle.std.specs.Prelude.{◌≡◌, ◌≤◌, ℕ, nat_eq, None, Some, OnOk, OnErr, IfOk, IfSome, option_map, if◌then◌else◌};
 ghost use Rattle.std.specs.Option.{option_copied};
 ghost use Rattle.bx_connects.specs.Connects.{connect_at};
@@ -16,7 +15,6 @@ use bx_session::RideRoom;
 use std::alloc::{AllocError, Global};
 
 impl Sessions {
-    /// Returns the rider of `entry`, if its session is in this shard.
     pub(crate) fn rider_here<'e>(&self, entry: &'e Entry) -> Option<&'e Rider>
         ensures { option_copied result ≡ rider_in (kept_in self.now) entry.now }
     {
@@ -28,10 +26,9 @@ impl Sessions {
         }
     }
 
-    /// Files the answer to `rider`, which is at `place`, and returns room for the answer's events.
+    /// Files an answer without events to `rider`, which is at `place`, and returns room for events.
     ///
-    /// The answer is filed without events. At `place`, no connect may be held and no answer filed.
-    /// On error, no session or connect has changed.
+    /// At `place`, no connect may be held and no answer filed. On error, nothing has changed.
     pub(crate) fn prepare_ride(
         &mut self,
         alloc: Global,
@@ -54,8 +51,8 @@ impl Sessions {
         Ok(room)
     }
 
-    // Allocates and returns room for the events that session `number` sends with a rider's reply.
-    // If the session is not in this shard, the room is for no events.
+    // Returns room for the events that the session sends with a rider's reply; for none if the
+    // session is not in this shard.
     fn ride_room(&self, alloc: Global, number: u64) -> Result<RideRoom, AllocError>
         ensures { IfOk result (λ room. IfSome (kept_in self.now number) (λ (k : Kept). ride_most self.now.config k ≤ room)) }
     {
@@ -67,8 +64,8 @@ impl Sessions {
 
     /// Moves waiting events of session `number` into the answer filed for the rider at `place`.
     ///
-    /// Moves at most one batch, and no events if the session acknowledges batches. Does nothing if
-    /// the session is not in this shard. `room`: from [`prepare_ride`](Self::prepare_ride).
+    /// Moves at most one batch, and no events if the session acknowledges. Does nothing if the
+    /// session is not in this shard. `room`: from [`prepare_ride`](Self::prepare_ride).
     pub(crate) fn ride(&mut self, place: u64, number: u64, room: RideRoom)
         requires room { IfSome (kept_in self.old number) (λ (k : Kept). ride_portion self.old.config (resumed k) ≤ room) }
         ensures sessions { (n : ℕ) → kept_in self.new n
@@ -86,9 +83,6 @@ impl Sessions {
     }
 }
 
-// Returns the rider of `entry`, if it has one.
-//
-// Only a subscription, an unsubscription or a publish can have a rider.
 fn rider_of(entry: &Entry) -> Option<&Rider>
     ensures { option_copied result ≡ rides_of entry.now }
 {
@@ -100,7 +94,6 @@ fn rider_of(entry: &Entry) -> Option<&Rider>
     }
 }
 
-// Returns a clone that shares the texts of `reply`.
 fn copy_of(reply: &Reply) -> Result<Reply, AllocError>
     ensures { IfOk result (λ copy. copy ≡ reply.now) }
 {

@@ -1,4 +1,3 @@
-//! The sessions of one shard.
 ghost use Rattle.std.specs.Prelude.{◌≡◌, ◌<◌, ◌-◌, ℕ, nat_eq, Some, None, [], ◌∷◌, length, option_map, is_some, if◌then◌else◌, OnOk, OnErr, IfOk, IfSome, true, false, Option, not, ◌&&◌, ◌||◌, ◌++◌, option_to_list};
 ghost use Rattle.std.specs.Map.{keys_of};
 ghost use Rattle.std.specs.Option.{option_or};
@@ -49,17 +48,15 @@ impl Sessions {
         }
     }
 
-    /// Returns `true` if session `number` is in this shard.
     pub(crate) fn has(&self, number: u64) -> bool
         ensures { result ≡ is_some (kept_in self.now number) }
     {
         self.by_number.contains_key(&number)
     }
 
-    /// Opens session `number`, which must not be in this shard.
+    /// Opens session `number`, which must not be in this shard. On error, nothing has changed.
     ///
-    /// `ack`: whether the session acknowledges batches. `moment`: milliseconds since the server
-    /// started. On error, no session has changed.
+    /// `moment`: milliseconds since the server started.
     pub(crate) fn open(
         &mut self,
         alloc: Global,
@@ -82,9 +79,9 @@ impl Sessions {
 
     /// Answers or holds `connect`, if session `number` is in this shard.
     ///
-    /// `acked`: the batch number that the connect acknowledges, if any. At the place of `connect`,
-    /// no connect may be held and no answer filed. If the session already holds a connect, answers
-    /// that connect and moves its waker to `wakers`. On error, no session or connect has changed.
+    /// `acked`: the batch number that it acknowledges, if any. At its place, no connect may be held
+    /// and no answer filed. If the session holds another connect, answers that and moves its waker
+    /// to `wakers`. On error, nothing has changed.
     pub(crate) fn connect(
         &mut self,
         alloc: Global,
@@ -129,10 +126,9 @@ impl Sessions {
         }
     }
 
-    /// Reserves room for `event` in session `number`, and returns a clone of the event if needed.
+    /// Reserves room for `event` in session `number`, if it is in this shard.
     ///
-    /// A clone is needed if the session will both send and keep the event. Does nothing and returns
-    /// `None` if the session is not in this shard. On error, no session has changed.
+    /// Returns a clone of the event if the session will both send and keep it.
     pub(crate) fn reserve(
         &mut self,
         number: u64,
@@ -151,10 +147,9 @@ impl Sessions {
         session.further(event)
     }
 
-    /// Answers the connect held by session `number`, if its deadline is at or before `moment`.
+    /// Answers the connect held by session `number`, if it is due, for the tick at `place`.
     ///
-    /// `place`: the place of the tick. `moment`: milliseconds since the server started. Moves the
-    /// connect's waker to `wakers`.
+    /// `moment`: milliseconds since the server started. Moves the waker to `wakers`.
     pub(crate) fn tick(&mut self, place: u64, moment: u64, number: u64, wakers: &mut Wakers)
         ensures sessions { (n : ℕ) → kept_in self.new n
             ≡ (if nat_eq number n then option_map (after (expired self.old.config place moment)) (kept_in self.old number) else kept_in self.old n) }
@@ -177,10 +172,9 @@ impl Sessions {
         }
     }
 
-    /// Closes session `number`, for a tick.
+    /// Removes session `number`, its patterns and its held connect, for a tick.
     ///
-    /// Removes the session and its patterns. If the session still holds a connect, removes that
-    /// connect, and moves its waker to `wakers`.
+    /// Moves the connect's waker to `wakers`.
     pub(crate) fn close(&mut self, number: u64, wakers: &mut Wakers)
         ensures sessions { (n : ℕ) → kept_in self.new n ≡ (if nat_eq number n then None else kept_in self.old n) }
         ensures patterns { (n : ℕ) → patterns_in self.new n ≡ (if nat_eq number n then [] else patterns_in self.old n) }
@@ -200,10 +194,9 @@ impl Sessions {
         }
     }
 
-    /// Closes session `number`, for a disconnect, and answers its held connect.
+    /// Removes session `number` and its patterns, and answers its held connect.
     ///
-    /// `place`: the place of the disconnect. Removes the session and its patterns. Moves the waker
-    /// of the held connect to `wakers`.
+    /// `place`: that of the disconnect. Moves the connect's waker to `wakers`.
     pub(crate) fn disconnect(&mut self, place: u64, number: u64, wakers: &mut Wakers)
         ensures sessions { (n : ℕ) → kept_in self.new n ≡ (if nat_eq number n then None else kept_in self.old n) }
         ensures patterns { (n : ℕ) → patterns_in self.new n ≡ (if nat_eq number n then [] else patterns_in self.old n) }
@@ -236,21 +229,17 @@ impl Sessions {
         &self.connects
     }
 
-    /// Returns the numbers of these sessions, in no particular order.
+    /// Returns their numbers, in no particular order.
     pub fn numbers(&self) -> &[u64]
         ensures { result.now ≡ keys_of self.now.by_number.entries }
     {
         self.by_number.keys().as_slice()
     }
 
-    /// Reserves session `number` and copies its patterns from `from`, unless the session is already
-    /// here.
+    /// Reserves session `number` with its patterns of `from`, unless the session is already here.
     ///
-    /// An empty session is stored under `number` until [`settle`](Self::settle) is called.
-    ///
-    /// # Errors
-    ///
-    /// `AllocError` if memory runs out. The empty session may then remain, without patterns.
+    /// An empty session is stored until [`settle`](Self::settle) is called. On error, it may be
+    /// stored without patterns.
     pub fn reserve_session(
         &mut self,
         alloc: Global,
@@ -273,13 +262,9 @@ impl Sessions {
         self.tree.copy(alloc, &from.tree, number)
     }
 
-    /// Adds a held connect of `session` at `place`, unless a connect is held or answered there.
+    /// Adds a held connect of `session` at `place`, unless one is held or answered there.
     ///
-    /// `deadline`: milliseconds since the server started. Without one, no tick ends the hold.
-    ///
-    /// # Errors
-    ///
-    /// `AllocError` if memory runs out; no connect has changed.
+    /// `deadline`: milliseconds since the server started, or `None` if no tick ends the hold.
     pub fn reserve_connect(
         &mut self,
         place: u64,
@@ -294,9 +279,7 @@ impl Sessions {
         self.connects.reserve_connect(place, session, deadline)
     }
 
-    /// Replaces the session that [`reserve_session`](Self::reserve_session) stored under `number`.
-    ///
-    /// Stores `session` in its place. Does nothing if there is no session `number`.
+    /// Stores `session` in place of the one that [`reserve_session`](Self::reserve_session) stored.
     pub fn settle(&mut self, number: u64, session: Session)
         ensures sessions { (n : ℕ) → kept_in self.new n
             ≡ (if nat_eq number n then option_map (λ _. session.kept) (kept_in self.old number) else kept_in self.old n) }
@@ -307,11 +290,10 @@ impl Sessions {
         }
     }
 
-    /// Files the answer in `answered`, if a connect is held or already answered at
-    /// `answered.place`.
+    /// Files the answer in `answered`, which the entry at `place` gives.
     ///
-    /// `place`: the place of the entry that gives the answer. An answer that is already filed is
-    /// replaced. Moves the connect's waker to `wakers`.
+    /// Does nothing if its connect is neither held nor answered. Replaces an answer that is already
+    /// filed. Moves the connect's waker to `wakers`.
     pub fn file(&mut self, place: u64, answered: Answered, wakers: &mut Wakers)
         ensures connects { (p : ℕ) → connect_at self.new.connects p
             ≡ (if nat_eq answered.place p then filed_as place answered.answer (connect_at self.old.connects p)

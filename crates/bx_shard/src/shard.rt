@@ -1,4 +1,3 @@
-//! One shard: the sessions placed in it, advanced entry by entry.
 ghost use Rattle.std.specs.Prelude.{◌≡◌, ◌≤◌, ℕ, true, None};
 ghost use Rattle.bx_connects.specs.Connects.{connect_at};
 ghost use Rattle.bx_shard.specs.Props.{holds_props};
@@ -17,16 +16,14 @@ use std::sync::Arc;
 
 /// One shard of the server, with sessions placed by a value of type `P`.
 ///
-/// Holds the live sessions that are placed in it, their patterns and held connects, and the filed
-/// answers that are not taken yet. It applies the entries of the list in order, independently of
-/// other shards.
+/// It has the live sessions that are placed in it, with their patterns, held connects, and filed
+/// answers. It applies the entries of the list in order, independently of other shards.
 #[derive(Drop)]
 pub struct Shard<P> {
     pub(crate) placing: Arc<P>,
     pub(crate) index: usize,
     // Number of shards among which sessions are placed.
     pub(crate) shards: usize,
-    // Number of entries that the shard has applied.
     pub(crate) place: u64,
     pub(crate) is_closed_to_wakers: bool,
     pub(crate) sessions: Sessions,
@@ -50,10 +47,9 @@ impl<P: Placing> Shard<P> {
     ghost use Rattle.bx_shard.specs.States.{Applied, IsAsBefore, IsSound, Swept, Watched, WasShut, connect_in, opens_in, session_in, takes_no_memory};
     ghost use Rattle.bx_shard.specs.Seen.{setup_in, state};
 
-    /// Creates shard `index`, without sessions and without applied entries.
+    /// Creates shard `index` before it applies entries.
     ///
-    /// `index`: counted from 0. `placing` chooses the shard of each session, among `config.shards`
-    /// shards.
+    /// `placing` chooses the shard of each session, among `config.shards` shards.
     pub fn new(alloc: Global, index: usize, config: Config, placing: Arc<P>) -> Shard<P>
         ensures config { result.sessions.config ≡ config }
         ensures placing { arc_value result.placing ≡ arc_value placing }
@@ -91,16 +87,10 @@ impl<P: Placing> Shard<P> {
 
     /// Applies `entry`, the next entry of the list.
     ///
-    /// `entry.place` must be equal to [`place`](Self::place), and less than 2^62. Disconnects,
-    /// rejected messages, ticks, and unsubscriptions that are not riders always succeed.
+    /// Disconnects, rejected messages, ticks, and unsubscriptions without a rider always succeed.
     ///
-    /// If `entry` answers or removes held connects, their wakers move to `wakers`. To wake their
-    /// tasks, drop `wakers` after unlocking the shard. If there is no memory for `wakers` to grow,
-    /// a task is woken at once.
-    ///
-    /// # Errors
-    ///
-    /// `AllocError` if memory runs out; nothing has changed.
+    /// The wakers of answered and removed connects move to `wakers`. To wake their tasks, drop
+    /// `wakers` after unlocking the shard.
     pub fn apply(
         &mut self,
         alloc: Global,
@@ -121,7 +111,6 @@ impl<P: Placing> Shard<P> {
         Ok(())
     }
 
-    // Returns `true` if `kind` opens a session that is placed in this shard.
     fn opens_here(&self, kind: &EntryKind) -> bool
         ensures { result ≡ opens_in (setup_in P.place_of self.now) self.now.index kind.now }
     {
@@ -133,9 +122,7 @@ impl<P: Placing> Shard<P> {
         }
     }
 
-    /// Removes and returns the answer filed under `ticket`.
-    ///
-    /// Returns `None` if no answer is filed, or if `ticket` names another shard.
+    /// Removes and returns the answer filed under `ticket`, if it names this shard.
     pub fn take(&mut self, ticket: Ticket) -> Option<Answer>
         ensures answer { result ≡ (if nat_eq ticket.shard self.old.index
             then filed_answer (connect_in (state P.place_of self.old) ticket.place) else None) }
@@ -150,9 +137,9 @@ impl<P: Placing> Shard<P> {
         self.sessions.connects.take(ticket.place)
     }
 
-    /// Removes and returns any one filed answer, or returns `None` if none is filed.
+    /// Removes and returns any one filed answer.
     ///
-    /// The cost does not depend on how many answers are filed.
+    /// The cost does not depend on how many are filed.
     pub fn take_any(&mut self) -> Option<TakenAnswer>
         ensures filed { IfSome result (λ filing. (session : ℕ)
             × (connect_in (state P.place_of self.old) filing.connect ≡ Some (Filed session filing.place filing.answer))) }
@@ -165,12 +152,10 @@ impl<P: Placing> Shard<P> {
         self.sessions.connects.take_any()
     }
 
-    /// Registers `waker` with the connect held under `ticket`, and returns the waker that it
-    /// replaces.
+    /// Registers `waker` with the connect held under `ticket`, and returns the replaced waker.
     ///
     /// Returns `waker` itself if the answer is filed (`Ready`), no connect of this shard is held
-    /// under `ticket` (`Unknown`), or the shard was shut (`Shut`). When [`apply`](Self::apply)
-    /// answers or removes the connect, the stored waker moves to the `wakers` of that call.
+    /// under `ticket` (`Unknown`), or the shard was shut (`Shut`).
     pub fn watch(&mut self, ticket: Ticket, waker: Waker) -> Watch
         ensures watch { nat_eq ticket.shard self.old.index ≡ true
             → result ≡ watched self.old.is_closed_to_wakers waker (connect_in (state P.place_of self.old) ticket.place) }
@@ -210,14 +195,9 @@ impl<P: Placing> Shard<P> {
 
     /// Creates shard `index` of `shards` from `sessions`, after `place` entries.
     ///
-    /// `index`: counted from 0. `shards`: 1 to 64, the number of shards among which `placing`
-    /// places sessions. `is_closed_to_wakers`: whether the shard is shut, so that it stores no
-    /// wakers.
-    ///
-    /// In `sessions`, each session must be live, and the patterns must be exactly those of the
-    /// sessions. A connect must be held if and only if its session holds it. No session may have
-    /// formed more than `place` batches. At `place` and later, no connect may be held and no answer
-    /// filed.
+    /// The patterns and held connects must be exactly those of the live `sessions`. No session may
+    /// have formed more than `place` batches. At `place` and later, no connect may be held and no
+    /// answer filed.
     pub fn resume(
         placing: Arc<P>,
         index: usize,
@@ -251,7 +231,7 @@ impl<P: Placing> Shard<P> {
         &self.sessions
     }
 
-    /// Returns `true` if the shard was [`shut`](Self::shut), so that it stores no wakers.
+    /// Returns `true` if the shard was [`shut`](Self::shut).
     pub fn is_closed_to_wakers(&self) -> bool
         ensures { result ≡ self.now.is_closed_to_wakers }
     {
@@ -259,8 +239,6 @@ impl<P: Placing> Shard<P> {
     }
 
     /// Converts the shard into its sessions, by number, and its connects.
-    ///
-    /// They can then move to another shard.
     pub fn into_parts(self) -> (IndexMap<u64, Session>, Connects)
     where
         P: Drop,

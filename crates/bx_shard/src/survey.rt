@@ -1,4 +1,3 @@
-//! What an operator sees of a session.
 ghost use Rattle.std.specs.Prelude.{◌≡◌, ◌≤◌, length, IfOk, IfSome, IfNone};
 ghost use Rattle.bx_entry.specs.Keeping.{Kept};
 ghost use Rattle.bx_shard.specs.Surveys.{IsSurveyAt, IsSurveyOf};
@@ -11,30 +10,26 @@ use std::alloc::{AllocError, Global};
 /// What an operator sees of a session.
 #[derive(Drop)]
 pub struct SessionSurvey {
-    /// The number of the session; later sessions have greater numbers.
+    /// Later sessions have greater numbers.
     pub number: u64,
-    /// The moment at which the session was opened, in milliseconds since the server started.
+    /// In milliseconds since the server started.
     pub opened: u64,
-    /// Whether the session acknowledges batches.
     pub ack: bool,
-    /// Whether the session has overflowed.
     pub has_overflowed: bool,
-    /// Whether the session holds a connect.
     pub is_held: bool,
-    /// The session's active patterns, in the order in which they were added.
+    /// Active patterns, in the order in which they were added.
     pub patterns: Vec<Pattern>,
-    /// Number of queued events: the outstanding batch and the waiting events.
+    /// Number of outstanding and waiting events.
     pub events: usize,
-    /// Length in bytes of the JSON texts of the queued events.
+    /// Length of their JSON texts.
     pub bytes: usize,
-    /// Number of events in the outstanding batch: sent, but not acknowledged.
+    /// Number of events that were sent but not acknowledged.
     pub outstanding: usize,
     /// Number of the last batch, or 0 before the first.
     pub batch: u64,
 }
 
 impl SessionSurvey {
-    // Creates the survey of `session`, which is stored under `number` and has `patterns`.
     fn of(number: u64, session: &Session, patterns: Vec<Pattern>) -> SessionSurvey
         ensures number { result.number ≡ number }
         ensures opened { result.opened ≡ session.now.opened }
@@ -57,13 +52,7 @@ impl SessionSurvey {
 }
 
 impl Sessions {
-    /// Returns what an operator sees of the session at `index`, or `None` if there is none.
-    ///
-    /// `index`: counted from 0, in the order of [`numbers`](Self::numbers).
-    ///
-    /// # Errors
-    ///
-    /// `AllocError` if memory runs out for the patterns.
+    /// Returns the survey of the session at `index` of [`numbers`](Self::numbers), if there is one.
     pub fn survey(&self, alloc: Global, index: usize) -> Result<Option<SessionSurvey>, AllocError>
         ensures shown { IfOk result (λ survey. IfSome survey (λ shown. (k : Kept) × IsSurveyAt self.now index k shown)) }
         ensures none { IfOk result (λ survey. IfNone survey (length self.now.by_number.entries ≤ index)) }

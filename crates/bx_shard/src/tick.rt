@@ -1,4 +1,3 @@
-//! How the sessions of a shard apply a tick.
 ghost use Rattle.std.specs.Prelude.{◌≡◌, ◌≢◌, ◌==◌, ℕ, Some, None, option_map, if◌then◌else◌, Contains};
 ghost use Rattle.std.specs.List.{list_any};
 ghost use Rattle.bx_entry.specs.Keeping.{after};
@@ -15,11 +14,10 @@ use crate::sessions::Sessions;
 use bx_connects::Wakers;
 
 impl Sessions {
-    /// Ends each hold with a deadline at or before `moment`, for the tick at `place`.
+    /// Ends the holds that are due at `moment`, for the tick at `place`.
     ///
-    /// `moment`: milliseconds since the server started. Moves the wakers of the answered connects
-    /// to `wakers`. The cost depends on the number of holds that end, not on the number of
-    /// sessions.
+    /// `moment`: milliseconds since the server started. Moves the wakers to `wakers`. The cost
+    /// depends only on the number of holds that end.
     pub(crate) fn end_holds(&mut self, place: u64, moment: u64, wakers: &mut Wakers)
         requires held { AreHeld self.old }
         ensures sessions { (n : ℕ) → kept_in self.new n ≡ option_map (after (expired self.old.config place moment)) (kept_in self.old n) }
@@ -38,10 +36,9 @@ impl Sessions {
         }
     }
 
-    /// Closes each session of `numbers`.
+    /// Removes the sessions, their patterns and their held connects.
     ///
-    /// Removes the sessions and their patterns. If the sessions still hold connects, removes these
-    /// connects, and moves their wakers to `wakers`.
+    /// Moves the wakers of these connects to `wakers`.
     pub(crate) fn close_all(&mut self, numbers: &[u64], wakers: &mut Wakers)
         requires held { AreHeld self.old }
         ensures sessions { (n : ℕ) → kept_in self.new n

@@ -1,4 +1,3 @@
-//! Workers that advance shards to the end of a list of entries.
 ghost use Rattle.std.specs.Prelude.{◌≡◌, ◌≤◌, ◌<◌, ◌-◌, drop, false, IfOk};
 ghost use Rattle.bx_advice.specs.Limits.{greatest_length};
 ghost use Rattle.bx_shard.specs.Upward.{AreConsecutive, AreWithin, BroughtUp, IsWithin, WentOn, count_behind, end_of, first_of, is_behind};
@@ -14,9 +13,8 @@ use std::thread::Threads;
 
 /// Advances every shard to the end of `entries`, and returns how many shards do not reach it.
 ///
-/// `entries` must have consecutive places. Each shard's next entry must be one of `entries`, or the
-/// one after the last. A shard stops at the first entry for which memory runs out. The tasks of
-/// answered connects are woken once their shard has advanced.
+/// A shard stops at the first entry for which memory runs out. The tasks of answered connects are
+/// woken once their shard has advanced.
 ///
 /// Worker `w`, counted from 0, advances the `w`-th run of `ceil(shards / workers)` neighboring
 /// shards, and calls `gate` before and after. A worker without shards does not call it. If no
@@ -57,8 +55,7 @@ pub fn bring_up<R: Threads + Sync, G: Gate + Sync, P: Placing + Send + Sync>(
         .count()
 }
 
-// Advances each of `shards` to the end of `entries`, one after another. A shard for which memory
-// runs out stops earlier.
+// Advances each of `shards`, one after another, as far as memory allows.
 fn catch_up_each<P: Placing>(alloc: Global, shards: &mut [Shard<P>], entries: &[Entry])
     requires consecutive { AreConsecutive entries.now }
     requires end { end_of entries.now ≤ greatest_length }
@@ -70,8 +67,8 @@ fn catch_up_each<P: Placing>(alloc: Global, shards: &mut [Shard<P>], entries: &[
     }
 }
 
-// Applies the entries that `shard` has not applied yet, and stops with an error if memory runs out.
-// In both cases, wakes the tasks of the answered connects at the end.
+// Applies the entries that `shard` has not applied yet. At the end, also on error, wakes the tasks
+// of the answered connects.
 fn catch_up<P: Placing>(
     alloc: Global,
     shard: &mut Shard<P>,
@@ -90,7 +87,6 @@ fn catch_up<P: Placing>(
     Ok(())
 }
 
-// Returns the entries of `entries` that `shard` has not applied.
 fn lacking<'entries, P: Placing>(shard: &Shard<P>, entries: &'entries [Entry]) -> &'entries [Entry]
     requires { IsWithin entries.now shard.now }
     ensures { result.now ≡ drop (shard.now.place - first_of entries.now) entries.now }

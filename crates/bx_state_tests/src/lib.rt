@@ -1,4 +1,4 @@
-//! Tests of requests, the registry, sessions, windows and the pattern tree.
+//! Tests of requests and of shards.
 //!
 //! They are a separate crate because `.ci/run` proves a crate with tests twice.
 #![tactic(auto)]
@@ -6,14 +6,6 @@
 #[cfg(test)]
 mod entry;
 #[cfg(test)]
-mod registry;
-#[cfg(test)]
-mod riders;
-#[cfg(test)]
 mod same;
 #[cfg(test)]
-mod session;
-#[cfg(test)]
-mod tree;
-#[cfg(test)]
-mod window;
+mod wakes;

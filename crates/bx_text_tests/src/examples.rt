@@ -1,6 +1,6 @@
 //! The examples of doc comments, run as tests.
 //!
-//! `tests/documents/run` checks that each example is here.
+//! `tests/test_documents.py` checks that each example is here.
 use bx_advice::Config;
 use bx_cut::Document;
 use bx_names::{ChannelName, Pattern, matches};

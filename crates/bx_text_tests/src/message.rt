@@ -317,48 +317,42 @@ fn add_fields(alloc: Global, out: &mut String, m: &Message) -> Result<(), AllocE
     add(alloc, out, "timeout", m.timeout)
 }
 
-// Checks that the fields of a message with the channel `/a` and then `members` are `wanted`.
-fn check_members(rt: &impl Abort, alloc: Global, members: &str, wanted: &str) -> Result<(), Fail> {
-    let body = format!(in alloc; r#"{{"channel":"/a"{members}}}"#)?;
-    let message = read(alloc, body.as_str())??;
+// Returns the channel of the only message in `body`, and then its fields as `add_fields` has them.
+fn fields_in(alloc: Global, body: &str) -> Result<String, Fail> {
+    let message = read(alloc, body)??;
+    Ok(fields_of(alloc, &message)?)
+}
+
+fn fields_of(alloc: Global, message: &Message) -> Result<String, AllocError> {
     let mut fields = String::from_str(alloc, message.channel.as_str())?;
-    add_fields(alloc, &mut fields, &message)?;
-    same(rt, fields.as_str(), wanted, members);
-    Ok(())
+    add_fields(alloc, &mut fields, message)?;
+    Ok(fields)
 }
 
 // Members that follow the channel `/a` in a message, each with the text of the parsed message's
 // fields.
-const MEMBERS: [(&str, &str); 52] = [
+const MEMBERS: [(&str, &str); 34] = [
     ("", "/a"),
     (r#","channel":"/b""#, "/b"),
     (r#","\u0063hannel":"\/b\u002f\u00e9""#, "/b/é"),
-    (r#","Channel":"/b","other":1"#, "/a"),
     (r#","id":"x\u0041""#, r#"/a id="x\u0041""#),
     (r#","id":1.5E+3"#, "/a id=1.5E+3"),
-    (r#","id": -0 "#, "/a id=-0"),
     (r#","id":1,"id":"""#, r#"/a id="""#),
     (r#","id":1,"id":null"#, "/a"),
-    (r#","id":true"#, "/a"),
     (r#","id":{"id":1}"#, "/a"),
-    (r#","id":[1]"#, "/a"),
-    (r#","clientId":"c""#, "/a client=c"),
     (r#","clientId":"\u0063""#, "/a client=c"),
     (r#","clientId":"c","clientId":5"#, "/a client=?"),
     (r#","clientId":null"#, "/a client=?"),
-    (r#","version":"1.0""#, "/a version=1.0"),
     (r#","version":1"#, "/a version=?"),
     (
         r#","supportedConnectionTypes":["long-polling", 1,["x"],"\u0079"]"#,
         "/a type=long-polling type=y",
     ),
     (r#","supportedConnectionTypes":"long-polling""#, "/a"),
-    (r#","supportedConnectionTypes":{"a":"b"}"#, "/a"),
     (
         r#","connectionType":"websocket""#,
         "/a connection=websocket",
     ),
-    (r#","connectionType":null"#, "/a connection=?"),
     (
         r#","subscription":"/\u0061""#,
         r#"/a subscription="/\u0061" text=/a listed"#,
@@ -372,20 +366,13 @@ const MEMBERS: [(&str, &str); 52] = [
         r#","subscription":["/a",1]"#,
         r#"/a subscription=["/a",1] text=/a"#,
     ),
-    (r#","subscription":[["/a"]]"#, r#"/a subscription=[["/a"]]"#),
-    (
-        r#","subscription":{"a":"/a"}"#,
-        r#"/a subscription={"a":"/a"}"#,
-    ),
     (r#","subscription":null"#, "/a subscription=null"),
-    (r#","subscription":5"#, "/a subscription=5"),
     (
         r#","data":1,"data": {"a" : 1.50} "#,
         r#"/a data={"a" : 1.50}"#,
     ),
     (r#","data":null"#, "/a data=null"),
     (r#","ext":{"ack":true}"#, "/a ack=true"),
-    (r#","ext":{"ack":0}"#, "/a ack=0"),
     (r#","ext":{"ack": 7 }"#, "/a ack=7"),
     (
         r#","ext":{"ack":18446744073709551615}"#,
@@ -393,26 +380,22 @@ const MEMBERS: [(&str, &str); 52] = [
     ),
     (r#","ext":{"ack":18446744073709551616}"#, "/a"),
     (r#","ext":{"ack":-1}"#, "/a"),
-    (r#","ext":{"ack":-0}"#, "/a"),
     (r#","ext":{"ack":1.0}"#, "/a"),
-    (r#","ext":{"ack":1e0}"#, "/a"),
     (r#","ext":{"ack":"5"}"#, "/a"),
-    (r#","ext":{"ack":false}"#, "/a"),
     (r#","ext":{"ack":1,"\u0061ck":true}"#, "/a ack=true"),
     (r#","ext":{"ack":1},"ext":[{"ack":1}]"#, "/a"),
-    (r#","ext":"ack""#, "/a"),
     (r#","advice":{"timeout":0}"#, "/a timeout=0"),
-    (r#","advice":{"timeout":"5"}"#, "/a"),
     (r#","advice":{"timeout":-5}"#, "/a"),
-    (r#","advice":{"interval":5}"#, "/a"),
     (r#","advice":{"timeout":5},"advice":5"#, "/a"),
 ];
 
 // Checks the fields of a message with each row of `MEMBERS`.
 #[test]
 fn members_are_the_fields(rt: HostRuntime) -> Result<(), Fail> {
-    for (members, wanted) in MEMBERS {
-        check_members(&rt, rt.alloc(), members, wanted)?;
+    for (members, wanted) in &MEMBERS {
+        let body = format!(in rt.alloc(); r#"{{"channel":"/a"{members}}}"#)?;
+        let fields = fields_in(rt.alloc(), body.as_str())?;
+        same(&rt, fields.as_str(), *wanted, *members);
     }
     Ok(())
 }

@@ -2,7 +2,7 @@
 ghost use Rattle.std.specs.Prelude.{◌≡◌};
 ghost use Rattle.std.specs.Arc.{arc_value};
 
-use crate::{bells, crowd, gates, locks, rounds, threads};
+use crate::{bells, crowd, locks, rounds, threads};
 use bx_advice::Config;
 use bx_calls::{Stage, config_of};
 use bx_entry::Placing;
@@ -25,8 +25,6 @@ pub enum Work<'a, C: Clock + Drop> {
     Locks(locks::Scene<'a, C>),
     /// Two threads take turns: one waits for the other's event.
     Rounds(&'a rounds::Turns),
-    /// Two threads: a publish is stopped in shard 0 while the other thread calls.
-    Stopped(&'a locks::Flags<C>),
     /// Two threads publish and tick.
     Two,
     /// Three threads: the wake of a task is blocked while the others lock each shard.
@@ -59,7 +57,6 @@ fn work_in_window<
         Work::Crowd => crowd::run(&stage),
         Work::Locks(scene) => locks::run(&stage, scene),
         Work::Rounds(turns) => rounds::run(&stage, turns),
-        Work::Stopped(flags) => gates::run(&stage, flags),
         Work::Two => threads::run(&stage),
         Work::Wake(scene) => bells::run(&stage, scene),
     }

@@ -12,8 +12,6 @@ mod crowd;
 #[cfg(test)]
 mod digests;
 #[cfg(test)]
-mod gates;
-#[cfg(test)]
 mod hubs;
 #[cfg(test)]
 mod locks;

@@ -47,12 +47,10 @@ enum Others {
     PollAndPost,
 }
 
-/// The clock, flags and counters that the threads of a test share.
+// The clock, flags and counters that the threads of a test share.
 #[derive(Drop)]
-pub struct Flags<C: Clock + Drop> {
+struct Flags<C: Clock + Drop> {
     clock: C,
-    // Whether each call must stop in shard 0, before the shard advances.
-    pub holds_all: AtomicBool,
     // Whether a call must stop in shard 1, after the shard has advanced.
     holds_call: AtomicBool,
     // Whether a post must stop where it places a session, while admission is locked.
@@ -63,12 +61,12 @@ pub struct Flags<C: Clock + Drop> {
     frees_poll: AtomicBool,
     // A flag that is set when a call has stopped in shard 1.
     is_call_stopped: AtomicBool,
-    // A flag that is set when a post has stopped while admission is locked, or a call in shard 0.
-    pub is_other_stopped: AtomicBool,
-    // A flag that is set when this post or call may continue.
-    pub is_free: AtomicBool,
+    // A flag that is set when a post has stopped while admission is locked, or a poll in shard 0.
+    is_other_stopped: AtomicBool,
+    // A flag that is set when this post or poll may continue.
+    is_free: AtomicBool,
     // A flag that is set when a thread has waited for another flag in vain.
-    pub gave_up: AtomicBool,
+    gave_up: AtomicBool,
     // How often the placing was called.
     asked: AtomicU64,
     // How often the placing was called before the last advance of a shard.
@@ -78,11 +76,10 @@ pub struct Flags<C: Clock + Drop> {
 }
 
 impl<C: Clock + Drop> Flags<C> {
-    /// Creates flags that are not set, and counters at 0.
-    pub fn new(clock: C) -> Flags<C> {
+    // Creates flags that are not set, and counters at 0.
+    fn new(clock: C) -> Flags<C> {
         Flags {
             clock,
-            holds_all: AtomicBool::new(false),
             holds_call: AtomicBool::new(false),
             holds_post: AtomicBool::new(false),
             holds_poll: AtomicBool::new(false),
@@ -97,54 +94,45 @@ impl<C: Clock + Drop> Flags<C> {
         }
     }
 
-    /// Waits until `flag` is set. If this wait is in vain, sets `gave_up`.
-    pub fn wait_for(&self, flag: &AtomicBool) {
+    // Waits until `flag` is set. If this wait is in vain, sets `gave_up`.
+    fn wait_for(&self, flag: &AtomicBool) {
         if !wait_for(&self.clock, flag) {
             self.gave_up.store(true, Ordering::SeqCst);
         }
     }
 
-    // Stops a post or call until it may continue.
+    // Stops a post or poll until it may continue.
     fn stop_other(&self) {
         self.is_other_stopped.store(true, Ordering::SeqCst);
         self.wait_for(&self.is_free);
     }
 }
 
-/// A gate that stops calls in shard 0 or one call in shard 1, and a placing that stops one post
-/// during admission. Both also count.
+// A gate that stops one poll in shard 0 and one call in shard 1, and a placing that stops one post
+// during admission. Both also count.
 #[derive(Drop)]
-pub struct Holding<C: Clock + Drop> {
+struct Holding<C: Clock + Drop> {
     flags: Arc<Flags<C>, Global>,
 }
 
 impl<C: Clock + Drop> Holding<C> {
-    /// Creates a gate or placing that obeys and sets `flags`.
-    ///
-    /// # Errors
-    ///
-    /// `AllocError` if `flags` has too many owners.
-    pub fn of(flags: &Arc<Flags<C>, Global>) -> Result<Holding<C>, AllocError> {
+    // Creates a gate or placing that obeys and sets `flags`.
+    fn of(flags: &Arc<Flags<C>, Global>) -> Result<Holding<C>, AllocError> {
         Ok(Holding {
             flags: Arc::try_clone(flags)?,
         })
     }
 }
 
-// Stops each call before shard 0 advances, if `Flags::holds_all` is set.
-//
 // Stops one call after shard 1 has advanced, until a post in another thread has locked admission,
 // or a poll has locked shard 0. Counts the advances in which the placing was called.
 //
-// A tick or post that continues then only reads the shards' positions and trims the window. A poll
-// that continues has nothing left to do.
+// A tick or post that continues then only trims the window. A poll that continues has nothing left
+// to do.
 impl<C: Clock + Drop> Gate for Holding<C> {
-    fn before(&self, shard: usize) {
+    fn before(&self, _shard: usize) {
         let asked = self.flags.asked.load(Ordering::SeqCst);
         self.flags.before.store(asked, Ordering::SeqCst);
-        if shard == 0 && self.flags.holds_all.load(Ordering::SeqCst) {
-            self.flags.stop_other();
-        }
     }
 
     fn after(&self, shard: usize) {

@@ -3,16 +3,15 @@ ghost use Rattle.std.specs.Prelude.{◌≡◌};
 ghost use Rattle.std.specs.List.{list_all};
 ghost use Rattle.bx_transport.specs.Forms.{is_callback, is_callback_byte};
 
-// The name of the callback if a query has no `jsonp`. Policy of this server.
+// The name if a query has no `jsonp`. Policy of this server.
 pub(crate) const DEFAULT_CALLBACK: &str = "jsonpcallback";
 
 // The maximum length of a callback's name, in bytes. Policy of this server.
 const CALLBACK_LIMIT: usize = 256;
 
-// Returns `true` if `name` is a valid name of a callback.
+// Returns `true` for 1 to 256 ASCII letters, digits, and characters of `_ $ . - [ ]`.
 //
-// It has 1 to 256 characters. Each is an ASCII letter or digit, or one of `_ $ . - [ ]`. A script
-// contains the name without escapes.
+// A script contains the name without escapes.
 pub(crate) fn is_callback(name: &str) -> bool
     ensures { result ≡ is_callback name.now }
 {

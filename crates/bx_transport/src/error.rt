@@ -1,4 +1,3 @@
-//! Errors of requests, before their documents are parsed.
 ghost use Rattle.std.specs.Prelude.{◌≡◌};
 ghost use Rattle.bx_transport.specs.Statuses.{transport_reason, transport_status};
 ghost use Rattle.bx_transport.specs.declared.error.TransportError.TheVariants.{Memory};
@@ -8,24 +7,20 @@ use std::alloc::{AllocError, AllocFailed};
 
 /// Why the body of a POST or the query of a GET is rejected.
 ///
-/// The variants are in the order in which they are tested, except that memory can run out at any
-/// time after the test for `TooLarge`.
+/// The variants are in the order in which they are tested, but memory can run out after any test.
 #[derive(Clone, Copy, Debug, PartialEq, Eq)]
 pub enum TransportError {
-    /// The body or the query has more than [`bx_advice::BODY_LIMIT`] bytes.
+    /// More than [`bx_advice::BODY_LIMIT`] bytes.
     TooLarge,
     /// The name of a query's callback is not valid.
     BadName,
-    /// The form or the query has no parameter `message`.
+    /// There is no parameter `message`.
     NoMessage,
-    /// Memory ran out while the body or the query was read.
     Memory,
 }
 
 impl TransportError {
-    /// Returns the reason in words, such as "the request is too large".
-    ///
-    /// Policy of this server.
+    /// Returns the reason in words. Policy of this server.
     pub fn reason(self) -> &'static str
         ensures { result.now ≡ transport_reason self }
     {
@@ -37,9 +32,7 @@ impl TransportError {
         }
     }
 
-    /// Returns the HTTP status of the response to a request that is rejected with this error.
-    ///
-    /// Policy of this server.
+    /// Returns the HTTP status of the response. Policy of this server.
     pub fn status(self) -> Status
         ensures { result ≡ transport_status self }
     {

@@ -1,4 +1,3 @@
-//! Content types, and the parameters of forms and queries.
 ghost use Rattle.std.specs.Prelude.{◌≡◌, ◌++◌, ◌∷◌, [], IfOk, OnOk, map, option_map, position, codes, string_bytes};
 ghost use Rattle.std.specs.List.{before_first};
 ghost use Rattle.std.specs.Cow.{cow_str_bytes};
@@ -8,20 +7,15 @@ use form_urlencoded::{decode, raw_pairs};
 use std::alloc::{AllocError, Global};
 use std::borrow::CowStr;
 
-// The media type of HTML forms.
 const FORM_TYPE: &[u8] = b"application/x-www-form-urlencoded";
 
-// Returns `true` if a body with this content type is a form.
 pub(crate) fn is_form(content_type: Option<&[u8]>) -> bool
     ensures { result ≡ is_form (option_map (λ t. t.now) content_type.entry) }
 {
     has_media_type(content_type, FORM_TYPE)
 }
 
-/// Returns `true` if the media type in `content_type` is `name`, in any letter case.
-///
-/// `content_type`: the value of a header `Content-Type`, if any. The parameters of the media type
-/// do not matter.
+/// Returns `true` if `content_type` is `name`, in any letter case, and with any parameters.
 pub fn has_media_type(content_type: Option<&[u8]>, name: &[u8]) -> bool
     ensures { result ≡ has_media_type name.now (option_map (λ t. t.now) content_type.entry) }
 {
@@ -31,14 +25,13 @@ pub fn has_media_type(content_type: Option<&[u8]>, name: &[u8]) -> bool
     }
 }
 
-// Returns the media type in `content_type`, without its parameters and surrounding whitespace.
+// Returns the media type, without parameters and surrounding whitespace.
 fn media_type(content_type: &[u8]) -> &[u8]
     ensures { result.now ≡ media_type_of content_type.now }
 {
     before_parameters(content_type).trim_ascii()
 }
 
-// Returns the part of `content_type` before its first semicolon, or all of it if it has none.
 fn before_parameters(content_type: &[u8]) -> &[u8]
     ensures { result.now ≡ before_first is_semicolon content_type.now }
 {
@@ -48,25 +41,22 @@ fn before_parameters(content_type: &[u8]) -> &[u8]
     }
 }
 
-// Returns the index of the first semicolon in `content_type`, if any.
 fn semicolon_in(content_type: &[u8]) -> Option<usize>
     ensures { result ≡ position is_semicolon content_type.now }
 {
     content_type.iter().position(|byte| *byte == b';')
 }
 
-// The parameters that the server knows, from a form or a query.
+// The parameters that the server knows.
 #[derive(Drop)]
 pub(crate) struct Parameters {
-    // The values of all parameters `message` of a form or a query, in order.
+    // The values of all parameters `message`, in order.
     pub(crate) documents: Vec<String>,
-    // The value of the last parameter `jsonp` of a form or a query, if any.
+    // The value of the last parameter `jsonp`.
     pub(crate) callback: Option<String>,
 }
 
-// Parses the parameters of a form or a query, and ignores unknown ones.
-//
-// Bayeux 1.0, long-polling and callback-polling.
+// Parses the parameters of a form or a query.
 pub(crate) fn read_parameters(alloc: Global, form: &[u8]) -> Result<Parameters, AllocError>
     ensures documents { IfOk result (λ p. map string_bytes p.documents.items
         ≡ values_of (codes "message") form.now) }
@@ -106,7 +96,7 @@ fn add_parameter(
     Ok(())
 }
 
-// Decodes the name or the value of a parameter. Bytes that are not UTF-8 become U+FFFD.
+// Bytes that are not UTF-8 become U+FFFD.
 fn read_text(alloc: Global, encoded: &[u8]) -> Result<CowStr<'_>, AllocError>
     ensures { IfOk result (λ text. cow_str_bytes text ≡ text_of encoded.now) }
 {

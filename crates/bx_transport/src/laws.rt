@@ -1,4 +1,3 @@
-//! The law of responses to a GET.
 ghost use Rattle.bx_transport.specs.Laws.{ScriptsReadTheSame};
 
 /// Proves that a JSON text has the same value if U+2028 and U+2029 are escaped, as in scripts.

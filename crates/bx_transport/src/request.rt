@@ -1,4 +1,3 @@
-//! The documents of a POST's body and of a GET's query.
 ghost use Rattle.std.specs.Prelude.{◌≡◌, ◌≢◌, IfOk, IfErr, Ok, Err, option_map, string_bytes};
 ghost use Rattle.bx_cut.specs.Bodies.{texts_of};
 ghost use Rattle.bx_transport.specs.Transports.{post_taken, get_taken};
@@ -12,20 +11,14 @@ use std::alloc::Global;
 
 /// Returns the documents of a POST.
 ///
-/// `content_type`: the value of the request's header `Content-Type`, if any. If its media type is
-/// `application/x-www-form-urlencoded`, the documents are the values of the form's parameters
-/// `message`, in order. Otherwise the body is the only document. The case and the parameters of the
-/// media type do not matter.
+/// `content_type`: the header's value. If it is `application/x-www-form-urlencoded`, the documents
+/// are the values of the form's parameters `message`, in order. Otherwise the body is the document.
 ///
 /// Bayeux 1.0, long-polling. The media types are a policy of this server.
 ///
 /// # Errors
 ///
-/// The first of these that applies:
-///
-/// - `TooLarge`: `body` is longer than [`bx_advice::BODY_LIMIT`].
-/// - `Memory`: memory ran out.
-/// - `NoMessage`: a form has no parameter `message`.
+/// `TooLarge`, `Memory`, or `NoMessage` for a form, in this order.
 ///
 /// # Examples
 ///
@@ -62,22 +55,17 @@ pub fn read_post(
 
 /// Returns the callback's name and the documents of a GET.
 ///
-/// `query`: the part of the request's target after the question mark.
+/// `query`: the part of the target after the question mark.
 ///
-/// The name is the value of the last parameter `jsonp`, or `jsonpcallback` if there is none. It
-/// must have 1 to 256 characters. Each must be an ASCII letter or digit, or one of `_ $ . - [ ]`.
-/// The documents are the values of the parameters `message`, in order.
+/// The name is the value of the last parameter `jsonp`, or `jsonpcallback`. It must have 1 to 256
+/// ASCII letters, digits, or characters of `_ $ . - [ ]`. The documents are the values of the
+/// parameters `message`, in order.
 ///
 /// Bayeux 1.0, callback-polling. Which names are valid is a policy of this server.
 ///
 /// # Errors
 ///
-/// The first of these that applies:
-///
-/// - `TooLarge`: `query` is longer than [`bx_advice::BODY_LIMIT`].
-/// - `Memory`: memory ran out.
-/// - `BadName`: the callback's name is not valid.
-/// - `NoMessage`: there is no parameter `message`.
+/// `TooLarge`, `Memory`, `BadName` or `NoMessage`, in this order.
 pub fn read_get(alloc: Global, query: &[u8]) -> Result<(String, Bodies), TransportError>
     ensures ok { IfOk result (λ taken. get_taken query.now ≡ Ok (string_bytes taken.0, texts_of taken.1)) }
     ensures fault { IfErr result (λ e. e ≢ TransportError.Memory → get_taken query.now ≡ Err e) }

@@ -18,10 +18,6 @@ const PARAGRAPH_SEPARATOR: &[u8] = b"\xe2\x80\xa9";
 /// U+2028 and U+2029 are escaped in the array, since they end lines in scripts.
 ///
 /// Bayeux 1.0, callback-polling.
-///
-/// # Errors
-///
-/// `AllocError` if memory runs out.
 pub fn callback_of(alloc: Global, name: &str, items: &[Item]) -> Result<Vec<u8>, AllocError>
     ensures { IfOk result (λ out. out.items ≡ callback_text name.now items.now) }
 {
@@ -37,9 +33,7 @@ pub fn callback_of(alloc: Global, name: &str, items: &[Item]) -> Result<Vec<u8>,
 
 /// Appends the JSON text `text` to `out`, with U+2028 and U+2029 escaped.
 ///
-/// # Errors
-///
-/// `AllocError` if memory runs out; a prefix may be appended.
+/// On error, a prefix may be appended.
 pub fn push_script_safe(out: &mut Vec<u8>, text: &[u8]) -> Result<(), AllocError>
     ensures { OnOk result (out.new.items ≡ out.old.items ++ script_safe text.now) }
 {
@@ -52,9 +46,7 @@ pub fn push_script_safe(out: &mut Vec<u8>, text: &[u8]) -> Result<(), AllocError
     out.extend_from_slice(rest)
 }
 
-// Returns the text before the first separator, the separator's escape, and the text after it.
-//
-// A separator is U+2028 or U+2029. Returns `None` if there is none.
+// Splits the text at its first U+2028 or U+2029: what is before, its escape, and what is after.
 fn cut_at_separator(text: &[u8]) -> Option<(&[u8], &'static str, &[u8])>
     ensures value { MatchOption result (script_safe text.now ≡ text.now)
         (λ parts. script_safe text.now ≡ parts.0.now ++ (parts.1.now ++ script_safe parts.2.now)) }
@@ -68,7 +60,6 @@ fn cut_at_separator(text: &[u8]) -> Option<(&[u8], &'static str, &[u8])>
     None
 }
 
-// Returns the escape of the first character of `text`, if it is U+2028 or U+2029.
 fn escape_at(text: &[u8]) -> Option<&'static str>
     ensures value { option_map (λ escape. escape.now) result ≡ escape_at text.now }
     ensures long { MatchOption result ⊤ (λ _. 3 ≤ length text.now) }

@@ -1,4 +1,3 @@
-//! The patterns of one session.
 ghost use Rattle.std.specs.Prelude.{◌≡◌, ◌<◌, ℕ, [], ◌∷◌, ◌++◌, Some, None, true, false, length, OnOk, OnErr, IfOk, IfSome};
 ghost use Rattle.std.specs.Ordering.{nat_cmp};
 ghost use Rattle.std.specs.BTreeMap.{get, keys};
@@ -13,10 +12,8 @@ use std::marker::Model;
 
 /// The patterns of one session, each once, in the order in which they were added.
 ///
-/// Each pattern is stored under a stamp, a number greater than the stamps of the patterns before
-/// it. A pattern is found by its stamp or, if a caller's stamp is wrong, by comparing all patterns.
-///
-/// Model: the patterns, in order.
+/// Each is stored under a stamp, a number greater than those before it. If a caller's stamp is
+/// wrong, all patterns are compared.
 #[derive(Drop)]
 pub(crate) struct Arrivals {
     by_stamp: BTreeMap<u64, Pattern>,
@@ -36,7 +33,6 @@ impl Model for Arrivals {
 }
 
 impl Arrivals {
-    /// Creates an empty list.
     pub(crate) fn new(alloc: Global) -> Arrivals
         ensures { result ≡ [] }
     {
@@ -45,14 +41,12 @@ impl Arrivals {
         }
     }
 
-    /// Returns the number of patterns.
     pub(crate) fn len(&self) -> usize
         ensures { result ≡ length self.now }
     {
         self.by_stamp.len()
     }
 
-    /// Clones the patterns, in the order in which they were added.
     pub(crate) fn to_vec(&self, alloc: Global) -> Result<Vec<Pattern>, AllocError>
         ensures list { IfOk result (λ copy. copy.items ≡ self.now) }
         ensures once { AreOnce self.now }
@@ -64,11 +58,9 @@ impl Arrivals {
         Ok(copy)
     }
 
-    /// Appends `pattern`, which must be new, and returns the stamp under which it is stored.
+    /// Appends `pattern`, which must be new, and returns its stamp.
     ///
-    /// # Errors
-    ///
-    /// `AllocError` if no greater stamp is left, or memory runs out; nothing has changed.
+    /// Also fails if no greater stamp is left.
     pub(crate) fn push(&mut self, pattern: Pattern) -> Result<u64, AllocError>
         requires { in_force self.old pattern ≡ false }
         ensures ok { OnOk result (self.new ≡ self.old ++ pattern ∷ []) }
@@ -79,7 +71,6 @@ impl Arrivals {
         Ok(stamp)
     }
 
-    /// Removes and returns the pattern that was added last, if any.
     pub(crate) fn pop(&mut self) -> Option<Pattern>
         ensures some { IfSome result (λ pattern. self.old ≡ self.new ++ pattern ∷ []) }
         ensures once { IfSome result (λ pattern. in_force self.new pattern ≡ false) }
@@ -91,10 +82,7 @@ impl Arrivals {
         Some(last.1)
     }
 
-    /// Removes `pattern`, if the session has it.
-    ///
-    /// If `stamp` is the stamp of `pattern`, this needs no search. Otherwise it compares all
-    /// patterns.
+    /// Removes `pattern`, if the session has it. With its `stamp`, this needs no search.
     pub(crate) fn remove(&mut self, pattern: &Pattern, stamp: u64)
         ensures { self.new ≡ without_pattern self.old pattern.now }
     {
@@ -106,7 +94,6 @@ impl Arrivals {
     }
 }
 
-/// Returns `true` if `by_stamp` has `pattern` under `stamp`.
 fn stands_at(by_stamp: &BTreeMap<u64, Pattern>, stamp: u64, pattern: &Pattern) -> bool
     ensures { result ≡ true → get nat_cmp by_stamp.now stamp ≡ Some pattern.now }
 {
@@ -116,7 +103,7 @@ fn stands_at(by_stamp: &BTreeMap<u64, Pattern>, stamp: u64, pattern: &Pattern) -
     }
 }
 
-/// Returns a stamp greater than all in `by_stamp`, or an error if no greater number is left.
+/// Returns a stamp greater than all in `by_stamp`, if there is one.
 fn stamp_behind(by_stamp: &BTreeMap<u64, Pattern>) -> Result<u64, AllocError>
     ensures { IfOk result (λ stamp. All (λ (k : ℕ). k < stamp) (keys by_stamp.now)) }
 {

@@ -1,4 +1,3 @@
-//! Changes to the patterns of one session, in its list and in the index.
 ghost use Rattle.std.specs.Prelude.{◌≡◌, ◌≢◌, ℕ, take, fold, OnOk, OnErr};
 ghost use Rattle.bx_names.specs.Globs.{Glob};
 ghost use Rattle.bx_names.specs.InForce.{with_pattern};
@@ -9,9 +8,7 @@ use crate::nodes::Nodes;
 use bx_names::Pattern;
 use std::alloc::{AllocError, Global};
 
-/// Adds `pattern` for session `number` to `nodes` and `arrivals`, unless it is active.
-///
-/// On error, nothing has changed.
+/// Adds `pattern` for session `number`, unless it is active. On error, nothing has changed.
 fn put(
     alloc: Global,
     nodes: &mut Nodes,
@@ -36,8 +33,7 @@ fn put(
     Ok(())
 }
 
-/// Removes the patterns of session `number` after its first `len`, from both `nodes` and
-/// `arrivals`.
+/// Removes the patterns of session `number` after its first `len`.
 pub(crate) fn shorten(nodes: &mut Nodes, arrivals: &mut Arrivals, len: usize, number: u64)
     requires { IsIndexAt nodes.old number arrivals.old }
     ensures index { IsIndexAt nodes.new number arrivals.new }
@@ -52,9 +48,7 @@ pub(crate) fn shorten(nodes: &mut Nodes, arrivals: &mut Arrivals, len: usize, nu
     }
 }
 
-/// Adds `patterns` for session `number` to `nodes` and `arrivals`, in order.
-///
-/// On error, nothing has changed.
+/// Adds `patterns` for session `number`, in order. On error, nothing has changed.
 #[tactic(auto, using(crate::proofs::ChangeLemmas::first_stay))]
 pub(crate) fn add_all(
     alloc: Global,

@@ -1,4 +1,3 @@
-//! The index of patterns by path.
 ghost use Rattle.std.specs.Prelude.{◌≡◌, ◌↔◌, ℕ, ◌+◌, ◌==◌, ◌&&◌, ◌||◌, not, false, ◌++◌, List, [], Contains, IsTrue, OnOk, OnErr, IfOk, fold, is_some, length};
 ghost use Rattle.std.specs.List.{list_any};
 ghost use Rattle.std.specs.List.Sorted.{IsStrictlyIncreasing};
@@ -21,10 +20,8 @@ use std::alloc::{AllocError, Global};
 /// The index of patterns: which sessions have each pattern.
 ///
 /// The path of a pattern is its text without a wildcard. A path has up to three lists of sessions:
-/// for the pattern that is the path, for the path and `*`, and for the path and `**`.
-///
-/// A list has the numbers of sessions, each with a stamp: the key of the pattern in the list of
-/// that session. The index cannot list the patterns of a session.
+/// for the pattern that is the path, for the path and `*`, and for the path and `**`. A list has
+/// each session with a stamp: the key of the pattern in that session's own list.
 #[derive(Drop)]
 pub struct Nodes {
     exact: PathLists,
@@ -33,7 +30,6 @@ pub struct Nodes {
 }
 
 impl Nodes {
-    /// Creates an empty index.
     pub(crate) fn new(alloc: Global) -> Nodes
         ensures { (pattern : Glob) → (n : ℕ) → stands_for result pattern n ≡ false }
     {
@@ -44,9 +40,9 @@ impl Nodes {
         }
     }
 
-    /// Adds session `number` to the list of `pattern`. On error, no list has changed.
+    /// Adds session `number` to the list of `pattern`. On error, nothing has changed.
     ///
-    /// `stamp`: the key of `pattern` in the session's list of patterns.
+    /// `stamp`: the key of `pattern` in the session's own list.
     pub(crate) fn add(
         &mut self,
         alloc: Global,
@@ -66,7 +62,6 @@ impl Nodes {
         }
     }
 
-    /// Returns `true` if session `number` has `pattern`.
     pub(crate) fn has(&self, pattern: &Pattern, number: u64) -> bool
         ensures has { result ≡ stands_for self.now pattern.now number }
         ensures whole { AreWhole pattern.now.segments }
@@ -79,8 +74,7 @@ impl Nodes {
         }
     }
 
-    /// Removes session `number` from the list of `pattern`, and returns the stamp stored there, if
-    /// any.
+    /// Removes session `number` from the list of `pattern`, and returns its stamp, if any.
     pub(crate) fn remove(&mut self, pattern: &Pattern, number: u64) -> Option<u64>
         ensures gone { (other : Glob) → AreWhole other.segments → (n : ℕ)
             → stands_for self.new other n ≡ (stands_for self.old other n && not (same_glob other pattern.now && (n == number))) }
@@ -98,11 +92,7 @@ impl Nodes {
     /// Finds the sessions with a pattern that matches `name`.
     ///
     /// Looks up the list for `**` before each segment of the name, the list for `*` before the last
-    /// one, and the list for the name itself. [`Found::visited`] counts these lookups.
-    ///
-    /// # Errors
-    ///
-    /// `AllocError` if memory runs out.
+    /// one, and the list for the name itself.
     pub fn find(&self, alloc: Global, name: &ChannelName) -> Result<Found, AllocError>
         ensures exact { (all : List (ℕ × List Glob)) → IsIndexOf self.now all → IfOk result (λ found. (n : ℕ)
             → (Contains found.numbers.items n ↔ IsTrue (any_matches (patterns_of all n) name.now))) }
@@ -112,7 +102,6 @@ impl Nodes {
         self.settled(alloc, name)
     }
 
-    /// Finds the sessions with a pattern that matches `name`, in ascending order, each once.
     fn settled(&self, alloc: Global, name: &ChannelName) -> Result<Found, AllocError>
         ensures numbers { IfOk result (λ found. (n : ℕ) → is_among found.numbers.items n ≡ is_met self.now [] name.now n) }
         ensures ascending { IfOk result (λ found. IsStrictlyIncreasing found.numbers.items) }
@@ -124,8 +113,7 @@ impl Nodes {
         Ok(found)
     }
 
-    /// Finds the sessions with a pattern that matches `name`, unsorted and possibly with
-    /// duplicates.
+    /// Finds the same sessions, unsorted and possibly with duplicates.
     fn walk(&self, alloc: Global, name: &ChannelName) -> Result<Found, AllocError>
         ensures numbers { IfOk result (λ found. (n : ℕ) → is_among found.numbers.items n ≡ is_met self.now [] name.now n) }
         ensures visited { IfOk result (λ found. found.visited ≡ length name.now + 2) }
@@ -136,7 +124,7 @@ impl Nodes {
             visited: 0,
         };
         let text = name.as_str();
-        // Length, in bytes, of the path: the part of the name before the next segment.
+        // The length of the part of the name before the next segment.
         let mut len = 0;
         let mut left = name.segment_count();
         for segment in name.segments() {

@@ -1,4 +1,3 @@
-//! The patterns of each session, in a map from its number.
 ghost use Rattle.std.specs.Prelude.{◌≡◌, ◌≢◌, ℕ, [], fold, length, OnOk, OnErr, IfOk};
 ghost use Rattle.std.specs.Option.{unwrap_or};
 ghost use Rattle.bx_names.specs.InForce.{with_pattern, without_pattern};
@@ -15,8 +14,6 @@ use std::alloc::{AllocError, Global};
 use std::marker::Model;
 
 /// The patterns of each session, in the order in which they were added. No list is empty.
-///
-/// Model: the sessions that have patterns, each with its patterns.
 #[derive(Drop)]
 pub(crate) struct SessionPatterns {
     by_number: IndexMap<u64, Arrivals>,
@@ -32,7 +29,6 @@ impl Model for SessionPatterns {
 }
 
 impl SessionPatterns {
-    /// Creates an empty map.
     pub(crate) fn new(alloc: Global) -> SessionPatterns
         ensures { result ≡ [] }
     {
@@ -41,7 +37,6 @@ impl SessionPatterns {
         }
     }
 
-    /// Returns the number of patterns of session `number`.
     pub(crate) fn count(&self, number: u64) -> usize
         ensures { result ≡ length (patterns_of self.now number) }
     {
@@ -51,7 +46,6 @@ impl SessionPatterns {
         }
     }
 
-    /// Clones the patterns of session `number`, in the order in which they were added.
     pub(crate) fn patterns(&self, alloc: Global, number: u64) -> Result<Vec<Pattern>, AllocError>
         ensures list { IfOk result (λ list. list.items ≡ patterns_of self.now number) }
         ensures once { AreOnce (patterns_of self.now number) }
@@ -62,9 +56,7 @@ impl SessionPatterns {
         }
     }
 
-    /// Adds `patterns` for session `number`, in order, in `self` and in the index `nodes`.
-    ///
-    /// On error, nothing has changed.
+    /// Adds `patterns` for session `number`, also to the index. On error, nothing has changed.
     pub(crate) fn add_all(
         &mut self,
         alloc: Global,
@@ -94,9 +86,9 @@ impl SessionPatterns {
         Ok(())
     }
 
-    /// Removes `pattern` of session `number`, but not from the index.
+    /// Removes `pattern` of session `number`, which the caller has removed from the index before.
     ///
-    /// If `stamp` is the stamp of `pattern`, this needs no search.
+    /// With its `stamp`, this needs no search.
     pub(crate) fn remove(&mut self, number: u64, pattern: &Pattern, stamp: u64)
         ensures own { patterns_of self.new number ≡ without_pattern (patterns_of self.old number) pattern.now }
         ensures others { (n : ℕ) → n ≢ number → patterns_of self.new n ≡ patterns_of self.old n }
@@ -110,7 +102,7 @@ impl SessionPatterns {
         }
     }
 
-    /// Removes and returns all patterns of session `number`, if any, but not from the index.
+    /// Removes and returns all patterns of session `number`, but not from the index.
     pub(crate) fn remove_all(&mut self, number: u64) -> Option<Arrivals>
         ensures own { patterns_of self.new number ≡ [] }
         ensures others { (n : ℕ) → n ≢ number → patterns_of self.new n ≡ patterns_of self.old n }

@@ -1,4 +1,3 @@
-//! The active patterns of all sessions.
 ghost use Rattle.std.specs.Prelude.{◌≡◌, ◌≢◌, ℕ, ◌+◌, [], not, length, fold, OnOk, OnErr, IfOk};
 ghost use Rattle.bx_names.specs.InForce.{in_force, with_pattern, without_pattern};
 ghost use Rattle.bx_tree.specs.Lists.{IsIndexOf};
@@ -14,12 +13,8 @@ use std::slice;
 
 /// The active patterns of each session, with an index by path.
 ///
-/// The index is flat: for each [`Tail`](bx_names::Tail), it maps a path to the sessions that have
-/// the pattern of that path and tail. A search looks up each prefix of the name. Empty lists are
-/// dropped.
-///
-/// Model: the sessions that have patterns, each with its patterns in the order in which they were
-/// added.
+/// For each [`Tail`](bx_names::Tail), the index maps a path to the sessions that have the pattern
+/// of that path and tail. A search looks up each prefix of the name. Empty lists are dropped.
 ///
 /// Bayeux 1.0, channel globbing.
 #[derive(Drop)]
@@ -52,10 +47,6 @@ impl Tree {
     }
 
     /// Adds `pattern` for session `number`, and returns `true` if it was not active.
-    ///
-    /// # Errors
-    ///
-    /// `AllocError` if memory runs out; nothing has changed.
     pub fn add(&mut self, alloc: Global, pattern: &Pattern, number: u64) -> Result<bool, AllocError>
         ensures own { OnOk result (patterns_of self.new number ≡ with_pattern (patterns_of self.old number) pattern.now) }
         ensures others { OnOk result ((n : ℕ) → n ≢ number → patterns_of self.new n ≡ patterns_of self.old n) }
@@ -67,10 +58,6 @@ impl Tree {
     }
 
     /// Adds `patterns` for session `number`, in order, and returns how many became active.
-    ///
-    /// # Errors
-    ///
-    /// `AllocError` if memory runs out; nothing has changed.
     #[tactic(auto, using(crate::proofs::ChangeLemmas::no_fewer))]
     pub fn add_all(
         &mut self,
@@ -89,13 +76,7 @@ impl Tree {
         Ok(self.count(number) - before)
     }
 
-    /// Copies the patterns of session `number` from the tree `from`, in the same order.
-    ///
-    /// The session must have no pattern in `self`.
-    ///
-    /// # Errors
-    ///
-    /// `AllocError` if memory runs out; nothing has changed.
+    /// Copies the patterns of session `number`, which has none in `self`, from the tree `from`.
     pub fn copy(&mut self, alloc: Global, from: &Tree, number: u64) -> Result<(), AllocError>
         requires none { patterns_of self.old number ≡ [] }
         ensures own { OnOk result (patterns_of self.new number ≡ patterns_of from.now number) }
@@ -162,11 +143,7 @@ impl Tree {
         self.sessions.count(number)
     }
 
-    /// Clones the patterns of session `number`, in the order in which they were added.
-    ///
-    /// # Errors
-    ///
-    /// `AllocError` if memory runs out.
+    /// Clones the patterns of session `number`, in the order of their addition.
     pub fn patterns(&self, alloc: Global, number: u64) -> Result<Vec<Pattern>, AllocError>
         ensures { IfOk result (λ list. list.items ≡ patterns_of self.now number) }
     {

@@ -1,18 +1,17 @@
-//! Batches to publish, and the entries of a batch.
 ghost use Rattle.std.specs.Prelude.{◌≡◌, ◌-◌, Some, slice_get};
 ghost use Rattle.bx_window.specs.Places.{IsOf};
 
 use bx_entry::{Batch, Entry, Input, Listing};
 use bx_history::History;
 
-/// A batch to publish, with the requests and ticks that it results from.
+/// A batch to publish.
 #[derive(Drop)]
 pub struct UnpublishedBatch {
-    /// The batch, which begins at the end of the list.
+    /// Begins at the end of the list.
     pub batch: Batch,
-    /// Ghost: the messages and ticks that the batch appends to the list, in order.
+    /// Ghost: the messages and ticks that the batch appends to the list.
     pub elements: Listing,
-    /// Ghost: the requests and ticks that the batch results from.
+    /// Ghost: the requests and ticks that these result from.
     pub inputs: History<Input>,
 }
 

@@ -1,4 +1,3 @@
-//! Prefixes of the window's log of publishes and trims, and the writer's end of the log.
 ghost use Rattle.std.specs.Prelude.{◌≡◌, ◌+◌, ◌<◌, ◌≤◌, ◌^◌, ◌++◌, ◌∷◌, ◌⊎◌, ◌↔◌, ◌==◌, [], length, IsTrue, IfSome};
 ghost use mathlib.Core.List.{IsPrefix};
 ghost use Rattle.bx_advice.specs.Limits.{greatest_length};
@@ -12,7 +11,7 @@ use bx_history::History;
 use logbook::{Offer, Pen, Seen, Start, Word};
 use std::marker::{Model, PhantomData};
 
-/// A new window, with an empty log, for which no writer or readers exist yet.
+/// A new window, whose log has not begun.
 pub struct EmptyWindow {
     head: Word<LoggedStep, u64, LogRule>,
     seen: Seen<LoggedStep, u64, LogRule>,
@@ -21,9 +20,7 @@ pub struct EmptyWindow {
 }
 
 impl EmptyWindow {
-    /// Creates a window that differs from all others.
-    ///
-    /// Does not allocate.
+    /// Creates a window that differs from all others. Does not allocate.
     pub fn new() -> EmptyWindow {
         let (seen, mut first, _second) = Seen::open(Start::alone(), 0, 0);
         EmptyWindow {
@@ -32,8 +29,8 @@ impl EmptyWindow {
         }
     }
 
-    // Begins the log and returns the writer's end of it. Returns `None` if the log has already
-    // begun, which does not happen.
+    // Returns the writer's end of the log. `None`: the log has already begun, which does not
+    // happen.
     pub(crate) fn begun<L: LogId>(self) -> Option<Book<L>>
         requires { self.seen.book ≡ L.book }
         ensures { IfSome result (λ b. b ≡ []) }
@@ -69,9 +66,8 @@ impl EmptyWindow {
     }
 }
 
-// Adds a cell to the `logbook` book of the log, and returns the pen of the cell. A pen is the right
-// to write its cell. Each step of the log names a cell, and only the holder of that cell's pen can
-// append the next step.
+// Adds a cell to the log's `logbook`, and returns its pen, the right to write it. Each step names a
+// cell. Only the holder of that cell's pen can append the next step.
 fn spare(head: &Word<LoggedStep, u64, LogRule>, seen: &Seen<LoggedStep, u64, LogRule>) -> Pen
     requires { head.now ≡ head_of seen.now.book }
     ensures book { result.book ≡ seen.now.book }
@@ -87,9 +83,7 @@ fn spare(head: &Word<LoggedStep, u64, LogRule>, seen: &Seen<LoggedStep, u64, Log
 
 /// The writer's end of a window's log of publishes and trims.
 ///
-/// Only the holder of a `Book` can append a step to the log, so its front is the whole log.
-///
-/// Model: the steps of the log.
+/// Only its holder can append a step, so its front is the whole log.
 #[derive(Drop)]
 pub struct Book<L: LogId> {
     head: Word<LoggedStep, u64, LogRule>,
@@ -117,7 +111,6 @@ impl<L: LogId> Model for Book<L> {
 }
 
 impl<L: LogId> Book<L> {
-    // Returns the front with all steps so far.
     pub(crate) fn front(&self) -> Front<L>
         ensures { result ≡ self.now }
     {
@@ -130,8 +123,7 @@ impl<L: LogId> Book<L> {
         }
     }
 
-    // Returns the front with all steps so far. `other` is a prefix of that front, because only
-    // `self` can append steps.
+    // Returns the front with all steps so far, which covers `other`: only `self` can append steps.
     pub(crate) fn beyond(&mut self, other: &Front<L>) -> Front<L>
         ensures same { self.new ≡ self.old }
         ensures whole { result ≡ self.old }
@@ -149,10 +141,10 @@ impl<L: LogId> Book<L> {
         self.front()
     }
 
-    // Appends a step that adds `elements` to the list and drops the `dropped` oldest batches.
+    // Appends a step.
     //
-    // `inputs`: the requests and ticks that `elements` result from. After the step, the list has
-    // `len` elements, and the window begins at `begin`. The log must have fewer than 2^62 steps.
+    // `inputs`: what `elements` result from. `len`, `begin`: the end of the list and the beginning
+    // of the window after the step. The log must have fewer than 2^62 steps.
     fn step(
         &mut self,
         elements: &Listing,
@@ -191,8 +183,7 @@ impl<L: LogId> Book<L> {
         self.seen = seen;
     }
 
-    // Appends the step that adds `elements` to the list. `count`: how many elements. `inputs`: the
-    // requests and ticks that they result from. The log must have fewer than 2^62 steps.
+    // Appends the step that adds the `count` elements. The log must have fewer than 2^62 steps.
     pub(crate) fn add(&mut self, elements: &Listing, inputs: &History<Input>, count: u64)
         requires room { length self.old < 2 ^ 62 }
         requires count { length elements.now ≡ count }
@@ -203,8 +194,8 @@ impl<L: LogId> Book<L> {
         self.step(elements, inputs, 0, front.len() + count, front.begin());
     }
 
-    // Appends the step that drops the `count` oldest batches. `begin`: where the window then
-    // begins. The log must have fewer than 2^62 steps.
+    // Appends the step that drops the `count` oldest batches, after which the window begins at
+    // `begin`. The log must have fewer than 2^62 steps.
     pub(crate) fn trim(&mut self, count: u64, begin: u64)
         requires room { length self.old < 2 ^ 62 }
         requires begin { begin ≡ begin_of (self.old ++ trimming count ∷ []) }
@@ -217,10 +208,7 @@ impl<L: LogId> Book<L> {
 
 /// A prefix of the window's log of publishes and trims, and so of the list.
 ///
-/// Of two fronts of one window, the shorter is a prefix of the longer, even if batches were trimmed
-/// in between.
-///
-/// Model: the steps of this prefix.
+/// Of two fronts of one window, the shorter is a prefix of the longer, whatever was trimmed since.
 #[derive(Drop)]
 pub struct Front<L: LogId> {
     steps: u64,
@@ -255,24 +243,21 @@ impl<L: LogId> Front<L> {
 
     /// Returns the place where the window begins, as far as this front shows it.
     ///
-    /// This is the first place of the oldest batch, or the end of the list if there is no batch.
+    /// Without batches, this is the end of the list.
     pub fn begin(&self) -> u64
         ensures { result ≡ begin_of self.now }
     {
         self.begin
     }
 
-    /// Returns the number of steps in this front. Each step publishes one batch or trims the
-    /// window.
+    /// Returns the number of steps: publishes of one batch, and trims.
     pub fn steps(&self) -> u64
         ensures { result ≡ length self.now }
     {
         self.steps
     }
 
-    /// Returns a copy of `self`.
-    ///
-    /// Does not allocate.
+    /// Returns a copy of `self`. Does not allocate.
     pub fn again(&self) -> Front<L>
         ensures { result ≡ self.now }
     {
@@ -285,9 +270,7 @@ impl<L: LogId> Front<L> {
         }
     }
 
-    /// Returns a copy of the longer of `self` and `other`.
-    ///
-    /// The shorter one is a prefix of the longer one. Does not allocate.
+    /// Returns a copy of the longer of `self` and `other`. Does not allocate.
     pub fn longer(&self, other: &Front<L>) -> Front<L>
         ensures one { (result ≡ self.now) ⊎ (result ≡ other.now) }
         ensures this { IsPrefix self.now result }
@@ -302,9 +285,7 @@ impl<L: LogId> Front<L> {
         }
     }
 
-    /// Returns `true` if `other` has no more steps than `self`.
-    ///
-    /// Then `other` is a prefix of `self`.
+    /// Returns `true` if `other` has no more steps than `self`, so that it is a prefix of `self`.
     pub fn covers(&self, other: &Front<L>) -> bool
         ensures begins { IsTrue result → IsPrefix other.now self.now }
         ensures steps { IsTrue result ↔ length other.now ≤ length self.now }
@@ -314,7 +295,6 @@ impl<L: LogId> Front<L> {
         other.steps <= self.steps
     }
 
-    // Returns `true` if `self` has the steps of `other` and one more.
     #[tactic(auto, using(crate::proofs::Fronts::before_prefix))]
     pub(crate) fn follows(&self, other: &Front<L>) -> bool
         ensures next { IsTrue result → before self.now ≡ other.now }

@@ -1,4 +1,3 @@
-//! Ghost: the log of the window's steps, and its rule.
 use bx_entry::{Input, Listing};
 use bx_history::History;
 use logbook::{Gain, Pen, Plain, Play, Rule};
@@ -6,29 +5,25 @@ use std::marker::Brand;
 
 /// Ghost: a step, which appends elements to the list or drops the window's oldest batches.
 pub struct LogStep {
-    /// The elements that the step appends to the list, in order.
     pub elements: Listing,
-    /// The requests and ticks that the elements of the step result from, in order.
+    /// What the elements result from.
     pub inputs: History<Input>,
-    /// How many of the window's oldest batches the step drops.
     pub dropped: u64,
 }
 
-/// Ghost: one record in the log of the window's steps (appends and trims).
+/// Ghost: one record in the log of the window's steps.
 pub struct LoggedStep {
-    /// The recorded step. In the first record of the log, it only opens the log.
+    /// The first record only opens the log.
     pub step: LogStep,
-    /// The key of a cell in the `logbook` book of the log. The next step spends this cell.
-    ///
-    /// Only the holder of the cell's pen, the right to write the cell, can append that step.
+    /// The key of the cell that the next step spends. Only its pen's holder can append that step.
     pub next: u64,
 }
 
 /// Ghost: the rule that the window's log keeps at all times.
 ///
 /// The crate `logbook` keeps the log in a book of cells. A cell has a key, and a pen that can write
-/// the cell until a step spends it. The first cell has the number of records in the log. Each
-/// record has the key of one more cell. All of these cells are spent, except for the last record's.
+/// it until a step spends it. The first cell has the number of records. Each record has the key of
+/// one more cell, which is spent, except for the last record's.
 pub struct LogRule;
 
 impl Rule<LoggedStep, u64> for LogRule {
@@ -51,8 +46,7 @@ impl Rule<LoggedStep, u64> for LogRule {
 
 /// Ghost: the gain that states nothing.
 ///
-/// A gain is what a caller of `logbook` learns from a move, in addition to what the move itself
-/// states.
+/// A gain is what a caller of `logbook` learns from a move, apart from what the move states.
 pub struct NoGain;
 
 impl Gain<LoggedStep, u64> for NoGain {
@@ -61,9 +55,7 @@ impl Gain<LoggedStep, u64> for NoGain {
     ghost after = { λ names about answer. ftrue };
 }
 
-/// Ghost: the `logbook` move that adds a cell to the log's book.
-///
-/// The pen of the cell is the right to write it. With the pen, a later step can be appended.
+/// Ghost: the `logbook` move that adds a cell, with whose pen a later step can be appended.
 pub struct Spare;
 
 impl Play<LoggedStep, u64> for Spare {
@@ -90,10 +82,7 @@ impl Play<LoggedStep, u64> for Add {
     ghost then = { Adds };
 }
 
-/// Ghost: the `logbook` move that proves that a caller has seen at most the expected number of
-/// records.
-///
-/// The move changes nothing.
+/// Ghost: the `logbook` move that proves that a caller has seen at most the expected records.
 pub struct Whole;
 
 impl Play<LoggedStep, u64> for Whole {
@@ -102,16 +91,14 @@ impl Play<LoggedStep, u64> for Whole {
     ghost then = { AreAll };
 }
 
-/// A step to append, with the pen for the step after it.
+/// A step to append.
 #[derive(Drop)]
 pub struct StepRequest<'a> {
-    /// The elements that the requested step appends to the list, in order.
     pub elements: &'a Listing,
-    /// The requests and ticks that the elements of the requested step result from, in order.
+    /// What the elements result from.
     pub inputs: &'a History<Input>,
-    /// How many of the window's oldest batches the requested step drops.
     pub dropped: u64,
-    /// The pen that can append the step after the requested one.
+    /// The pen for the step after it.
     pub next: &'a Pen,
 }
 
@@ -132,15 +119,13 @@ impl Plain<u64, LoggedStep, u64> for Spare {
     ghost state = { λ n. None };
 }
 
-/// The ghost constants of a window: its book, its configuration and its placing of sessions.
-///
-/// The caller that creates the window chooses them.
+/// Ghost: constants of a window, chosen by the caller that creates it.
 pub trait LogId {
     ghost use Rattle.std.specs.Prelude.{ℕ};
     ghost use Rattle.logbook.specs.Pages.{Book};
     ghost use Rattle.bx_advice.specs.declared.config.Config.{Config};
 
-    /// Ghost: the `logbook` book in which the window's steps are recorded.
+    /// Ghost: the `logbook` of the window's steps.
     ghost book: { Book };
 
     /// Ghost: the configuration that determines the entries of the list.

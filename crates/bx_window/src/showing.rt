@@ -1,4 +1,3 @@
-//! Showing changes to readers, at once or later.
 ghost use Rattle.std.specs.Prelude.{◌≡◌, [], List, None, IsTrue, IfNone, IfSome, IfOk};
 ghost use Rattle.left_right.specs.Handles.{published, pending};
 ghost use Rattle.bx_window.specs.declared.law.LogStep.{LogStep};
@@ -13,16 +12,15 @@ use left_right::WriteHandle;
 use std::alloc::AllocError;
 use std::sync::Wait;
 
-/// A change that readers do not see yet, because it could not be shown.
+/// A change that could not be shown, so that readers do not see it yet.
 #[derive(Drop)]
 pub(crate) struct Late<O: Drop> {
     change: O,
 }
 
-/// Shows `change` to readers.
+/// Shows `change` to readers, or returns it as late.
 ///
-/// Returns `None`, or the change as late if it cannot be shown. In that case, readers see what they
-/// saw before.
+/// If it is late, readers see what they saw before.
 pub(crate) fn show<L: LogId, R: Wait + Drop>(
     handle: &mut WriteHandle<Ring<L>, RingChange<L>, R>,
     change: RingChange<L>,
@@ -41,7 +39,7 @@ pub(crate) fn show<L: LogId, R: Wait + Drop>(
     }
 }
 
-/// Shows the late change, if any, and returns `true` if no change is late any more.
+/// Shows the late change, if any. Returns `true` if no change is late any more.
 pub(crate) fn catch_up<L: LogId, R: Wait + Drop>(
     handle: &mut WriteHandle<Ring<L>, RingChange<L>, R>,
     late: &mut Option<Late<RingChange<L>>>,
@@ -62,13 +60,8 @@ pub(crate) fn catch_up<L: LogId, R: Wait + Drop>(
 
 /// Makes room in the log of the crate `left_right`, so that showing a change never allocates.
 ///
-/// `left_right` has two copies of the ring. Its log has at most two changes: the next one, and the
-/// last one, which is still to be applied to the other copy. `front`: the empty front, for two
-/// changes that have no effect.
-///
-/// # Errors
-///
-/// `AllocError` if memory runs out.
+/// The log has at most two changes: the next one, and the last one, which is still to be applied to
+/// the second of the two copies of the ring. `front`: empty, for two changes without effect.
 pub(crate) fn make_room<L: LogId, R: Wait + Drop>(
     handle: &mut WriteHandle<Ring<L>, RingChange<L>, R>,
     front: &Front<L>,

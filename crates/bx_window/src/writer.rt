@@ -1,4 +1,3 @@
-//! The writer of the window, which publishes batches and trims them.
 ghost use Rattle.std.specs.Prelude.{◌≡◌, ◌+◌, ◌<◌, ◌≤◌, ◌^◌, ◌++◌, ◌∷◌, ◌⊎◌, [], length, drop, slice_index_or, List, None, IsTrue, IfNone, IfSome, IfOk, IfErr, OnOk, OnErr};
 ghost use Rattle.left_right.specs.Handles.{published, pending};
 ghost use mathlib.Core.List.{IsPrefix};
@@ -27,41 +26,34 @@ use std::alloc::{AllocError, Global};
 use std::marker::Model;
 use std::sync::{Arc, Wait};
 
-/// The maximum number of batches in the window.
-///
-/// The window keeps no more batches for a shard that does not advance.
+/// The maximum number of batches, so that a shard that does not advance keeps no more.
 ///
 /// Policy of this server.
 pub const MAX_BATCHES: usize = 4096;
 
-/// The greatest number of publishes and trims of a window.
-///
-/// At a million a second, it is reached after more than a hundred thousand years.
+/// The greatest number of publishes and trims: a million a second for 146,000 years.
 const MAX_STEPS: u64 = 1 << 62;
 
 /// The reason why a batch was not published.
 #[derive(Clone, Copy, Debug, PartialEq, Eq)]
 pub enum PublishFault {
-    /// The batch was not published: the window has had 2^62 publishes and trims.
+    /// The window has had 2^62 publishes and trims.
     Ended,
-    /// The batch was not published: the window has [`MAX_BATCHES`] batches.
+    /// The window has [`MAX_BATCHES`] batches.
     Full,
-    /// The batch was not published: memory ran out, or an earlier change still cannot be shown.
+    /// Memory ran out, or an earlier change still cannot be shown.
     Memory,
 }
 
 /// The writer of a log of steps, and of a value `T` that shows the steps to readers.
 ///
-/// Readers see all steps, except for at most one change that is late: it could not be shown yet.
-///
-/// Model: the steps of the log.
+/// Readers see all steps except at most one late change, which could not be shown yet.
 #[derive(Drop)]
 pub struct Writer<L: LogId, R: Wait + Drop, T: Absorb<O, State = [LogStep; 0]> + Drop, O: Drop> {
     handle: WriteHandle<T, O, R>,
     book: Book<L>,
     firsts: HeapCircularBuffer<u64>,
-    // The trimmed batches that were not taken yet, then the window's. `None` if the batch's
-    // reference count was full when the batch was published.
+    // Trimmed batches that were not taken, then the window's. `None`: the reference count was full.
     kept: HeapCircularBuffer<Option<Arc<Batch, Global>>>,
     late: Option<Late<O>>,
 }
@@ -81,16 +73,12 @@ impl<L: LogId, R: Wait + Drop, T: Absorb<O, State = [LogStep; 0]> + Drop, O: Dro
     ghost invariant = { λ w. (w.firsts.items ≡ firsts_of w.book) × (w.firsts.capacity ≡ 4096) × (pending w.handle ≡ []) × IsShown T.applied w.book w.late (T.state (published w.handle)) };
 }
 
-/// The writer of a window, which shows its batches to readers as a ring. A window has only one.
+/// The writer of a window, which shows its batches to readers as a ring.
 pub type LogWriter<L, R> = Writer<L, R, Ring<L>, RingChange<L>>;
 
 /// Creates the writer and `readers` readers of an opened window.
 ///
-/// The window's list is empty. `readers` must be from 1 to 2^32 - 1.
-///
-/// # Errors
-///
-/// `AllocError` if memory runs out.
+/// `readers`: from 1 to 2^32 - 1.
 pub fn log_pair<L: LogId, R: Wait + Drop>(
     alloc: Global,
     rt: R,
@@ -128,7 +116,6 @@ pub fn log_pair<L: LogId, R: Wait + Drop>(
     Ok((writer, all))
 }
 
-// Creates a ring without batches, with the empty front `front`.
 fn empty_ring<L: LogId>(alloc: Global, front: &Front<L>) -> Result<Ring<L>, AllocError>
     requires { front.now ≡ [] }
     ensures { IfOk result (λ r. r.front ≡ []) }
@@ -141,18 +128,15 @@ fn empty_ring<L: LogId>(alloc: Global, front: &Front<L>) -> Result<Ring<L>, Allo
 
 impl<L: LogId, R: Wait + Drop> Writer<L, R, Ring<L>, RingChange<L>> {
     /// Returns the front with all steps so far, for readers to learn.
-    ///
-    /// Does not allocate.
     pub fn tell(&self) -> Front<L>
         ensures { result ≡ self.now }
     {
         self.book.front()
     }
 
-    /// Returns the front with all steps so far, which covers `front`.
+    /// Returns the front with all steps so far. It covers every front, such as `front`.
     ///
-    /// The returned front covers every front, because only the writer appends steps. Does not
-    /// allocate.
+    /// Only the writer appends steps. Does not allocate.
     pub fn tell_beyond(&mut self, front: &Front<L>) -> Front<L>
         ensures same { self.new ≡ self.old }
         ensures whole { result ≡ self.old }
@@ -168,19 +152,13 @@ impl<L: LogId, R: Wait + Drop> Writer<L, R, Ring<L>, RingChange<L>> {
         self.firsts.len()
     }
 
-    /// Publishes a batch, for readers to find at its places.
+    /// Publishes the batch of `bundle`.
     ///
-    /// The batch must begin at the end of the list and have entries, which must be those that
-    /// `bundle.elements` adds. The list must not get longer than its greatest length. If the change
-    /// cannot be shown, it is late: readers see it after a later call has shown it.
+    /// A change that cannot be shown is late: readers see it after a later call has shown it.
     ///
     /// # Errors
     ///
-    /// `bundle`, with the first of these that applies; nothing is published:
-    ///
-    /// - `Ended`: the window has had 2^62 publishes and trims.
-    /// - `Full`: the window has [`MAX_BATCHES`] batches.
-    /// - `Memory`: an earlier change still cannot be shown, or memory ran out.
+    /// `bundle`, with the first fault that applies: `Ended`, `Full`, or `Memory`.
     ///
     /// # Blocking
     ///
@@ -222,9 +200,8 @@ impl<L: LogId, R: Wait + Drop> Writer<L, R, Ring<L>, RingChange<L>> {
 
     /// Drops the batches with only places below `n`.
     ///
-    /// Readers then find `Overrun` at the places of these batches. If the change cannot be shown,
-    /// it is late, as in [`publish`](Self::publish). Does nothing if the window has had 2^62
-    /// publishes and trims. Does not allocate.
+    /// A change that cannot be shown is late, as in [`publish`](Self::publish). Does nothing if the
+    /// window has had 2^62 publishes and trims. Does not allocate.
     ///
     /// # Errors
     ///
@@ -232,8 +209,7 @@ impl<L: LogId, R: Wait + Drop> Writer<L, R, Ring<L>, RingChange<L>> {
     ///
     /// # Blocking
     ///
-    /// If it drops batches, waits for readers that still use the copy of the window that is to be
-    /// changed.
+    /// If it drops batches, waits for readers that still use the copy that is to be changed.
     #[tactic(auto, using(crate::proofs::Lists::begin_of_trimming, crate::proofs::Lists::list_of_trimming, crate::proofs::Lists::inputs_of_trimming, crate::proofs::Lists::firsts_of_trimming, crate::proofs::Rings::trimmed))]
     pub fn trim(&mut self, n: u64) -> Result<(), AllocError>
         ensures grows { IsPrefix self.old self.new }
@@ -262,12 +238,10 @@ impl<L: LogId, R: Wait + Drop> Writer<L, R, Ring<L>, RingChange<L>> {
         Ok(())
     }
 
-    /// Moves the batches that were trimmed since the last call to `taken`.
+    /// Moves to `taken` the batches that were trimmed since the last call.
     ///
-    /// The ring's copies drop a trimmed batch while the writer shows this change and the next one.
-    /// The writer keeps it until it is taken, so that its memory is freed when the caller drops
-    /// `taken`, for example after unlocking the writer. Allocates only if `taken` has too little
-    /// room. If memory runs out for a batch, drops it.
+    /// Their memory is freed when the caller drops `taken`, for example after unlocking the writer.
+    /// Allocates only if `taken` has too little room. Drops a batch for which memory runs out.
     pub fn take_trimmed(&mut self, taken: &mut Vec<Arc<Batch, Global>>)
         ensures { self.new ≡ self.old }
     {
@@ -275,8 +249,7 @@ impl<L: LogId, R: Wait + Drop> Writer<L, R, Ring<L>, RingChange<L>> {
     }
 }
 
-// Moves the batch into an `Arc`, and returns it with the bundle's elements and inputs. Returns the
-// bundle if memory runs out.
+// Moves the batch into an `Arc`, beside the bundle's elements and inputs.
 fn shared(
     alloc: Global,
     bundle: UnpublishedBatch,
@@ -299,8 +272,7 @@ fn shared(
     }
 }
 
-// Returns the place where batch `index` begins, or `end` if there are not more than `index`
-// batches.
+// Returns where batch `index` begins, or `end` if there is no such batch.
 #[tactic(auto, using(crate::proofs::Firsts::found_or))]
 fn first_at(firsts: &HeapCircularBuffer<u64>, index: usize, end: u64) -> u64
     ensures { result ≡ slice_index_or firsts.now.items index end }
@@ -308,7 +280,7 @@ fn first_at(firsts: &HeapCircularBuffer<u64>, index: usize, end: u64) -> u64
     firsts.get(index).copied().unwrap_or(end)
 }
 
-// Returns how many of the oldest batches have only places below `n`. The last batch ends at `end`.
+// Returns how many batches have only places below `n`. The last one ends at `end`.
 #[tactic(auto, using(crate::proofs::Firsts::below_on, crate::proofs::Firsts::below_off, crate::proofs::Firsts::below_none))]
 fn count_below(firsts: &HeapCircularBuffer<u64>, n: u64, end: u64) -> usize
     ensures { result ≡ below n end firsts.now.items }
@@ -322,7 +294,6 @@ fn count_below(firsts: &HeapCircularBuffer<u64>, n: u64, end: u64) -> usize
     len
 }
 
-// Appends `first`, the place where a new batch begins. There must be room for it.
 #[tactic(auto, using(crate::proofs::Firsts::kept_all))]
 fn put_last(firsts: &mut HeapCircularBuffer<u64>, first: u64)
     requires { length firsts.old.items < firsts.old.capacity }
@@ -332,8 +303,7 @@ fn put_last(firsts: &mut HeapCircularBuffer<u64>, first: u64)
     firsts.push_back(first);
 }
 
-// Moves the items of `kept`, except for the newest `len`, to `taken`. If memory runs out for an
-// item, drops it.
+// Moves all items of `kept` except the newest `len`. Drops those for which memory runs out.
 fn move_oldest<T: Drop>(kept: &mut HeapCircularBuffer<Option<T>>, len: usize, taken: &mut Vec<T>) {
     for _ in len..kept.len() {
         if let Some(Some(item)) = kept.pop_front() {

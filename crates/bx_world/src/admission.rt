@@ -1,4 +1,3 @@
-//! Admission in a world: the live sessions and the list.
 ghost use Rattle.std.specs.Prelude.{ℕ, ◌≡◌, ◌≤◌, [], length, slice_get, option_map, max, IfErr, IfOk, IfSome, Err, ◌++◌};
 ghost use Rattle.bx_registry.specs.Standings.{LeadsTo};
 ghost use Rattle.bx_advice.specs.Limits.{greatest_length};
@@ -21,9 +20,6 @@ use std::marker::Model;
 use std::thread::Threads;
 
 /// The live sessions, and the entries that some shard has yet to apply.
-///
-/// Model: the configuration, the number of shards, the whole list, and the place of the first kept
-/// entry.
 #[derive(Drop)]
 pub(crate) struct Intake {
     registry: Registry,
@@ -48,11 +44,6 @@ impl Model for Intake {
 }
 
 impl Intake {
-    /// Creates an intake with an empty list.
-    ///
-    /// # Errors
-    ///
-    /// `AllocError` if memory runs out.
     pub(crate) fn new(alloc: Global, config: Config) -> Result<Intake, AllocError>
         ensures { IfOk result (λ a. a ≡ record { config = config; shards = config.shards; list = []; first = 0 }) }
     {
@@ -62,12 +53,7 @@ impl Intake {
         })
     }
 
-    /// Appends a request's messages to the list, and returns how each is answered.
-    ///
-    /// # Errors
-    ///
-    /// `Refused` if the request is rejected, for the reasons of
-    /// [`World::admit`](crate::World::admit); `Memory` if memory runs out. Nothing has changed.
+    /// Appends a request's messages to the list, as [`World::admit`](crate::World::admit) does.
     pub(crate) fn post<P: Placing>(
         &mut self,
         alloc: Global,
@@ -83,14 +69,7 @@ impl Intake {
         take_in(&mut self.registry, &mut self.backlog, plan)
     }
 
-    /// Appends a tick to the list, and returns its place.
-    ///
-    /// `moment`: milliseconds since the server started.
-    ///
-    /// # Errors
-    ///
-    /// `Refused` if the moment is too large or the list would become too long; `Memory` if memory
-    /// runs out. Nothing has changed.
+    /// Appends a tick to the list, as [`World::admit_tick`](crate::World::admit_tick) does.
     pub(crate) fn tick(&mut self, alloc: Global, moment: u64) -> Result<Admitted, AdmitFault>
         ensures admission { (placing : ℕ → ℕ → ℕ) → IsAdmission placing self.old (read_input (Tick moment)) result self.new }
         ensures refused { IfSome (refusal_of (length self.old.list) (read_input (Tick moment))) (λ refusal. result ≡ Err (Refused refusal)) }
@@ -99,21 +78,19 @@ impl Intake {
         take_in(&mut self.registry, &mut self.backlog, plan)
     }
 
-    /// Returns the number of entries in the list.
     pub(crate) fn entries(&self) -> u64
         ensures { result ≡ length self.now.list }
     {
         self.registry.entries()
     }
 
-    /// Returns how many sessions are live.
     pub(crate) fn sessions(&self) -> usize
         ensures { result ≡ count_live (registry self.now.config self.now.list).sessions }
     {
         self.registry.sessions()
     }
 
-    /// Returns the entry at `place`, or `None` past the end of the list.
+    /// Returns the entry at `place`, if it is in the list.
     ///
     /// `place` must not be before [`first`](Self::first).
     pub(crate) fn entry(&self, place: u64) -> Option<&Entry>
@@ -123,14 +100,12 @@ impl Intake {
         self.backlog.get(place)
     }
 
-    /// Returns the place of the first kept entry, or the length of the list if none is kept.
     pub(crate) fn first(&self) -> u64
         ensures { result ≡ self.now.first }
     {
         self.backlog.first()
     }
 
-    /// Drops the entries before `place`, which is at most the length of the list.
     pub(crate) fn forget(&mut self, place: u64)
         requires { place ≤ length self.old.list }
         ensures { self.new ≡ record self.old { first = max self.old.first place } }
@@ -138,7 +113,6 @@ impl Intake {
         self.backlog.forget(place);
     }
 
-    /// Sets to `shards` the number of shards among which sessions are placed.
     pub(crate) fn reshard(&mut self, shards: ShardCount)
         ensures shards { self.new ≡ record self.old { shards = shards } }
         ensures in_range { (1 ≤ self.new.shards) × (self.new.shards ≤ 64) }
@@ -146,11 +120,8 @@ impl Intake {
         self.registry.reshard(shards);
     }
 
-    /// Advances every shard to the end of the list, and returns how many shards still lack entries.
-    ///
-    /// A shard still lacks entries only if memory runs out. `workers`: the number of workers that
-    /// share the shards. Each worker with shards calls `gate` before and after its work, as
-    /// [`bring_up`](bx_shard::bring_up) of `bx_shard` describes.
+    /// Advances every shard to the end of the list, as [`World::bring_up`](crate::World::bring_up)
+    /// does.
     pub(crate) fn bring_up<R: Threads + Sync, G: Gate + Sync, P: Placing + Send + Sync>(
         &mut self,
         rt: &R,
@@ -170,8 +141,7 @@ impl Intake {
     }
 }
 
-// Commits `plan`, which `registry` made, and appends its entries to `backlog`. Returns their first
-// place and the slots. If memory runs out, nothing has changed.
+// Commits `plan` and appends its entries to `backlog`. On error, nothing has changed.
 fn take_in(
     registry: &mut Registry,
     backlog: &mut Backlog,

@@ -1,4 +1,3 @@
-//! The entries that some shard has yet to apply.
 ghost use Rattle.std.specs.Prelude.{◌≡◌, ◌≤◌, ◌+◌, ◌++◌, [], ◌∷◌, length, max, slice_get, option_map, OnOk};
 ghost use Rattle.bx_advice.specs.Limits.{greatest_length};
 ghost use Rattle.bx_shard.specs.Upward.{AreConsecutive, AreWithin, BroughtUp, count_behind, end_of};
@@ -15,14 +14,10 @@ use std::marker::Model;
 use std::thread::Threads;
 
 /// The entries of the list from place `first` on, which some shard has yet to apply.
-///
-/// Model: all entries of the list, the place of the first kept one, and for how many more entries
-/// there is room.
 #[derive(Drop)]
 pub(crate) struct Backlog {
     first: u64,
     kept: VecDeque<Entry>,
-    // Ghost: all entries of the list.
     all: History<Entry>,
 }
 
@@ -42,7 +37,6 @@ impl Model for Backlog {
 }
 
 impl Backlog {
-    /// Creates an empty backlog.
     pub(crate) fn new(alloc: Global) -> Backlog
         ensures { result.contents ≡ empty }
     {
@@ -60,7 +54,7 @@ impl Backlog {
         self.first
     }
 
-    /// Returns the entry at `place`, or `None` past the end of the list.
+    /// Returns the entry at `place`, if it is in the list.
     ///
     /// `place` must not be before [`first`](Self::first).
     pub(crate) fn get(&self, place: u64) -> Option<&Entry>
@@ -70,11 +64,6 @@ impl Backlog {
         self.kept.get((place - self.first) as usize)
     }
 
-    /// Reserves room for `count` more entries.
-    ///
-    /// # Errors
-    ///
-    /// `AllocError` if memory runs out; the entries are unchanged.
     pub(crate) fn reserve(&mut self, count: usize) -> Result<(), AllocError>
         ensures room { OnOk result (count ≤ self.new.spare) }
         ensures same { self.new.contents ≡ self.old.contents }
@@ -82,7 +71,6 @@ impl Backlog {
         self.kept.reserve(count)
     }
 
-    /// Appends `entry`. Room for it must be reserved.
     pub(crate) fn push(&mut self, entry: Entry)
         requires { 1 ≤ self.old.spare }
         ensures contents { self.new.contents ≡ record { all = self.old.contents.all ++ entry ∷ []; first = self.old.contents.first } }
@@ -92,7 +80,6 @@ impl Backlog {
         self.kept.push_back_reserved(entry);
     }
 
-    /// Appends `entries`. Room for them must be reserved.
     pub(crate) fn append(&mut self, entries: Sequence<Entry>)
         requires { length entries ≤ self.old.spare }
         ensures { self.new.contents ≡ record { all = self.old.contents.all ++ entries; first = self.old.contents.first } }
@@ -102,7 +89,6 @@ impl Backlog {
         }
     }
 
-    /// Drops the entries before `place`, which is at most the length of the list.
     pub(crate) fn forget(&mut self, place: u64)
         requires { place ≤ length self.old.contents.all }
         ensures { self.new.contents ≡ record { all = self.old.contents.all; first = max self.old.contents.first place } }
@@ -113,11 +99,8 @@ impl Backlog {
         }
     }
 
-    /// Advances every shard to the end of the list, and returns how many shards still lack entries.
-    ///
-    /// A shard still lacks entries only if memory runs out. `workers`: the number of workers that
-    /// share the shards. Each worker with shards calls `gate` before and after its work, as
-    /// [`bring_up`](bx_shard::bring_up) of `bx_shard` describes.
+    /// Advances every shard to the end of the list, as [`World::bring_up`](crate::World::bring_up)
+    /// does.
     pub(crate) fn bring_up<R: Threads + Sync, G: Gate + Sync, P: Placing + Send + Sync>(
         &mut self,
         rt: &R,

@@ -1,7 +1,6 @@
 //! Laws of a world, for every configuration, placing and schedule.
 //!
-//! A schedule is a list of steps, in any order: admissions, applications of entries, and takings of
-//! answers.
+//! A schedule is a list of steps in any order, which admit, apply entries, and take answers.
 ghost use Rattle.bx_world.specs.Schedules.{AnswersAreFiled, AnswersCanBeTaken, ListIsAdmitted, NoneTakenTwice, SchedulesCompose, TakesAreAnswers};
 ghost use Rattle.bx_world.specs.Headline.{BatchesRepeat, Headline, NoneGivenAgain, PlainGivenOnce, RepliesAreAnswers};
 
@@ -33,8 +32,6 @@ pub fn no_answer_taken_twice()
 {}
 
 /// Proves that two schedules run in sequence have the result of one schedule with all their steps.
-///
-/// A schedule is a list of steps.
 pub fn schedules_compose()
     ensures { SchedulesCompose }
 {}
@@ -63,9 +60,7 @@ pub fn batches_repeat()
     ensures { BatchesRepeat }
 {}
 
-/// Proves that a world answers like a server that handles one message at a time.
-///
-/// For every number of shards, every placing and every schedule (a list of steps in any order):
+/// Proves that a world answers like a server that handles one message at a time:
 ///
 /// - Each immediate reply and each taken answer is that of a server that handles one message at a
 ///   time.

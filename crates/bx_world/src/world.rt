@@ -1,4 +1,3 @@
-//! The server for one thread: admission and the shards.
 ghost use Rattle.std.specs.Prelude.{◌≡◌, ◌<◌, ◌≤◌, length, true};
 ghost use Rattle.std.specs.Arc.{arc_value};
 ghost use Rattle.bx_advice.specs.Limits.{greatest_length};
@@ -21,17 +20,13 @@ use std::thread::Threads;
 
 /// The server for one thread.
 ///
-/// Requests and ticks are appended to one list. Each shard applies the entries of the list in
-/// order, at its own pace, and files answers, which can then be taken. An entry is kept until every
-/// shard has applied it.
-///
-/// Model: the list, how many entries each shard has applied, and which answers were taken.
+/// Each shard applies the entries of the list in order, at its own pace, and files answers, which
+/// can then be taken. An entry is kept until every shard has applied it.
 #[derive(Drop)]
 pub struct World<P: Placing> {
     placing: Arc<P>,
     admission: Intake,
     shards: Vec<Shard<P>>,
-    // Ghost: the places of the connects and riders with taken answers.
     taken: History<u64>,
     ghost bounded: { length admission.list ≤ greatest_length },
     ghost some_shard: { 1 ≤ admission.shards },
@@ -60,10 +55,6 @@ impl<P: Placing> World<P> {
     /// Creates a world with an empty list and `config.shards` shards.
     ///
     /// `placing` chooses the shard of each session.
-    ///
-    /// # Errors
-    ///
-    /// `AllocError` if memory runs out.
     pub fn new(alloc: Global, config: Config, placing: Arc<P>) -> Result<World<P>, AllocError>
     where
         P: Drop,
@@ -87,13 +78,13 @@ impl<P: Placing> World<P> {
     ///
     /// # Errors
     ///
-    /// The first of these that applies; nothing has changed:
+    /// The first of these that applies:
     ///
-    /// - `Refused`, with `NotJson` to `Forbidden`: the documents are not messages, or the read-only
-    ///   listener forbids them.
+    /// - `Refused(NotJson)` to `Refused(Forbidden)`: the documents are not messages, or the
+    ///   read-only listener forbids them.
     /// - `Refused(BadMoment)`: the moment is too large.
     /// - `Refused(Ended)`: the list would become too long.
-    /// - `Memory`: memory ran out. This can happen before some of the other errors are tested for.
+    /// - `Memory`: memory ran out. This can come before other errors.
     pub fn admit(&mut self, alloc: Global, arrival: &Arrival) -> Result<Admitted, AdmitFault>
         ensures { Steps self.old (Admit (Post arrival.now)) (admission result) self.new }
     {
@@ -106,10 +97,7 @@ impl<P: Placing> World<P> {
     ///
     /// # Errors
     ///
-    /// The first of these that applies; nothing has changed:
-    ///
-    /// - `Refused(BadMoment)`, `Refused(Ended)`: as for [`admit`](Self::admit).
-    /// - `Memory`: memory ran out.
+    /// `Refused(BadMoment)`, `Refused(Ended)` or `Memory`, as for [`admit`](Self::admit).
     pub fn admit_tick(&mut self, alloc: Global, moment: u64) -> Result<Admitted, AdmitFault>
         ensures step { Steps self.old (Admit (Tick moment)) (admission result) self.new }
         ensures refused { IfSome (refusal_of (length (world_of self.old).list) (read_input (Tick moment))) (λ refusal. result ≡ Err (Refused refusal)) }
@@ -117,11 +105,9 @@ impl<P: Placing> World<P> {
         self.admission.tick(alloc, moment)
     }
 
-    /// Applies the next entry of the list to the shard with index `shard`, counted from 0.
+    /// Applies the next entry of the list to the shard with index `shard`.
     ///
-    /// Returns whether the shard applied it, has no entry to apply or does not exist, or memory ran
-    /// out. Memory cannot run out for a disconnect, a rejected message, a tick, or an
-    /// unsubscription that is not a rider.
+    /// Only accepted handshakes, connects, subscriptions, publishes and riders need memory.
     pub fn apply(&mut self, alloc: Global, shard: usize) -> Applied
         ensures { Steps self.old (Apply shard) (application result) self.new }
     {
@@ -136,8 +122,7 @@ impl<P: Placing> World<P> {
 
     /// Takes the answer filed under `ticket`, if any.
     ///
-    /// Each answer is returned once. After [`reshard`](Self::reshard), an earlier ticket finds no
-    /// answer if its session is now in another shard, even if the answer is filed there.
+    /// After [`reshard`](Self::reshard), an earlier ticket may name the wrong shard.
     pub fn take(&mut self, ticket: Ticket) -> Option<Answer>
         ensures { Steps self.old (Take ticket) (Taken result) self.new }
     {
@@ -146,11 +131,10 @@ impl<P: Placing> World<P> {
         Some(answer)
     }
 
-    /// Advances every shard to the end of the list, and returns how many shards still lack entries.
+    /// Advances every shard to the end of the list.
     ///
-    /// A shard still lacks entries only if memory runs out. `workers`: the number of workers that
-    /// share the shards. Each worker with shards calls `gate` before and after its work, as
-    /// [`bring_up`](bx_shard::bring_up) of `bx_shard` describes.
+    /// Returns how many shards still lack entries, because memory ran out. The `workers` share the
+    /// shards and call `gate` as [`bring_up`](bx_shard::bring_up) of `bx_shard` describes.
     pub fn bring_up<R: Threads + Sync, G: Gate + Sync>(
         &mut self,
         rt: &R,
@@ -206,7 +190,7 @@ impl<P: Placing> World<P> {
             .saturating_sub(self.admission.first())
     }
 
-    /// Returns the entry at `place`, if it is in the list and some shard has yet to apply it.
+    /// Returns the entry at `place`, if some shard has yet to apply it.
     pub fn entry(&self, place: u64) -> Option<&Entry>
         ensures some { IfSome result (λ e. slice_get (entries (setup_of self.now).config (world_of self.now).list) place ≡ Some e.now) }
         ensures none { IfNone result ((length (world_of self.now).list ≤ place)
@@ -226,8 +210,6 @@ impl<P: Placing> World<P> {
     }
 
     /// Takes any one answer that the shard with index `shard` has filed.
-    ///
-    /// Returns `None` if the shard has filed none, or does not exist.
     pub fn take_any(&mut self, shard: usize) -> Option<TakenAnswer>
         ensures some { IfSome result (λ f. Steps self.old (Take (record { place = f.connect; shard = shard })) (Taken (Some f.answer)) self.new) }
         ensures none { IfNone result (((place : ℕ) → filed_under (setup_of self.old) (world_of self.old) (record { place = place; shard = shard }) ≡ None)
@@ -240,9 +222,8 @@ impl<P: Placing> World<P> {
 
     /// Redistributes the sessions among `shards` shards, by `placing`.
     ///
-    /// Every shard must have applied the whole list. The list does not change, and taken answers
-    /// stay taken. Filed answers move with their sessions, so an earlier ticket may name the wrong
-    /// shard.
+    /// Every shard must have applied the whole list. Filed answers move with their sessions, so an
+    /// earlier ticket may name the wrong shard.
     ///
     /// # Errors
     ///
@@ -296,8 +277,7 @@ impl<P: Placing> World<P> {
     ///
     /// # Errors
     ///
-    /// The index of the first step that was not run, if memory runs out for its output. The earlier
-    /// steps were run, and their outputs appended.
+    /// The index of the first step that was not run, if memory runs out for its output.
     ///
     /// # Examples
     ///
@@ -305,14 +285,14 @@ impl<P: Placing> World<P> {
     /// let config = Config::new(1, 30_000, 0, 10_000).ok_or("shards: 1 to 64")?;
     /// let mut world = World::new(alloc, config, Arc::new(alloc, ByRemainder)?)?;
     /// let steps = [
-    ///     Step::Admit(Input::Tick(100)),
-    ///     Step::Apply(0),
-    ///     Step::Apply(0),
+    ///  Step::Admit(Input::Tick(100)),
+    ///  Step::Apply(0),
+    ///  Step::Apply(0),
     /// ];
     /// let mut outs = Vec::new(alloc);
     /// world
-    ///     .run_schedule(alloc, &steps, &mut outs)
-    ///     .map_err(|_| "out of memory")?;
+    ///  .run_schedule(alloc, &steps, &mut outs)
+    ///  .map_err(|_| "out of memory")?;
     /// assert!(rt; matches!(outs.get(1), Some(StepOut::Applied)));
     /// assert!(rt; matches!(outs.get(2), Some(StepOut::Level)));
     /// ```
@@ -351,8 +331,8 @@ impl<P: Placing> World<P> {
     }
 }
 
-// Applies the next entry of the list to `shard`. `admission` must have kept the entries from the
-// shard's place on. A world registers no wakers, so the list of wakers stays empty.
+// Applies the next entry to `shard`. `admission` must have kept it. A world registers no wakers, so
+// the list of wakers stays empty.
 fn apply_next<P: Placing>(alloc: Global, shard: &mut Shard<P>, admission: &Intake) -> Applied
     requires kept { admission.now.first ≤ shard.old.place }
     requires end { length admission.now.list ≤ greatest_length }
@@ -369,8 +349,7 @@ fn apply_next<P: Placing>(alloc: Global, shard: &mut Shard<P>, admission: &Intak
 }
 
 // Drops the entries that all of `shards` have applied. `place`: the place of a shard before it
-// advanced. If `place` is after the first kept entry, another shard still needs that entry, so no
-// entry is dropped.
+// advanced. If that is after the first kept entry, another shard still needs that entry.
 fn forget_applied<P: Placing>(admission: &mut Intake, shards: &[Shard<P>], place: u64)
     requires first { StandFrom admission.old.first shards.now }
     requires end { StandWithin (length admission.old.list) shards.now }
@@ -388,7 +367,6 @@ fn forget_applied<P: Placing>(admission: &mut Intake, shards: &[Shard<P>], place
     }
 }
 
-// Returns the lowest of `other` and the places of `shards`.
 fn least_place<P: Placing>(shards: &[Shard<P>], other: u64) -> u64
     ensures other { result ≤ other }
     ensures shards { StandFrom result shards.now }

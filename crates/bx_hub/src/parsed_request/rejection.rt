@@ -1,11 +1,10 @@
-//! Why a request or a tick was not admitted.
 ghost use Rattle.std.specs.Prelude.{◌≡◌, None, true, false};
 ghost use Rattle.bx_hub.specs.Faults.{of_admission};
 ghost use Rattle.bx_hub.specs.declared.fault.PostFault.TheVariants as faults;
 
 use crate::admission::Admission;
 use crate::fault::PostFault;
-use crate::shard_state::ShardPosition;
+use crate::shard_state::ShardAdvance;
 use bx_entry::AdmitFault;
 use bx_window::LogId;
 use std::fmt;
@@ -22,7 +21,7 @@ use std::sync::Wait;
 pub struct Rejection<L: LogId> {
     fault: PostFault,
     closed: Snapshot<bool>,
-    lag: Option<ShardPosition<L>>,
+    lag: Option<ShardAdvance<L>>,
     ghost shut: { fault ≡ faults.Closed → closed.value ≡ true },
     ghost told: { closed.value ≡ true → fault ≡ faults.Closed },
 }
@@ -32,13 +31,12 @@ impl<L: LogId> Rejection<L> {
 
     /// Creates evidence that `admission` failed with `fault`.
     ///
-    /// `fault` must be `Closed` if and only if `admission` is closed. `lag`: with `Behind`, the
-    /// position of a shard that had not applied the whole oldest batch; with `Overrun`, that of the
-    /// overrun shard.
+    /// `lag`: with `Behind`, the position of a shard that had not applied the whole oldest batch;
+    /// with `Overrun`, that of the overrun shard.
     pub(crate) fn of<R: Wait + Drop>(
         admission: &Admission<L, R>,
         fault: PostFault,
-        lag: Option<ShardPosition<L>>,
+        lag: Option<ShardAdvance<L>>,
     ) -> Rejection<L>
         requires shut { fault ≡ faults.Closed → admission.now.closed ≡ true }
         requires told { admission.now.closed ≡ true → fault ≡ faults.Closed }
@@ -52,9 +50,7 @@ impl<L: LogId> Rejection<L> {
         }
     }
 
-    /// Creates evidence that reading a request failed with `fault`.
-    ///
-    /// Whether the hub is closed is not examined.
+    /// Creates evidence that a request cannot be read, whether the hub is closed or not.
     pub(super) fn unread(fault: AdmitFault) -> Rejection<L>
         ensures { (result.fault ≡ of_admission fault) × (result.lag ≡ None) × (result.closed.value ≡ false) }
     {

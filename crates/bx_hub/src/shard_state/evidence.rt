@@ -5,74 +5,49 @@
 ghost use Rattle.std.specs.Prelude.{◌≡◌, ◌≢◌, ◌≤◌, ◌<◌, length, drop, is_some, Some, None, IfSome, IfNone};
 ghost use mathlib.Core.List.{IsPrefix};
 ghost use Rattle.bx_connects.specs.Connects.{filed_answer};
+ghost use Rattle.bx_entry.specs.Keeping.{Kept};
 ghost use Rattle.bx_shard.specs.Seen.{state};
 ghost use Rattle.bx_shard.specs.States.{connect_in};
+ghost use Rattle.bx_shard.specs.Surveys.{IsSurveyAt};
 ghost use Rattle.bx_hub.specs.Faults.{IsAt, IsStopped, IsStoppedIn};
 ghost use Rattle.bx_hub.specs.declared.activity.Activity.TheVariants.{Active};
 ghost use Rattle.bx_hub.specs.declared.fault.HubFault.TheVariants as faults;
-ghost use Rattle.bx_window.specs.Steps.{list_of};
+ghost use Rattle.bx_window.specs.Steps.{list_of, setup_of};
 
-use crate::fault::HubFault;
-use crate::shard_state::ShardState;
+use crate::fault::{HubFault, PostFault};
+use crate::shard_state::{ShardState, TakenEvidence};
 use bx_connects::Watch;
 use bx_entry::{Placing, Ticket};
 use bx_history::{History, Lists};
-use bx_shard::Wakers;
+use bx_shard::{SessionSurvey, Wakers};
 use bx_window::{Front, LogId};
 use futures::task::Waker;
 use std::marker::{Model, PhantomData};
 use std::snapshot::Snapshot;
 
-/// Evidence of a shard's position: the number of entries that it had applied.
-///
-/// Ghost: the shard's index, and the front that its reader has seen.
-#[derive(Drop)]
-pub(crate) struct ShardPosition<L: LogId> {
-    index: Snapshot<usize>,
-    place: u64,
-    front: Snapshot<Front<L>>,
-}
-
-impl<L: LogId> ShardPosition<L> {
-    /// Creates evidence of the position of `shard_state`.
-    pub(crate) fn of<P: Placing>(shard_state: &ShardState<L, P>) -> ShardPosition<L>
-        ensures index { result.index.value ≡ shard_state.now.shard.index }
-        ensures place { result.place ≡ shard_state.now.shard.place }
-        ensures front { result.front.value ≡ shard_state.now.reader }
-    {
-        ShardPosition {
-            index: Snapshot::of(&shard_state.index()),
-            place: shard_state.place(),
-            front: Snapshot::of(&shard_state.front()),
-        }
-    }
-
-    /// Returns how many entries the shard had applied.
-    pub(crate) fn place(&self) -> u64
-        ensures { result ≡ self.now.place }
-    {
-        self.place
-    }
-}
-
 /// The result of advancing a shard to a front of the list, `prefix`.
 ///
-/// The shard has learned `prefix`. It has reached the end of `prefix`, or the fault `stays` stopped
-/// it. With `WrongShard`, the shard was not found and nothing was done. Ghost: the wakers added to
-/// the caller's list.
+/// The shard has applied `place` entries, and has reached the end of `prefix`, unless the fault
+/// `stays` stopped it. With `WrongShard`, it was not found, nothing was done, and `place` is 0.
+///
+/// `front`: what the shard's reader has seen. Ghost: the wakers added to the caller's list, and the
+/// shard's taken answers once it is unlocked.
 #[derive(Drop)]
 pub(crate) struct ShardAdvance<L: LogId> {
-    index: Snapshot<usize>,
+    index: usize,
     prefix: Snapshot<Front<L>>,
+    place: u64,
+    front: Front<L>,
     stays: Option<HubFault>,
     woken: Option<AddedWakers>,
+    taken: Option<TakenEvidence>,
 }
 
 impl<L: LogId> ShardAdvance<L> {
+    ghost use Rattle.bx_hub.specs.Advancing.{IsAdvance};
+    ghost use Rattle.bx_hub.specs.Lags.{no_room_of};
+
     /// Creates the result for `shard_state`, which has learned `prefix`.
-    ///
-    /// `stays`: the fault, if one stopped the shard before the end of `prefix`. `woken`: the wakers
-    /// that were added to the caller's list.
     pub(super) fn of<P: Placing>(
         shard_state: &ShardState<L, P>,
         prefix: &Front<L>,
@@ -85,53 +60,98 @@ impl<L: LogId> ShardAdvance<L> {
         requires stopped { IfSome stays (λ f. IsStopped f shard_state.now.shard.index shard_state.now.reader
             × IsStoppedIn shard_state.now.activity f) }
         requires at { IfSome stays (λ f. IsAt f shard_state.now.shard.place) }
-        ensures index { result.index.value ≡ shard_state.now.shard.index }
-        ensures prefix { result.prefix.value ≡ prefix.now }
+        ensures advance { IsAdvance prefix.now result }
+        ensures index { result.index ≡ shard_state.now.shard.index }
+        ensures place { (result.place ≡ shard_state.now.shard.place) × (result.front ≡ shard_state.now.reader) }
         ensures stays { result.stays ≡ stays }
         ensures woken { result.woken ≡ Some woken }
     {
         ShardAdvance {
-            index: Snapshot::of(&shard_state.index()),
+            index: shard_state.index(),
             prefix: Snapshot::of(prefix),
+            place: shard_state.place(),
+            front: shard_state.front(),
             stays,
             woken: Some(woken),
+            taken: None,
         }
     }
 
-    /// Creates the result for shard `index` if its lock guards another shard, `shard_state`.
-    pub(crate) fn misplaced<P: Placing>(
-        shard_state: &ShardState<L, P>,
-        index: &usize,
-        prefix: &Front<L>,
-    ) -> ShardAdvance<L>
-        requires { shard_state.now.shard.index ≢ index.now }
-        ensures index { result.index.value ≡ index.now }
-        ensures prefix { result.prefix.value ≡ prefix.now }
-        ensures stays { result.stays ≡ Some (faults.WrongShard shard_state.now.shard.index) }
-        ensures woken { result.woken ≡ None }
+    pub(crate) fn unlocked(self, taken: TakenEvidence) -> ShardAdvance<L>
+        ensures { result ≡ record self { taken = Some taken } }
     {
         ShardAdvance {
-            index: Snapshot::of(index),
+            taken: Some(taken),
+            ..self
+        }
+    }
+
+    /// Creates the result `WrongShard` for shard `index`, whose lock guards `shard_state`.
+    pub(crate) fn misplaced<P: Placing>(
+        shard_state: &ShardState<L, P>,
+        index: usize,
+        prefix: &Front<L>,
+    ) -> ShardAdvance<L>
+        requires { shard_state.now.shard.index ≢ index }
+        ensures advance { IsAdvance prefix.now result }
+        ensures index { result.index ≡ index }
+        ensures stays { result.stays ≡ Some (faults.WrongShard shard_state.now.shard.index) }
+        ensures woken { (result.woken ≡ None) × (result.taken ≡ None) × (result.place ≡ 0) }
+    {
+        ShardAdvance {
+            index,
             prefix: Snapshot::of(prefix),
+            place: 0,
+            front: prefix.again(),
             stays: Some(HubFault::WrongShard {
                 found: shard_state.index(),
             }),
             woken: None,
+            taken: None,
         }
     }
 
-    /// Returns the fault if the shard stopped before the end of the front or was not found.
+    /// Returns why the shard stopped before the end of the front, or was not found.
     pub(crate) fn stays(&self) -> Option<HubFault>
         ensures { result ≡ self.now.stays }
     {
         self.stays
     }
+
+    /// Returns how many entries the shard had applied, or 0 if it was not found.
+    pub(crate) fn place(&self) -> u64
+        ensures { result ≡ self.now.place }
+    {
+        self.place
+    }
+
+    /// Returns what the shard's reader has seen.
+    pub(crate) fn front(&self) -> Front<L>
+        ensures { result ≡ self.now.front }
+    {
+        self.front.again()
+    }
+
+    /// Returns why the shard leaves no room in a full window: it is overrun or was not found.
+    ///
+    /// Returns `None` for other shards.
+    pub(crate) fn no_room(&self) -> Option<PostFault>
+        ensures { result ≡ no_room_of self.now.index self.now.stays }
+    {
+        match self.stays? {
+            HubFault::Overrun { shard, place } => Some(PostFault::Overrun { shard, place }),
+            HubFault::WrongShard { found } => Some(PostFault::WrongShard {
+                shard: self.index,
+                found,
+            }),
+            HubFault::Closed | HubFault::Paused | HubFault::Memory => None,
+        }
+    }
 }
 
 /// Evidence of why there is no answer under a ticket.
 ///
-/// The fault stopped the ticket's shard, which has filed no answer under the ticket. With
-/// `WrongShard`, the shard was not found, and may have filed one.
+/// The fault stopped the ticket's shard. If it is `WrongShard`, an answer may be filed.
 #[derive(Drop)]
 pub struct NoAnswer<L: LogId> {
     ticket: Snapshot<Ticket>,
@@ -140,10 +160,6 @@ pub struct NoAnswer<L: LogId> {
 }
 
 impl<L: LogId> NoAnswer<L> {
-    /// Creates evidence that `fault` stopped `shard_state` and that no answer is filed under
-    /// `ticket`.
-    ///
-    /// `shard_state`: the ticket's shard.
     pub(super) fn of<P: Placing>(
         shard_state: &ShardState<L, P>,
         ticket: &Ticket,
@@ -164,7 +180,6 @@ impl<L: LogId> NoAnswer<L> {
         }
     }
 
-    /// Creates evidence that the lock of the ticket's shard guards another shard, `shard_state`.
     pub(crate) fn misplaced<P: Placing>(
         shard_state: &ShardState<L, P>,
         ticket: &Ticket,
@@ -191,9 +206,8 @@ impl<L: LogId> NoAnswer<L> {
 
 /// Evidence that no answer is filed under a ticket.
 ///
-/// The ticket's shard was active, and had applied all of the longest front that it had learned.
-/// The answer is not due yet, was taken or swept, or the ticket is not that of a connect or rider
-/// of the shard.
+/// The ticket's shard was active, and had applied all of the longest front that it had learned. The
+/// answer is not due yet, was taken or swept, or the ticket is not one of the shard.
 ///
 /// Ghost: the ticket and that front.
 #[derive(Drop)]
@@ -203,10 +217,6 @@ pub struct Unfiled<L: LogId> {
 }
 
 impl<L: LogId> Unfiled<L> {
-    /// Creates evidence that no answer is filed under `ticket`.
-    ///
-    /// `shard_state`: the ticket's shard, which must be active and at the end of the longest front
-    /// that it has learned.
     pub(super) fn of<P: Placing>(shard_state: &ShardState<L, P>, ticket: &Ticket) -> Unfiled<L>
         requires own { ticket.now.shard ≡ shard_state.now.shard.index }
         requires active { shard_state.now.activity ≡ Active }
@@ -223,8 +233,7 @@ impl<L: LogId> Unfiled<L> {
 
 /// Evidence of the result of registering a waker under a ticket.
 ///
-/// One of these holds: the waker is registered, an answer is filed, no connect is known under the
-/// ticket, or the shard is closed. If the shard was not found, the result is `Unknown`.
+/// If the shard was not found, the result is `Unknown`.
 #[derive(Drop)]
 pub struct WatchEvidence<L: LogId> {
     ticket: Snapshot<Ticket>,
@@ -237,7 +246,6 @@ impl<L: LogId> WatchEvidence<L> {
     ghost use Rattle.bx_hub.specs.Watches.{HoldsOf, IsShut};
     ghost use Rattle.bx_connects.specs.declared.watch.Watch.TheVariants as watches;
 
-    // Creates evidence that `said` is the result of registering `waker` under `ticket`.
     fn new(ticket: &Ticket, waker: Snapshot<Waker>, said: &Watch) -> WatchEvidence<L>
         ensures { (result.ticket.value ≡ ticket.now) × (result.waker.value ≡ waker.value)
             × (result.said.value ≡ said.now) }
@@ -269,9 +277,9 @@ impl<L: LogId> WatchEvidence<L> {
         WatchEvidence::new(ticket, waker, said)
     }
 
-    /// Returns evidence that the ticket's shard is closed and has filed no answer under `ticket`.
+    /// Returns evidence that the ticket's shard is closed and has no answer under `ticket`.
     ///
-    /// `self` must be evidence of the result `Shut` for `ticket`.
+    /// The result must be `Shut`.
     pub fn no_answer(&self, ticket: &Ticket) -> NoAnswer<L>
         requires ticket { self.now.ticket.value ≡ ticket.now }
         requires shut { IsShut self.now.said.value }
@@ -284,10 +292,9 @@ impl<L: LogId> WatchEvidence<L> {
         }
     }
 
-    /// Creates evidence that `ticket` is unknown, because its shard was not found.
+    /// Creates evidence of `Unknown`, because the ticket's shard was not found.
     ///
-    /// `shard_state`: the other shard that the lock guards. `said`: the result `Unknown` with the
-    /// waker.
+    /// `shard_state`: the other shard that the lock guards.
     pub(crate) fn misplaced<P: Placing>(
         shard_state: &ShardState<L, P>,
         ticket: &Ticket,
@@ -304,34 +311,69 @@ impl<L: LogId> WatchEvidence<L> {
     }
 }
 
+/// Evidence that a survey shows a session of a shard.
+///
+/// The shard had the session, and had applied the first `place` entries of `front`.
+///
+/// Ghost: the shard's index, the index of the session in the shard, and the survey.
+#[derive(Drop)]
+pub struct SessionEvidence<L: LogId> {
+    shard: Snapshot<usize>,
+    index: Snapshot<usize>,
+    survey: Snapshot<SessionSurvey>,
+    place: u64,
+    front: Front<L>,
+}
+
+impl<L: LogId> SessionEvidence<L> {
+    ghost use Rattle.bx_hub.specs.Surveys.{IsSessionOf};
+
+    pub(super) fn of<P: Placing>(
+        shard_state: &ShardState<L, P>,
+        index: &usize,
+        survey: &SessionSurvey,
+    ) -> SessionEvidence<L>
+        requires { (k : Kept) × IsSurveyAt shard_state.now.shard.sessions index.now k survey.now }
+        ensures { IsSessionOf (setup_of L.config L.placing) shard_state.now.shard.index index.now survey.now result }
+    {
+        SessionEvidence {
+            shard: Snapshot::of(&shard_state.index()),
+            index: Snapshot::of(index),
+            survey: Snapshot::of(survey),
+            place: shard_state.place(),
+            front: shard_state.front(),
+        }
+    }
+}
+
 /// A change to a shard, other than by entries, polls and wakers.
 #[derive(Clone, Copy)]
 pub enum ShardChange {
-    /// A pause: an active shard applies nothing until it is resumed.
+    /// An active shard applies nothing until it is resumed.
     Pause,
-    /// The end of a pause: a paused shard can advance again.
+    /// A paused shard can advance again.
     Resume,
-    /// The end of a shard: it is closed permanently, and the tasks of its held connects are woken.
+    /// The shard is closed permanently, and the tasks of its held connects are woken.
     Shut,
-    /// A sweep: answers filed by entries before place `before` and never taken are dropped.
+    /// Answers filed by entries before place `before` and never taken are dropped.
     Sweep { before: u64 },
 }
 
 /// Evidence that a change was applied to a shard, and of how many answers the change dropped.
 ///
-/// If the shard was not found, nothing was changed.
+/// A shard that was not found did not change. Ghost: its taken answers once it is unlocked.
 #[derive(Drop)]
 pub struct ChangeEvidence<L: LogId> {
     shard: Snapshot<usize>,
     change: Snapshot<ShardChange>,
     dropped: usize,
+    taken: Option<TakenEvidence>,
     of: PhantomData<L>,
 }
 
 impl<L: LogId> ChangeEvidence<L> {
     ghost use Rattle.bx_hub.specs.Changes.{IsAfter};
 
-    /// Creates evidence that `change` was applied to `shard_state` and dropped `dropped` answers.
     pub(super) fn of<P: Placing>(
         shard_state: &ShardState<L, P>,
         change: ShardChange,
@@ -345,13 +387,22 @@ impl<L: LogId> ChangeEvidence<L> {
             shard: Snapshot::of(&shard_state.index()),
             change: Snapshot::of(&change),
             dropped,
+            taken: None,
             of: PhantomData,
         }
     }
 
-    /// Creates evidence that `change` was not applied to shard `index`, which was not found.
-    ///
-    /// `shard_state`: the other shard, which the lock at `index` guards.
+    pub(crate) fn unlocked(self, taken: TakenEvidence) -> ChangeEvidence<L>
+        ensures { result ≡ record self { taken = Some taken } }
+    {
+        ChangeEvidence {
+            taken: Some(taken),
+            ..self
+        }
+    }
+
+    /// Creates evidence that `change` was not applied to shard `index`, whose lock guards
+    /// `shard_state`.
     pub(crate) fn misplaced<P: Placing>(
         shard_state: &ShardState<L, P>,
         index: &usize,
@@ -359,18 +410,18 @@ impl<L: LogId> ChangeEvidence<L> {
     ) -> ChangeEvidence<L>
         requires { shard_state.now.shard.index ≢ index.now }
         ensures shard { result.shard.value ≡ index.now }
-        ensures change { (result.change.value ≡ change) × (result.dropped ≡ 0) }
+        ensures change { (result.change.value ≡ change) × (result.dropped ≡ 0) × (result.taken ≡ None) }
     {
         let _ = shard_state;
         ChangeEvidence {
             shard: Snapshot::of(index),
             change: Snapshot::of(&change),
             dropped: 0,
+            taken: None,
             of: PhantomData,
         }
     }
 
-    /// Returns how many answers the change dropped.
     pub(crate) fn dropped(&self) -> usize
         ensures { result ≡ self.now.dropped }
     {
@@ -379,8 +430,6 @@ impl<L: LogId> ChangeEvidence<L> {
 }
 
 /// Evidence of the wakers that a call added to its caller's list under a shard's lock.
-///
-/// Model: the added wakers, in order.
 #[derive(Drop)]
 pub(crate) struct AddedWakers {
     put: History<Waker>,
@@ -396,7 +445,7 @@ impl Model for AddedWakers {
 }
 
 impl AddedWakers {
-    /// Returns evidence of the wakers that were added to `wakers` after it was equal to `before`.
+    /// Returns the wakers that were added to `wakers` after it was equal to `before`.
     pub(super) fn since(before: History<Waker>, wakers: &Wakers) -> AddedWakers
         ensures { result ≡ drop (length before) wakers.now }
     {
@@ -405,21 +454,18 @@ impl AddedWakers {
     }
 }
 
-/// Returns a ghost copy of the list `wakers`.
 pub(super) fn listed(wakers: &Wakers) -> History<Waker>
     ensures { result ≡ wakers.now }
 {
     History::of::<&Wakers, All>(&wakers)
 }
 
-// Ghost: all wakers of a list.
 struct All;
 
 impl<'a> Lists<&'a Wakers, Waker> for All {
     ghost listed = { λ w. w.now };
 }
 
-// Ghost: the wakers of the second list from the index that is the length of the first list.
 struct Further;
 
 impl<'a> Lists<(&'a History<Waker>, &'a Wakers), Waker> for Further {

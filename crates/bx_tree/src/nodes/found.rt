@@ -1,4 +1,3 @@
-//! Results of a search in the index.
 ghost use Rattle.std.specs.Prelude.{◌≡◌, ℕ, ◌+◌, ◌<◌, ◌^◌, ◌||◌, OnOk, IfOk, Contains, vec_len, ◌↔◌};
 ghost use Rattle.std.specs.List.Sorted.{IsStrictlyIncreasing};
 ghost use Rattle.bx_tree.specs.Lists.{stands_at};
@@ -10,14 +9,14 @@ use std::alloc::AllocError;
 /// The sessions with a pattern that matches a channel name.
 #[derive(Debug, Drop)]
 pub struct Found {
-    /// The numbers of the found sessions, in ascending order, each once.
+    /// In ascending order, each once.
     pub numbers: Vec<u64>,
     /// How many lists the search looked up: the number of the name's segments plus 2.
     pub visited: usize,
 }
 
 impl Found {
-    /// Looks up the list at `path` in `lists`, counts the lookup, and appends the list's numbers.
+    /// Looks up `path` in `lists`, and appends the numbers of its list.
     pub(super) fn reach(&mut self, lists: &PathLists, path: &str) -> Result<(), AllocError>
         requires { self.old.visited + 1 < 2 ^ 64 }
         ensures numbers { OnOk result ((n : ℕ)
@@ -34,7 +33,7 @@ impl Found {
 
     /// Sorts the numbers and removes duplicates.
     ///
-    /// The numbers are a few ascending runs, which a stable sort merges.
+    /// They are a few ascending runs, which a stable sort merges.
     pub(super) fn settle(&mut self) -> Result<(), AllocError>
         ensures ascending { OnOk result (IsStrictlyIncreasing self.new.numbers.items) }
         ensures same { OnOk result ((n : ℕ) → is_among self.new.numbers.items n ≡ is_among self.old.numbers.items n) }

@@ -1,4 +1,3 @@
-//! Lists of sessions, by path.
 ghost use Rattle.std.specs.Prelude.{◌≡◌, ℕ, true, List};
 ghost use Rattle.std.specs.BTreeMap.{get_by_text};
 ghost use Rattle.bx_tree.specs.Kept.{is_kept};
@@ -6,12 +5,9 @@ ghost use Rattle.bx_tree.specs.Kept.{is_kept};
 use std::alloc::{AllocError, Global};
 use std::collections::BTreeMap;
 
-/// The sessions at each path, each with the stamp of its pattern. No list is empty.
+/// The sessions at each path, such as `/a/b`, each with the stamp of its pattern. No list is empty.
 ///
-/// A stamp is the key of a pattern in the session's own list of patterns.
-///
-/// A path is, for example, `/a/b`, or empty. The map is ordered, because clients choose the paths:
-/// in a hash map, they could send paths that collide.
+/// The map is ordered, because clients choose the paths, which could collide in a hash map.
 #[derive(Drop)]
 pub(super) struct PathLists {
     by_path: BTreeMap<String, BTreeMap<u64, u64>>,
@@ -24,7 +20,6 @@ impl PathLists {
     ghost use Rattle.std.specs.BTreeMap.{get_by_text};
     ghost use Rattle.bx_tree.specs.Lists.{stands_at};
 
-    /// Creates an empty map.
     pub(super) fn new(alloc: Global) -> PathLists
         ensures { (path : List ℕ) → (number : ℕ) → stands_at result path number ≡ false }
     {
@@ -33,7 +28,7 @@ impl PathLists {
         }
     }
 
-    /// Returns the sessions at `path` and their stamps, if any, and adds 1 to `visited`.
+    /// Returns the sessions at `path`, if any, and adds 1 to `visited`.
     ///
     /// A search uses only this function, so that each lookup is counted.
     pub(super) fn reach(&self, path: &str, visited: &mut usize) -> Option<&BTreeMap<u64, u64>>
@@ -45,7 +40,7 @@ impl PathLists {
         self.by_path.get(path)
     }
 
-    /// Returns `true` if session `number` is at `path`.
+    /// Returns `true` if session `number` has the pattern of this list's kind with `path`.
     pub(super) fn has(&self, path: &str, number: u64) -> bool
         ensures { result ≡ stands_at self.now path.now number }
     {
@@ -55,7 +50,7 @@ impl PathLists {
         }
     }
 
-    /// Adds session `number` with `stamp` at `path`. On error, no list has changed.
+    /// Adds session `number` at `path`. On error, no list has changed.
     pub(super) fn add(
         &mut self,
         alloc: Global,
@@ -78,9 +73,7 @@ impl PathLists {
         Ok(())
     }
 
-    /// Removes session `number` from `path`, and returns the stamp stored with it, if any.
-    ///
-    /// Drops the path's list if it is then empty.
+    /// Removes session `number` from `path`, and returns its stamp, if any. Drops an empty list.
     pub(super) fn remove(&mut self, path: &str, number: u64) -> Option<u64>
         ensures gone { (other : List ℕ) → (n : ℕ)
             → stands_at self.new other n ≡ (stands_at self.old other n && not (bytes_eq path.now other && (n == number))) }

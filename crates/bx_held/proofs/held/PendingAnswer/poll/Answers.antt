@@ -1,23 +1,11 @@
 use Rattle.std.proofs.Common.{◌∙◌, ap, subst}
-use Rattle.bx_window.specs.Steps.{setup_of}
 use Rattle.bx_connects.specs.declared.watch.Watch.{Watch}
 use Rattle.bx_connects.specs.declared.watch.Watch.TheVariants.{Unknown}
 use Rattle.bx_entry.specs.declared.entry.Ticket.{Ticket}
 use Rattle.bx_hub.specs.Watches.{IsBack, IsToldOf}
-use Rattle.bx_window.proofs.Fronts.{prefix_trans}
 use Rattle.bx_held.proofs.Waiting.{on_pending, waited_for}
-use Rattle.bx_held.specs.Outputs.{IsGiven, output_of}
 use Rattle.bx_held.specs.Waiting.{IsUnknown}
 use Rattle.bx_held.proofs.held.PendingAnswer.poll.Goals as goal
-
-pub returns-in-Some-ask-clause-value : goal.returns-in-Some-ask-clause-value
-returns-in-Some-ask-clause-value g c done =
-    let config = g.L.LogId.config in
-    let end = c.ask-2.new.self.pass in
-    let before = prefix_trans c.args.self.now.pass c.ask.new.self.pass end c.ask.ensures.seen c.ask-2.ensures.seen in
-    let given = subst (λ (t : Ticket). IsGiven (setup_of config g.L.LogId.placing) t end (output_of c.in-Some-ask.output))
-    (c.ask-2.ensures.same.0 ∙ c.ask.ensures.same.0) c.in-Some-ask.ensures.given in
-    (end, before, given)
 
 pub returns-in-Stored-clause-left : goal.returns-in-Stored-clause-left
 returns-in-Stored-clause-left g c =
